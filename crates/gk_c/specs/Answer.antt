@@ -1,20 +1,20 @@
--- What a call is answered, and a text in the caller's room.
+-- The `Answer` to a call, and a text in the caller's room.
 use Rattle.std.specs.Prelude.{◌≡◌, ℕ, true, false, List, ◌++◌, length, take, drop, min, codes}
 use Rattle.gk_c.specs.FaultPlace.{nowhere}
 use Rattle.gk_c.specs.declared.answer.Answer.{Answer}
 use Rattle.gk_c.specs.declared.fault_place.FaultPlace.{FaultPlace}
 
--- A text over the beginning of what was there, as far as there is room; the rest stays.
+-- A text written over the beginning of what was there, as far as there is room. The rest stays.
 abbrev pub put_over : List ℕ → List ℕ → List ℕ
 put_over text old = take (min (length text) (length old)) text ++ drop (min (length text) (length old)) old
 
--- The answer names this place.
+-- The `Answer` names this place.
 pub record NamesPlace (place : FaultPlace) (answer : Answer) : Type 0 where
   pub input_is : answer.input ≡ place.input
   pub source_is : answer.source ≡ place.source
   pub line_is : answer.line ≡ place.line
 
--- The answer is that of a report with this status, written as far as there is room.
+-- The `Answer` has this report and this status. The report is written as far as there is room.
 pub record IsReport (text : List ℕ) (status : ℕ) (old new : List ℕ) (answer : Answer) : Type 0 where
   pub has_report : answer.has_report ≡ true
   pub status_is : answer.status ≡ status
@@ -22,7 +22,7 @@ pub record IsReport (text : List ℕ) (status : ℕ) (old new : List ℕ) (answe
   pub counted : answer.length ≡ length text
   pub written : new ≡ put_over text old
 
--- The answer is that of a fault with this text, this status and this place, the text written as far as there is room.
+-- The `Answer` has no report, but a fault with this text, this status and this place. The text is written as far as there is room.
 pub record IsNoReport (text : List ℕ) (status : ℕ) (place : FaultPlace) (old new : List ℕ) (answer : Answer) : Type 0 where
   pub has_report : answer.has_report ≡ false
   pub status_is : answer.status ≡ status

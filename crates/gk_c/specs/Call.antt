@@ -1,4 +1,4 @@
--- What a call hands over, and what it asks for.
+-- The arguments of a call, and what it asks for.
 use Rattle.std.specs.Prelude.{◌≡◌, ◌⊎◌, ◌==◌, IsUtf8, ℕ, Bool, true, false, List, map, nat_eq, if◌then◌else◌, Option, Some, None, Result, Ok, Err, option_map, string_bytes, IsSome, Vec, String}
 use denote.Ref.{Bor}
 use Rattle.std.specs.List.{All, Any, list_any}
@@ -19,7 +19,8 @@ use Rattle.gk_c.specs.declared.call.Text.{Text}
 use Rattle.gk_c.specs.declared.call_fault.CallFault.{CallFault}
 use Rattle.gk_c.specs.declared.call_fault.CallFault.TheVariants.{UnknownFormat, NotUtf8, LineZero, Run}
 
--- A call as plain values: the texts of tags, the lines, the variables, the sources, a library file or none, a hooks file or none, whether it is a dry run, whether the first failure stops it, whether skipped sections are left out of the report, and the number of its format.
+-- A call as plain values: the texts of tags, the lines, the variables, the sources, a library file or none, a hooks file or none, and the number of its format.
+-- `dry_run` says whether it is a dry run, `stop` whether the first failure stops it, and `no_skipped` whether skipped sections are left out of the report.
 pub record CallValue : Type 0 where
   pub tags : List (List ℕ)
   pub lines : List ℕ
@@ -44,12 +45,12 @@ source_named file = record { name = file.name.now; bytes = file.bytes.now }
 abbrev pub variable_named : Named → PairValue
 variable_named variable = record { name = variable.name.now; text = variable.bytes.now }
 
--- The file, where one is given.
+-- The file, if one is given.
 abbrev pub given : Bool → Named → Option SourceValue
 given true file = Some (source_named file)
 given false file = None
 
--- What a `Call` hands over.
+-- The value of a `Call`.
 abbrev pub call_value : Call → CallValue
 call_value call = record {
   tags = map text_value call.tags.now;
@@ -68,14 +69,14 @@ call_value call = record {
 abbrev pub files_of : CallValue → FilesValue
 files_of call = record { library = call.library; hooks = call.hooks; sources = call.sources }
 
--- The format of a number, if there is one.
+-- The format with this number, if there is one.
 abbrev pub format_by : ℕ → Option Format
 format_by n =
     if nat_eq n 0 then Some Plain else
     (if nat_eq n 1 then Some Progress else
     (if nat_eq n 2 then Some Json else None))
 
--- What a call asks for in a format.
+-- The request of a call in a format.
 abbrev pub request_by : CallValue → Format → Request
 request_by call format = record {
   tags = call.tags;
@@ -88,7 +89,7 @@ request_by call format = record {
   sources = call.sources;
 }
 
--- Among some lines is line 0, which no file has.
+-- Whether the lines include line 0, which no file has.
 abbrev pub has_line_zero : List ℕ → Bool
 has_line_zero lines = list_any (λ n. n == 0) lines
 
@@ -96,7 +97,7 @@ has_line_zero lines = list_any (λ n. n == 0) lines
 abbrev pub IsNoText : List ℕ → Type 0
 IsNoText bytes = IsUtf8 bytes → ⊥
 
--- The name of a file that is given isn't UTF-8.
+-- A file is given, and its name isn't UTF-8.
 abbrev pub HasBadName : Option SourceValue → Type 0
 HasBadName None = ⊥
 HasBadName (Some file) = IsNoText file.name
@@ -105,7 +106,7 @@ HasBadName (Some file) = IsNoText file.name
 abbrev pub HasNoText : CallValue → Type 0
 HasNoText call = Any IsNoText call.tags ⊎ (HasBadName call.library ⊎ (HasBadName call.hooks ⊎ Any (λ s. IsNoText s.name) call.sources))
 
--- The name of a file that may be given is UTF-8.
+-- The name of a file is UTF-8, if one is given.
 abbrev pub HasName : Option SourceValue → Type 0
 HasName None = Unit {0}
 HasName (Some file) = IsUtf8 file.name
@@ -117,7 +118,7 @@ pub record AreTexts (call : CallValue) : Type 0 where
   pub hooks : HasName call.hooks
   pub sources : All (λ s. IsUtf8 s.name) call.sources
 
--- The number of a call's format is that of one.
+-- The number of a call's format is that of a format.
 abbrev pub HasFormat : CallValue → Type 0
 HasFormat call = IsSome (format_by call.format)
 
@@ -125,40 +126,40 @@ HasFormat call = IsSome (format_by call.format)
 abbrev pub request_read : ReadCall → Request
 request_read read = request_of_files read.options (suite_value borrowed_value read.files)
 
--- A text is the bytes, or these aren't UTF-8.
+-- The text has these bytes, or they aren't UTF-8.
 abbrev pub SaysText : List ℕ → Result (Bor (List ℕ)) CallFault → Type 0
 SaysText bytes (Ok text) = (text.now ≡ bytes) × IsUtf8 bytes
 SaysText bytes (Err NotUtf8) = IsNoText bytes
 SaysText bytes (Err fault) = ⊥
 
--- A copy is the bytes, or these aren't UTF-8, or memory was refused.
+-- The copy has these bytes, or they aren't UTF-8, or memory was refused.
 abbrev pub SaysCopy : List ℕ → Result (String Global) CallFault → Type 0
 SaysCopy bytes (Ok text) = (string_bytes text ≡ bytes) × IsUtf8 bytes
 SaysCopy bytes (Err NotUtf8) = IsNoText bytes
 SaysCopy bytes (Err (Run Memory)) = Unit {0}
 SaysCopy bytes (Err fault) = ⊥
 
--- Copies of texts, or one of them isn't UTF-8.
+-- The copies have these texts, or one of the texts isn't UTF-8, or memory was refused.
 abbrev pub SaysTexts : List (List ℕ) → Result (Vec (String Global) Global) CallFault → Type 0
 SaysTexts texts (Ok copies) = (map string_bytes copies.items ≡ texts) × All IsUtf8 texts
 SaysTexts texts (Err NotUtf8) = Any IsNoText texts
 SaysTexts texts (Err (Run Memory)) = Unit {0}
 SaysTexts texts (Err fault) = ⊥
 
--- A file, or its name isn't UTF-8.
+-- The source is this file, or the file's name isn't UTF-8.
 abbrev pub SaysSource : SourceValue → Result BorrowedSource CallFault → Type 0
 SaysSource file (Ok source) = (borrowed_value source ≡ file) × IsUtf8 file.name
 SaysSource file (Err NotUtf8) = IsNoText file.name
 SaysSource file (Err fault) = ⊥
 
--- The files, or the name of one of them isn't UTF-8.
+-- The sources are these files, or the name of one of them isn't UTF-8, or memory was refused.
 abbrev pub SaysSources : List SourceValue → Result (Vec BorrowedSource Global) CallFault → Type 0
 SaysSources files (Ok sources) = (map borrowed_value sources.items ≡ files) × All (λ s. IsUtf8 s.name) files
 SaysSources files (Err NotUtf8) = Any (λ s. IsNoText s.name) files
 SaysSources files (Err (Run Memory)) = Unit {0}
 SaysSources files (Err fault) = ⊥
 
--- The file that may be given, or its name isn't UTF-8.
+-- What was read is the file, if one is given, or the file's name isn't UTF-8.
 abbrev pub SaysGiven : Option SourceValue → Result (Option BorrowedSource) CallFault → Type 0
 SaysGiven file (Ok read) = (option_map borrowed_value read ≡ file) × HasName file
 SaysGiven file (Err NotUtf8) = HasBadName file
@@ -179,7 +180,7 @@ SaysOptions call format (Err NotUtf8) = Any IsNoText call.tags
 SaysOptions call format (Err (Run Memory)) = Unit {0}
 SaysOptions call format (Err fault) = ⊥
 
--- What was read is what the call asks for in a format, with the names of its files.
+-- What was read is what the call asks for in a format, with the names of its files. These names and the texts of tags are UTF-8.
 pub record IsReadIn (call : CallValue) (format : Format) (read : ReadCall) : Type 0 where
   pub options : AreOptions call format read.options
   pub library : option_map borrowed_value read.files.library ≡ call.library
@@ -194,7 +195,7 @@ SaysReadIn call format (Err NotUtf8) = HasNoText call
 SaysReadIn call format (Err (Run Memory)) = Unit {0}
 SaysReadIn call format (Err fault) = ⊥
 
--- The same, where the call's number is that of a format, and no line is 0.
+-- What a call asks for, or why it can't be read. If it is read, its number is that of a format, and no line is 0.
 abbrev pub SaysRead : CallValue → Result ReadCall CallFault → Type 0
 SaysRead call (Ok read) = (format : Format) × (format_by call.format ≡ Some format) × (has_line_zero call.lines ≡ false) × IsReadIn call format read
 SaysRead call (Err UnknownFormat) = format_by call.format ≡ None

@@ -17,12 +17,12 @@ abbrev pub status_of_call : CallFault → ℕ
 status_of_call (Run fault) = status_of_fault fault
 status_of_call fault = 2
 
--- Where a fault is, as numbers; one that is none of a run is nowhere.
+-- The place of a fault, as numbers. A fault that isn't of a run is nowhere.
 abbrev pub place_of_call : CallFault → FaultPlace
 place_of_call (Run fault) = place_of_run fault
 place_of_call fault = nowhere
 
--- The line of a fault that names no file, refused memory among them, without a line feed.
+-- The line of a fault that names no file, without a line feed. For a fault of a run it is that of refused memory.
 abbrev pub own_line : CallFault → List ℕ
 own_line UnknownFormat = codes "unknown format"
 own_line NotUtf8 = codes "not UTF-8"

@@ -1,4 +1,4 @@
--- What a call is answered.
+-- The `Answer` to a call.
 use Rattle.std.specs.Prelude.{◌≡◌, ◌≢◌, ◌⊎◌, ◌++◌, IsUtf8, ℕ, true, false, List, [], ◌∷◌, Some, None, Result, Ok, Err, IsSome}
 use Rattle.std.specs.List.{All}
 use Rattle.gk_world.specs.State.{Contents, nothing_yet}
@@ -22,12 +22,12 @@ use Rattle.gk_c.specs.declared.call.ReadCall.{ReadCall}
 use Rattle.gk_c.specs.declared.call_fault.CallFault.{CallFault}
 use Rattle.gk_c.specs.declared.call_fault.CallFault.TheVariants.{UnknownFormat, NotUtf8, LineZero, BadVariable, Run}
 
--- Contents with some variables put in, in order: of equal names the last counts.
+-- Contents with some variables put in, in order. If a name occurs more than once, the last one counts.
 abbrev pub with_variables : Contents → List PairValue → Contents
 with_variables c [] = c
 with_variables c (v ∷ vs) = with_variables (with_env c v.name v.text) vs
 
--- The contents that a run begins with: the variables alone.
+-- The contents at the beginning of a run: the variables alone.
 abbrev pub contents_by : List PairValue → Contents
 contents_by variables = with_variables nothing_yet variables
 
@@ -35,11 +35,11 @@ contents_by variables = with_variables nothing_yet variables
 abbrev pub IsNoVariable : PairValue → Type 0
 IsNoVariable v = IsNoText v.name ⊎ IsNoText v.text
 
--- A variable of two texts that no sandbox takes: it has a bad name, or a text too long.
+-- A variable of two UTF-8 texts that no sandbox takes: it has a bad name, or a text that is too long.
 abbrev pub IsRefused : PairValue → Type 0
 IsRefused v = IsUtf8 v.name × IsUtf8 v.text × IsSome (put_refusal v.name v.text)
 
--- A variable of two texts that a sandbox takes.
+-- A variable of two UTF-8 texts that a sandbox takes.
 abbrev pub IsTaken : PairValue → Type 0
 IsTaken v = IsUtf8 v.name × IsUtf8 v.text × (put_refusal v.name v.text ≡ None)
 
@@ -70,7 +70,7 @@ pub record IsPlainText (r : Request) (contents : Contents) (text : List ℕ) (an
   pub text_is : text ≡ report r.style (plain_results (run_with r inputs) contents inputs.features)
   pub status_is : answer ≡ status (plain_results (run_with r inputs) contents inputs.features)
 
--- A report of a run is answered: the variables are taken, and at each status but 4 it is that of plain maps.
+-- The `Answer` has the report of a run. The variables are taken, and at each status except 4 the report is that of plain maps.
 pub record IsRunReport (variables : List PairValue) (r : Request) (old new : List ℕ) (answer : Answer) : Type 0 where
   pub taken : AreTaken variables
   pub text : List ℕ
@@ -79,7 +79,7 @@ pub record IsRunReport (variables : List PairValue) (r : Request) (old new : Lis
   pub plain : status ≢ 4 → IsPlainText r (contents_by variables) text status
   pub said : IsReport text status old new answer
 
--- A report is answered, of the run that the call asks for.
+-- The `Answer` has the report of the run that the call asks for.
 pub record IsReportAnswer (call : CallValue) (old new : List ℕ) (answer : Answer) : Type 0 where
   pub format : Format
   pub known : format_by call.format ≡ Some format
@@ -87,11 +87,11 @@ pub record IsReportAnswer (call : CallValue) (old new : List ℕ) (answer : Answ
   pub texts : AreTexts call
   pub run : IsRunReport call.variables (request_by call format) old new answer
 
--- A call whose format is known, without line 0.
+-- A call with a known format and without line 0.
 abbrev pub IsCountable : CallValue → Type 0
 IsCountable call = HasFormat call × (has_line_zero call.lines ≡ false)
 
--- What each fault says of the call, the first in this order: an unknown format, line 0, a text of tags or a name that isn't UTF-8, the first variable that isn't taken, and what of the run doesn't read. Refused memory says nothing of it.
+-- The meaning of each fault for the call. The first fault counts, in this order: an unknown format, line 0, a text of tags or a file name that isn't UTF-8, the first variable that isn't taken, and what the run can't read. Refused memory says nothing about the call.
 abbrev pub SaysCallFault : CallValue → CallFault → Type 0
 SaysCallFault call UnknownFormat = format_by call.format ≡ None
 SaysCallFault call LineZero = HasFormat call × (has_line_zero call.lines ≡ true)
@@ -100,13 +100,13 @@ SaysCallFault call BadVariable = IsCountable call × AreTexts call × HasFirstBa
 SaysCallFault call (Run Memory) = Unit {0}
 SaysCallFault call (Run fault) = IsCountable call × AreTexts call × AreTaken call.variables × (format : Format) × (format_by call.format ≡ Some format) × IsUnread (request_by call format) fault
 
--- A fault is answered: one that holds of the call, with its line, its status and its place.
+-- The `Answer` has a fault that holds for the call, with the fault's line, status and place.
 pub record IsFaultAnswer (call : CallValue) (old new : List ℕ) (answer : Answer) : Type 0 where
   pub fault : CallFault
   pub says : SaysCallFault call fault
   pub said : IsNoReport (line_of_call call fault) (status_of_call fault) (place_of_call fault) old new answer
 
--- What a call is answered: a report, or a fault. `Answer::has_report` says which.
+-- The `Answer` to a call has a report or a fault. `Answer::has_report` says which.
 abbrev pub IsAnswer : CallValue → List ℕ → List ℕ → Answer → Type 0
 IsAnswer call old new answer = IsReportAnswer call old new answer ⊎ IsFaultAnswer call old new answer
 
@@ -118,7 +118,7 @@ SaysPutOne v old new (Err BadVariable) = IsRefused v
 SaysPutOne v old new (Err (Run Memory)) = Unit {0}
 SaysPutOne v old new (Err fault) = ⊥
 
--- The variables are in the sandbox, and its layers are as before; or one of them can't be.
+-- The variables are in the sandbox, and its layers are as before; or why not.
 abbrev pub SaysPut : List PairValue → SandboxValue → SandboxValue → Result (Unit {0}) CallFault → Type 0
 SaysPut variables old new (Ok u) = (new.now ≡ with_variables old.now variables) × (new.saved ≡ old.saved) × AreTaken variables
 SaysPut variables old new (Err NotUtf8) = HasFirstBad IsNoVariable variables
@@ -134,18 +134,18 @@ SaysRunFault variables r (Run Memory) = Unit {0}
 SaysRunFault variables r (Run fault) = AreTaken variables × IsUnread r fault
 SaysRunFault variables r fault = ⊥
 
--- This fault is answered, or refused memory in its place.
+-- The `Answer` has this fault, or refused memory in its place.
 pub record IsFaultSaid (read : ReadCall) (fault : CallFault) (old new : List ℕ) (answer : Answer) : Type 0 where
   pub said_as : CallFault
   pub same : (said_as ≡ fault) ⊎ (said_as ≡ Run Memory)
   pub said : IsNoReport (line_of_read read said_as) (status_of_call said_as) (place_of_call said_as) old new answer
 
--- A fault of a run of what was read is answered.
+-- The `Answer` has a fault of a run of what was read.
 pub record IsRunFault (variables : List PairValue) (read : ReadCall) (old new : List ℕ) (answer : Answer) : Type 0 where
   pub fault : CallFault
   pub says : SaysRunFault variables (request_read read) fault
   pub said : IsFaultSaid read fault old new answer
 
--- What a run of what was read is answered.
+-- The `Answer` to a run of what was read has a report or a fault.
 abbrev pub IsRunAnswer : List PairValue → ReadCall → List ℕ → List ℕ → Answer → Type 0
 IsRunAnswer variables read old new answer = IsRunReport variables (request_read read) old new answer ⊎ IsRunFault variables read old new answer

@@ -1,33 +1,33 @@
-//! What a call is answered, and writing a text into the caller's room.
+//! The `Answer` to a call, and writing a text into the caller's room.
 ghost use Rattle.std.specs.Prelude.{◌≡◌, length};
 ghost use Rattle.gk_c.specs.Answer.{put_over, IsReport, IsNoReport};
 
 use crate::fault_place::{FaultPlace, NOWHERE};
 
-/// What a call is answered beside the text.
+/// The result of a call, apart from its text.
 #[repr(C)]
 #[derive(Clone, Copy)]
 pub struct Answer {
-    /// How many bytes the whole text has. Of these, as many are written as there is room for.
+    /// The length of the whole text in bytes. As much of the text is written as there is room for.
     pub length: usize,
-    /// Where `input` is 3, the place of that file among the call's sources, from 0; else 0.
+    /// If `input` is 3, the index of that file among the call's sources, from 0; otherwise 0.
     pub source: usize,
-    /// The line that a fault is of; 0 where it is of no line, and beside a report.
+    /// The line of a fault; 0 if the fault is on no line, or if there is a report.
     pub line: u32,
-    /// The file that a fault is of: 1 is the library, 2 the hooks file, 3 a source; 0 where it is of no file, and
-    /// beside a report.
+    /// The file of a fault: 1 is the library, 2 the hooks file, 3 a source; 0 if the fault is in no file, or if there
+    /// is a report.
     pub input: u8,
     /// The status that the program would end with: 0 to 4.
     pub status: u8,
-    /// The text is the whole report; else it says in one line why there is none.
+    /// Whether the text is the whole report. Otherwise it says in one line why there is none.
     pub has_report: bool,
 }
 
-// How many bytes are copied at once. A page of fresh room is cleared when it is first written: a page at a time, it is
-// filled while the processor still holds it.
+// The number of bytes copied at once. A page of fresh room is cleared when it is first written. Copying a page at a
+// time fills it while it is still in the processor's cache.
 const PAGE: usize = 4096;
 
-// Copies bytes over as many others.
+// Copies bytes over the same number of bytes.
 fn copy_over(from: &[u8], to: &mut [u8])
     requires { length from.now ≡ length to.old }
     ensures { to.new ≡ from.now }
@@ -40,8 +40,7 @@ fn copy_over(from: &[u8], to: &mut [u8])
     }
 }
 
-/// Writes as much of a text as there is room for over the beginning of the room, and returns the length of the whole
-/// text.
+/// Writes a text over the beginning of the room, as far as there is room, and returns the length of the whole text.
 pub fn put_out(text: &[u8], room: &mut [u8]) -> usize
     ensures count { result ≡ length text.now }
     ensures written { room.new ≡ put_over text.now room.old }
@@ -51,7 +50,7 @@ pub fn put_out(text: &[u8], room: &mut [u8]) -> usize
     text.len()
 }
 
-/// The answer with a report.
+/// Writes a report into the room, and returns the `Answer` with it.
 pub fn report_answer(status: u8, report: &[u8], room: &mut [u8]) -> Answer
     ensures { IsReport report.now status room.old room.new result }
 {
@@ -65,7 +64,7 @@ pub fn report_answer(status: u8, report: &[u8], room: &mut [u8]) -> Answer
     }
 }
 
-/// The answer without a report, whose text says why, of a fault at this place.
+/// Writes the text of a fault at this place into the room, and returns the `Answer` without a report.
 pub fn fault_answer(status: u8, place: FaultPlace, text: &str, room: &mut [u8]) -> Answer
     ensures { IsNoReport text.now status place room.old room.new result }
 {

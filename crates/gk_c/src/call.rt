@@ -1,4 +1,4 @@
-//! What a call hands over, and reading it.
+//! The arguments of a call, and reading them.
 ghost use Rattle.std.specs.Prelude.{◌≡◌, map};
 ghost use Rattle.gk_c.specs.Call.{call_value, format_by, given, source_named, text_value, SaysCopy, SaysGiven, SaysOptions, SaysRead, SaysReadIn, SaysSource, SaysSources, SaysText, SaysTexts};
 
@@ -8,14 +8,14 @@ use gk_report::{Format, Style};
 use std::alloc::Global;
 use std::str;
 
-/// A text of the caller's.
+/// A text of the caller.
 #[repr(C)]
 #[derive(Clone, Copy)]
 pub struct Text<'a> {
     pub bytes: &'a [u8],
 }
 
-/// A file or a variable of the caller's: its name, and its bytes.
+/// A file or a variable of the caller: its name and its bytes.
 #[repr(C)]
 #[derive(Clone, Copy)]
 pub struct Named<'a> {
@@ -23,41 +23,41 @@ pub struct Named<'a> {
     pub bytes: &'a [u8],
 }
 
-/// What a call hands over.
+/// The arguments of a call.
 #[repr(C)]
 #[derive(Clone, Copy)]
 pub struct Call<'a> {
-    /// The feature files, run in this order. Faults call them by their names, and so does the report in JSON.
+    /// The feature files, run in this order. Faults refer to them by their names, and so does the report in JSON.
     pub sources: &'a [Named<'a>],
     /// The texts of `--tags`.
     pub tags: &'a [Text<'a>],
     /// The numbers of `--line`, each at least 1.
     pub lines: &'a [u32],
-    /// The variables of `--env`; of equal names the last counts.
+    /// The variables of `--env`. If a name occurs more than once, the last one counts.
     pub variables: &'a [Named<'a>],
-    /// The library file, which counts only where `has_library` says so.
+    /// The library file. It counts only if `has_library` is true.
     pub library: Named<'a>,
-    /// The hooks file, which counts only where `has_hooks` says so.
+    /// The hooks file. It counts only if `has_hooks` is true.
     pub hooks: Named<'a>,
-    /// The steps are those of `library`, in place of the default library.
+    /// Whether the steps are those of `library` instead of the default library.
     pub has_library: bool,
-    /// The hooks are those of `hooks`; else there are none.
+    /// Whether the hooks are those of `hooks`. Otherwise there are none.
     pub has_hooks: bool,
     pub dry_run: bool,
     pub stop: bool,
     pub no_skipped: bool,
-    /// 0 is plain, 1 progress, 2 JSON.
+    /// The format of the report: 0 is plain, 1 is progress, 2 is JSON.
     pub format: u8,
 }
 
-/// What a call asks for, but for its variables.
+/// What a call asks for, except its variables.
 #[derive(Drop)]
 pub struct ReadCall<'a> {
     pub options: Options,
     pub files: SuiteFiles<BorrowedSource<'a>>,
 }
 
-// The format of a number, if there is one.
+// Returns the format with this number, if there is one.
 fn format_of_number(number: u8) -> Option<Format>
     ensures { result ≡ format_by number }
 {
@@ -78,7 +78,7 @@ pub fn text_from(bytes: &[u8]) -> Result<&str, CallFault>
     }
 }
 
-// The file, which stays where the caller has it.
+// Borrows a file of the caller.
 fn source_from<'a>(file: &Named<'a>) -> Result<BorrowedSource<'a>, CallFault>
     ensures { SaysSource (source_named file.now) result }
 {
@@ -125,7 +125,7 @@ fn texts_from(alloc: Global, texts: &[Text]) -> Result<Vec<String>, CallFault>
     Ok(copies)
 }
 
-// The library file or the hooks file, where it is given.
+// Borrows the library file or the hooks file, if it is given.
 fn given_from<'a>(is_given: bool, file: &Named<'a>) -> Result<Option<BorrowedSource<'a>>, CallFault>
     ensures { SaysGiven (given is_given file.now) result }
 {
@@ -164,9 +164,9 @@ fn read_in<'a>(alloc: Global, call: &Call<'a>, format: Format) -> Result<ReadCal
     })
 }
 
-/// What a call asks for, but for its variables. A number of no format is `UnknownFormat`, else a line 0 is `LineZero`,
-/// since lines begin at 1, else a name or a text of `--tags` that isn't UTF-8 is `NotUtf8`. Refused memory may come in
-/// place of any other answer.
+/// Reads what a call asks for, except its variables. A number of no format is `UnknownFormat`. Otherwise a line 0 is
+/// `LineZero`, because lines begin at 1. Otherwise a file name or a text of `--tags` that isn't UTF-8 is `NotUtf8`.
+/// Refused memory may be returned instead of any other result.
 pub fn read_call<'a>(alloc: Global, call: &Call<'a>) -> Result<ReadCall<'a>, CallFault>
     ensures { SaysRead (call_value call.now) result }
 {

@@ -1,4 +1,4 @@
-//! Why a call has no report, in one line and a status.
+//! Why a call has no report, as one line of text and a status.
 ghost use Rattle.std.specs.Prelude.{◌≡◌, IfOk, string_bytes};
 ghost use Rattle.gk_c.specs.CallFault.{line_of_read, own_line, place_of_call, status_of_call};
 ghost use Rattle.gk_c.specs.declared.call_fault.CallFault.TheVariants.{Run};
@@ -11,20 +11,20 @@ use std::alloc::{AllocError, AllocFailed, Global};
 /// Why a call has no report.
 #[derive(Clone, Copy, Debug, PartialEq, Eq)]
 pub enum CallFault {
-    /// The number of the format is that of none.
+    /// No format has the given number.
     UnknownFormat,
     /// A name, a text of `--tags` or a variable isn't UTF-8.
     NotUtf8,
-    /// Among the lines is line 0.
+    /// The lines include line 0.
     LineZero,
-    /// A variable has a bad name, or a text too long.
+    /// A variable has a bad name, or a text that is too long.
     BadVariable,
     /// The run ended with this fault, or memory was refused before it began.
     Run(RunFault),
 }
 
 impl CallFault {
-    /// The status that the program would end with.
+    /// Returns the status that the program would end with.
     pub fn status(&self) -> u8
         ensures { result ≡ status_of_call self.now }
     {
@@ -34,7 +34,7 @@ impl CallFault {
         }
     }
 
-    /// Where the fault is: nowhere, where it is none of a run.
+    /// Returns the place of the fault. A fault that isn't of a run is nowhere.
     pub fn place(&self) -> FaultPlace
         ensures { result ≡ place_of_call self.now }
     {
@@ -67,7 +67,7 @@ impl<T: Drop> From<AllocFailed<T>> for CallFault {
     }
 }
 
-/// The line of a fault of a run, without a line feed.
+/// Returns the line of a fault of a run, without a line feed.
 pub fn line_of_run(alloc: Global, read: &ReadCall, fault: RunFault) -> Result<String, AllocError>
     ensures { IfOk result (λ line. string_bytes line ≡ line_of_read read.now (Run fault)) }
 {
@@ -78,7 +78,8 @@ pub fn line_of_run(alloc: Global, read: &ReadCall, fault: RunFault) -> Result<St
     format!(in alloc; "{named}")
 }
 
-/// The line of a fault that names no file, without a line feed; of those of a run it is that of refused memory.
+/// Returns the line of a fault that names no file, without a line feed. For a fault of a run it is that of refused
+/// memory.
 pub fn line_of_own(fault: &CallFault) -> &'static str
     ensures { result.now ≡ own_line fault.now }
 {

@@ -1,4 +1,4 @@
-//! Running what a call asks for, in a world that is new.
+//! Running what a call asks for, in a new world.
 ghost use Rattle.std.specs.Prelude.{◌≡◌, [], map, IfOk, IfErr, OnOk};
 ghost use Rattle.gk_world.specs.Sandbox.{depth, new_sandbox};
 ghost use Rattle.gk_cli.specs.RunFault.{IsUnread};
@@ -18,7 +18,7 @@ use gk_world::{Sandbox, WorldFault};
 use std::alloc::Global;
 use std::io::Write;
 
-// Runs what was read. Where the writer failed, so did a growth of memory: a `Vec` takes every byte that there is
+// Runs what was read. If the writer failed, a growth of memory was refused: a `Vec` takes every byte that there is
 // memory for.
 fn run_read<W: Write>(
     alloc: Global,
@@ -58,7 +58,7 @@ fn put_variable(sandbox: &mut Sandbox, variable: &Named) -> Result<(), CallFault
     }
 }
 
-// Puts the variables into the sandbox, in order; of equal names the last counts.
+// Puts the variables into the sandbox, in order. If a name occurs more than once, the last one counts.
 fn put_variables(sandbox: &mut Sandbox, variables: &[Named]) -> Result<(), CallFault>
     ensures { SaysPut (map variable_named variables.now) sandbox.old sandbox.new result }
 {
@@ -71,7 +71,7 @@ fn put_variables(sandbox: &mut Sandbox, variables: &[Named]) -> Result<(), CallF
     Ok(())
 }
 
-// What `run_fresh` does, in a sandbox that is new.
+// Does what `run_fresh` does, in a new sandbox.
 fn run_in<W: Write>(
     alloc: Global,
     sandbox: &mut Sandbox,
@@ -99,7 +99,7 @@ fn run_in<W: Write>(
     }
 }
 
-// Puts the variables into a world that is new, and runs what was read.
+// Puts the variables into a new world, and runs what was read.
 fn run_fresh<W: Write>(
     alloc: Global,
     variables: &[Named],
@@ -120,7 +120,7 @@ fn run_fresh<W: Write>(
     run_in(alloc, &mut sandbox, variables, read, out)
 }
 
-// Says a fault that names no file.
+// Reports a fault that names no file.
 fn say_own(fault: &CallFault, room: &mut [u8]) -> Answer
     ensures { IsNoReport (own_line fault.now) (status_of_call fault.now) (place_of_call fault.now)
         room.old room.new result }
@@ -128,7 +128,7 @@ fn say_own(fault: &CallFault, room: &mut [u8]) -> Answer
     fault_answer(fault.status(), fault.place(), line_of_own(fault), room)
 }
 
-// Says a fault of a run. Where there is no memory for its line, refused memory is said in its place.
+// Reports a fault of a run. If there is no memory for its line, reports refused memory instead.
 fn say_run(alloc: Global, read: &ReadCall, fault: RunFault, room: &mut [u8]) -> Answer
     ensures { IsFaultSaid read.now (Run fault) room.old room.new result }
 {
@@ -138,7 +138,7 @@ fn say_run(alloc: Global, read: &ReadCall, fault: RunFault, room: &mut [u8]) -> 
     }
 }
 
-// Says a fault of what was read.
+// Reports a fault of what was read.
 fn say_fault(alloc: Global, read: &ReadCall, fault: CallFault, room: &mut [u8]) -> Answer
     ensures { IsFaultSaid read.now fault room.old room.new result }
 {
@@ -148,7 +148,7 @@ fn say_fault(alloc: Global, read: &ReadCall, fault: CallFault, room: &mut [u8]) 
     }
 }
 
-// Says what a run ended with, of which `report` was written.
+// Reports how a run ended that wrote `report`.
 fn say_ended(
     alloc: Global,
     read: &ReadCall,
@@ -165,8 +165,8 @@ fn say_ended(
     }
 }
 
-// A buffer that takes a report as long as the caller's room without growing. Where there is no memory for it, one that
-// grows.
+// Returns a buffer that takes a report as long as the caller's room without growing. If there is no memory for it,
+// returns one that grows.
 fn buffer_for(alloc: Global, room: &[u8]) -> Vec<u8>
     ensures { result.items ≡ [] }
 {
@@ -176,7 +176,7 @@ fn buffer_for(alloc: Global, room: &[u8]) -> Vec<u8>
     }
 }
 
-// The answer to a call that was read.
+// Runs a call that was read, and returns its `Answer`.
 fn answer_read(alloc: Global, variables: &[Named], read: &ReadCall, room: &mut [u8]) -> Answer
     ensures { IsRunAnswer (map variable_named variables.now) read.now room.old room.new result }
 {
@@ -185,9 +185,9 @@ fn answer_read(alloc: Global, variables: &[Named], read: &ReadCall, room: &mut [
     say_ended(alloc, read, ended, out.inner().as_slice(), room)
 }
 
-/// The answer to a call: the report of what it asks for, or the first fault. Of faults, those of the call come
-/// first, then those of its variables, then that of the run. Where memory was refused, that may come in place of
-/// any other answer.
+/// Runs a call, and returns its `Answer`: the report of what it asks for, or the first fault. Faults of the call come
+/// first, then those of its variables, then that of the run. If memory was refused, that may be returned instead of
+/// any other result.
 pub fn answer_call(alloc: Global, call: &Call, room: &mut [u8]) -> Answer
     ensures { IsAnswer (call_value call.now) room.old room.new result }
 {

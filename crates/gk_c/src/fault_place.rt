@@ -1,28 +1,28 @@
-//! Where a fault is: its file and its line, as numbers.
+//! The place of a fault: its file and its line, as numbers.
 ghost use Rattle.std.specs.Prelude.{◌≡◌};
 ghost use Rattle.gk_c.specs.FaultPlace.{line_number, place_of_run};
 
 use gk_cli::RunFault;
 
-/// Where a fault is.
+/// The place of a fault.
 #[derive(Clone, Copy, Debug, PartialEq, Eq)]
 pub struct FaultPlace {
-    /// 1 is the library, 2 the hooks file, 3 a source, and 0 no file.
+    /// The file: 1 is the library, 2 the hooks file, 3 a source, and 0 no file.
     pub input: u8,
-    /// The place of a source among the sources, from 0; else 0.
+    /// If `input` is 3, the index of that source among the sources, from 0; otherwise 0.
     pub source: usize,
-    /// The line in the file; 0 is none.
+    /// The line in the file, or 0 for none.
     pub line: u32,
 }
 
-/// The place of what is in no file.
+/// The place of a fault in no file.
 pub const NOWHERE: FaultPlace = FaultPlace {
     input: 0,
     source: 0,
     line: 0,
 };
 
-// A line as a number; 0 where there is none.
+// Returns a line as a number, or 0 for none.
 fn number_of(line: Option<u32>) -> u32
     ensures { result ≡ line_number line }
 {
@@ -32,7 +32,7 @@ fn number_of(line: Option<u32>) -> u32
     }
 }
 
-/// Where a fault of a run is.
+/// Returns the place of a fault of a run.
 pub fn place_of(fault: &RunFault) -> FaultPlace
     ensures { result ≡ place_of_run fault.now }
 {

@@ -1,5 +1,5 @@
-//! A run for callers in C. What a call hands over comes in, as texts with their lengths; as much of the report as
-//! there is room for goes out, or one line that says why there is none, with the status.
+//! Running feature files from C. A call takes texts with their lengths. It writes the report, as far as there is
+//! room, or one line that says why there is none. Its `Answer` has the status.
 #![tactic(auto)]
 
 ghost use Rattle.std.specs.Prelude.{◌≡◌, length};
@@ -19,12 +19,13 @@ pub use call::{Call, Named, Text};
 use called_run::answer_call;
 use std::alloc::Global;
 
-/// Runs the feature files that are handed over, in a world that is new: the variables are put into it, the hooks
-/// run around the run, its features, rules and scenarios, and the steps are those of the library, or of the default
-/// library where none is given. The text is the report, or, where there is none, one line without a line feed that
-/// says why. As much of it as there is room for is written over the beginning of `room`, and the rest of `room`
-/// stays as it was; `Answer::length` says how long the whole text is, so a second call with as much room gives all
-/// of it. Nothing of a call is kept for the next one.
+/// Runs the feature files of a call in a new world. The variables are put into it, and the hooks run around the run,
+/// its features, rules and scenarios. The steps are those of the library, or of the default library if none is given.
+///
+/// The text is the report, or, if there is none, one line without a line feed that says why. As much of the text as
+/// there is room for is written over the beginning of `room`, and the rest of `room` stays as it was.
+/// `Answer::length` is the length of the whole text, so a second call with that much room gets all of it. Nothing of
+/// a call is kept for the next one.
 #[unsafe(no_mangle)]
 pub extern "C" fn gherkin_run(alloc: Global, call: &Call, room: &mut [u8], answer: &mut Answer)
     ensures { IsAnswer (call_value call.now) room.old room.new answer.new }
@@ -32,8 +33,8 @@ pub extern "C" fn gherkin_run(alloc: Global, call: &Call, room: &mut [u8], answe
     *answer = answer_call(alloc, call, room);
 }
 
-/// The version of the library, as a text, of which as much as there is room for is written over the beginning of
-/// `room`. The answer is how long the whole text is.
+/// Writes the version of the library over the beginning of `room`, as far as there is room, and returns the length of
+/// the whole text.
 #[unsafe(no_mangle)]
 pub extern "C" fn gherkin_run_version(room: &mut [u8]) -> usize
     ensures count { result ≡ length version }

@@ -13,7 +13,7 @@ abbrev pub fence_text : Fence → List ℕ
 fence_text Quotes = codes "\"\"\""
 fence_text Backticks = codes "```"
 
--- Whether a text begins with one of some words.
+-- Whether a text begins with any of these words.
 abbrev pub begins_with_one : List ℕ → List (List ℕ) → Bool
 begins_with_one text words = list_any (begins text) words
 
@@ -41,11 +41,11 @@ examples_keywords = codes "Examples:" ∷ codes "Scenarios:" ∷ []
 abbrev pub step_keywords : List (List ℕ)
 step_keywords = codes "Given" ∷ codes "When" ∷ codes "Then" ∷ codes "And" ∷ codes "But" ∷ codes "*" ∷ []
 
--- Whether a text begins with a step keyword that a blank follows.
+-- Whether a text begins with a step keyword followed by a space or a tab.
 abbrev pub begins_as_step : List ℕ → Bool
 begins_as_step text = list_any (λ word. begins text word && is_blank (slice_index text (length word))) step_keywords
 
--- The class of a trimmed text that is neither blank, comment nor tags: headings, steps, rows and fences, the first that fits.
+-- The class of a trimmed text that isn't empty, a comment or tags: the first that fits of headings, steps, rows and fences.
 unfoldable pub class_of_words : List ℕ → Class
 class_of_words text =
     if begins_with_one text feature_keywords then FeatureHeading else
@@ -58,14 +58,14 @@ class_of_words text =
     (if begins text (fence_text Quotes) then FenceLine Quotes else
     (if begins text (fence_text Backticks) then FenceLine Backticks else Other))))))))
 
--- The class of a trimmed text, the first that fits.
+-- The class of a trimmed text: the first that fits.
 unfoldable pub class_of : List ℕ → Class
 class_of text =
     if length text == 0 then Blank else
     (if begins text (codes "#") then Comment else
     (if begins text (codes "@") then TagLine else class_of_words text))
 
--- The class of a line is that of its trimmed text.
+-- The class of a line: that of its trimmed text.
 unfoldable pub class : LineValue → Class
 class line = class_of (trim line.text)
 
@@ -73,18 +73,18 @@ class line = class_of (trim line.text)
 abbrev pub is_colon : ℕ → Bool
 is_colon b = b == 58
 
--- A heading's keyword: what stands before the first colon. (Cucumber's Gherkin reference: keywords)
+-- A heading's keyword: the part of the trimmed line before its first colon. (Cucumber's Gherkin reference: keywords)
 unfoldable pub heading_keyword : LineValue → List ℕ
 heading_keyword line = before_first is_colon (trim line.text)
 
--- A heading's name: the trimmed rest after the first colon. (Cucumber's Gherkin reference: keywords)
+-- A heading's name: the part of the line after its first colon, trimmed. (Cucumber's Gherkin reference: keywords)
 unfoldable pub heading_name : LineValue → List ℕ
 heading_name line = trim (after_first is_colon (trim line.text))
 
--- A step's keyword: what stands before the first blank. (Cucumber's Gherkin reference: steps)
+-- A step's keyword: the part of the trimmed line before its first space or tab. (Cucumber's Gherkin reference: steps)
 unfoldable pub step_keyword : LineValue → List ℕ
 step_keyword line = before_first is_blank (trim line.text)
 
--- A step's text: the trimmed rest after the first blank. (Cucumber's Gherkin reference: steps)
+-- A step's text: the part of the trimmed line after its first space or tab, trimmed again. (Cucumber's Gherkin reference: steps)
 unfoldable pub step_text : LineValue → List ℕ
 step_text line = trim (after_first is_blank (trim line.text))

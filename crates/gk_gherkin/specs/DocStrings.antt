@@ -17,17 +17,17 @@ abbrev pub escaped_fence : Fence → List ℕ
 escaped_fence Quotes = codes "\\\"\\\"\\\""
 escaped_fence Backticks = codes "\\`\\`\\`"
 
--- A text with each escaped fence read as that fence, from left to right; the first skip bytes, which belong to one that was read, are left out. (Cucumber's Gherkin reference: doc strings)
+-- A text with each escaped fence read as that fence, from left to right. The first `skip` bytes are left out; they belong to an escaped fence that was read. (Cucumber's Gherkin reference: doc strings)
 abbrev pub fences_read : Fence → ℕ → List ℕ → List ℕ
 fences_read fence skip [] = []
 fences_read fence (suc skip) (b ∷ bs) = fences_read fence skip bs
 fences_read fence zero (b ∷ bs) =
     if begins (b ∷ bs) (escaped_fence fence) then fence_text fence ++ fences_read fence 5 bs else b ∷ fences_read fence zero bs
 
--- A content line without as many leading blanks as stand before the opening fence, or as there are, and with its escaped fences read. (Cucumber's Gherkin reference: doc strings)
+-- A content line without its leading spaces and tabs, at most `indent` of them, and with its escaped fences read. `indent` is their number before the opening fence. (Cucumber's Gherkin reference: doc strings)
 unfoldable pub content_of : Fence → ℕ → LineValue → List ℕ
 content_of fence indent line = fences_read fence 0 (drop (min indent (prefix_len is_blank line.text)) line.text)
 
--- The text of the content lines after an opening line: joined by LF, with none at the end. (Cucumber's Gherkin reference: doc strings)
+-- The text of the content lines after an opening line, joined by LF, without one at the end. (Cucumber's Gherkin reference: doc strings)
 unfoldable pub doc_string : Fence → LineValue → Lines → List ℕ
 doc_string fence opening content = join_with_byte 10 (map (content_of fence (opening.column - 1)) content)

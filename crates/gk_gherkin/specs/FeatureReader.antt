@@ -1,4 +1,4 @@
--- Proof machinery: the reader of a feature file, and what each line adds. No public contract cites it.
+-- Proof machinery: the reader of a feature file, and the effect of each line. No public contract cites it.
 pub mod Views
 use Rattle.std.specs.Prelude.{codes, ◌≡◌, ℕ, Bool, true, false, if◌then◌else◌, List, [], ◌∷◌, ◌++◌, Option, Some, None, Result, Ok, Err}
 use Rattle.std.specs.Str.{bytes_eq}
@@ -21,34 +21,34 @@ pub data Top : Type 0 where
   OfFeature : HeadValue → Top
   OfRule : FeatureValue → HeadValue → Top
 
--- Above the feature's heading, or in the feature: the open heading, and the open part under it.
+-- The state above the feature's heading, or in the feature, with the open heading and the open part under it.
 pub data OpenFeature : Type 0 where
   Above : OpenFeature
   InFeature : Top → Open → OpenFeature
 
--- A rule of this heading and these parts.
+-- A rule with this heading and these children.
 abbrev pub rule_of : HeadValue → ChildrenValue → RuleValue
 rule_of head children = record { name = head.name; line = head.line; tags = head.tags; background = children.background; scenarios = children.scenarios }
 
--- A feature with one rule more.
+-- A feature with one more rule.
 abbrev pub with_rule : FeatureValue → RuleValue → FeatureValue
 with_rule f rule = record { name = f.name; line = f.line; tags = f.tags; background = f.background; scenarios = f.scenarios; rules = f.rules ++ rule ∷ [] }
 
--- The feature that an open heading and its parts close.
+-- The feature that ends with an open heading and its children.
 abbrev pub feature_of : Top → ChildrenValue → FeatureValue
 feature_of (OfFeature head) children = record { name = head.name; line = head.line; tags = head.tags; background = children.background; scenarios = children.scenarios; rules = [] }
 feature_of (OfRule f head) children = with_rule f (rule_of head children)
 
--- An Examples heading after this scenario, if it is one.
+-- The state after an Examples heading that follows this scenario, or the heading's fault if there is no scenario.
 abbrev pub examples_after : Option OutlineValue → Top → List (List ℕ) → LineValue → Result OpenFeature ReadFault
 examples_after (Some outline) top tags line = Ok (InFeature top (InExamples outline.children outline.scenario (head_from tags line) NoRows))
 examples_after None top tags line = Err (Unexpected line.line)
 
--- The same after an open part.
+-- The same, after an open part.
 abbrev pub examples_in : Open → Top → List (List ℕ) → LineValue → Result OpenFeature ReadFault
 examples_in part top tags line = examples_after (outline_of part) top tags line
 
--- A heading that takes tags, after these tags.
+-- The state after a heading that takes tags, with these tags, or its fault.
 unfoldable pub on_heading : OpenFeature → List (List ℕ) → LineValue → Class → Result OpenFeature ReadFault
 on_heading Above tags line FeatureHeading = Ok (InFeature (OfFeature (head_from tags line)) InDescription)
 on_heading Above tags line _ = Err (Unexpected line.line)
@@ -57,41 +57,41 @@ on_heading (InFeature top part) tags line ScenarioHeading = Ok (InFeature top (I
 on_heading (InFeature top part) tags line ExamplesHeading = examples_after (outline_of part) top tags line
 on_heading (InFeature top part) tags line _ = Err (Unexpected line.line)
 
--- A line that takes no tags.
+-- The state after a line that takes no tags, or its fault.
 unfoldable pub on_line : OpenFeature → LineValue → Class → Result OpenFeature ReadFault
 on_line Above line class = Err (Unexpected line.line)
 on_line (InFeature top part) line class = on_open part line class >>= λ next. Ok (InFeature top next)
 
--- After no tags, or after tags, the last of them on this line.
+-- A reader after no tags, or after tags, with the line of the last of them.
 pub data FeatureReader : Type 0 where
   Untagged : OpenFeature → FeatureReader
   Tagged : OpenFeature → List (List ℕ) → ℕ → FeatureReader
 
--- The reader after no tags.
+-- The reader after no tags, or the fault.
 abbrev pub without_tags : Result OpenFeature ReadFault → Result FeatureReader ReadFault
 without_tags (Ok feature) = Ok (Untagged feature)
 without_tags (Err e) = Err e
 
--- A tag line after these tags, with the tags that it spells.
+-- The reader after a tag line, given the tags of the line and those before it, or the line's fault.
 abbrev pub tag_line : Option (List (List ℕ)) → OpenFeature → List (List ℕ) → LineValue → Result FeatureReader ReadFault
 tag_line (Some more) feature tags line = Ok (Tagged feature (tags ++ more) line.line)
 tag_line None feature tags line = Err (BadTag line.line)
 
--- A tag line after these tags, with the tags that the line itself spells.
+-- The reader after a tag line, given the tags before it, or the line's fault.
 abbrev pub on_tags : OpenFeature → List (List ℕ) → LineValue → Result FeatureReader ReadFault
 on_tags feature tags line = tag_line (tags_of line) feature tags line
 
--- A comment that names a language, or none, where no other language may be named.
+-- The reader after a comment that names this language or none, if only English is allowed; or the comment's fault.
 abbrev pub by_language : Option (List ℕ) → FeatureReader → LineValue → Result FeatureReader ReadFault
 by_language None reader line = Ok reader
 by_language (Some word) reader line = if bytes_eq word (codes "en") then Ok reader else Err (Language line.line)
 
--- A comment, which above the feature may name no other language.
+-- The reader after a comment. Above the feature, naming a language other than English is a fault.
 abbrev pub on_comment : OpenFeature → FeatureReader → LineValue → Result FeatureReader ReadFault
 on_comment Above reader line = by_language (language_of line) reader line
 on_comment (InFeature top part) reader line = Ok reader
 
--- A line of this class.
+-- The reader after a line of this class, or the line's fault.
 unfoldable pub on : FeatureReader → LineValue → Class → Result FeatureReader ReadFault
 on (Untagged feature) line Blank = Ok (Untagged feature)
 on (Untagged feature) line Comment = on_comment feature (Untagged feature) line
@@ -106,7 +106,7 @@ on (Tagged feature tags last) line Comment = on_comment feature (Tagged feature 
 on (Tagged feature tags last) line TagLine = tag_line (tags_of line) feature tags line
 on (Tagged feature tags last) line class = without_tags (on_heading feature tags line class)
 
--- Whether a doc string may stand there.
+-- Whether a doc string is allowed there.
 abbrev pub takes_text : FeatureReader → Bool
 takes_text (Untagged Above) = false
 takes_text (Untagged (InFeature top part)) = open_takes_text part
@@ -122,17 +122,17 @@ abbrev pub after_text : FeatureReader → List ℕ → FeatureReader
 after_text (Untagged feature) text = Untagged (with_text feature text)
 after_text (Tagged feature tags last) text = Tagged feature tags last
 
--- The feature, where there is one.
+-- The feature, if there is one.
 abbrev pub feature_in : OpenFeature → Option FeatureValue
 feature_in Above = None
 feature_in (InFeature top part) = Some (feature_of top (children_of part))
 
--- What the lines say that end there.
+-- What the file says if the lines end there.
 abbrev pub answer : FeatureReader → Result (Option FeatureValue) ReadFault
 answer (Untagged feature) = Ok (feature_in feature)
 answer (Tagged feature tags last) = Err (TagsAtEnd last)
 
--- Above the feature only a line that begins with a tag and a feature's heading need memory.
+-- Above the feature, only a line that begins with a tag and a feature's heading need memory.
 abbrev pub NeedsAt : OpenFeature → LineValue → Class → Type 0
 NeedsAt Above line TagLine = BeginsWithTag line
 NeedsAt Above line FeatureHeading = Unit {0}
@@ -149,6 +149,6 @@ abbrev pub NeedsAtEnd : FeatureReader → Type 0
 NeedsAtEnd (Untagged (InFeature top part)) = Unit {0}
 NeedsAtEnd _ = ⊥
 
--- How a feature file is read.
+-- The functions that read a feature file.
 abbrev pub feature_readers : Readers FeatureReader (Option FeatureValue)
 feature_readers = record { first = Untagged Above; after_line = λ reader line. on reader line (class line); takes_text = takes_text; after_text = after_text; answer = answer; needs = λ reader line. Needs reader line (class line); needs_at_end = NeedsAtEnd }

@@ -1,5 +1,5 @@
--- The grammar of a feature file. Each part is a relation between the lines from its beginning on, what the part says, and the lines after it.
--- Blank lines and comments stand freely before, between and after the pieces of a part, but not in a doc string, where every line is content.
+-- The grammar of a feature file. Each part is a relation between three things: the lines from its beginning on, what the part says, and the lines after it.
+-- Blank lines and comments are allowed before, between and after the pieces of a part. In a doc string every line is content.
 use Rattle.std.specs.Prelude.{◌≡◌, ◌↔◌, ◌⊎◌, ℕ, true, false, List, [], ◌∷◌, ◌++◌, length, map, Option, Some, None}
 use Rattle.std.specs.List.{AllByRecursion}
 use Rattle.gk_gherkin.specs.Lines.{LineValue, Lines}
@@ -14,17 +14,17 @@ use Rattle.gk_gherkin.specs.Language.{language_of, IsEnglishOrNone}
 use Rattle.gk_gherkin.specs.StepTypes.{AreTyped}
 use Rattle.gk_gherkin.specs.Feature.{BlockValue, Empty, Text, Table, StepValue, RowValue, ExamplesValue, BackgroundValue, ScenarioValue, RuleValue, FeatureValue, ContainerValue, rule_container, feature_container}
 
--- The classes of lines that say nothing: blank lines and comments. (Cucumber's Gherkin reference: comments)
+-- The classes of ignored lines: blank lines and comments. (Cucumber's Gherkin reference: comments)
 abbrev pub IsIgnoredClass : Class → Type 0
 IsIgnoredClass Blank = Unit {0}
 IsIgnoredClass Comment = Unit {0}
 IsIgnoredClass _ = ⊥
 
--- A line that says nothing. (Cucumber's Gherkin reference: comments)
+-- An ignored line: a blank line or a comment. (Cucumber's Gherkin reference: comments)
 abbrev pub IsIgnored : LineValue → Type 0
 IsIgnored line = IsIgnoredClass (class line)
 
--- Above the Feature line a comment names no language other than English. (Cucumber's Gherkin reference: spoken languages)
+-- A line that is ignored above the Feature line. A comment there names no language other than English. (Cucumber's Gherkin reference: spoken languages)
 abbrev pub IsIgnoredAbove : LineValue → Type 0
 IsIgnoredAbove line = IsIgnored line × IsEnglishOrNone (language_of line)
 
@@ -33,44 +33,44 @@ pub data Skips (Ignored : LineValue → Type 0) : Lines → Lines → Type 0 whe
   skip_none : {ls : Lines} → Skips Ignored ls ls
   skip : {l : LineValue} {ls rest : Lines} → Ignored l → Skips Ignored ls rest → Skips Ignored (l ∷ ls) rest
 
--- One line, after any number of ignored ones.
+-- One line, after any number of ignored lines.
 abbrev pub Next : (LineValue → Type 0) → Lines → LineValue → Lines → Type 0
 Next Ignored ls line rest = Skips Ignored ls (line ∷ rest)
 
--- X*: parts of one shape, one after the other.
+-- X*: any number of parts of one shape, one after another.
 pub data Many {A : Type 0} (Part : Lines → A → Lines → Type 0) : Lines → List A → Lines → Type 0 where
   none : {ls : Lines} → Many Part ls [] ls
   more : {ls mid rest : Lines} {x : A} {xs : List A} → Part ls x mid → Many Part mid xs rest → Many Part ls (x ∷ xs) rest
 
--- A part, or nothing: [X].
+-- [X]: a part, or nothing.
 abbrev pub Perhaps : {A : Type 0} → (Lines → A → Lines → Type 0) → Lines → Option A → Lines → Type 0
 Perhaps Part ls None rest = ls ≡ rest
 Perhaps Part ls (Some x) rest = Part ls x rest
 
--- A tag line, each word of which is a tag. (Cucumber's Gherkin reference: tags)
+-- A tag line whose words before any comment are all tags. (Cucumber's Gherkin reference: tags)
 pub record IsTagLine (Ignored : LineValue → Type 0) (ls : Lines) (tags : List (List ℕ)) (rest : Lines) : Type 0 where
   pub line : LineValue
   pub next : Next Ignored ls line rest
   pub is : class line ≡ TagLine
   pub words : tags_of line ≡ Some tags
 
--- Tags = tags*: any number of tag lines, whose tags are joined. (Cucumber's Gherkin reference: tags)
+-- Tags = tags*: any number of tag lines, with their tags joined. (Cucumber's Gherkin reference: tags)
 pub data AreTags (Ignored : LineValue → Type 0) : Lines → List (List ℕ) → Lines → Type 0 where
   untagged : {ls : Lines} → AreTags Ignored ls [] ls
   tagged : {ls mid rest : Lines} {some others : List (List ℕ)} → IsTagLine Ignored ls some mid → AreTags Ignored mid others rest → AreTags Ignored ls (some ++ others) rest
 
--- A heading of a class. (Cucumber's Gherkin reference: keywords)
+-- A heading of the class `kind`. (Cucumber's Gherkin reference: keywords)
 pub record IsHeading (Ignored : LineValue → Type 0) (kind : Class) (ls : Lines) (line : LineValue) (rest : Lines) : Type 0 where
   pub next : Next Ignored ls line rest
   pub is : class line ≡ kind
 
--- A heading of a class, with the tags that stand above it. (Cucumber's Gherkin reference: tags)
+-- A heading of the class `kind`, with the tags above it. (Cucumber's Gherkin reference: tags)
 pub record IsTaggedHeading (Ignored : LineValue → Type 0) (kind : Class) (ls : Lines) (tags : List (List ℕ)) (line : LineValue) (rest : Lines) : Type 0 where
   pub after_tags : Lines
   pub above : AreTags Ignored ls tags after_tags
   pub heading : IsHeading Ignored kind after_tags line rest
 
--- DescA: what may stand in the description of a feature or a rule. (Cucumber's Gherkin reference: descriptions)
+-- DescA: the classes of lines allowed in the description of a feature or a rule. (Cucumber's Gherkin reference: descriptions)
 abbrev pub MayDescribeFeature : Class → Type 0
 MayDescribeFeature StepLine = Unit {0}
 MayDescribeFeature RowLine = Unit {0}
@@ -78,21 +78,21 @@ MayDescribeFeature (FenceLine fence) = Unit {0}
 MayDescribeFeature Other = Unit {0}
 MayDescribeFeature _ = ⊥
 
--- DescB: what may stand in the description of a background or a scenario. (Cucumber's Gherkin reference: descriptions)
+-- DescB: the classes of lines allowed in the description of a background or a scenario. (Cucumber's Gherkin reference: descriptions)
 abbrev pub MayDescribeScenario : Class → Type 0
 MayDescribeScenario RowLine = Unit {0}
 MayDescribeScenario (FenceLine fence) = Unit {0}
 MayDescribeScenario Other = Unit {0}
 MayDescribeScenario _ = ⊥
 
--- DescC: what may stand in the description of examples. (Cucumber's Gherkin reference: descriptions)
+-- DescC: the classes of lines allowed in the description of examples. (Cucumber's Gherkin reference: descriptions)
 abbrev pub MayDescribeExamples : Class → Type 0
 MayDescribeExamples StepLine = Unit {0}
 MayDescribeExamples (FenceLine fence) = Unit {0}
 MayDescribeExamples Other = Unit {0}
 MayDescribeExamples _ = ⊥
 
--- A description: any number of lines of classes that may stand in it, which aren't kept. A fence opens nothing here. (Cucumber's Gherkin reference: descriptions)
+-- A description: any number of lines of the classes allowed in it. Its lines aren't kept, and a fence opens nothing here. (Cucumber's Gherkin reference: descriptions)
 pub data Describes (May : Class → Type 0) : Lines → Lines → Type 0 where
   described : {ls : Lines} → Describes May ls ls
   describe : {l : LineValue} {ls mid rest : Lines} → Next IsIgnored ls l mid → May (class l) → Describes May mid rest → Describes May ls rest
@@ -105,7 +105,7 @@ pub record IsRow (ls : Lines) (row : RowValue) (rest : Lines) : Type 0 where
   pub number : row.line ≡ line.line
   pub cells : cells_of line ≡ Some row.cells
 
--- All rows have as many cells as the first, and there is a first.
+-- There is at least one row, and all rows have the same number of cells.
 abbrev pub AreOfOneWidth : List RowValue → Type 0
 AreOfOneWidth [] = ⊥
 AreOfOneWidth (first ∷ others) = AllByRecursion (λ (row : RowValue). length row.cells ≡ length first.cells) others
@@ -115,7 +115,7 @@ pub record IsTable (ls : Lines) (rows : List RowValue) (rest : Lines) : Type 0 w
   pub lines : Many IsRow ls rows rest
   pub width : AreOfOneWidth rows
 
--- A doc string: fence content* fence. From its opening fence to the first line that closes it, every line is content. (Cucumber's Gherkin reference: doc strings)
+-- A doc string: fence content* fence. Every line between its opening fence and the first line that closes it is content. (Cucumber's Gherkin reference: doc strings)
 pub record IsDocString (ls : Lines) (text : List ℕ) (rest : Lines) : Type 0 where
   pub fence : Fence
   pub opening : LineValue
@@ -127,13 +127,13 @@ pub record IsDocString (ls : Lines) (text : List ℕ) (rest : Lines) : Type 0 wh
   pub closed : closes fence closing ≡ true
   pub says : text ≡ doc_string fence opening content
 
--- What may stand under a step: nothing, a table or a doc string. (Cucumber's Gherkin reference: step arguments)
+-- The block under a step: nothing, a table or a doc string. (Cucumber's Gherkin reference: step arguments)
 abbrev pub IsBlock : Lines → BlockValue → Lines → Type 0
 IsBlock ls Empty rest = ls ≡ rest
 IsBlock ls (Text text) rest = IsDocString ls text rest
 IsBlock ls (Table cells) rest = (rows : List RowValue) × IsTable ls rows rest × (cells ≡ map (λ row. row.cells) rows)
 
--- A step's line, but for the type that it has among other steps. (Cucumber's Gherkin reference: steps)
+-- A step's line: its keyword, its text and its number. The step's type depends on the steps before it; see `AreSteps`. (Cucumber's Gherkin reference: steps)
 pub record IsStepLine (ls : Lines) (step : StepValue) (rest : Lines) : Type 0 where
   pub line : LineValue
   pub next : Next IsIgnored ls line rest
@@ -148,7 +148,7 @@ pub record IsStep (ls : Lines) (step : StepValue) (rest : Lines) : Type 0 where
   pub line : IsStepLine ls step after_line
   pub block : IsBlock after_line step.block rest
 
--- StepPart*: steps in a row, each with its type. (Cucumber's Gherkin reference: steps)
+-- StepPart*: consecutive steps, each with its type. (Cucumber's Gherkin reference: steps)
 pub record AreSteps (ls : Lines) (steps : List StepValue) (rest : Lines) : Type 0 where
   pub parts : Many IsStep ls steps rest
   pub types : AreTyped steps
@@ -163,7 +163,7 @@ pub record IsBackground (ls : Lines) (background : BackgroundValue) (rest : Line
   pub description : Describes MayDescribeScenario after_heading after_description
   pub steps : AreSteps after_description background.steps rest
 
--- What stands under an Examples heading, [row+]: the first row is the header. (Cucumber's Gherkin reference: examples)
+-- The table under an Examples heading, if there is one: [row+]. Its first row is the header. (Cucumber's Gherkin reference: examples)
 abbrev pub HasTable : Lines → List (List ℕ) → List RowValue → Lines → Type 0
 HasTable ls header rows rest =
     ((header ≡ []) × (rows ≡ []) × (ls ≡ rest))
@@ -194,7 +194,7 @@ pub record IsScenario (ls : Lines) (scenario : ScenarioValue) (rest : Lines) : T
   pub steps : AreSteps after_description scenario.steps after_steps
   pub examples : Many AreExamples after_steps scenario.examples rest
 
--- Tags Heading DescA [Back] Scen*: a container under a heading of a class. (Cucumber's Gherkin reference: feature, rule)
+-- Tags Heading DescA [Back] Scen*: a container under a heading of the class `kind`. (Cucumber's Gherkin reference: feature, rule)
 pub record IsContainer (Ignored : LineValue → Type 0) (kind : Class) (ls : Lines) (container : ContainerValue) (rest : Lines) : Type 0 where
   pub line : LineValue
   pub after_heading : Lines
@@ -222,11 +222,11 @@ abbrev pub Reads : Lines → Option FeatureValue → Type 0
 Reads ls None = Skips IsIgnoredAbove ls []
 Reads ls (Some feature) = (tail : Lines) × IsFeature ls feature tail × Skips IsIgnored tail []
 
--- A list of lines is readable where it has a reading.
+-- A readable list of lines: it has a reading.
 abbrev pub IsReadable : Lines → Type 0
 IsReadable ls = (feature : Option FeatureValue) × Reads ls feature
 
--- The relations say concatenation: a part leads from some lines to a rest exactly where the lines are some lines of its own and then that rest, and the part leads from its own lines to nothing.
+-- Reading a part is concatenation: `Part` leads from `ls` to `rest` exactly if `ls` is some lines `own` followed by `rest`, and `Part` leads from `own` to no lines.
 abbrev pub IsConcatenation : {A : Type 0} → (Lines → A → Lines → Type 0) → Type 0
 IsConcatenation {A} Part = (ls rest : Lines) (x : A) → Part ls x rest ↔ ((own : Lines) × (ls ≡ own ++ rest) × Part own x [])
 

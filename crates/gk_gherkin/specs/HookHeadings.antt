@@ -13,11 +13,11 @@ use Rattle.gk_gherkin.specs.Class.{class, is_colon}
 use Rattle.gk_gherkin.specs.Text.{begins}
 use Rattle.gk_gherkin.specs.Tags.{is_tag}
 
--- The class of a line in a hooks file: a hook line, which begins with `before_` or `after_`, or that of any other line.
+-- The class of a line in a hooks file: a hook line if its trimmed text begins with `before_` or `after_`, and otherwise the line's class in a feature file.
 unfoldable pub hooks_class : LineValue → HooksClass
 hooks_class line = if begins (trim line.text) (codes "before_") || begins (trim line.text) (codes "after_") then HookLine else Plain (class line)
 
--- What a hook's heading says: its kind, and the tag that it is for, where its kind has one. (behave's documentation: environment file functions)
+-- The contents of a hook's heading: its kind, and the tag that it is for, if its kind has one. (behave's documentation: environment file functions)
 pub record HookHeadingValue : Type 0 where
   pub kind : HookKind
   pub tag : Option (List ℕ)
@@ -35,7 +35,7 @@ plain_headings =
     ∷ record { text = codes "before_rule:"; kind = BeforeRule } ∷ record { text = codes "after_rule:"; kind = AfterRule }
     ∷ record { text = codes "before_scenario:"; kind = BeforeScenario } ∷ record { text = codes "after_scenario:"; kind = AfterScenario } ∷ []
 
--- The heading without a tag that a text is.
+-- The heading that a text spells, if it is one without a tag.
 abbrev pub plain_heading : List ℕ → Option HookHeadingValue
 plain_heading text = option_map (λ (h : PlainHeading). record { kind = h.kind; tag = None }) (find (λ (h : PlainHeading). bytes_eq text h.text) plain_headings)
 
@@ -43,30 +43,30 @@ plain_heading text = option_map (λ (h : PlainHeading). record { kind = h.kind; 
 abbrev pub plain : HookKind → HookHeadingValue
 plain kind = record { kind = kind; tag = None }
 
--- The text, where it is a tag without blanks.
+-- The text, if it is a tag without spaces and tabs.
 abbrev pub tag_alone : List ℕ → Option (List ℕ)
 tag_alone text = if is_tag text && list_all (λ b. not (is_blank b)) text then Some text else None
 
--- The tag that stands in a text between a word with at least one blank after it and the colon at the text's end.
+-- The tag in a text between a word followed by at least one space or tab and the colon at the text's end.
 abbrev pub tag_between : List ℕ → List ℕ → Option (List ℕ)
 tag_between word text =
     if begins text word && (is_blank (slice_index text (length word)) && ends_with nat_eq text (codes ":"))
     then tag_alone (trim_front (before_last is_colon (drop (length word) text))) else None
 
--- The heading with a tag that a text is, where it begins with this word.
+-- The heading with a tag that a text spells, if it is one that begins with this word.
 abbrev pub tag_heading : List ℕ → HookKind → List ℕ → Option HookHeadingValue
 tag_heading word kind text = option_map (λ tag. record { kind = kind; tag = Some tag }) (tag_between word text)
 
--- The first of two answers that there is.
+-- The first of two options, or the second if the first is `None`.
 abbrev pub or_else : {A : Type 0} → Option A → Option A → Option A
 or_else None other = other
 or_else (Some x) other = Some x
 
--- The heading that a line is: one of those without a tag, or `before_tag` or `after_tag`, blanks, a tag and a colon; none for any other text. (behave's documentation: environment file functions)
+-- The heading that a line spells: one without a tag, or `before_tag` or `after_tag`, at least one space or tab, a tag and a colon; `None` for any other text. (behave's documentation: environment file functions)
 unfoldable pub hook_heading : LineValue → Option HookHeadingValue
 hook_heading line = or_else (plain_heading (trim line.text))
     (or_else (tag_heading (codes "before_tag") BeforeTag (trim line.text)) (tag_heading (codes "after_tag") AfterTag (trim line.text)))
 
--- What a `HookHeading` says. Proof machinery.
+-- The value of a `HookHeading`. Proof machinery.
 abbrev pub heading_value : HookHeading → HookHeadingValue
 heading_value h = record { kind = h.kind; tag = option_map (λ t. t.now) h.tag }

@@ -1,4 +1,4 @@
--- Where an index lists the hooks of a file, by their tags.
+-- The positions at which an index lists the hooks of a file, by their tags.
 use Rattle.std.specs.Prelude.{◌≡◌, ◌==◌, ◌≤◌, ◌<◌, ℕ, Bool, true, List, [], length, slice_get, Vec, String, Option, Some, None, option_map}
 use Rattle.std.specs.Option.{option_map_or}
 use Rattle.std.specs.List.{list_any}
@@ -8,28 +8,28 @@ use Rattle.std.specs.declared.alloc.Global.{Global}
 use Rattle.gk_gherkin.specs.declared.hooks.Hook.{Hook}
 use Rattle.gk_gherkin.specs.declared.hook_index.HookIndex.{HookIndex}
 
--- Whether a number is among some.
+-- Whether a number is in a list.
 abbrev pub is_among : ℕ → List ℕ → Bool
 is_among n ns = list_any (λ k. n == k) ns
 
--- The positions under a tag.
+-- The positions listed under a tag.
 abbrev pub positions_under : BTreeMap (String Global) (Vec ℕ Global) → List ℕ → List ℕ
 positions_under tagged tag = option_map_or (λ (positions : Vec ℕ Global). positions.items) (get_by_text tagged tag) []
 
--- The positions of the hooks for a tag, or of those without one.
+-- The positions of the hooks for a tag, or of those without a tag.
 abbrev pub positions_of : HookIndex → Option (List ℕ) → List ℕ
 positions_of index None = index.untagged.items
 positions_of index (Some tag) = positions_under index.tagged tag
 
--- Each of some hooks is listed by its tag, at its position.
+-- Each of these hooks is listed under its tag, at its position.
 abbrev pub AreListed : HookIndex → List Hook → Type 0
 AreListed index hooks = (position : ℕ) (hook : Hook) → slice_get hooks position ≡ Some hook → is_among position (positions_of index (option_map string_bytes hook.tag)) ≡ true
 
--- Proof machinery from here on: the same of those before a position.
+-- Proof machinery from here on: the same for the hooks before a position.
 abbrev pub AreListedTo : HookIndex → List Hook → ℕ → Type 0
 AreListedTo index hooks end = (position : ℕ) (hook : Hook) → position < end → slice_get hooks position ≡ Some hook → is_among position (positions_of index (option_map string_bytes hook.tag)) ≡ true
 
--- The least of the first of some positions whose hook passes a test, or how many hooks there are where none does.
+-- The least of the first `count` positions whose hook passes a test, or the number of hooks if none does.
 pub record IsFirst (test : Hook → Bool) (hooks : List Hook) (positions : List ℕ) (count first : ℕ) : Type 0 where
   pub within : first ≤ length hooks
   pub passes : (hook : Hook) → slice_get hooks first ≡ Some hook → test hook ≡ true

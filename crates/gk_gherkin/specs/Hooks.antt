@@ -1,4 +1,4 @@
--- What a hooks file says, without where it lies in memory. Texts are lists of bytes, tags stand with their `@`.
+-- The contents of a hooks file as plain values. Texts are lists of bytes, and tags include their `@`.
 use Rattle.std.specs.Prelude.{ℕ, Bool, true, false, ◌==◌, ◌&&◌, List, map, Option, Some, None, option_map}
 use Rattle.std.specs.Str.{bytes_eq}
 use Rattle.std.specs.String.{string_bytes}
@@ -15,15 +15,15 @@ pub record HookValue : Type 0 where
   pub line : ℕ
   pub steps : List StepValue
 
--- What a `Hook` says.
+-- The value of a `Hook`.
 abbrev pub hook_value : Hook → HookValue
 hook_value h = record { kind = h.kind; tag = option_map string_bytes h.tag; line = h.line; steps = map step_value h.steps.items }
 
--- What a `HookFile` says.
+-- The value of a `HookFile`.
 abbrev pub hooks_value : HookFile → List HookValue
 hooks_value file = map hook_value file.hooks.items
 
--- Where a kind stands among the kinds.
+-- The number of a kind among the kinds.
 abbrev pub number_of_kind : HookKind → ℕ
 number_of_kind BeforeAll = 0
 number_of_kind AfterAll = 1
@@ -40,13 +40,13 @@ number_of_kind AfterTag = 9
 abbrev pub is_same_kind : HookKind → HookKind → Bool
 is_same_kind a b = number_of_kind a == number_of_kind b
 
--- Whether two tags are the same, or both none.
+-- Whether two tags are the same, or both missing.
 abbrev pub is_same_tag : Option (List ℕ) → Option (List ℕ) → Bool
 is_same_tag None None = true
 is_same_tag None (Some b) = false
 is_same_tag (Some a) None = false
 is_same_tag (Some a) (Some b) = bytes_eq a b
 
--- Whether a hook is for this kind and this tag; with no tag, whether it is for this kind and has none.
+-- Whether a hook is for this kind and this tag. Without a tag: whether it is for this kind and has no tag.
 abbrev pub is_for : HookValue → HookKind → Option (List ℕ) → Bool
 is_for hook kind tag = is_same_kind hook.kind kind && is_same_tag hook.tag tag

@@ -1,4 +1,4 @@
--- The grammar of a hooks file, in the manner of that of a feature file.
+-- The grammar of a hooks file, written like that of a feature file.
 use Rattle.std.specs.Prelude.{◌≡◌, ◌≢◌, List, [], ◌∷◌, Some}
 use Rattle.std.specs.List.{AllByRecursion}
 use Rattle.gk_gherkin.specs.declared.hook_headings.HooksClass.TheVariants.{HookLine}
@@ -21,7 +21,7 @@ pub record IsHook (ls : Lines) (hook : HookValue) (rest : Lines) : Type 0 where
   pub number : hook.line ≡ line.line
   pub steps : AreSteps after_heading hook.steps rest
 
--- No heading stands twice.
+-- No two hooks have the same heading.
 abbrev pub AreDistinct : List HookValue → Type 0
 AreDistinct [] = Unit {0}
 AreDistinct (hook ∷ others) = AllByRecursion (λ other. heading_of other ≢ heading_of hook) others × AreDistinct others
@@ -33,10 +33,10 @@ pub record ReadsHooks (ls : Lines) (hooks : List HookValue) : Type 0 where
   pub end : Skips IsIgnored tail []
   pub distinct : AreDistinct hooks
 
--- A list of lines is readable as hooks where it has a reading.
+-- A list of lines that is readable as a hooks file: it has a reading.
 abbrev pub AreHooksReadable : Lines → Type 0
 AreHooksReadable ls = (hooks : List HookValue) × ReadsHooks ls hooks
 
--- No list of lines has two readings as hooks.
+-- No list of lines has two readings as a hooks file.
 abbrev pub HaveOneHooksReading : Type 0
 HaveOneHooksReading = (ls : Lines) (one other : List HookValue) → ReadsHooks ls one → ReadsHooks ls other → one ≡ other

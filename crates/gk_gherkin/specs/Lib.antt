@@ -1,4 +1,4 @@
--- What feature files and hooks files are, in reading order. A definition whose comment names no source is this project's profile, or a word that the others use.
+-- The specification of feature files and hooks files, in reading order. A definition whose comment names no source is this project's profile, or a term that the others use.
 pub mod Text
 pub mod Lines
 pub mod Class
@@ -15,7 +15,7 @@ pub mod HooksGrammar
 pub mod HookTable
 pub mod HookIndex
 pub mod ReadFault
--- Proof machinery: how lines are read one after the other.
+-- Proof machinery: how lines are read one after another.
 pub mod Results
 pub mod OpenParts
 pub mod Reading

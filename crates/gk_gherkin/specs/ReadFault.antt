@@ -1,4 +1,4 @@
--- What each fault of a feature file and of a hooks file says.
+-- The meaning of each fault of a feature file and of a hooks file.
 use Rattle.std.specs.Prelude.{codes, ◌≡◌, ◌≢◌, ℕ, true, false, ◌⊎◌, List, [], ◌∷◌, ◌++◌, length, Option, Some, None, IfSome, Result, Ok, Err}
 use Rattle.std.specs.List.{AllByRecursion}
 use Rattle.gk_gherkin.specs.declared.read_fault.ReadFault.{ReadFault}
@@ -18,7 +18,7 @@ use Rattle.gk_gherkin.specs.Hooks.{HookValue}
 use Rattle.gk_gherkin.specs.HookHeadings.{hooks_class, hook_heading}
 use Rattle.gk_gherkin.specs.HooksGrammar.{heading_of, ReadsHooks, AreHooksReadable}
 
--- The same is said of both grammars: Readable says which lists of lines have a reading, kind gives the class of a line there.
+-- Definitions for both grammars. `Readable` says which lists of lines have a reading, and `kind` gives the class of a line.
 module _ (Readable : Lines → Type 0) {C : Type 0} (kind : LineValue → C) where
   -- Some readable list begins with these lines.
   abbrev pub BeginsSome : Lines → Type 0
@@ -28,15 +28,15 @@ module _ (Readable : Lines → Type 0) {C : Type 0} (kind : LineValue → C) whe
   abbrev pub BeginsNone : Lines → Type 0
   BeginsNone ls = (more : Lines) → Readable (ls ++ more) → ⊥
 
-  -- Some line of the class of this one can stand after the lines before.
+  -- Some line of the class of this one can follow the lines before.
   abbrev pub SomeLikeIt : Lines → LineValue → Type 0
   SomeLikeIt before line = (other : LineValue) × (kind other ≡ kind line) × BeginsSome (before ++ other ∷ [])
 
-  -- No line of the class of this one can stand after the lines before.
+  -- No line of the class of this one can follow the lines before.
   abbrev pub NoneLikeIt : Lines → LineValue → Type 0
   NoneLikeIt before line = (other : LineValue) → kind other ≡ kind line → BeginsNone (before ++ other ∷ [])
 
-  -- A fault on line n: the lines before it are readable, alone or with one line more after them; those up to and with it begin no readable list; and the fault's own fact holds of it.
+  -- A fault on line `n`. The lines before it are readable, alone or with one more line after them. With line `n` they begin no readable list. The fault's own fact holds for line `n`.
   pub record StopsAt (ls : Lines) (n : ℕ) (Fault : Lines → LineValue → Type 0) : Type 0 where
     pub before : Lines
     pub line : LineValue
@@ -47,13 +47,13 @@ module _ (Readable : Lines → Type 0) {C : Type 0} (kind : LineValue → C) whe
     pub stops : BeginsNone (before ++ line ∷ [])
     pub fault : Fault before line
 
-  -- A row, where a row can stand, that isn't between two bars.
+  -- A row that isn't between two bars, in a place where rows are allowed.
   pub record IsBadRow (before : Lines) (line : LineValue) : Type 0 where
     pub is : class line ≡ RowLine
     pub fits : SomeLikeIt before line
     pub bad : cells_of line ≡ None
 
-  -- A row, where a row can stand, with another number of cells than each row that can stand there.
+  -- A row, in a place where rows are allowed, whose number of cells differs from that of each row allowed there.
   pub record IsOtherWidth (before : Lines) (line : LineValue) : Type 0 where
     pub is : class line ≡ RowLine
     pub fits : SomeLikeIt before line
@@ -63,7 +63,7 @@ module _ (Readable : Lines → Type 0) {C : Type 0} (kind : LineValue → C) whe
     pub wanted : (other : LineValue) → class other ≡ RowLine → BeginsSome (before ++ other ∷ []) → IfSome (cells_of other) (λ wanted. length wanted ≡ width)
     pub differs : length cells ≢ width
 
-  -- The lines end in a doc string that line n opened: those before it are readable, with it they aren't, and any line that closes it would make them all readable, but none stands there.
+  -- The lines end in a doc string that line `n` opened. The lines before it are readable, and with it they aren't. Any line that closes it would make all of them readable, but there is none.
   pub record EndsInDocString (ls : Lines) (n : ℕ) : Type 0 where
     pub before : Lines
     pub fence : Fence
@@ -78,13 +78,13 @@ module _ (Readable : Lines → Type 0) {C : Type 0} (kind : LineValue → C) whe
     pub unread : Readable ls → ⊥
     pub closed : (closing : LineValue) → closes fence closing ≡ true → Readable (ls ++ closing ∷ [])
 
--- A tag line, where one can stand, with a word that is no tag.
+-- A tag line with a word that isn't a tag, in a place where tag lines are allowed.
 pub record IsBadTag (before : Lines) (line : LineValue) : Type 0 where
   pub is : class line ≡ TagLine
   pub fits : SomeLikeIt IsReadable class before line
   pub bad : tags_of line ≡ None
 
--- A comment without a Feature line above it that names another language than English.
+-- A comment that names a language other than English, without a Feature line above it.
 pub record IsOtherLanguage (before : Lines) (line : LineValue) : Type 0 where
   pub is : class line ≡ Comment
   pub above : AllByRecursion (λ other. class other ≢ FeatureHeading) before
@@ -98,7 +98,7 @@ TakesTags ScenarioHeading = Unit {0}
 TakesTags ExamplesHeading = Unit {0}
 TakesTags _ = ⊥
 
--- The lines end after tag line n, blank lines and comments aside: a heading that takes tags would make them readable, and none stands there.
+-- The lines end after tag line `n`, apart from blank lines and comments. A heading that takes tags would make them readable, but there is none.
 pub record EndsInTags (ls : Lines) (n : ℕ) : Type 0 where
   pub before : Lines
   pub line : LineValue
@@ -110,18 +110,18 @@ pub record EndsInTags (ls : Lines) (n : ℕ) : Type 0 where
   pub unread : IsReadable ls → ⊥
   pub fits : (heading : LineValue) × TakesTags (class heading) × IsReadable (ls ++ heading ∷ [])
 
--- The first word of a line, but for a comment, is a tag.
+-- If a line has a word before any comment, the first one is a tag.
 abbrev pub BeginsWithTag : LineValue → Type 0
 BeginsWithTag line = (word : List ℕ) (others : List (List ℕ)) → words_before_comment line.text ≡ word ∷ others → is_tag word ≡ true
 
--- The first line that isn't ignored is a feature's heading, or a tag line that begins with a tag. No line before it needs memory, and no other line that stands first.
+-- The first line that isn't ignored is a feature's heading, or a tag line that begins with a tag. No line before it needs memory, and no other line in its place does.
 pub record NeedsMemory (ls : Lines) : Type 0 where
   pub line : LineValue
   pub rest : Lines
   pub next : Next IsIgnoredAbove ls line rest
   pub needs : (class line ≡ FeatureHeading) ⊎ ((class line ≡ TagLine) × BeginsWithTag line)
 
--- What a fault says of the lines of a feature file; refused memory, that they need some.
+-- The meaning of a fault for the lines of a feature file. Refused memory means that they need some.
 abbrev pub FeatureFault : ReadFault → Lines → Type 0
 FeatureFault (Unexpected n) ls = StopsAt IsReadable class ls n (NoneLikeIt IsReadable class)
 FeatureFault (BadTag n) ls = StopsAt IsReadable class ls n IsBadTag
@@ -133,7 +133,7 @@ FeatureFault (TagsAtEnd n) ls = EndsInTags ls n
 FeatureFault Memory ls = NeedsMemory ls
 FeatureFault _ ls = ⊥
 
--- A heading that stood before, with its tag.
+-- A heading that an earlier hook has, with the same tag if it has one.
 pub record StoodBefore (before : Lines) (line : LineValue) : Type 0 where
   pub hooks : List HookValue
   pub reading : ReadsHooks before hooks
@@ -143,13 +143,13 @@ pub record StoodBefore (before : Lines) (line : LineValue) : Type 0 where
   pub whole : hooks ≡ earlier ++ hook ∷ later
   pub same : hook_heading line ≡ Some (heading_of hook)
 
--- A hook line, where one can stand, that is no heading or one that stood before.
+-- A hook line that isn't a heading, or that repeats an earlier one, in a place where hook lines are allowed.
 pub record IsBadHook (before : Lines) (line : LineValue) : Type 0 where
   pub is : hooks_class line ≡ HookLine
   pub fits : SomeLikeIt AreHooksReadable hooks_class before line
   pub bad : (hook_heading line ≡ None) ⊎ StoodBefore before line
 
--- The first line that isn't ignored is a hook's heading. No line before it needs memory, and no other line that stands first.
+-- The first line that isn't ignored is a hook's heading. No line before it needs memory, and no other line in its place does.
 pub record HooksNeedMemory (ls : Lines) : Type 0 where
   pub line : LineValue
   pub rest : Lines
@@ -157,7 +157,7 @@ pub record HooksNeedMemory (ls : Lines) : Type 0 where
   pub is : hooks_class line ≡ HookLine
   pub heading : hook_heading line ≢ None
 
--- What a fault says of the lines of a hooks file; refused memory, that they need some.
+-- The meaning of a fault for the lines of a hooks file. Refused memory means that they need some.
 abbrev pub HooksFault : ReadFault → Lines → Type 0
 HooksFault (Unexpected n) ls = StopsAt AreHooksReadable hooks_class ls n (NoneLikeIt AreHooksReadable hooks_class)
 HooksFault (BadHook n) ls = StopsAt AreHooksReadable hooks_class ls n IsBadHook
@@ -167,22 +167,22 @@ HooksFault (UnclosedText n) ls = EndsInDocString AreHooksReadable hooks_class ls
 HooksFault Memory ls = HooksNeedMemory ls
 HooksFault _ ls = ⊥
 
--- What a fault says of the bytes: too many before no UTF-8, and both before any fault of the lines.
+-- The meaning of a fault for the bytes. Too many bytes come before bytes that aren't UTF-8, and both come before any fault of the lines.
 abbrev pub FaultSays : (ReadFault → Lines → Type 0) → ReadFault → List ℕ → Type 0
 FaultSays OfLines TooLong bytes = IsTooLong bytes
 FaultSays OfLines (NotUtf8 n) bytes = IsNotUtf8At bytes n
 FaultSays OfLines fault bytes = IsText bytes × OfLines fault (lines_of bytes)
 
--- No bytes have two faults, neither of two classes nor on two lines; refused memory aside, which is no fault of theirs.
+-- No bytes have two faults, neither of two classes nor on two lines. Refused memory doesn't count: it is no fault of the bytes.
 abbrev pub HaveOneFault : (ReadFault → Lines → Type 0) → Type 0
 HaveOneFault OfLines = (bytes : List ℕ) (one other : ReadFault) → one ≢ Memory → other ≢ Memory → FaultSays OfLines one bytes → FaultSays OfLines other bytes → one ≡ other
 
--- What a fault says where the lines alone are read.
+-- The meaning of a fault if only the lines are read.
 abbrev pub LinesFaultSays : ReadFault → List ℕ → Type 0
 LinesFaultSays Memory bytes = IsText bytes
 LinesFaultSays fault bytes = FaultSays (λ other ls. ⊥) fault bytes
 
--- What was answered has this value, or memory ran out.
+-- The result has this value, or memory ran out.
 abbrev pub AnswersOrLacksMemory : {X V : Type 0} → (X → V) → Result X ReadFault → V → Type 0
 AnswersOrLacksMemory value (Ok answer) said = value answer ≡ said
 AnswersOrLacksMemory value (Err fault) said = fault ≡ Memory
@@ -201,7 +201,7 @@ line_of_fault Memory = None
 line_of_fault (BadHook n) = Some n
 line_of_fault (BadRow n) = Some n
 
--- What a fault is called, without its line.
+-- The text of a fault, without its line.
 abbrev pub text_of_fault : ReadFault → List ℕ
 text_of_fault (NotUtf8 n) = codes "not UTF-8"
 text_of_fault (Unexpected n) = codes "unexpected line"

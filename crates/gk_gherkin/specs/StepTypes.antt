@@ -5,7 +5,7 @@ use Rattle.gk_gherkin.specs.declared.feature.StepType.{StepType}
 use Rattle.gk_gherkin.specs.declared.feature.StepType.TheVariants.{Given, When, Then}
 use Rattle.gk_gherkin.specs.Feature.{StepValue}
 
--- The type that a keyword gives after a step of some type: `Given`, `When` and `Then` their own, `And`, `But` and `*` the type before. (behave's documentation: step implementations)
+-- The type that a keyword gives after a step of some type. `Given`, `When` and `Then` give their own; `And`, `But` and `*` give the type before. (behave's documentation: step implementations)
 unfoldable pub type_after : StepType → List ℕ → StepType
 type_after before keyword =
     if bytes_eq keyword (codes "Given") then Given else
@@ -17,6 +17,6 @@ abbrev pub AreTypedAfter : StepType → List StepValue → Type 0
 AreTypedAfter before [] = Unit {0}
 AreTypedAfter before (step ∷ steps) = (step.step_type ≡ type_after before step.keyword) × AreTypedAfter step.step_type steps
 
--- The steps of a background, a scenario or a hook: before the first of them the type is given.
+-- The steps of a background, a scenario or a hook are typed. Before the first of them the type is `Given`.
 abbrev pub AreTyped : List StepValue → Type 0
 AreTyped steps = AreTypedAfter Given steps

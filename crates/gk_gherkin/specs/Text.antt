@@ -1,4 +1,4 @@
--- Texts: their blanks, and what they begin with.
+-- Texts: trimming, prefixes and substrings.
 use Rattle.std.specs.Prelude.{ℕ, ◌-◌, Bool, ◌==◌, nat_eq, ◌||◌, List, [], ◌∷◌, length, drop, take}
 use Rattle.std.specs.List.{prefix_len, suffix_len, starts_with}
 
@@ -22,7 +22,7 @@ trim text = trim_back (trim_front text)
 abbrev pub begins : List ℕ → List ℕ → Bool
 begins text word = starts_with nat_eq text word
 
--- Whether a text stands in another: this one, or what is left of it after some bytes, begins with the text.
+-- Whether a text occurs in another: some suffix of the other begins with it.
 abbrev pub stands_in : List ℕ → List ℕ → Bool
 stands_in text [] = length text == 0
 stands_in text (b ∷ bs) = begins (b ∷ bs) text || stands_in text bs

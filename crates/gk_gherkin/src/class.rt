@@ -13,8 +13,9 @@ pub enum Fence {
     Backticks,
 }
 
-/// The class of a line: the first that fits its text, without the blanks at the text's ends. A
-/// heading's class is that of its keyword with the colon. (Cucumber's Gherkin reference: keywords)
+/// The class of a line: the first that fits its text, without leading and trailing spaces and tabs.
+/// A heading's class is that of its keyword with the colon. (Cucumber's Gherkin reference:
+/// keywords)
 #[derive(Clone, Copy)]
 pub enum Class {
     /// No text.
@@ -111,7 +112,7 @@ fn class_of(text: &str) -> Class
     }
 }
 
-/// The class of a line.
+/// Returns the class of a line.
 #[tactic(auto, unfolding(crate::specs::Class::class))]
 pub fn class_of_line(line: &BorrowedLine<'_>) -> Class
     ensures { result ≡ spec.class (borrowed_value line.now) }
@@ -119,7 +120,7 @@ pub fn class_of_line(line: &BorrowedLine<'_>) -> Class
     class_of(trim(line.text))
 }
 
-/// The keyword of a heading, without its colon.
+/// Returns the keyword of a heading, without its colon.
 pub fn heading_keyword<'a>(line: &BorrowedLine<'a>) -> &'a str
     ensures { result.now ≡ spec.heading_keyword (borrowed_value line.now) }
 {
@@ -130,7 +131,7 @@ pub fn heading_keyword<'a>(line: &BorrowedLine<'a>) -> &'a str
     }
 }
 
-/// The name of a heading: what stands after its first colon, trimmed.
+/// Returns the name of a heading: the text after its first colon, trimmed.
 pub fn heading_name<'a>(line: &BorrowedLine<'a>) -> &'a str
     ensures { result.now ≡ spec.heading_name (borrowed_value line.now) }
 {
@@ -141,7 +142,7 @@ pub fn heading_name<'a>(line: &BorrowedLine<'a>) -> &'a str
     }
 }
 
-/// The keyword of a step, and its text: what stands after the keyword, trimmed.
+/// Returns the keyword of a step, and the text after the keyword, trimmed.
 #[tactic(auto, unfolding(crate::specs::Class::step_keyword, crate::specs::Class::step_text))]
 pub fn step_parts<'a>(line: &BorrowedLine<'a>) -> (&'a str, &'a str)
     ensures keyword { result.0.now ≡ spec.step_keyword (borrowed_value line.now) }

@@ -17,7 +17,7 @@ use crate::text::{begins, leading_blanks, trim};
 use std::alloc::Global;
 use std::mem;
 
-// Whether a line closes the doc string that a fence opened.
+// Returns whether a line closes the doc string that a fence opened.
 #[tactic(auto, unfolding(crate::specs::DocStrings::closes))]
 fn closes(fence: Fence, line: &BorrowedLine<'_>) -> bool
     ensures { result ≡ spec.closes fence (borrowed_value line.now) }
@@ -26,7 +26,7 @@ fn closes(fence: Fence, line: &BorrowedLine<'_>) -> bool
     begins(text, fence_text(fence)) && text.len() == 3
 }
 
-// A text without as many leading blanks as the margin has, or as there are.
+// Removes leading spaces and tabs from a text, at most `margin` of them.
 fn without_margin(margin: usize, text: &str) -> &str
     ensures { result.now ≡ drop (min margin (prefix_len is_blank text.now)) text.now }
 {
@@ -52,7 +52,7 @@ fn escaped_fence(fence: Fence) -> &'static str
     }
 }
 
-// A text with the text of a content line after it.
+// Appends the text of a content line to a text.
 fn with_content(
     text: String,
     fence: Fence,
@@ -101,8 +101,8 @@ fn with_line(
     }
 }
 
-/// An open doc string: its fence, the column and the number of that fence's line, and the text so far,
-/// if it has a line.
+/// An open doc string: its fence, the column and the number of the fence's line, and the text so
+/// far, if it has a line.
 #[derive(Drop)]
 pub struct DocString {
     pub fence: Fence,
@@ -112,7 +112,7 @@ pub struct DocString {
 }
 
 impl DocString {
-    /// The doc string that a fence opens.
+    /// Returns the doc string that a fence opens.
     pub fn opened(fence: Fence, line: &BorrowedLine<'_>) -> DocString
         ensures { text_value result ≡ reading.opened fence (borrowed_value line.now) }
     {
@@ -124,14 +124,14 @@ impl DocString {
         }
     }
 
-    /// Whether a line closes it.
+    /// Returns whether a line closes it.
     pub fn is_closed_by(&self, line: &BorrowedLine<'_>) -> bool
         ensures { result ≡ spec.closes self.now.fence (borrowed_value line.now) }
     {
         closes(self.fence, line)
     }
 
-    /// Adds a line.
+    /// Appends a line.
     pub fn add(&mut self, alloc: Global, line: &BorrowedLine<'_>) -> Result<(), ReadFault>
         ensures { Agrees (λ _. text_value self.new) result
             (Ok (reading.longer (text_value self.old) (borrowed_value line.now))) }
@@ -141,7 +141,7 @@ impl DocString {
         Ok(())
     }
 
-    /// Its whole text.
+    /// Returns its whole text.
     pub fn into_text(self, alloc: Global) -> String
         ensures { string_bytes result ≡ reading.whole_text (text_value self).content }
     {

@@ -1,5 +1,5 @@
-//! What a feature file says. Tags stand with their `@`, keywords without their colon. Lines are
-//! counted from 1.
+//! The contents of a feature file. Tags include their `@`, and keywords don't include their colon.
+//! Lines are counted from 1.
 
 /// A feature: its name, the line of its heading, its own tags, its background, the scenarios before
 /// its first rule, and its rules. (Cucumber's Gherkin reference: feature)
@@ -45,7 +45,7 @@ pub struct Background {
     pub steps: Vec<Step>,
 }
 
-/// A step: its keyword as written, its type, its text after the keyword, what stands under it, and
+/// A step: its keyword as written, its type, its text after the keyword, the block under it, and
 /// its line. (Cucumber's Gherkin reference: steps)
 #[derive(Debug, Drop)]
 pub struct Step {
@@ -56,7 +56,7 @@ pub struct Step {
     pub line: u32,
 }
 
-/// What stands under a step: nothing, a doc string's text, or a table's cells, row by row.
+/// The block under a step: nothing, a doc string's text, or a table's cells, row by row.
 /// (Cucumber's Gherkin reference: step arguments)
 #[derive(Debug, Drop)]
 pub enum Block {
@@ -65,8 +65,9 @@ pub enum Block {
     Table(Vec<Vec<String>>),
 }
 
-/// The type of a step: that of its keyword, or for `And`, `But` and `*` that of the step before it
-/// among the same steps, and `Given` where none is before it. (Cucumber's Gherkin reference: steps)
+/// The type of a step: that of its keyword. For `And`, `But` and `*` it is the type of the step
+/// before it among the same steps, or `Given` if there is none before it. (Cucumber's Gherkin
+/// reference: steps)
 #[derive(Clone, Copy, Debug, PartialEq, Eq)]
 pub enum StepType {
     Given,
@@ -81,8 +82,8 @@ pub struct Row {
     pub cells: Vec<String>,
 }
 
-/// Examples: a header and the rows under it. Where no table stands there, the header has no cells
-/// and there are no rows. (Cucumber's Gherkin reference: examples)
+/// Examples: a header and the rows under it. If there is no table, the header has no cells and
+/// there are no rows. (Cucumber's Gherkin reference: examples)
 #[derive(Debug, Drop)]
 pub struct Examples {
     pub name: String,

@@ -1,5 +1,5 @@
-//! The reader of a feature file: what was read so far, the finished parts and the open part of each
-//! depth, and what each line adds.
+//! The reader of a feature file: the finished parts and the open part at each depth, and the effect
+//! of each line.
 ghost use Rattle.std.specs.Prelude.{Option, option_map, map, Ok, IfOk, IfErr, ◌≡◌, ◌≢◌};
 ghost use Rattle.std.specs.String.{string_bytes};
 ghost use Rattle.gk_gherkin.specs.Lines.{borrowed_value, lines_of, IsText};
@@ -39,7 +39,7 @@ pub enum Top {
     OfRule { feature: Feature, head: Head },
 }
 
-/// Above the feature's heading, or in the feature.
+/// The state above the feature's heading, or in the feature.
 #[derive(Drop)]
 pub enum OpenFeature {
     Above,
@@ -98,7 +98,7 @@ fn feature_of(alloc: Global, top: Top, children: Children) -> Result<Feature, Re
     }
 }
 
-// The feature that is closed at the end of the lines, or none above its heading.
+// Returns the feature that ends with the lines, or `None` above its heading.
 fn feature_at(alloc: Global, state: OpenFeature) -> Result<Option<Feature>, ReadFault>
     ensures says { Agrees answer_value result (Ok (spec.feature_in (open_feature_value state))) }
     ensures memory { IfErr result (λ e.
@@ -253,7 +253,7 @@ fn check_comment(state: &OpenFeature, line: &BorrowedLine<'_>) -> Result<(), Rea
     }
 }
 
-// The tags of a line after those before it.
+// Appends the tags of a line to those before it.
 #[tactic(auto, using(crate::proofs::FirstTags::good_found))]
 fn tag_line(
     alloc: Global,
@@ -277,7 +277,7 @@ fn tag_line(
     }
 }
 
-// A line after no tags. Answers the tags that wait then.
+// Takes a line after no tags. Returns the tags that wait for a heading then.
 #[tactic(auto, unfolding(crate::specs::FeatureReader::on))]
 fn after_no_tags(
     alloc: Global,
@@ -311,7 +311,7 @@ fn after_no_tags(
     }
 }
 
-// A line after tags. Answers the tags that wait then.
+// Takes a line after tags. Returns the tags that wait for a heading then.
 #[tactic(auto, unfolding(crate::specs::FeatureReader::on))]
 fn after_tags(
     alloc: Global,
@@ -404,26 +404,27 @@ impl FileReader for FeatureReader {
     }
 }
 
-/// Reads the feature that the bytes spell, or none if they hold blank lines and comments alone.
+/// Reads the feature that the bytes spell, or `None` if they contain only blank lines and comments.
 ///
-/// A file is a feature with its tags, description, background, scenarios and rules; a scenario has
-/// steps and examples, and a step a table or a doc string. Blank lines and comments are allowed anywhere.
-/// Descriptions, comments and media types aren't kept. (Cucumber's Gherkin reference; this project's
-/// profile)
+/// A file is a feature with its tags, description, background, scenarios and rules. A scenario has
+/// steps and examples, and a step may have a table or a doc string. Blank lines and comments are
+/// allowed anywhere. Descriptions, comments and media types aren't kept. (Cucumber's Gherkin
+/// reference; this project's profile)
 ///
-/// `TooLong` and `NotUtf8` come as from `read_lines`, before any fault of a line. Of the faults of
-/// lines the first line's comes:
+/// `TooLong` and `NotUtf8` are those of `read_lines`, and come before any fault of a line. Of the
+/// faults of lines, the first line's is returned:
 ///
 /// - `Unexpected`: no line of its class is allowed there.
-/// - `BadTag`: a tag line that has a word, before any that begins with `#`, that isn't `@` and more.
+/// - `BadTag`: a tag line with a word, before any that begins with `#`, that isn't `@` and at least
+///   one more byte.
 /// - `BadRow`: a row that isn't between two unescaped bars.
-/// - `CellCount`: a row with another number of cells than the first of its table.
-/// - `Language`: a comment above the feature that names another language than `en`.
+/// - `CellCount`: a row whose number of cells differs from that of the first row of its table.
+/// - `Language`: a comment above the feature that names a language other than `en`.
 /// - `UnclosedText`, at the line of its opening fence: the file ends in a doc string.
 /// - `TagsAtEnd`, at the last tag line: the file ends after tags.
 ///
-/// `Memory` comes only if a growth was refused, and none is asked for before the first tag or the
-/// feature's heading. A refusal returns nothing of what was read before it.
+/// `Memory` comes only if a growth was refused. No growth is requested before the first tag or the
+/// feature's heading. A fault returns nothing of what was read before it.
 pub fn read_feature(alloc: Global, bytes: &[u8]) -> Result<Option<Feature>, ReadFault>
     // What is returned is what the lines say.
     ensures found { IfOk result (λ f.
@@ -431,7 +432,7 @@ pub fn read_feature(alloc: Global, bytes: &[u8]) -> Result<Option<Feature>, Read
     // What the lines say is returned, unless memory runs out.
     ensures only { (f : Option FeatureValue) → IsText bytes.now → Reads (lines_of bytes.now) f
         → AnswersOrLacksMemory (option_map feature_value) result f }
-    // Which fault it is.
+    // Which fault is returned.
     ensures fault { IfErr result (λ e. FaultSays FeatureFault e bytes.now) }
 {
     read::<FeatureReader>(alloc, bytes)

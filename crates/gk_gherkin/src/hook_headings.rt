@@ -12,23 +12,23 @@ use crate::lines::BorrowedLine;
 use crate::tags::is_tag;
 use crate::text::{begins, begins_word, is_blank, is_word, trim, trim_front};
 
-/// The class of a line in a hooks file: a hook line, whose text begins with `before_` or `after_`,
-/// without the blanks at the text's ends, or that of any other line. (this project's profile)
+/// The class of a line in a hooks file: a hook line if its trimmed text begins with `before_` or
+/// `after_`, and otherwise the line's class in a feature file. (this project's profile)
 #[derive(Clone, Copy)]
 pub enum HooksClass {
     HookLine,
     Plain(Class),
 }
 
-/// What a hook's heading says: its kind, and the tag that it is for, where its kind has one. (behave's
-/// documentation: environment file functions)
+/// The contents of a hook's heading: its kind, and the tag that it is for, if its kind has one.
+/// (behave's documentation: environment file functions)
 #[derive(Clone, Copy)]
 pub struct HookHeading<'a> {
     pub kind: HookKind,
     pub tag: Option<&'a str>,
 }
 
-/// The class in a hooks file of a line that has this one in a feature file.
+/// Returns the class in a hooks file of a line with this class in a feature file.
 #[tactic(auto, unfolding(crate::specs::HookHeadings::hooks_class))]
 pub fn hooks_class(line: &BorrowedLine<'_>, class: Class) -> HooksClass
     requires { class ≡ words.class (borrowed_value line.now) }
@@ -42,7 +42,7 @@ pub fn hooks_class(line: &BorrowedLine<'_>, class: Class) -> HooksClass
     }
 }
 
-// The kind of the heading without a tag that a text is.
+// Returns the kind of the heading that a text spells, if it is one without a tag.
 fn plain_kind(text: &str) -> Option<HookKind>
     ensures { option_map (λ kind. spec.plain kind) result ≡ spec.plain_heading text.now }
 {
@@ -89,7 +89,7 @@ fn ends_in_colon(text: &str) -> bool
     text.as_bytes().ends_with(b":")
 }
 
-// The tag between a word with a blank after it and the colon at the text's end.
+// Returns the tag between a word followed by a space or a tab and the colon at the text's end.
 fn tag_between<'a>(word: &str, text: &'a str) -> Option<&'a str>
     ensures { option_map (λ t. t.now) result ≡ spec.tag_between word.now text.now }
 {
@@ -100,7 +100,7 @@ fn tag_between<'a>(word: &str, text: &'a str) -> Option<&'a str>
     }
 }
 
-/// The heading that a line is, or none where it is any other text.
+/// Returns the heading that a line spells, or `None` for any other text.
 #[tactic(auto, unfolding(crate::specs::HookHeadings::hook_heading))]
 pub fn hook_heading<'a>(line: &BorrowedLine<'a>) -> Option<HookHeading<'a>>
     ensures { option_map spec.heading_value result ≡ spec.hook_heading (borrowed_value line.now) }

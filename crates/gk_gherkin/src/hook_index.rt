@@ -1,4 +1,4 @@
-//! An index of the hooks of a file, by their tags.
+//! An index of the hooks of a file by their tags.
 ghost use Rattle.std.specs.Prelude.{◌≡◌, ◌++◌, ◌∷◌, [], ℕ, List, Option, true, length};
 ghost use Rattle.std.specs.Prelude.{if◌then◌else◌};
 ghost use Rattle.std.specs.Prelude.{IfOk, OnOk, OnErr, map, option_map, option_copied, bytes_eq};
@@ -17,7 +17,7 @@ use std::collections::BTreeMap;
 pub struct HookIndex {
     /// The positions of hooks without a tag.
     pub untagged: Vec<usize>,
-    /// The positions of hooks with a tag, by it.
+    /// The positions of hooks with a tag, by tag.
     pub tagged: BTreeMap<String, Vec<usize>>,
 }
 
@@ -46,7 +46,7 @@ impl HookIndex {
         }
     }
 
-    /// Returns the positions of the hooks for a tag, or of those without one.
+    /// Returns the positions of the hooks for a tag, or of those without a tag.
     pub fn of(&self, tag: Option<&str>) -> &[usize]
         ensures { result.now ≡ spec.positions_of self.now (option_copied tag.entry) }
     {
@@ -88,8 +88,8 @@ pub fn index_of(alloc: Global, hooks: &[Hook]) -> Result<HookIndex, AllocError>
     Ok(index)
 }
 
-// The first of the hooks at these positions that is for this kind and this tag; how many hooks there are
-// where none is.
+// Returns the least of these positions whose hook is for this kind and this tag, or the number of
+// hooks if there is none.
 fn first_position(hooks: &[Hook], positions: &[usize], kind: HookKind, tag: Option<&str>) -> usize
     ensures { IsFirst (λ hook. is_for (hook_value hook) kind (option_copied tag.entry))
         hooks.now positions.now (length positions.now) result }
@@ -104,8 +104,8 @@ fn first_position(hooks: &[Hook], positions: &[usize], kind: HookKind, tag: Opti
     first
 }
 
-/// The first hook for this kind and this tag; with no tag, the first for this kind that has none. How
-/// long it takes doesn't grow with the hooks for other tags.
+/// Returns the first hook for this kind and this tag; without a tag, the first for this kind that
+/// has none. The time it takes doesn't grow with the hooks for other tags.
 pub fn find_hook<'a>(
     hooks: &'a [Hook],
     index: &HookIndex,

@@ -1,4 +1,4 @@
-//! The hooks of a file, looked up by their kinds and their tags.
+//! Looking up the hooks of a file by their kinds and their tags.
 ghost use Rattle.std.specs.Prelude.{◌≡◌, map, option_copied, option_map};
 ghost use Rattle.std.specs.Option.{ForSome};
 ghost use Rattle.gk_gherkin.specs.Hooks.{hook_value, hooks_value};
@@ -9,20 +9,20 @@ use crate::hook_index::{HookIndex, find_hook, index_of};
 use crate::hooks::{Hook, HookFile, HookKind};
 use std::alloc::Global;
 
-/// So many hooks are looked through as fast as an index is made.
+/// The number of hooks that a search goes through as fast as an index is built.
 const FEW: usize = 16;
 
-/// The hooks of a file, looked up by their kinds and their tags.
+/// The hooks of a file, for lookup by their kinds and their tags.
 #[derive(Drop)]
 pub struct HookTable<'a> {
     /// The file.
     pub file: &'a HookFile,
-    /// Where its hooks stand. Without it they are looked through.
+    /// The positions of its hooks. Without an index, a lookup goes through all hooks.
     index: Option<HookIndex>,
     ghost listed: { ForSome index (λ index. AreListed index file.now.hooks.items) },
 }
 
-// The first hook for this kind and this tag.
+// Returns the first hook for this kind and this tag.
 fn look_through<'a>(hooks: &'a [Hook], kind: HookKind, tag: Option<&str>) -> Option<&'a Hook>
     ensures { option_map (λ hook. hook_value hook.now) result
         ≡ hook_for (map hook_value hooks.now) kind (option_copied tag.entry) }
@@ -36,7 +36,8 @@ fn look_through<'a>(hooks: &'a [Hook], kind: HookKind, tag: Option<&str>) -> Opt
 }
 
 impl<'a> HookTable<'a> {
-    /// The hooks of a file. Where there are many of them they get an index, if there is memory for it.
+    /// Returns the table of a file's hooks. If there are many of them, they get an index, unless
+    /// memory for it is refused.
     pub fn new(alloc: Global, file: &'a HookFile) -> HookTable<'a>
         ensures { result.file.now ≡ file.now }
     {
@@ -49,15 +50,16 @@ impl<'a> HookTable<'a> {
         }
     }
 
-    /// The hooks of a file, of which only few are to be looked up. Takes no memory.
+    /// Returns the table of a file's hooks without an index, for few lookups. Takes no memory.
     pub fn without_index(file: &'a HookFile) -> HookTable<'a>
         ensures { result.file.now ≡ file.now }
     {
         HookTable { file, index: None }
     }
 
-    /// The first hook for this kind and this tag; with no tag, the first for this kind that has none. With an
-    /// index, how long it takes doesn't grow with the hooks for other tags. (this project's profile)
+    /// Returns the first hook for this kind and this tag; without a tag, the first for this kind
+    /// that has none. With an index, the time it takes doesn't grow with the hooks for other tags.
+    /// (this project's profile)
     pub fn hook(&self, kind: HookKind, tag: Option<&str>) -> Option<&'a Hook>
         ensures { option_map (λ hook. hook_value hook.now) result
             ≡ hook_for (hooks_value self.now.file.now) kind (option_copied tag.entry) }

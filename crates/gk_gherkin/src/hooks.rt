@@ -1,12 +1,12 @@
-//! What a hooks file says. Tags stand with their `@`. Lines are counted from 1.
+//! The contents of a hooks file. Tags include their `@`. Lines are counted from 1.
 ghost use Rattle.std.specs.Prelude.{option_copied, option_map, ◌≡◌};
 ghost use Rattle.std.specs.String.{string_bytes};
 ghost use Rattle.gk_gherkin.specs.Hooks as spec;
 
 use crate::feature::Step;
 
-/// When the steps of a hook are run: before or after the whole run, a feature, a rule, a scenario, or
-/// what has the hook's tag. (behave's documentation: environment file functions)
+/// When the steps of a hook run: before or after the whole run, a feature, a rule, a scenario, or
+/// anything with the hook's tag. (behave's documentation: environment file functions)
 #[derive(Clone, Copy, Debug, PartialEq, Eq)]
 pub enum HookKind {
     BeforeAll,
@@ -39,8 +39,8 @@ pub struct HookFile {
 }
 
 impl Hook {
-    /// Whether the hook is for this kind and this tag; with no tag, whether it is for this kind and has
-    /// none. (this project's profile)
+    /// Returns whether the hook is for this kind and this tag. Without a tag, returns whether it is
+    /// for this kind and has no tag. (this project's profile)
     pub fn is_for(&self, kind: HookKind, tag: Option<&str>) -> bool
         ensures { result ≡ spec.is_for (spec.hook_value self.now) kind (option_copied tag.entry) }
     {

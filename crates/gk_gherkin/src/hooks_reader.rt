@@ -1,4 +1,4 @@
-//! The reader of a hooks file: what was read so far, and what each line adds.
+//! The reader of a hooks file: what it has read so far, and the effect of each line.
 ghost use Rattle.std.specs.Prelude.{List, option_map, Ok, IfOk, IfErr, ◌≡◌};
 ghost use Rattle.std.specs.String.{string_bytes};
 ghost use Rattle.gk_gherkin.specs.Lines.{borrowed_value, lines_of, IsText};
@@ -26,7 +26,7 @@ use crate::reading::{FileReader, read};
 use std::alloc::Global;
 use std::mem;
 
-/// The hooks before the open one, and what its heading says, with its line.
+/// The hooks before the open one, and the open one's heading with its line.
 #[derive(Drop)]
 pub struct Opened {
     pub before: HooksSoFar,
@@ -35,14 +35,14 @@ pub struct Opened {
     pub line: u32,
 }
 
-/// Before the first hook, or in a hook, in its steps.
+/// The state before the first hook, or in the steps of a hook.
 #[derive(Drop)]
 pub enum HooksReader {
     NoHook,
     InHook { opened: Opened, body: Body },
 }
 
-// The hooks that were read, of which the open one is the last.
+// Returns the hooks read so far. The open one is the last.
 fn hooks_of(alloc: Global, reader: HooksReader) -> Result<HooksSoFar, ReadFault>
     ensures says { Agrees so_far_value result (Ok (spec.hooks_of (reader_value reader))) }
     ensures memory { IfErr result (λ e. spec.NeedsAtEnd (reader_value reader)) }
@@ -63,7 +63,7 @@ fn hooks_of(alloc: Global, reader: HooksReader) -> Result<HooksSoFar, ReadFault>
     }
 }
 
-// Whether one of the hooks before has this heading.
+// Returns whether one of these hooks has this heading.
 fn has_heading(heading: &HookHeading<'_>, hooks: &HooksSoFar) -> bool
     ensures { result ≡ spec.has_heading (heading_value heading.now) (so_far_value hooks.now) }
 {
@@ -163,7 +163,7 @@ fn on_plain_line(
     }
 }
 
-// A line of this class that is no part of a doc string.
+// Takes a line of this class that isn't part of a doc string.
 #[tactic(auto, unfolding(crate::specs::HooksReader::on))]
 fn take(
     alloc: Global,
@@ -228,25 +228,26 @@ impl FileReader for HooksReader {
     }
 }
 
-/// Reads the hooks that the bytes spell, in order. A file of blank lines and comments alone has none.
+/// Reads the hooks that the bytes spell, in order. A file of only blank lines and comments has
+/// none.
 ///
-/// A hook is a heading and the steps under it, each with a table or a doc string, as in a feature
-/// file. Its heading is `before_` or `after_` and `all:`, `feature:`, `rule:` or `scenario:`, or `tag`, blanks,
-/// a tag without blanks, and `:`. (behave's documentation: environment file functions; this project's
-/// profile)
+/// A hook is a heading and the steps under it. Each step may have a table or a doc string, as in a
+/// feature file. Its heading begins with `before_` or `after_`. After that comes `all:`,
+/// `feature:`, `rule:` or `scenario:`, or `tag`, at least one space or tab, a tag without spaces
+/// and tabs, and `:`. (behave's documentation: environment file functions; this project's profile)
 ///
-/// `TooLong` and `NotUtf8` come as from `read_lines`, before any fault of a line. Of the faults of
-/// lines the first line's comes:
+/// `TooLong` and `NotUtf8` are those of `read_lines`, and come before any fault of a line. Of the
+/// faults of lines, the first line's is returned:
 ///
 /// - `Unexpected`: no line of its class is allowed there, such as a step before the first hook.
-/// - `BadHook`: a line that begins with `before_` or `after_` and is no heading, or that repeats an
-///   earlier heading, with the same tag if it has one.
+/// - `BadHook`: a line that begins with `before_` or `after_` and isn't a heading, or that repeats
+///   an earlier heading, with the same tag if it has one.
 /// - `BadRow`: a row that isn't between two unescaped bars.
-/// - `CellCount`: a row with another number of cells than the first of its table.
+/// - `CellCount`: a row whose number of cells differs from that of the first row of its table.
 /// - `UnclosedText`, at the line of its opening fence: the file ends in a doc string.
 ///
-/// `Memory` comes only if a growth was refused, and none is asked for before the first heading. A
-/// refusal returns nothing of what was read before it.
+/// `Memory` comes only if a growth was refused. No growth is requested before the first heading. A
+/// fault returns nothing of what was read before it.
 pub fn read_hooks(alloc: Global, bytes: &[u8]) -> Result<HookFile, ReadFault>
     // What is returned is what the lines say.
     ensures found { IfOk result (λ file.
@@ -254,7 +255,7 @@ pub fn read_hooks(alloc: Global, bytes: &[u8]) -> Result<HookFile, ReadFault>
     // What the lines say is returned, unless memory runs out.
     ensures only { (hooks : List HookValue) → IsText bytes.now
         → ReadsHooks (lines_of bytes.now) hooks → AnswersOrLacksMemory hooks_value result hooks }
-    // Which fault it is.
+    // Which fault is returned.
     ensures fault { IfErr result (λ e. FaultSays HooksFault e bytes.now) }
 {
     read::<HooksReader>(alloc, bytes)

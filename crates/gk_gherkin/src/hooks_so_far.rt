@@ -1,15 +1,15 @@
-//! The hooks of a file that were read so far.
+//! The hooks of a file read so far.
 ghost use Rattle.gk_gherkin.specs.HookIndex.{AreListed};
 
 use crate::hook_index::{HookIndex, find_hook};
 use crate::hooks::{Hook, HookFile, HookKind};
 use std::alloc::{AllocError, Global};
 
-/// The hooks that were read so far, in order.
+/// The hooks read so far, in order.
 #[derive(Drop)]
 pub struct HooksSoFar {
     pub hooks: Vec<Hook>,
-    /// Where they stand.
+    /// The index of their positions.
     pub index: HookIndex,
     ghost listed: { AreListed index hooks.items },
 }
@@ -20,7 +20,7 @@ impl HooksSoFar {
     ghost use Rattle.gk_gherkin.specs.Hooks.{hook_value, hooks_value, is_for};
     ghost use Rattle.gk_gherkin.specs.HooksSoFar.{so_far_value};
 
-    /// No hooks. Takes no memory.
+    /// Returns a list without hooks. Takes no memory.
     pub fn new(alloc: Global) -> HooksSoFar
         ensures { so_far_value result ≡ [] }
     {
@@ -30,7 +30,7 @@ impl HooksSoFar {
         }
     }
 
-    /// Adds a hook, as the last.
+    /// Appends a hook.
     pub fn push(&mut self, hook: Hook) -> Result<(), AllocError>
         ensures { OnOk result
             (so_far_value self.new ≡ so_far_value self.old ++ hook_value hook ∷ []) }
@@ -40,8 +40,8 @@ impl HooksSoFar {
         Ok(())
     }
 
-    /// Whether one of them is for this kind and this tag. How long it takes doesn't grow with the hooks for
-    /// other tags.
+    /// Returns whether one of them is for this kind and this tag. The time it takes doesn't grow
+    /// with the hooks for other tags.
     pub fn has(&self, kind: HookKind, tag: Option<&str>) -> bool
         ensures { let hooks = so_far_value self.now in
             result ≡ list_any (λ hook. is_for hook kind (option_copied tag.entry)) hooks }
@@ -49,7 +49,7 @@ impl HooksSoFar {
         find_hook(&self.hooks, &self.index, kind, tag).is_some()
     }
 
-    /// The file that has these hooks.
+    /// Returns a file with these hooks.
     pub fn into_file(self) -> HookFile
         ensures { hooks_value result ≡ so_far_value self }
     {

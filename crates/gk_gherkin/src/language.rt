@@ -40,7 +40,7 @@ fn language_word(text: &str) -> Option<&str>
     }
 }
 
-/// The language that a comment names, or none where it is any other comment.
+/// Returns the language that a comment names, or `None` for any other comment.
 #[tactic(auto, unfolding(crate::specs::Language::language_of))]
 pub fn language_of<'a>(line: &BorrowedLine<'a>) -> Option<&'a str>
     ensures { option_map (λ t. t.now) result ≡ spec.language_of (borrowed_value line.now) }

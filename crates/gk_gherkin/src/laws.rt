@@ -6,9 +6,10 @@ ghost use Rattle.gk_gherkin.specs.Grammar.{Reads, HasOneReading, IsConcatenation
 ghost use Rattle.gk_gherkin.specs.HooksGrammar.{IsHook, HaveOneHooksReading};
 ghost use Rattle.gk_gherkin.specs.ReadFault.{FeatureFault, HooksFault, HaveOneFault};
 
-/// A step, a table, a doc string, a background, examples, a scenario, a rule, a feature or a hook leads
-/// from some lines to a rest exactly where these are the part's own lines and then that rest. (the
-/// grammar of this project's profile)
+/// States that reading a part is concatenation: a part leads from some lines to a rest exactly if
+/// these are the part's own lines followed by that rest. Such parts are steps, tables, doc strings,
+/// backgrounds, examples, scenarios, rules, features and hooks. (the grammar of this project's
+/// profile)
 pub fn parts_are_concatenations()
     ensures steps { IsConcatenation IsStep }
     ensures backgrounds { IsConcatenation IsBackground }
@@ -21,26 +22,28 @@ pub fn parts_are_concatenations()
     ensures hooks { IsConcatenation IsHook }
 {}
 
-/// No list of lines says two different things. (the grammar of this project's profile)
+/// States that no list of lines has two readings as a feature file. (the grammar of this project's
+/// profile)
 pub fn reading_is_unique()
     ensures { HasOneReading }
 {}
 
-/// No list of lines says two different things as a hooks file. (the grammar of this project's profile)
+/// States that no list of lines has two readings as a hooks file. (the grammar of this project's
+/// profile)
 pub fn hooks_reading_is_unique()
     ensures { HaveOneHooksReading }
 {}
 
-/// What `read_feature` answers has fewer than 2^32 rules, as each has a line of its own. (this project's
-/// profile)
+/// States that a feature returned by `read_feature` has fewer than 2^32 rules, because each rule
+/// has its own line. (this project's profile)
 pub fn rules_are_counted()
     ensures { (bytes : List ℕ) (f : FeatureValue) → IsText bytes → Reads (lines_of bytes) (Some f)
         → length f.rules < 2 ^ 32 }
 {}
 
-/// No bytes have two faults as a feature file, and none have two as a hooks file: neither of two
-/// classes nor on two lines. Refused memory is no fault of the bytes. (the faults of this project's
-/// profile)
+/// States that no bytes have two faults as a feature file, and none have two as a hooks file:
+/// neither of two classes nor on two lines. Refused memory is no fault of the bytes. (the faults of
+/// this project's profile)
 pub fn fault_is_unique()
     ensures features { HaveOneFault FeatureFault }
     ensures hooks { HaveOneFault HooksFault }

@@ -1,6 +1,6 @@
-//! Gherkin: the lines of a text, and what a feature file or a hooks file says. Bytes come in; a
-//! `Document`, a `Feature` or a `HookFile` goes out exactly where the bytes spell one, unless memory
-//! is refused.
+//! Gherkin: the lines of a text, feature files and hooks files. The readers take bytes. They return
+//! a `Document`, a `Feature` or a `HookFile` exactly if the bytes spell one, unless memory is
+//! refused.
 #![tactic(auto)]
 
 // Texts and their lines.
@@ -33,7 +33,7 @@ mod hook_index;
 mod hooks_reader;
 mod hooks_so_far;
 
-// Hooks looked up, and laws.
+// Looking up hooks, and laws.
 mod hook_table;
 mod laws;
 

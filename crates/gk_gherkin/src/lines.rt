@@ -14,11 +14,11 @@ use crate::text::leading_blanks;
 use std::alloc::Global;
 use std::str;
 
-/// How many bytes a file may have. (this project's profile)
+/// The maximum size of a file in bytes. (this project's profile)
 pub const LIMIT: usize = 16_777_216;
 
-/// Where a line's text begins: lines and columns are counted from 1, columns in bytes. (this
-/// project's profile)
+/// The position at which a line's text begins. Lines and columns are counted from 1, columns in
+/// bytes. (this project's profile)
 #[derive(Clone, Copy, Debug, PartialEq, Eq)]
 pub struct Place {
     pub line: u32,
@@ -26,8 +26,8 @@ pub struct Place {
 }
 
 /// A line with its whole text, without the LF or CRLF that ends it. Its column is that of the first
-/// byte which is neither a space nor a tab, or after the last byte where there is none. (this
-/// project's profile)
+/// byte that is neither a space nor a tab, or the column after the last byte if there is no such
+/// byte. (this project's profile)
 #[derive(Debug, Drop)]
 pub struct Line {
     pub place: Place,
@@ -54,7 +54,7 @@ fn count_ends(bytes: &[u8]) -> usize
     bytes.iter().filter(|byte| **byte == b'\n').count()
 }
 
-/// A text without the byte-order mark that it may begin with.
+/// Returns a text without a leading byte-order mark.
 pub fn without_mark(text: &str) -> &str
     ensures { result.now ≡ spec.without_mark text.now }
 {
@@ -77,7 +77,7 @@ fn line_from(alloc: Global, line: u32, text: &str) -> Result<Line, ReadFault>
     })
 }
 
-/// The line of this number and text.
+/// Returns the line with this number and this text.
 pub fn borrowed_line<'a>(line: u32, text: &'a str) -> BorrowedLine<'a>
     requires { length text.now ≤ LIMIT }
     ensures { borrowed_value result ≡ line_at line text.now }
@@ -104,7 +104,7 @@ fn lines_from(alloc: Global, text: &str) -> Result<Document, ReadFault>
     Ok(Document { lines })
 }
 
-/// The text of some bytes, without the byte-order mark that it may begin with.
+/// Returns some bytes as a text, without a leading byte-order mark.
 pub fn text_of(bytes: &[u8]) -> Result<&str, ReadFault>
     ensures ok { IfOk result (λ t. IsText bytes.now × (t.now ≡ spec.without_mark bytes.now)) }
     ensures within { IfOk result (λ t. length t.now ≤ LIMIT) }
@@ -123,17 +123,17 @@ pub fn text_of(bytes: &[u8]) -> Result<&str, ReadFault>
     }
 }
 
-/// The lines of a text, numbered from 1, without the byte-order mark that it may begin with. LF or
-/// CRLF ends a line; a CR alone stays; after the last end there is no further line.
+/// Returns the lines of a text, numbered from 1, without a leading byte-order mark. LF or CRLF ends
+/// a line. A CR alone stays in its line. After the last line end there is no further line.
 ///
-/// More than `LIMIT` bytes are `TooLong`, whatever they spell. Others that aren't UTF-8 are
-/// `NotUtf8`, with the line of the first byte after the longest prefix that is. `Memory` comes only
-/// where a growth was refused. A refusal answers no line. (this project's profile)
+/// More than `LIMIT` bytes are `TooLong`, whatever they contain. Other bytes that aren't UTF-8 are
+/// `NotUtf8`, with the line of the first byte after the longest prefix that is UTF-8. `Memory`
+/// comes only if a growth was refused. A fault returns no line. (this project's profile)
 pub fn read_lines(alloc: Global, bytes: &[u8]) -> Result<Document, ReadFault>
-    // What is answered is the text's lines.
+    // The lines returned are those of the text.
     ensures ok { IfOk result (λ d.
         IsText bytes.now × (map line_value d.lines.items ≡ lines_of bytes.now)) }
-    // Which fault it is.
+    // Which fault is returned.
     ensures fault { IfErr result (λ e. LinesFaultSays e bytes.now) }
 {
     let text = text_of(bytes)?;

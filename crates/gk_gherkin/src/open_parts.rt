@@ -1,4 +1,4 @@
-//! The open parts of a file, and what a line makes of each.
+//! The open parts of a file, and the effect of each line on them.
 ghost use Rattle.std.specs.Prelude.{option_map, map, Ok, ◌≡◌, ◌++◌, ◌∷◌, []};
 ghost use Rattle.std.specs.String.{string_bytes};
 ghost use Rattle.gk_gherkin.specs.Lines.{borrowed_value};
@@ -21,7 +21,7 @@ use crate::step_types::type_after;
 use std::alloc::Global;
 use std::mem;
 
-/// What the heading of a feature, a rule, a scenario or examples says.
+/// The heading of a feature, a rule, a scenario or examples.
 #[derive(Drop)]
 pub struct Head {
     pub tags: Vec<String>,
@@ -36,14 +36,15 @@ pub struct Children {
     pub scenarios: Vec<Scenario>,
 }
 
-/// In a description, or after steps, of which the last is open.
+/// The body of a background, a scenario or a hook: in its description, or after steps, the last of
+/// them open.
 #[derive(Drop)]
 pub enum Body {
     NoSteps,
     Steps { steps: Vec<Step>, step: Step },
 }
 
-/// Whose steps these are: a background's, or a scenario's, with what is finished before it.
+/// The owner of steps: a background, or a scenario with the finished children before it.
 #[derive(Drop)]
 pub enum Owner {
     OfBackground {
@@ -56,14 +57,14 @@ pub enum Owner {
     },
 }
 
-/// In the description of examples, or after rows: the header and those under it.
+/// The rows of examples: none while in the description, or the header and the rows under it.
 #[derive(Drop)]
 pub enum Grid {
     NoRows,
     Rows { header: Vec<String>, rows: Vec<Row> },
 }
 
-/// A scenario, with what is finished before it.
+/// A scenario, with the finished children before it.
 #[derive(Drop)]
 pub struct Outline {
     pub children: Children,
@@ -87,7 +88,7 @@ pub enum Open {
     },
 }
 
-/// Replaces a value, which is dropped.
+/// Replaces a value and drops the old one.
 pub fn put<T: Drop>(slot: &mut T, next: T)
     ensures { slot.new ≡ next }
 {
@@ -268,7 +269,7 @@ pub fn children_of(alloc: Global, part: Open) -> Result<Children, ReadFault>
     }
 }
 
-// What follows the heading of a background or a scenario: no step yet.
+// Returns the open part after the heading of a background or a scenario, without steps.
 fn bodied(owner: Owner) -> Open
     ensures { open_value result ≡ spec.InBody (owner_value owner) spec.NoSteps }
 {
@@ -278,7 +279,7 @@ fn bodied(owner: Owner) -> Open
     }
 }
 
-// A scenario's heading after what isn't steps.
+// Takes a scenario's heading after anything except steps.
 #[inline(never)]
 fn first_scenario(
     alloc: Global,
@@ -300,7 +301,7 @@ fn first_scenario(
     Ok(())
 }
 
-// A scenario's heading after steps.
+// Takes a scenario's heading after steps.
 fn scenario_after_steps(
     alloc: Global,
     owner: &mut Owner,
@@ -421,7 +422,7 @@ fn on_block(alloc: Global, block: &mut Block, line: &BorrowedLine<'_>) -> Result
     }
 }
 
-// The header of examples.
+// Takes the header of examples.
 fn header_row(alloc: Global, grid: &mut Grid, line: &BorrowedLine<'_>) -> Result<(), ReadFault>
     ensures { Agrees (λ _. grid_value grid.new) result (spec.header_row (borrowed_value line.now)) }
 {
@@ -431,7 +432,7 @@ fn header_row(alloc: Global, grid: &mut Grid, line: &BorrowedLine<'_>) -> Result
     Ok(())
 }
 
-// A row under a header.
+// Takes a row under a header.
 fn row_under(
     alloc: Global,
     header: &[String],
@@ -471,7 +472,7 @@ fn on_grid(
     }
 }
 
-// The first step of a body.
+// Takes the first step of a body.
 fn first_step(alloc: Global, body: &mut Body, line: &BorrowedLine<'_>) -> Result<(), ReadFault>
     ensures { Agrees (λ _. body_value body.new) result
         (Ok (spec.Steps [] (spec.step_from Given (borrowed_value line.now)))) }
@@ -482,7 +483,7 @@ fn first_step(alloc: Global, body: &mut Body, line: &BorrowedLine<'_>) -> Result
     Ok(())
 }
 
-// The step after an open one.
+// Takes the step after an open one.
 fn next_step(
     alloc: Global,
     steps: &mut Vec<Step>,
@@ -557,7 +558,7 @@ pub fn on_open(
     }
 }
 
-/// Whether a doc string may stand under the last step of a body.
+/// Returns whether a doc string is allowed under the last step of a body.
 pub fn body_takes_text(body: &Body) -> bool
     ensures { result ≡ spec.body_takes_text (body_value body.now) }
 {
@@ -576,7 +577,7 @@ pub fn put_text(body: &mut Body, text: String)
     }
 }
 
-/// Whether a doc string may stand under the last step of an open part.
+/// Returns whether a doc string is allowed under the last step of an open part.
 pub fn open_takes_text(part: &Open) -> bool
     ensures { result ≡ spec.open_takes_text (open_value part.now) }
 {

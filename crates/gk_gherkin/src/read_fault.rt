@@ -6,44 +6,46 @@ ghost use Rattle.gk_gherkin.specs.declared.read_fault.ReadFault.TheVariants.{Mem
 use std::alloc::{AllocError, AllocFailed};
 use std::fmt;
 
-/// The error of a growth of memory that was refused. A fault is made of each by one `From`.
+/// An error of a refused growth of memory. With this trait, a fault type needs only one `From` for
+/// all of them.
 pub trait Refused: Drop {}
 
 impl Refused for AllocError {}
 
 impl<T: Drop> Refused for AllocFailed<T> {}
 
-/// Why a file could not be read. Lines are counted from 1. Of more faults than one, `TooLong` comes
-/// before `NotUtf8`, that before any fault of a line, and of these the first line's. (this project's
-/// profile)
+/// Why a file could not be read. Lines are counted from 1. Of several faults, `TooLong` comes
+/// before `NotUtf8`, and both come before any fault of a line. Of the faults of lines, the first
+/// line's comes. (this project's profile)
 #[derive(Clone, Copy, Debug, PartialEq, Eq)]
 pub enum ReadFault {
-    /// The bytes aren't UTF-8. The line is that of the first byte after the longest prefix that is.
+    /// The bytes aren't UTF-8. The line is that of the first byte after the longest prefix that is
+    /// UTF-8.
     NotUtf8 { line: u32 },
-    /// A line that can't stand where it stands: no line of its class can.
+    /// A line in a place where no line of its class is allowed.
     Unexpected { line: u32 },
-    /// A tag line with a word that is no tag.
+    /// A tag line with a word that isn't a tag.
     BadTag { line: u32 },
-    /// A row with another number of cells than its table.
+    /// A row whose number of cells differs from that of its table.
     CellCount { line: u32 },
     /// The text ends in the doc string that this line opens.
     UnclosedText { line: u32 },
     /// The text ends after this tag line.
     TagsAtEnd { line: u32 },
-    /// A comment above the feature that names another language than English.
+    /// A comment above the feature that names a language other than English.
     Language { line: u32 },
-    /// More bytes than `LIMIT`, whatever they spell.
+    /// More bytes than `LIMIT`, whatever they contain.
     TooLong,
     /// A growth of memory was refused.
     Memory,
-    /// A hook line that is no heading of a hook, or one that stood before.
+    /// A hook line that isn't the heading of a hook, or that repeats an earlier heading.
     BadHook { line: u32 },
-    /// A row that doesn't stand between two bars.
+    /// A row that isn't between two bars.
     BadRow { line: u32 },
 }
 
 impl ReadFault {
-    /// The line that the fault names, or none where it names no line.
+    /// Returns the line that the fault names, or `None` if it names no line.
     pub fn line(&self) -> Option<u32>
         ensures { result ≡ line_of_fault self.now }
     {
@@ -79,7 +81,7 @@ impl<T: Drop> From<AllocFailed<T>> for ReadFault {
     }
 }
 
-// Writes what the fault is called, without its line.
+// Writes the text of the fault, without its line.
 impl fmt::Display for ReadFault {
     ghost output = { λ e. Some (text_of_fault e) };
 

@@ -1,4 +1,4 @@
-//! Reading a file line by line: what a feature file and a hooks file have in common.
+//! Reading a file line by line, for feature files and hooks files alike.
 ghost use Rattle.std.specs.Prelude.{None, Ok, IfOk, IfErr, ◌≡◌, ◌≤◌, length};
 ghost use Rattle.std.specs.Str.Lines.{lines};
 ghost use Rattle.std.specs.String.{string_bytes};
@@ -16,15 +16,15 @@ use crate::read_fault::ReadFault;
 use std::alloc::Global;
 use std::mem;
 
-/// A reader of a file: what was read so far, outside of doc strings.
+/// A reader of a file, with everything read so far outside of doc strings.
 pub trait FileReader: Drop {
     /// What the file says.
     type Answer;
 
-    /// What contracts see of a reader.
+    /// The value of a reader in contracts.
     ghost Value: { Type 0 };
 
-    /// What contracts see of an answer.
+    /// The value of an `Answer` in contracts.
     ghost AnswerValue: { Type 0 };
 
     ghost value: { Self → Value };
@@ -37,7 +37,7 @@ pub trait FileReader: Drop {
     fn first() -> Self
         ensures { value result ≡ readers.first };
 
-    /// Whether a doc string may stand under the last step.
+    /// Returns whether a doc string is allowed under the last step.
     fn takes_text(&self) -> bool
         ensures { result ≡ readers.takes_text (value self.now) };
 
@@ -45,7 +45,7 @@ pub trait FileReader: Drop {
     fn put_text(&mut self, text: String)
         ensures { value self.new ≡ readers.after_text (value self.old) (string_bytes text) };
 
-    /// Takes a line of this class that is no part of a doc string.
+    /// Takes a line of this class that isn't part of a doc string.
     fn take(
         &mut self,
         alloc: Global,
@@ -58,13 +58,13 @@ pub trait FileReader: Drop {
         ensures memory { IfErr result (λ e. e ≡ Memory →
             readers.needs (value self.old) (borrowed_value line.now)) };
 
-    /// What was read, where the lines end.
+    /// Returns what the file says if the lines end here.
     fn answer(self, alloc: Global) -> Result<Self::Answer, ReadFault>
         ensures says { Agrees answer_value result (readers.answer (value self)) }
         ensures memory { IfErr result (λ e. e ≡ Memory → readers.needs_at_end (value self)) };
 }
 
-// The fence of a line of this class, where it opens a doc string.
+// Returns the fence of a line of this class, if it opens a doc string.
 fn opening<P: FileReader>(reader: &P, class: Class) -> Option<Fence>
     ensures { result ≡ spec.opening (P.readers.takes_text (P.value reader.now)) class }
 {
@@ -80,7 +80,7 @@ fn opening<P: FileReader>(reader: &P, class: Class) -> Option<Fence>
     }
 }
 
-// Takes a line outside of doc strings, which may open one.
+// Takes a line outside of doc strings. It may open one.
 #[tactic(auto, unfolding(crate::specs::Reading::step))]
 fn outside_text<P: FileReader>(
     alloc: Global,
@@ -104,7 +104,7 @@ fn outside_text<P: FileReader>(
     }
 }
 
-// The end of a doc string.
+// Ends the open doc string.
 fn end_text<P: FileReader>(alloc: Global, reader: &mut P, text: &mut Option<DocString>)
     ensures { EndsText P.readers (P.value reader.old) text.old (P.value reader.new) text.new }
 {
@@ -113,7 +113,7 @@ fn end_text<P: FileReader>(alloc: Global, reader: &mut P, text: &mut Option<DocS
     }
 }
 
-// The state after a line, in place of the state before it.
+// Replaces the state before a line by the state after it.
 #[tactic(auto, unfolding(crate::specs::Reading::step))]
 fn next_line<P: FileReader>(
     alloc: Global,
@@ -140,7 +140,7 @@ fn next_line<P: FileReader>(
     }
 }
 
-// The state after the lines of a text, in place of the state before them.
+// Replaces the state before the lines of a text by the state after them.
 fn run<P: FileReader>(
     alloc: Global,
     reader: &mut P,
@@ -167,7 +167,7 @@ fn run<P: FileReader>(
     Ok(())
 }
 
-// What was read, where the lines end.
+// Returns what the file says if the lines end here.
 #[tactic(auto, unfolding(crate::specs::Reading::finish))]
 fn finish<P: FileReader>(
     alloc: Global,
@@ -199,7 +199,7 @@ fn read_text<P: FileReader>(alloc: Global, text: &str) -> Result<P::Answer, Read
     finish(alloc, reader, doc_string)
 }
 
-/// What the bytes of a file say, line by line, or the first fault.
+/// Reads the bytes of a file line by line: returns what they say, or the first fault.
 pub fn read<P: FileReader>(alloc: Global, bytes: &[u8]) -> Result<P::Answer, ReadFault>
     ensures says { IfOk result (λ a.
         IsText bytes.now × (spec.reading P.readers (lines_of bytes.now) ≡ Ok (P.answer_value a))) }

@@ -11,7 +11,7 @@ use crate::read_fault::ReadFault;
 use crate::text::trim;
 use std::alloc::Global;
 
-// How far it is to the first bar that no backslash escapes, or to the end.
+// Returns the number of bytes before the first bar that no backslash escapes, or before the end.
 fn part_len(text: &[u8]) -> usize
     ensures parts { spec.parts_of text.now
         ≡ spec.parts_after (take result text.now) (drop result text.now) }
@@ -31,7 +31,7 @@ fn part_len(text: &[u8]) -> usize
     text.len()
 }
 
-// What a backslash before this text means, and what comes after that.
+// Returns what a backslash before this text means, and the text after the escape.
 fn escape(after: &str) -> (&str, &str)
     ensures means { spec.unescaped (92 ∷ after.now) ≡ result.0.now ++ spec.unescaped result.1.now }
     ensures within { length result.1.now ≤ length after.now }
@@ -68,7 +68,7 @@ fn unescaped(alloc: Global, part: &str) -> Result<String, ReadFault>
     }
 }
 
-// Room is made for as many cells as the row is to have.
+// Reserves room for `width` cells.
 fn cells_in(alloc: Global, width: usize, text: &str) -> Result<Option<Vec<String>>, ReadFault>
     ensures { Agrees found_texts result (Ok (spec.cells_of_parts (spec.parts_of text.now))) }
 {
@@ -89,8 +89,8 @@ fn cells_in(alloc: Global, width: usize, text: &str) -> Result<Option<Vec<String
     }
 }
 
-/// The cells of a row; none where the row isn't between two bars. `width` is how many it is to have,
-/// or 0 where that isn't known.
+/// Returns the cells of a row, or `None` if the row isn't between two bars. `width` is the number
+/// of cells that it should have, or 0 if that isn't known.
 pub fn cells_of(
     alloc: Global,
     width: usize,

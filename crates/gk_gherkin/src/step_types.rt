@@ -5,7 +5,7 @@ ghost use Rattle.gk_gherkin.specs.StepTypes as spec;
 use crate::feature::StepType;
 use crate::text::is_word;
 
-/// The type that a keyword gives after a step of another type.
+/// Returns the type that a keyword gives to a step after a step of type `before`.
 #[tactic(auto, unfolding(crate::specs::StepTypes::type_after))]
 pub fn type_after(before: StepType, keyword: &str) -> StepType
     ensures { result ≡ spec.type_after before keyword.now }

@@ -18,7 +18,7 @@ pub fn is_tag(word: &str) -> bool
     begins(word, "@") && 2 <= word.len()
 }
 
-// A word after the tags before it.
+// Appends a word to the tags.
 #[tactic(auto, using(crate::proofs::TagWords::text_more))]
 fn push_tag(alloc: Global, tags: &mut Vec<String>, word: &str) -> Result<(), ReadFault>
     ensures pushed { IfOk result (λ _.
@@ -29,7 +29,8 @@ fn push_tag(alloc: Global, tags: &mut Vec<String>, word: &str) -> Result<(), Rea
     Ok(())
 }
 
-/// The tags of a tag line, each with its `@`; none where a word before any comment is no tag.
+/// Returns the tags of a tag line, each with its `@`, or `None` if a word before any comment isn't
+/// a tag.
 pub fn tags_of(alloc: Global, line: &BorrowedLine<'_>) -> Result<Option<Vec<String>>, ReadFault>
     ensures says { Agrees found_texts result (Ok (spec.tags_of (borrowed_value line.now))) }
     ensures memory { IfErr result (λ e. BeginsWithTag (borrowed_value line.now)) }

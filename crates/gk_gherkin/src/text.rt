@@ -1,18 +1,18 @@
-//! Texts: their blanks, and what they begin with.
+//! Texts: trimming, prefixes and substrings.
 ghost use Rattle.std.specs.Prelude.{◌≡◌, ◌≤◌, ◌&&◌, length, slice_index};
 ghost use Rattle.std.specs.List.{prefix_len, position_or_len, before_first, after_first};
 ghost use Rattle.std.specs.Str.{bytes_eq};
 ghost use Rattle.gk_gherkin.specs.Text as spec;
 ghost use Rattle.gk_gherkin.specs.Text.{is_blank};
 
-/// Whether a byte is a space or a tab.
+/// Returns whether a byte is a space or a tab.
 pub fn is_blank(byte: u8) -> bool
     ensures { result ≡ spec.is_blank byte }
 {
     byte == b' ' || byte == b'\t'
 }
 
-/// How many blanks a text begins with.
+/// Returns the number of spaces and tabs that a text begins with.
 pub(crate) fn leading_blanks(text: &[u8]) -> usize
     ensures value { result ≡ prefix_len is_blank text.now }
     ensures within { result ≤ length text.now }
@@ -25,7 +25,7 @@ pub(crate) fn leading_blanks(text: &[u8]) -> usize
     text.len()
 }
 
-/// A text without its leading blanks.
+/// Returns a text without its leading spaces and tabs.
 pub(crate) fn trim_front(text: &str) -> &str
     ensures { result.now ≡ spec.trim_front text.now }
 {
@@ -33,7 +33,8 @@ pub(crate) fn trim_front(text: &str) -> &str
     &text[blanks..]
 }
 
-/// A text without its trailing blanks, which are spaces and tabs alone. (this project's profile)
+/// Returns a text without its trailing spaces and tabs. Other whitespace stays. (this project's
+/// profile)
 pub fn trim_back(text: &str) -> &str
     ensures { result.now ≡ spec.trim_back text.now }
 {
@@ -45,14 +46,14 @@ pub fn trim_back(text: &str) -> &str
     &text[..end]
 }
 
-/// A text without its leading and trailing blanks.
+/// Returns a text without its leading and trailing spaces and tabs.
 pub fn trim(text: &str) -> &str
     ensures { result.now ≡ spec.trim text.now }
 {
     trim_back(trim_front(text))
 }
 
-/// How many bytes come before the first blank.
+/// Returns the number of bytes before the first space or tab.
 pub(crate) fn first_blank(text: &[u8]) -> usize
     ensures value { result ≡ position_or_len is_blank text.now }
     ensures within { result ≤ length text.now }
@@ -65,7 +66,7 @@ pub(crate) fn first_blank(text: &[u8]) -> usize
     text.len()
 }
 
-/// The word before the first blank of a text, and what stands after that blank.
+/// Splits a text at its first space or tab: returns the word before it, and the rest after it.
 pub fn split_word(text: &str) -> (&str, &str)
     ensures word { result.0.now ≡ before_first is_blank text.now }
     ensures rest { result.1.now ≡ after_first is_blank text.now }
@@ -78,7 +79,7 @@ pub fn split_word(text: &str) -> (&str, &str)
     }
 }
 
-/// Whether a text begins with a word. The first byte is compared first.
+/// Returns whether a text begins with a word. Compares the first byte before the others.
 #[tactic(auto, using(crate::proofs::ClassWords::first_differs))]
 pub fn begins(text: &str, word: &str) -> bool
     ensures { result ≡ spec.begins text.now word.now }
@@ -92,14 +93,14 @@ pub fn begins(text: &str, word: &str) -> bool
     }
 }
 
-/// Whether a text is a word.
+/// Returns whether a text equals a word.
 pub(crate) fn is_word(text: &str, word: &str) -> bool
     ensures { result ≡ bytes_eq text.now word.now }
 {
     text == word
 }
 
-/// Whether a text begins with a word that a blank follows.
+/// Returns whether a text begins with a word followed by a space or a tab.
 pub(crate) fn begins_word(text: &str, word: &str) -> bool
     ensures { result
         ≡ (spec.begins text.now word.now && is_blank (slice_index text.now (length word.now))) }
@@ -109,7 +110,7 @@ pub(crate) fn begins_word(text: &str, word: &str) -> bool
     bytes.starts_with(word) && word.len() < bytes.len() && is_blank(bytes[word.len()])
 }
 
-/// Whether a text stands in another. The empty text stands in every text.
+/// Returns whether a text occurs in another. The empty text occurs in every text.
 pub fn stands_in(text: &str, whole: &str) -> bool
     ensures { result ≡ spec.stands_in text.now whole.now }
 {

@@ -1,4 +1,4 @@
--- Proof machinery: what the code's reader of a feature file says. No public contract cites it.
+-- Proof machinery: the values of the code's reader of a feature file. No public contract cites it.
 use Rattle.std.specs.Prelude.{ℕ, List, Option, Some, None, Result, String, option_map}
 use Rattle.gk_gherkin.specs.declared.class.Class.{Class}
 use Rattle.gk_gherkin.specs.declared.feature.Feature.{Feature}
@@ -17,37 +17,37 @@ use Rattle.gk_gherkin.specs.Results.{Agrees}
 use Rattle.gk_gherkin.specs.OpenParts.Views.{head_value, open_value}
 use Rattle.gk_gherkin.specs.FeatureReader as spec
 
--- What a `Top` says.
+-- The value of a `Top`.
 abbrev pub top_value : Top → spec.Top
 top_value (tops.OfFeature head) = spec.OfFeature (head_value head)
 top_value (tops.OfRule feature head) = spec.OfRule (feature_value feature) (head_value head)
 
--- What an `OpenFeature` says.
+-- The value of an `OpenFeature`.
 abbrev pub open_feature_value : OpenFeature → spec.OpenFeature
 open_feature_value readers.Above = spec.Above
 open_feature_value (readers.InFeature top part) = spec.InFeature (top_value top) (open_value part)
 
--- What an `OpenFeature` says with the tags after it, if there are any.
+-- The value of an `OpenFeature` with the tags after it, if there are any.
 abbrev pub tagged_value : OpenFeature → Option TagLines → spec.FeatureReader
 tagged_value feature None = spec.Untagged (open_feature_value feature)
 tagged_value feature (Some lines) = spec.Tagged (open_feature_value feature) (texts lines.tags.items) lines.last
 
--- What a `FeatureReader` says.
+-- The value of a `FeatureReader`.
 abbrev pub reader_value : FeatureReader → spec.FeatureReader
 reader_value reader = tagged_value reader.feature reader.tags
 
--- An Examples heading after an open part, whatever it stands in.
+-- The effect of an Examples heading on an open part, in any feature or rule.
 abbrev pub AddsExamples : Open → List (List ℕ) → LineValue → Result Unit ReadFault → Open → Type 0
 AddsExamples old tags line result new = (top : spec.Top) → Agrees (λ _. spec.InFeature top (open_value new)) result (spec.examples_in (open_value old) top tags line)
 
--- A heading line after these tags gives the reader that the definitions say, or its fault.
+-- The effect of a heading after these tags is that of the definitions, and so is its fault.
 abbrev pub TakesHeading : {Z : Type 0} → OpenFeature → List (String Z) → BorrowedLine → Class → Result Unit ReadFault → OpenFeature → Type 0
 TakesHeading old tags line class result new = Agrees (λ _. open_feature_value new) result (spec.on_heading (open_feature_value old) (texts tags) (borrowed_value line) class)
 
--- For every reader the tags of this line come after the older ones, and this is the line of the last of them; or it is the fault of the definitions.
+-- For every reader, the tags of this line follow the older ones, and this line is that of the last tag; or the fault is that of the definitions.
 abbrev pub AddsTags : {Z : Type 0} → List (String Z) → BorrowedLine → Result TagLines ReadFault → Type 0
 AddsTags old line result = (feature : spec.OpenFeature) → Agrees (λ (t : TagLines). spec.Tagged feature (texts t.tags.items) t.last) result (spec.on_tags feature (texts old) (borrowed_value line))
 
--- What the feature that was read says, if there is one.
+-- The value of the feature that was read, if there is one.
 abbrev pub answer_value : Option Feature → Option FeatureValue
 answer_value answer = option_map feature_value answer

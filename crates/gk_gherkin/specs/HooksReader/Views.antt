@@ -1,4 +1,4 @@
--- Proof machinery: what the code's reader of a hooks file says. No public contract cites it.
+-- Proof machinery: the values of the code's reader of a hooks file. No public contract cites it.
 use Rattle.std.specs.Prelude.{option_map}
 use Rattle.std.specs.String.{string_bytes}
 use Rattle.gk_gherkin.specs.declared.hooks_reader.Opened.{Opened}
@@ -8,11 +8,11 @@ use Rattle.gk_gherkin.specs.HooksSoFar.{so_far_value}
 use Rattle.gk_gherkin.specs.OpenParts.Views.{body_value}
 use Rattle.gk_gherkin.specs.HooksReader as spec
 
--- What an `Opened` says.
+-- The value of an `Opened`.
 abbrev pub opened_value : Opened → spec.OpenedValue
 opened_value o = record { before = so_far_value o.before; kind = o.kind; tag = option_map string_bytes o.tag; line = o.line }
 
--- What a `HooksReader` says.
+-- The value of a `HooksReader`.
 abbrev pub reader_value : HooksReader → spec.HooksReader
 reader_value readers.NoHook = spec.NoHook
 reader_value (readers.InHook opened body) = spec.InHook (opened_value opened) (body_value body)
