@@ -1,4 +1,4 @@
--- Lines of scenarios, and the lines of `--line` that have no scenario.
+-- Lines of cases, and the lines of `--line` that have no case.
 use Rattle.std.specs.Prelude.{not, ℕ, List, [], ◌∷◌, map, filter, flat_map, if◌then◌else◌}
 use Rattle.gk_gherkin.specs.Feature.{RowValue, ExamplesValue, ScenarioValue, FeatureValue}
 use Rattle.gk_select.specs.Outline.{is_outline}

@@ -18,8 +18,9 @@ use gk_gherkin::{Feature, LIMIT, ReadFault, read_feature, text_of};
 use std::alloc::{AllocError, Global};
 
 /// Returns the findings of a feature file that has been read, in the order of lines: those of its feature, or that it
-/// has none, and those of its text. Given `text_of` a file's bytes and the feature that `read_feature` returns for
-/// them, they are the findings that `lint_feature_file` returns. An error comes only if a growth was refused.
+/// has none, and those of its text. If `text_of` and `read_feature` returned the text and the feature for a file's
+/// bytes, these are the findings that `lint_feature_file` returns for them. An error comes only if a growth was
+/// refused.
 pub fn lint_feature(
     alloc: Global,
     feature: &Option<Feature>,
@@ -39,10 +40,10 @@ pub fn lint_feature(
     in_order(findings)
 }
 
-/// Returns the findings of a feature file with these bytes, in the order of lines. These concern the whole file: its
-/// lines end with CR alone, it has no feature, or the feature has no scenarios. The others are scenarios without steps,
-/// outlines without rows, scenarios with the name of an earlier one, description lines that begin like a keyword, and
-/// steps outside of scenarios.
+/// Returns the findings of a feature file with these bytes, in the order of lines. Three kinds concern the whole file:
+/// its lines end with CR alone, it has no feature, or the feature has no scenarios. The others are scenarios without
+/// steps, outlines without rows, scenarios with the name of an earlier one, description lines that begin like a
+/// keyword, and steps outside of scenarios.
 ///
 /// If the file is invalid, the error is the fault that `read_feature` returns for it. `Memory` comes only if a growth
 /// was refused.

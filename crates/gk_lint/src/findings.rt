@@ -37,7 +37,7 @@ pub enum FindingKind {
     HookOfNoTag,
 }
 
-/// A finding, with its line, counted from 1.
+/// A finding. Its line is counted from 1.
 #[derive(Clone, Copy, Debug, PartialEq, Eq)]
 pub struct Finding {
     pub line: u32,

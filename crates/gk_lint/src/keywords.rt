@@ -1,4 +1,4 @@
-//! Keywords that a misspelt line may be meant to have.
+//! Keywords that the author of a misspelt line may have meant.
 ghost use Rattle.std.specs.Prelude.{◌≡◌};
 ghost use Rattle.gk_lint.specs.Keywords as spec;
 
@@ -26,7 +26,7 @@ const OUTLINE: &str = "Scenario Outline";
 
 const TEMPLATE: &str = "Scenario Template";
 
-/// The keywords of headings. A keyword that another one begins with comes after that one.
+/// The keywords of headings. A keyword comes after every longer one that begins with it.
 pub const HEADINGS: [Keyword; 9] = [
     Keyword::Feature,
     Keyword::Rule,

@@ -21,7 +21,7 @@ fn has_cr_so_far(before: bool, text: &str) -> bool
     before || has_cr(text)
 }
 
-// Returns whether exactly one line comes before this line number, and has a carriage return.
+// Returns whether exactly one line comes before this line number, and a carriage return was found.
 fn is_one_before(number: u32, has_cr: bool) -> bool
     ensures { result ≡ ((number == 2) && has_cr) }
 {

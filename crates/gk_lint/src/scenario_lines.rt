@@ -1,4 +1,4 @@
-//! Lines of scenarios, and the lines of `--line` that have no scenario.
+//! Lines of cases, and the lines of `--line` that have no case.
 ghost use Rattle.std.specs.Prelude.{◌≡◌, ◌++◌, not, map, filter, OnOk, IfOk};
 ghost use Rattle.std.specs.List.Sorted.{IsNonDecreasing};
 ghost use Rattle.gk_gherkin.specs.Feature.{row_value, examples_value, scenario_value, feature_value};
@@ -88,8 +88,8 @@ fn not_among(alloc: Global, numbers: &[usize], lines: &[u32]) -> Result<Vec<u32>
     Ok(left)
 }
 
-/// Returns the lines at which these features have no scenario and no row of an outline, in their order. A `--line` with
-/// such a line selects nothing. An error comes only if a growth was refused.
+/// Returns the lines at which these features have neither a plain scenario nor a row of an outline, in their order. A
+/// `--line` with such a line selects nothing. An error comes only if a growth was refused.
 pub fn lines_without_scenario(
     alloc: Global,
     lines: &[u32],

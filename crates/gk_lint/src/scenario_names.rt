@@ -79,8 +79,8 @@ fn add_named_again(
     Ok(())
 }
 
-/// Adds each scenario of a file's feature that has the name of an earlier one. An error comes only if a growth was
-/// refused; some of the findings may have been added then.
+/// Adds a finding for each scenario of a file's feature that has the name of an earlier one. An error comes only if a
+/// growth was refused; some of the findings may have been added then.
 pub fn add_same_names(
     findings: &mut Vec<Finding>,
     alloc: Global,

@@ -315,7 +315,7 @@ fn add_hooks(
     Ok(())
 }
 
-// Returns the results before any step was looked up.
+// Returns empty results.
 fn nothing_found(alloc: Global) -> StepFindings
     ensures found { result.findings.items ≡ [] }
     ensures used { result.used.items ≡ [] }
