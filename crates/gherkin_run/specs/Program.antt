@@ -119,7 +119,7 @@ IsHelp old new status = (text : List ℕ) × IsShown text old new status
 abbrev pub IsHelpFault : Device → Device → Fault → Type 0
 IsHelpFault old new fault = (text : List ℕ) × IsTextFault text old new fault
 
--- Contents with some variables put in, in order. The last of several equal names counts.
+-- Contents with some variables put in, in order. If several have the same name, the last one counts.
 abbrev pub with_variables : Contents → List PairValue → Contents
 with_variables c [] = c
 with_variables c (v ∷ vs) = with_variables (with_env c v.name v.text) vs
@@ -158,7 +158,7 @@ IsFaultAs Findings files run.Memory fault = IsFaultOfRun files run.Memory fault
 IsFaultAs Findings files by fault = IsListedAs files by fault
 IsFaultAs mode files by fault = IsFaultOfRun files by fault
 
--- The output of a run was written, and its status is returned: the report of a judged list, which at each status other than 4 is the one that plain maps give; or the explanation of a run with judged results; or all that is found before a run.
+-- The output of a run was written, and its status is returned. The output is the report of a judged list, which at each status other than 4 is the one that plain maps give; or the explanation of a run with judged results; or all that is found before a run.
 abbrev pub IsWrittenAs : Mode → FilesValue → Request → Contents → Device → Device → ℕ → Type 0
 IsWrittenAs Report files request contents old new status = JudgedReport request contents old new status × OnlyReport request contents old new status
 IsWrittenAs Explanation files request contents old new status = Explained request (hooks_name files) contents old new status
@@ -196,7 +196,7 @@ SaysSuite mode files request contents old new fault =
     ((by : RunFault) × IsFaultAs mode files by fault × SaysFaultAs mode files request contents old new by)
     ⊎ FailsToFlush mode files request contents old new fault
 
--- The sources have the names of the given files, in order. There are a library file and a hooks file exactly if they were given, and they have the given names.
+-- The sources have the names of the given files, in order. There is a library file if and only if one was given, and it has the given name; the same holds for the hooks file.
 pub record AreGiven (w : Words) (files : FilesValue) : Type 0 where
   pub sources : map (λ s. s.name) files.sources ≡ map string_bytes w.files.items
   pub library : option_map (λ s. s.name) files.library ≡ option_map string_bytes w.library

@@ -1,4 +1,4 @@
-//! Reading of the library file, the hooks file and the feature files.
+//! Reading the library file, the hooks file and the feature files.
 ghost use Rattle.std.specs.Prelude.{◌≡◌, ◌≤◌, map, IfOk, IfErr, IfSome, Ok, option_map, string_bytes, vec_len};
 ghost use Rattle.std.specs.List.{Any};
 ghost use Rattle.gherkin_run.specs.Files.{AreRead, IsFaultOfFiles, IsFaultOfReading, IsFileFault, IsNotRead, StopsReading, files_in_order, name_of, names_in_order, one_of};
@@ -129,7 +129,7 @@ fn read_named_file<S: System>(
 }
 
 /// Reads the library file and the hooks file, if they are named, and then each feature file, in order, and no other
-/// file. The fault is that of the first file that can't be read, and none is read after it.
+/// file. The fault is that of the first file that can't be read, and no file is read after it.
 pub fn read_run_files<S: System>(
     alloc: Global,
     system: &mut S,
@@ -143,7 +143,7 @@ pub fn read_run_files<S: System>(
         (λ files. option_map name_of files.hooks ≡ option_map string_bytes hooks) }
     ensures named { IfOk result
         (λ files. map name_of files.sources.items ≡ map string_bytes names.items) }
-    // Each source has the bytes that were read from the file of its name, and no other file was read.
+    // Each source has the bytes that the system returned for its name, and no other file was read.
     ensures read { IfOk result (λ files.
         AreRead S.reads system.old (files_in_order (suite_value source_value files)) system.new) }
     // The fault is that of the first file that wasn't read, in the order library, hooks, files.

@@ -115,8 +115,8 @@ fn fault_of_variable(fault: WorldFault) -> Fault
     }
 }
 
-/// Puts the variables into the sandbox, in order. The last of several equal names counts. A bad name or a text that is
-/// too long is `Env`.
+/// Puts the variables into the sandbox, in order. If several have the same name, the last one counts. A bad name or a
+/// text that is too long is `Env`.
 fn put_variables(sandbox: &mut Sandbox, variables: &[(String, String)]) -> Result<(), Fault>
     ensures { SaysVariables (map pair_value variables.now) sandbox.old sandbox.new result }
 {

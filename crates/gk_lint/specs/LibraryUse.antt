@@ -7,7 +7,7 @@ use Rattle.gk_lint.specs.declared.findings.Finding.{Finding}
 use Rattle.gk_lint.specs.declared.findings.FindingKind.TheVariants.{UnusedEntry}
 use Rattle.gk_lint.specs.Findings.{found_if}
 
--- The number of a line that is an entry, and none for a blank line or a comment.
+-- The number of a line if it is an entry, and none for a blank line or a comment.
 abbrev pub entry_line : LineValue → List ℕ
 entry_line line = if is_ignored line then [] else line.line ∷ []
 

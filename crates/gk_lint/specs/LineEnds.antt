@@ -18,7 +18,7 @@ has_cr text = list_any is_cr text
 abbrev pub have_cr : Lines → Bool
 have_cr lines = list_any (λ (line : LineValue). has_cr line.text) lines
 
--- Whether lines are one line with a carriage return: the lines that were meant end with CR, which ends no line.
+-- Whether lines are one line with a carriage return: the intended lines end with CR, which ends no line.
 abbrev pub is_one_with_cr : Lines → Bool
 is_one_with_cr lines = (length lines == 1) && have_cr lines
 

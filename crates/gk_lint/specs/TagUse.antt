@@ -40,7 +40,7 @@ abbrev pub of_tag : (List ℕ → Bool) → ℕ → Option (List ℕ) → List F
 of_tag stands line None = []
 of_tag stands line (Some tag) = found_if (not (stands tag)) line HookOfNoTag
 
--- The findings of hooks, by the tags that the features have: each hook for a tag that none has. It never runs. (behave's documentation: environment file functions)
+-- The findings of hooks, by the tags that the features have: each hook for a tag that none has. Such a hook never runs. (behave's documentation: environment file functions)
 abbrev pub idle_hooks : (List ℕ → Bool) → List HookValue → List Finding
 idle_hooks stands hooks = flat_map (λ (h : HookValue). of_tag stands h.line h.tag) hooks
 

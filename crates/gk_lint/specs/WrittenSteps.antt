@@ -71,7 +71,7 @@ of_feature f = of_background f.background ++ (of_scenarios f.scenarios ++ of_rul
 abbrev pub background_steps_of : FeatureValue → List StepValue
 background_steps_of f = background_steps f.background ++ flat_map (λ (r : RuleValue). background_steps r.background) f.rules
 
--- The written steps of a feature are run as the steps of its cases and of its Backgrounds: any test holds for one of the former exactly if it holds for one of the latter. So each step of a case is looked up, and no other step except those of a Background that no case has.
+-- The written steps of a feature are run as the steps of its cases and of its Backgrounds. Any test holds for one of the former if and only if it holds for one of the latter. So each step of a case is looked up, and no other step except those of a Background that no case has.
 abbrev pub LooksUpWhatIsRun : Type 0
 LooksUpWhatIsRun = (f : FeatureValue) (asked : StepValue → Bool) → list_any asked (flat_map (λ (w : WrittenStep). w.runs) (of_feature f)) ≡ (list_any asked (flat_map (λ (c : CaseValue). c.steps) (cases f)) || list_any asked (background_steps_of f))
 
