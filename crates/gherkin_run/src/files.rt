@@ -146,7 +146,7 @@ pub fn read_run_files<S: System>(
     // Each source has the bytes that the system returned for its name, and no other file was read.
     ensures read { IfOk result (λ files.
         AreRead S.reads system.old (files_in_order (suite_value source_value files)) system.new) }
-    // The fault is that of the first file that wasn't read, in the order library, hooks, files.
+    // The fault is that of the first file that wasn't read, in the order library, hooks, files; or memory was refused.
     ensures first { IfErr result (StopsReading S.reads system.old
         (names_in_order library hooks names.items) system.new) }
     ensures fault { IfErr result (IsFaultOfFiles library hooks names.items) }

@@ -11,8 +11,8 @@ pub enum StepFault {
     /// cleanups)
     CleanupWithoutStep,
     /// The action of the step, or of the cleanup that it registers, always fails at its site: a cleanup registers
-    /// another one or skips the scenario, or a hook that isn't before a scenario skips it. (behave's documentation:
-    /// cleanups, skipping scenarios)
+    /// another one or skips the scenario, or a hook that isn't before a scenario or a tag skips it. (behave's
+    /// documentation: cleanups, skipping scenarios)
     NotAllowed,
     /// The action works with a text, but there is neither a field `text` nor a doc string.
     NoText,

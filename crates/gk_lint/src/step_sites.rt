@@ -8,7 +8,7 @@ use gk_steps::Action;
 /// The site at which a step is carried out. It decides which actions are allowed there.
 #[derive(Clone, Copy, Debug, PartialEq, Eq)]
 pub enum StepSite {
-    /// In a scenario, including its Backgrounds, or in a hook before a scenario.
+    /// In a scenario, including its Backgrounds, or in a hook before a scenario or a tag.
     Scenario,
     /// In another hook.
     Hook,
