@@ -6,16 +6,16 @@ use Rattle.gk_cli.specs.declared.run_fault.RunFault.{RunFault}
 use Rattle.gherkin_run.specs.declared.fault.Fault.{Fault}
 use Rattle.gherkin_run.specs.declared.fault.Fault.TheVariants.{NotUtf8, Usage, Env, CannotRead, TooLong, OfRun, Unread, Write, Memory}
 
--- What a fault says: its text, or none where the text is clap's own or has the faults of all files, and the status.
+-- The text and the status of a fault. There is no text if it is clap's own, or has the faults of all files.
 pub record FaultRow : Type 0 where
   pub text : Option (List ℕ)
   pub status : ℕ
 
--- A fault with a text of its own.
+-- A row with this text and this status.
 abbrev pub says : List ℕ → ℕ → FaultRow
 says text status = record { text = Some text; status = status }
 
--- The table of faults. A fault of a run has the line of the run's fault, with the name of the file that it is of.
+-- The table of faults. A fault of a run has the line of the run's fault, with the name of the file that has the fault.
 abbrev pub row_of : Fault → FaultRow
 row_of NotUtf8 = says (codes "not UTF-8") 2
 row_of (Usage error) = record { text = None; status = 2 }
@@ -27,7 +27,7 @@ row_of (Unread status lines) = record { text = None; status = status }
 row_of Write = says (codes "cannot write") 3
 row_of Memory = says (codes "out of memory") 4
 
--- The line of a fault, without its line feed; what clap finds is said in clap's own text. Of files that don't read, all lines.
+-- The line of a fault, without its line feed. A mistake that clap finds has clap's own text instead. Invalid files have all their lines.
 abbrev pub line_of : Fault → Option (List ℕ)
 line_of (Unread status lines) = Some (string_bytes lines)
 line_of fault = option_map (λ text. codes "gherkin_run: " ++ text) (row_of fault).text
@@ -37,6 +37,6 @@ abbrev pub status_of : Result ℕ Fault → ℕ
 status_of (Ok status) = status
 status_of (Err fault) = (row_of fault).status
 
--- The line of a fault of a run, of a file of this name.
+-- The line of a run's fault, in a file of this name, if a file has it.
 abbrev pub said_line : Option (List ℕ) → RunFault → List ℕ
 said_line name fault = codes "gherkin_run: " ++ fault_line name fault

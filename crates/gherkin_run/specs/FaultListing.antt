@@ -1,4 +1,4 @@
--- What is printed, with `--lint`, of all files of a run that don't read.
+-- The output of `--lint` for all invalid files of a run.
 use Rattle.std.specs.Prelude.{◌≡◌, ℕ, List, ◌∷◌, ◌++◌, codes, flat_map, string_bytes}
 use Rattle.gk_cli.specs.AllFaults.{AreFaultsOf, files_after}
 use Rattle.gk_cli.specs.SuiteFiles.{FilesValue}
@@ -9,19 +9,19 @@ use Rattle.gherkin_run.specs.Fault.{said_line}
 use Rattle.gherkin_run.specs.declared.fault.Fault.{Fault}
 use Rattle.gherkin_run.specs.declared.fault.Fault.TheVariants.{Unread, Memory}
 
--- What is printed of a fault: the line that a run prints of it, and what is said below it.
+-- The output for a fault: the line that a run prints for it, and the notes below that line.
 abbrev pub block : FilesValue → RunFault → List ℕ
 block files fault = said_line (name_at_fault files fault) fault ++ (codes "\n" ++ notes files fault)
 
--- What is printed of faults, one after the other.
+-- The output for faults, one after the other.
 abbrev pub blocks : FilesValue → List RunFault → List ℕ
 blocks files faults = flat_map (block files) faults
 
--- This is printed where a run has this fault: what is said of it, and then of the fault of each file that is read after it and doesn't read.
+-- The output if a run has this fault: the block of this fault, and then that of the fault of each invalid file that is read after it.
 abbrev pub IsListing : FilesValue → RunFault → List ℕ → Type 0
 IsListing files first text = (later : List RunFault) × AreFaultsOf (files_after files first) later × (text ≡ blocks files (first ∷ later))
 
--- The program's fault where a run has this fault: all that doesn't read is printed, with the status of the first; or memory was refused for it.
+-- The program's fault if a run has this fault. Its output has all faults from this one on, and its status is that of this one. Or memory was refused for the output.
 abbrev pub IsListedAs : FilesValue → RunFault → Fault → Type 0
 IsListedAs files first (Unread status lines) = (status ≡ status_of_fault first) × IsListing files first (string_bytes lines)
 IsListedAs files first Memory = Unit {0}

@@ -29,43 +29,43 @@ IsFaultOfFiles library hooks names fault =
     ⊎ (IsSomeAnd hooks (λ name. IsFileFault (string_bytes name) fault)
     ⊎ Any (λ name. IsFileFault (string_bytes name) fault) names)
 
--- What to read a file gave: its bytes, or why they can't be had.
+-- The result of reading a file: its bytes, or why they can't be read.
 abbrev pub bytes_or_fault : Result (Vec ℕ Global) SourceFault → Result (List ℕ) SourceFault
 bytes_or_fault (Ok bytes) = Ok bytes.items
 bytes_or_fault (Err fault) = Err fault
 
--- Some file gave this answer: where it is known what that file holds, it holds these bytes and no other, or more of them than a source may have. Of other faults nothing is said.
+-- Some file gave this result. If it is known what that file holds, it holds exactly these bytes, or, at `TooLong`, more bytes than a source may have. Nothing is said of other faults.
 abbrev pub IsOfSomeFile : {F : Type 0} → (F → Option (List ℕ)) → Result (List ℕ) SourceFault → Type 0
 IsOfSomeFile {F} holds (Ok bytes) = (file : F) × IfSome (holds file) (λ whole. bytes ≡ whole)
 IsOfSomeFile {F} holds (Err reading.TooLong) = (file : F) × IfSome (holds file) (λ whole. limit < length whole)
 IsOfSomeFile holds (Err fault) = Unit {0}
 
--- The fault of a run for a file of this name that couldn't be read, for this reason.
+-- The program's fault for a file of this name that couldn't be read, for this reason.
 abbrev pub IsFaultOfReading : List ℕ → SourceFault → Fault → Type 0
 IsFaultOfReading name reading.Device (CannotRead other) = string_bytes other ≡ name
 IsFaultOfReading name reading.TooLong (TooLong other) = string_bytes other ≡ name
 IsFaultOfReading name reading.Memory Memory = Unit {0}
 IsFaultOfReading name by fault = ⊥
 
--- What a system is asked and answers: in the first state, to read the file of this name gives this answer, and leaves the second state.
+-- How a system is read: in the first state, reading the file of this name returns this result, and leaves the second state.
 abbrev pub Reading : Type 0 → Type 1
 Reading S = S → List ℕ → Result (List ℕ) SourceFault → S → Type 0
 
--- Files are read one after another from a system, each from the state that the one before left; nothing else is read.
+-- Files are read one after another from a system, each from the state that the previous one left. Nothing more is read.
 abbrev pub AreRead : {S : Type 0} → Reading S → S → List SourceValue → S → Type 0
 AreRead reads old [] new = old ≡ new
 AreRead {S} reads old (file ∷ files) new = (between : S) × reads old file.name (Ok file.bytes) between × AreRead reads between files new
 
--- The file of this name was asked for, and could not be read; the fault is its own.
+-- The file of this name was requested, and could not be read. The fault is that of this file.
 abbrev pub IsNotRead : {S : Type 0} → Reading S → S → List ℕ → S → Fault → Type 0
 IsNotRead reads old name new fault = (by : SourceFault) × reads old name (Err by) new × IsFaultOfReading name by fault
 
--- The first of the files that are left could not be read; or memory ran out before the next was asked for, or where none is left.
+-- The first of the files that are left could not be read. Or memory was refused before it was requested, or when none was left.
 abbrev pub StopsHere : {S : Type 0} → Reading S → S → List (List ℕ) → S → Fault → Type 0
 StopsHere reads old [] new fault = (old ≡ new) × (fault ≡ Memory)
 StopsHere reads old (name ∷ names) new fault = IsNotRead reads old name new fault ⊎ (old ≡ new) × (fault ≡ Memory)
 
--- Some of these files were read, the first in their order, and there reading stops; nothing else is read.
+-- A prefix of these files was read, in their order, and then reading stops. Nothing more is read.
 pub record StopsReading {S : Type 0} (reads : Reading S) (old : S) (names : List (List ℕ)) (new : S) (fault : Fault) : Type 0 where
   pub files : List SourceValue
   pub left : List (List ℕ)
@@ -74,7 +74,7 @@ pub record StopsReading {S : Type 0} (reads : Reading S) (old : S) (names : List
   pub read : AreRead reads old files between
   pub stops : StopsHere reads between left new fault
 
--- The one that is there, if any.
+-- A list of the value, if there is one.
 abbrev pub one_of : {X : Type 0} → Option X → List X
 one_of None = []
 one_of (Some x) = x ∷ []

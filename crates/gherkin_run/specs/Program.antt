@@ -36,18 +36,18 @@ use Rattle.gherkin_run.specs.declared.program.Asked.{Asked}
 use Rattle.gherkin_run.specs.declared.program.Asked.TheVariants.{Help, Run}
 use Rattle.gherkin_run.specs.declared.program.Manner.{Manner}
 
--- The text was asked for, and is no mistake.
+-- The error is a request for help or the version, and not a mistake.
 abbrev pub IsAskedFor : Error → Type 0
 IsAskedFor e = (kind_of e ≡ DisplayHelp) ⊎ (kind_of e ≡ DisplayVersion)
 
--- A request for help is no mistake, and a mistake is no request for help.
+-- A request for help isn't a mistake, and a mistake isn't a request for help.
 abbrev pub SaysError : Error → Result Asked Fault → Type 0
 SaysError e (Ok (Help f)) = IsAskedFor e × (f ≡ e)
 SaysError e (Ok (Run w)) = ⊥
 SaysError e (Err (Usage f)) = (IsAskedFor e → ⊥) × (f ≡ e)
 SaysError e (Err _) = ⊥
 
--- What some arguments ask for, and what is wrong with them: help is no mistake, and a mistake is no request for help.
+-- What some arguments ask for, or what is wrong with them. A request for help isn't a mistake, and a mistake isn't a request for help.
 abbrev pub SaysAsked : List Text → Result Asked Fault → Type 0
 SaysAsked arguments (Ok (Help e)) = IsAskedFor e × IsAmong (kind_of e) (faults_in arguments)
 SaysAsked arguments (Ok (Run w)) = SaysArguments arguments (Ok w)
@@ -56,29 +56,29 @@ SaysAsked arguments (Err Env) = SaysArguments arguments (Err words.Env)
 SaysAsked arguments (Err Memory) = Unit {0}
 SaysAsked arguments (Err _) = ⊥
 
--- What can be wrong before the arguments are read.
+-- A fault that is possible before the arguments are read.
 abbrev pub IsArgumentsFault : Fault → Type 0
 IsArgumentsFault NotUtf8 = Unit {0}
 IsArgumentsFault Memory = Unit {0}
 IsArgumentsFault _ = ⊥
 
--- Standard output failed, and moved a byte in each call but the one that failed, or it was not called at all.
+-- Standard output failed, and moved a byte in each call except the one that failed, or it was not called at all.
 abbrev pub SaysCalls : Device → Device → Fault → Type 0
 SaysCalls old new Write = (old.failures < new.failures) × (new.idle ≤ old.idle + 1)
 SaysCalls old new _ = IsUntouched old new
 
--- What was written where this fault ended a run: a prefix of its report, or of what is said of it in an explanation, or of what is found before it. Standard output failed, and moved a byte in each other call; or it didn't fail, and moved one in each.
+-- What was written if this fault ended a run: a prefix of its report, of its explanation, or of what is found before the run. Standard output failed, and moved a byte in each other call. Or it didn't fail, and moved one in each call.
 abbrev pub IsStoppedAs : Mode → FilesValue → Request → Contents → Device → Device → RunFault → Type 0
 IsStoppedAs Report files request contents old new by = CutShort request contents old new × StopsBy old new by
 IsStoppedAs Explanation files request contents old new by = ExplainedInPart request (hooks_name files) contents old new by
 IsStoppedAs Findings files request contents old new run.Write = LintedInPart request (library_name files) (hooks_name files) old new run.Write
 IsStoppedAs Findings files request contents old new by = ⊥
 
--- A prefix of what is written of some run was, and then memory was refused.
+-- A prefix of the output of some run was written, and then memory was refused.
 abbrev pub IsCutShortForSome : Device → Device → Type 0
 IsCutShortForSome old new = (mode : Mode) × (files : FilesValue) × (request : Request) × (contents : Contents) × IsStoppedAs mode files request contents old new run.Memory
 
--- Standard output failed, or it was not called at all, or memory was refused after a prefix of what is written of a run was.
+-- Standard output failed, or it was not called at all, or memory was refused after a prefix of a run's output was written.
 abbrev pub SaysCallsOfRun : Device → Device → Fault → Type 0
 SaysCallsOfRun old new Memory = IsUntouched old new ⊎ IsCutShortForSome old new
 SaysCallsOfRun old new fault = SaysCalls old new fault
@@ -90,7 +90,7 @@ pub record IsFlushed (old new : Device) : Type 0 where
   pub idle : new.idle ≡ old.idle
   pub flushes : new.flushes ≡ one_more old.flushes
 
--- This text, and nothing else, was written to standard output, by calls that each moved at least one byte, and was flushed once. No call failed, and the status is 0.
+-- This text, and no more, was written to standard output, by calls that each moved at least one byte, and was flushed once. No call failed, and the status is 0.
 pub record IsShown (text : List ℕ) (old new : Device) (status : ℕ) : Type 0 where
   pub written : Device
   pub is : IsWritten old written text
@@ -105,83 +105,83 @@ pub record FailsToFlushText (text : List ℕ) (old new : Device) : Type 0 where
   pub flushed : IsFlushed written new
   pub failed : new.failures ≡ one_more old.failures
 
--- Why this text was not shown, and what was written of it: a prefix, as standard output failed, and then nothing was flushed; or all of it, and the flush failed; or nothing, as memory was refused, and standard output was not called.
+-- Why this text was not shown, and which part of it was written. If a write failed, a prefix was written, and nothing was flushed. If the flush failed, all of it was written. If memory was refused, nothing was written, and standard output was not called.
 abbrev pub IsTextFault : List ℕ → Device → Device → Fault → Type 0
 IsTextFault text old new Write = IsStopped old new text run.Write ⊎ FailsToFlushText text old new
 IsTextFault text old new Memory = IsUntouched old new
 IsTextFault text old new _ = ⊥
 
--- Some text, and nothing else, was written and flushed, with status 0: what it is, clap decides, and nothing here says.
+-- Some text, and no more, was written and flushed, with status 0. Clap decides what the text is, and nothing here says it.
 abbrev pub IsHelp : Device → Device → ℕ → Type 0
 IsHelp old new status = (text : List ℕ) × IsShown text old new status
 
--- Why help was not shown, and what was written of its text: what that is, clap decides, and nothing here says.
+-- Why help was not shown, and which part of its text was written. Clap decides what the text is, and nothing here says it.
 abbrev pub IsHelpFault : Device → Device → Fault → Type 0
 IsHelpFault old new fault = (text : List ℕ) × IsTextFault text old new fault
 
--- Contents with some variables put in, in order: of equal names the last counts.
+-- Contents with some variables put in, in order. If several have the same name, the last one counts.
 abbrev pub with_variables : Contents → List PairValue → Contents
 with_variables c [] = c
 with_variables c (v ∷ vs) = with_variables (with_env c v.name v.text) vs
 
--- A variable that no sandbox takes: a bad name, or a text too long.
+-- A variable that no sandbox takes: a bad name, or a text that is too long.
 abbrev pub IsRefused : PairValue → Type 0
 IsRefused v = IsSome (put_refusal v.name v.text)
 
--- A sandbox takes every one of these variables.
+-- A sandbox takes each of these variables.
 abbrev pub AreTaken : List PairValue → Type 0
 AreTaken variables = All (λ v. put_refusal v.name v.text ≡ None) variables
 
--- A variable that the sandbox refuses is a mistake in the arguments, out of memory apart.
+-- A variable that the sandbox refuses is a mistake in the arguments, unless memory was refused.
 abbrev pub IsFaultOfVariable : WorldFault → Fault → Type 0
 IsFaultOfVariable world.Memory fault = fault ≡ Memory
 IsFaultOfVariable _ fault = fault ≡ Env
 
--- The variables are in the sandbox, and its layers are as before; or one of them is refused.
+-- The variables are in the sandbox, and its layers are unchanged; or one of them is refused. Nothing is said of refused memory.
 abbrev pub SaysVariables : List PairValue → SandboxValue → SandboxValue → Result (Unit {0}) Fault → Type 0
 SaysVariables variables old new (Ok u) = (new.now ≡ with_variables old.now variables) × (new.saved ≡ old.saved) × AreTaken variables
 SaysVariables variables old new (Err Env) = Any IsRefused variables
 SaysVariables variables old new (Err Memory) = Unit {0}
 SaysVariables variables old new (Err _) = ⊥
 
--- The program's fault for a fault of the run: the same one, where a file has its name in place of its number.
+-- The program's fault for a fault of the run: the same fault, with a file's name in place of its number.
 abbrev pub IsFaultOfRun : FilesValue → RunFault → Fault → Type 0
 IsFaultOfRun files run.Write fault = fault ≡ Write
 IsFaultOfRun files run.Memory fault = fault ≡ Memory
 IsFaultOfRun files by (OfRun name same) = (same ≡ by) × (option_map string_bytes name ≡ name_at_fault files by)
 IsFaultOfRun files by other = ⊥
 
--- The program's fault for a fault of the run, by what is written of it: with `--lint`, all files that don't read are listed.
+-- The program's fault for a fault of the run, by the mode. With `--lint`, all invalid files are listed.
 abbrev pub IsFaultAs : Mode → FilesValue → RunFault → Fault → Type 0
 IsFaultAs Findings files run.Write fault = IsFaultOfRun files run.Write fault
 IsFaultAs Findings files run.Memory fault = IsFaultOfRun files run.Memory fault
 IsFaultAs Findings files by fault = IsListedAs files by fault
 IsFaultAs mode files by fault = IsFaultOfRun files by fault
 
--- What is written of a run was, and its status is returned: the report of a judged list, which at each status other than 4 is the one that plain maps give; or the explanation of a run with judged results; or all that is found before a run.
+-- The output of a run was written, and its status is returned. The output is the report of a judged list, which at each status other than 4 is the one that plain maps give; or the explanation of a run with judged results; or all that is found before a run.
 abbrev pub IsWrittenAs : Mode → FilesValue → Request → Contents → Device → Device → ℕ → Type 0
 IsWrittenAs Report files request contents old new status = JudgedReport request contents old new status × OnlyReport request contents old new status
 IsWrittenAs Explanation files request contents old new status = Explained request (hooks_name files) contents old new status
 IsWrittenAs Findings files request contents old new status = Linted request (library_name files) (hooks_name files) old new status
 
--- What each fault of a run says: at `Write` a prefix of what is written of it was, at `Memory` such a prefix or nothing; at any other fault nothing was, and what is asked for doesn't read.
+-- What each fault of a run says. At `Write`, a prefix of the run's output was written; at `Memory`, such a prefix or nothing. At any other fault nothing was written, and the request is invalid.
 abbrev pub SaysFaultAs : Mode → FilesValue → Request → Contents → Device → Device → RunFault → Type 0
 SaysFaultAs mode files request contents old new run.Write = IsStoppedAs mode files request contents old new run.Write
 SaysFaultAs mode files request contents old new run.Memory = IsUntouched old new ⊎ IsStoppedAs mode files request contents old new run.Memory
 SaysFaultAs mode files request contents old new by = IsUnread request by × IsUntouched old new
 
--- What is left of the files of a run: with `--lint` all that they were; else sources may have given up their bytes, and the names are as they were.
+-- The files of a run after it. With `--lint` they are unchanged. Otherwise sources may have dropped their bytes, and the names are unchanged.
 abbrev pub AreLeft : Mode → FilesValue → FilesValue → Type 0
 AreLeft Findings old new = new ≡ old
 AreLeft mode old new = HaveSameNames old new
 
--- What is written of a run was, and was flushed, and its status is returned.
+-- The output of a run was written and flushed, and its status is returned.
 pub record IsFlushedRun (mode : Mode) (files : FilesValue) (request : Request) (contents : Contents) (old new : Device) (status : ℕ) : Type 0 where
   pub written : Device
   pub is : IsWrittenAs mode files request contents old written status
   pub flushed : IsFlushed written new
 
--- What is written of a run was, and then the flush failed.
+-- The output of a run was written, and then the flush failed.
 pub record FailsToFlush (mode : Mode) (files : FilesValue) (request : Request) (contents : Contents) (old new : Device) (fault : Fault) : Type 0 where
   pub named : fault ≡ Write
   pub status : ℕ
@@ -196,7 +196,7 @@ SaysSuite mode files request contents old new fault =
     ((by : RunFault) × IsFaultAs mode files by fault × SaysFaultAs mode files request contents old new by)
     ⊎ FailsToFlush mode files request contents old new fault
 
--- The sources have the names of the files that were given, in order; a library and hooks are there where a file was given for them, and have its name.
+-- The sources have the names of the given files, in order. There is a library file if and only if one was given, and it has the given name; the same holds for the hooks file.
 pub record AreGiven (w : Words) (files : FilesValue) : Type 0 where
   pub sources : map (λ s. s.name) files.sources ≡ map string_bytes w.files.items
   pub library : option_map (λ s. s.name) files.library ≡ option_map string_bytes w.library
@@ -206,7 +206,7 @@ pub record AreGiven (w : Words) (files : FilesValue) : Type 0 where
 abbrev pub variables_given : Words → List PairValue
 variables_given w = map pair_value w.env.items
 
--- The contents that a run begins with: the variables alone.
+-- The contents that a run begins with: only the variables.
 abbrev pub contents_given : Words → Contents
 contents_given w = with_variables nothing_yet (variables_given w)
 
@@ -215,16 +215,16 @@ abbrev pub SaysRun : Manner → FilesValue → Contents → Device → Device �
 SaysRun manner files contents old new fault =
     SaysSuite manner.mode files (request_of_files manner.options.now files) contents old new fault
 
--- What is written of a run of these files was, and was flushed.
+-- The output of a run of these files was written and flushed.
 abbrev pub IsRunOfFiles : Manner → FilesValue → Contents → Device → Device → ℕ → Type 0
 IsRunOfFiles manner files contents old new status =
     IsFlushedRun manner.mode files (request_of_files manner.options.now files) contents old new status
 
--- The files of the names that were given, in the order in which they are read: the library file, the hooks file, the feature files.
+-- The names of the given files, in the order in which they are read: the library file, the hooks file, the feature files.
 abbrev pub names_given : Words → List (List ℕ)
 names_given w = names_in_order w.library w.hooks w.files.items
 
--- The variables are taken; the files that were given were read from the system, in order, and nothing else was; and what was written and the status are those of one run of the bytes that it gave.
+-- The variables are taken. The given files, and no others, were read from the system, in order. The output and the status are those of one run of the bytes that it returned.
 pub record IsRun {S : Type 0} (reads : Reading S) (w : Words) (before after : S) (old new : Device) (status : ℕ) : Type 0 where
   pub files : FilesValue
   pub given : AreGiven w files
@@ -236,7 +236,7 @@ pub record IsRun {S : Type 0} (reads : Reading S) (w : Words) (before after : S)
 abbrev pub IsGiven : Words → List ℕ → Type 0
 IsGiven w name = IsSomeAnd w.library (λ file. name ≡ string_bytes file) ⊎ (IsSomeAnd w.hooks (λ file. name ≡ string_bytes file) ⊎ Any (λ file. name ≡ string_bytes file) w.files.items)
 
--- A fault of the run of the files that were given, with the bytes that the system gave; the variables are taken.
+-- A fault of the run of the given files, with the bytes that the system returned. The variables are taken.
 pub record IsFaultOfGiven {S : Type 0} (reads : Reading S) (w : Words) (before after : S) (old new : Device) (fault : Fault) : Type 0 where
   pub files : FilesValue
   pub given : AreGiven w files
@@ -244,13 +244,13 @@ pub record IsFaultOfGiven {S : Type 0} (reads : Reading S) (w : Words) (before a
   pub taken : AreTaken (variables_given w)
   pub says : SaysSuite w.mode files (request_of_files w.options files) (contents_given w) old new fault
 
--- A file that was given is the first that the system didn't give, and this is its fault; no file was read after it. The variables are taken.
+-- A given file is the first that the system didn't return, and this is its fault. No file was read after it. The variables are taken.
 pub record IsFaultOfName {S : Type 0} (reads : Reading S) (w : Words) (before after : S) (name : List ℕ) (fault : Fault) : Type 0 where
   pub given : IsGiven w name
   pub taken : AreTaken (variables_given w)
   pub stops : StopsReading reads before (names_given w) after fault
 
--- What each fault says of what was asked for: at a bad variable the system is as it was; a file that can't be read is the first of them; where memory was refused, nothing was written, and reading stopped, or all files were read, and it is the run's.
+-- What each fault says of what was asked for. At a bad variable the system is unchanged. A file that can't be read is the first such file. If memory was refused, nothing was written and reading stopped, or all files were read and the fault is the run's.
 abbrev pub SaysProgram : {S : Type 0} → Reading S → Words → S → S → Device → Device → Fault → Type 0
 SaysProgram reads w before after old new NotUtf8 = ⊥
 SaysProgram reads w before after old new (Usage e) = ⊥
@@ -260,12 +260,12 @@ SaysProgram reads w before after old new (TooLong name) = IsFaultOfName reads w 
 SaysProgram reads w before after old new Memory = (IsUntouched old new × StopsReading reads before (names_given w) after Memory) ⊎ IsFaultOfGiven reads w before after old new Memory
 SaysProgram reads w before after old new fault = IsFaultOfGiven reads w before after old new fault
 
--- What was asked for was done: for help some text was written and flushed, with status 0, and the system is as it was; or there was a run.
+-- What was asked for was done. For help, some text was written and flushed, with status 0, and the system is unchanged. Otherwise there was a run.
 abbrev pub IsDone : {S : Type 0} → Reading S → Asked → S → S → Device → Device → ℕ → Type 0
 IsDone reads (Help e) before after old new status = IsHelp old new status × (before ≡ after)
 IsDone reads (Run w) before after old new status = IsRun reads w before after old new status
 
--- Why what was asked for was not done, and what was written of it.
+-- Why what was asked for was not done, and which part of its output was written.
 abbrev pub IsFaultOfAsked : {S : Type 0} → Reading S → Asked → S → S → Device → Device → Fault → Type 0
 IsFaultOfAsked reads (Help e) before after old new fault = IsHelpFault old new fault × SaysCalls old new fault × (before ≡ after)
 IsFaultOfAsked reads (Run w) before after old new fault = SaysProgram reads w before after old new fault
@@ -275,7 +275,7 @@ abbrev pub IsDoneFor : {S : Type 0} → Reading S → List Text → S → S → 
 IsDoneFor reads arguments before after old new status =
     (asked : Asked) × SaysAsked arguments (Ok asked) × IsDone reads asked before after old new status
 
--- These arguments are at fault, standard output was not called, and the system is as it was; or what they ask for was not done.
+-- These arguments are at fault, standard output was not called, and the system is unchanged; or what they ask for was not done.
 abbrev pub IsFaultFor : {S : Type 0} → Reading S → List Text → S → S → Device → Device → Fault → Type 0
 IsFaultFor reads arguments before after old new fault =
     (SaysAsked arguments (Err fault) × IsUntouched old new × (before ≡ after))
@@ -285,7 +285,7 @@ IsFaultFor reads arguments before after old new fault =
 abbrev pub IsDoneForSome : {S : Type 0} → Reading S → S → S → Device → Device → ℕ → Type 0
 IsDoneForSome reads before after old new status = (arguments : List Text) × IsDoneFor reads arguments before after old new status
 
--- The arguments could not be had, standard output was not called, and the system is as it was; or this is the fault for some arguments.
+-- The arguments could not be obtained, standard output was not called, and the system is unchanged; or this is the fault for some arguments.
 abbrev pub IsFaultForSome : {S : Type 0} → Reading S → S → S → Device → Device → Fault → Type 0
 IsFaultForSome reads before after old new fault =
     (IsArgumentsFault fault × IsUntouched old new × (before ≡ after))

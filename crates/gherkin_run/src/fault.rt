@@ -1,5 +1,5 @@
-//! Why the program ends without a report, in one line and a status; with `--lint`, in the lines of all files that don't
-//! read.
+//! Faults that end the program without a report, each with one line and a status. With `--lint`, a fault has the lines
+//! of all invalid files.
 ghost use Rattle.std.specs.Prelude.{◌≡◌, option_map, string_bytes};
 ghost use Rattle.gherkin_run.specs.Fault.{row_of, line_of};
 
@@ -7,14 +7,14 @@ use gk_cli::{NamedFault, RunFault};
 use std::alloc::{AllocError, AllocFailed};
 use std::fmt;
 
-/// Why the program ends without a whole report. A file is named as its argument on the command line.
+/// A reason why the program ends without a whole report. A file is named by its argument on the command line.
 #[derive(Debug, Drop)]
 pub enum Fault {
     /// An argument isn't UTF-8.
     NotUtf8,
     /// A mistake in the arguments. The text is clap's own.
     Usage(clap::Error),
-    /// An `--env` has no `=`, a bad name, or a text too long.
+    /// An `--env` has no `=`, a bad name, or a text that is too long.
     Env,
     /// The file can't be opened or read.
     CannotRead {
@@ -24,26 +24,26 @@ pub enum Fault {
     TooLong {
         name: String,
     },
-    /// The run ended with this fault, other than `Write` and `Memory`; the name is that of the file that it is of, if it
-    /// is of one.
+    /// The run ended with this fault, which is neither `Write` nor `Memory`. The name is that of the file that has the
+    /// fault, if a file has it.
     OfRun {
         name: Option<String>,
         fault: RunFault,
     },
-    /// With `--lint`, a text of `--tags` is no rule of tags, or some files don't read: the status of the first of these
-    /// faults, and the lines of them all.
+    /// With `--lint`, a text of `--tags` isn't a tag rule, or some files are invalid. The status is that of the first
+    /// of these faults, and the lines are those of all of them.
     Unread {
         status: u8,
         lines: String,
     },
-    /// Standard output took no more. A prefix of what is printed was written, or all of it where the flush failed.
+    /// Standard output took no more. A prefix of the output was written, or all of it if the flush failed.
     Write,
-    /// A growth of memory was refused. Nothing or a prefix of what is printed was written.
+    /// A growth of memory was refused. Nothing or a prefix of the output was written.
     Memory,
 }
 
 impl Fault {
-    /// The status that the program ends with.
+    /// Returns the status that the program ends with.
     pub fn status(&self) -> u8
         ensures { result ≡ (row_of self.now).status }
     {
@@ -87,7 +87,7 @@ fn borrowed_name(name: &Option<String>) -> Option<&str>
     }
 }
 
-// Writes the line of a fault, without its line feed; of files that don't read all lines, each with its own.
+// Writes the line of a fault, without its line feed. For invalid files it writes all lines, each with its line feed.
 impl fmt::Display for Fault {
     ghost output = { line_of };
 

@@ -1,4 +1,4 @@
-//! What is printed, with `--lint`, of all files of a run that don't read.
+//! The output of `--lint` for all invalid files of a run.
 ghost use Rattle.std.specs.Prelude.{◌≡◌, ◌++◌, IfOk, OnOk, string_bytes};
 ghost use Rattle.gk_cli.specs.Source.{source_value};
 ghost use Rattle.gk_cli.specs.SuiteFiles.{suite_value};
@@ -9,7 +9,7 @@ use crate::fault::Fault;
 use gk_cli::{NamedFault, RunFault, Source, SuiteFiles, faults_after, name_at_fault, push_notes};
 use std::alloc::{AllocError, Global};
 
-// Pushes what is printed of a fault: the line that a run prints of it, and what is said below it.
+// Appends the output for a fault: the line that a run prints for it, and the notes below that line.
 fn push_block(
     out: &mut String,
     alloc: Global,
@@ -27,7 +27,7 @@ fn push_block(
     push_notes(out, alloc, files, fault)
 }
 
-// Pushes what is printed of faults, one after the other.
+// Appends the output for faults, one after the other.
 fn push_blocks(
     out: &mut String,
     alloc: Global,
@@ -43,7 +43,7 @@ fn push_blocks(
     Ok(())
 }
 
-// What is printed where a run of these files has this fault.
+// Returns the output if a run of these files has this fault.
 fn listing(alloc: Global, files: &SuiteFiles<Source>, first: RunFault) -> Result<String, AllocError>
     ensures { IfOk result (λ text.
         IsListing (suite_value source_value files.now) first (string_bytes text)) }
@@ -55,8 +55,8 @@ fn listing(alloc: Global, files: &SuiteFiles<Source>, first: RunFault) -> Result
     Ok(text)
 }
 
-/// The program's fault where a run of these files has this one and `--lint` is given: what is printed has all faults of
-/// the files, from this one on. `Memory` comes only where a growth was refused.
+/// Returns the program's fault if a run of these files has this fault and `--lint` is given. Its output has all faults
+/// of the files, from this one on. `Memory` comes only if a growth was refused.
 pub fn fault_listed(alloc: Global, files: &SuiteFiles<Source>, first: RunFault) -> Fault
     ensures { IsListedAs (suite_value source_value files.now) first result }
 {

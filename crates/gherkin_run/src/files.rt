@@ -1,4 +1,4 @@
-//! Reading the files.
+//! Reading the library file, the hooks file and the feature files.
 ghost use Rattle.std.specs.Prelude.{◌≡◌, ◌≤◌, map, IfOk, IfErr, IfSome, Ok, option_map, string_bytes, vec_len};
 ghost use Rattle.std.specs.List.{Any};
 ghost use Rattle.gherkin_run.specs.Files.{AreRead, IsFaultOfFiles, IsFaultOfReading, IsFileFault, IsNotRead, StopsReading, files_in_order, name_of, names_in_order, one_of};
@@ -12,25 +12,26 @@ use std::alloc::Global;
 use std::rt::Files;
 use std::{fs, io};
 
-/// What files are read from. What is proved over a `System` holds of each: in which order it is asked for which
-/// files, and what becomes of its answers, as far as its `reads` tells them apart. The code is the same for all.
+/// A system that files are read from. What is proved over a `System` holds for each one: in which order it is asked for
+/// which files, and what happens to the results, as far as its `reads` distinguishes them. The code is the same for all
+/// systems.
 pub trait System {
     ghost use Rattle.std.specs.Prelude.{◌≤◌, ℕ, List, Result, IfOk, vec_len};
     ghost use Rattle.gk_cli.specs.declared.source.SourceFault.{SourceFault};
     ghost use Rattle.gherkin_run.specs.Files.{bytes_or_fault};
 
-    /// In the first state, to read the file of this name gives this answer, and leaves the second state.
+    /// In the first state, reading the file of this name returns this result, and leaves the second state.
     ghost reads: { Self → List ℕ → Result (List ℕ) SourceFault → Self → Type 0 };
 
-    /// All the bytes of the file of this name, or why they can't be had.
+    /// Returns all bytes of the file of this name, or why they can't be read.
     fn read(&mut self, alloc: Global, name: &str) -> Result<Vec<u8>, SourceFault>
         ensures read { reads self.old name.now (bytes_or_fault result) self.new }
         ensures within { IfOk result (λ bytes. vec_len bytes ≤ LIMIT) };
 }
 
-/// The files of the machine that the program runs on. What it answers is what some file holds, as far as a contract
-/// says what a file holds. That this is the file of the name that it is asked for, no clause says: in std `fs::open`
-/// has none, and `Files` no ghost item that could name a file's bytes. Nor does std say of a real file what it holds.
+/// The files of the machine that the program runs on. A result is what some file holds, as far as a contract says what
+/// a file holds. No clause says that it is the file of the requested name: `fs::open` of std has none, and `Files` has
+/// no ghost item that could name a file's bytes. Nor does std say what a real file holds.
 #[derive(Drop)]
 pub struct Machine<'a, R: Files> {
     pub rt: &'a R,
@@ -62,7 +63,7 @@ fn fault_of_reading(name: String, fault: SourceFault) -> Fault
     }
 }
 
-/// A source of this name with all the bytes of the file. A file that can't be opened or read is `CannotRead`,
+/// Returns a source of this name with all bytes of the file. A file that can't be opened or read is `CannotRead`, and
 /// one with more bytes than `gk_gherkin::LIMIT` is `TooLong`.
 fn read_file<S: System>(alloc: Global, system: &mut S, name: String) -> Result<Source, Fault>
     ensures named { IfOk result (λ source. name_of source ≡ string_bytes name) }
@@ -79,7 +80,7 @@ fn read_file<S: System>(alloc: Global, system: &mut S, name: String) -> Result<S
     }
 }
 
-/// Reads each file whole, in order, and nothing else. The first that can't be read is the fault.
+/// Reads each file completely, in order, and no other file. The fault is that of the first file that can't be read.
 fn read_files<S: System>(
     alloc: Global,
     system: &mut S,
@@ -102,7 +103,7 @@ fn read_files<S: System>(
     Ok(sources)
 }
 
-/// Reads a file whole, where one is named: the library file, or the hooks file. Reads nothing else.
+/// Reads a file completely, if one is named: the library file or the hooks file. Reads no other file.
 fn read_named_file<S: System>(
     alloc: Global,
     system: &mut S,
@@ -127,8 +128,8 @@ fn read_named_file<S: System>(
     }
 }
 
-/// Reads the library file and the hooks file, where they are named, and then each feature file, in order, and
-/// nothing else. The first that can't be read is the fault, and none is read after it.
+/// Reads the library file and the hooks file, if they are named, and then each feature file, in order, and no other
+/// file. The fault is that of the first file that can't be read, and no file is read after it.
 pub fn read_run_files<S: System>(
     alloc: Global,
     system: &mut S,
@@ -142,10 +143,10 @@ pub fn read_run_files<S: System>(
         (λ files. option_map name_of files.hooks ≡ option_map string_bytes hooks) }
     ensures named { IfOk result
         (λ files. map name_of files.sources.items ≡ map string_bytes names.items) }
-    // Each source has the bytes that the file of its name gave, and no other file was read.
+    // Each source has the bytes that the system returned for its name, and no other file was read.
     ensures read { IfOk result (λ files.
         AreRead S.reads system.old (files_in_order (suite_value source_value files)) system.new) }
-    // The fault is of the first file that wasn't read, in the order library, hooks, files.
+    // The fault is that of the first file that wasn't read, in the order library, hooks, files; or memory was refused.
     ensures first { IfErr result (StopsReading S.reads system.old
         (names_in_order library hooks names.items) system.new) }
     ensures fault { IfErr result (IsFaultOfFiles library hooks names.items) }

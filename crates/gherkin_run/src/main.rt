@@ -1,5 +1,5 @@
-//! The program: reads the arguments and the files, runs the scenarios, and writes the report or an explanation; or
-//! runs nothing, and writes what it finds in the files.
+//! The program. It reads the arguments and the files, runs the scenarios, and writes the report or an explanation. Or
+//! it runs nothing, and writes what it finds in the files.
 #![tactic(auto)]
 
 ghost use Rattle.std.specs.Prelude.{◌≡◌};
@@ -17,17 +17,17 @@ use gk_cli::Counted;
 use program::run;
 use std::process::ExitCode;
 
-// Writes a fault to standard error. Where that fails too, nothing is left to write to.
+// Writes a fault to standard error. If that fails too, there is nothing left to write to.
 fn report<R: Eprint>(rt: &R, fault: &Fault) {
     let _ = match fault {
         Fault::Usage(error) => rt.eprint(error),
-        // Its lines end with a line feed.
+        // Each of its lines ends with a line feed.
         Fault::Unread { lines, .. } => rt.eprint(lines),
         _ => rt.eprintln(fault),
     };
 }
 
-// What the program ends with: the status of what was done, or that of the fault.
+// Returns what the program ends with: the status of what was done, or that of the fault.
 fn exit_code(done: &Result<u8, Fault>) -> ExitCode
     ensures { exit_status result ≡ status_of done.now }
 {

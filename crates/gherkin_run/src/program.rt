@@ -1,4 +1,4 @@
-//! From the arguments to what is printed.
+//! What the program does, from its arguments to its output.
 ghost use Rattle.std.specs.Prelude.{◌≡◌, map, IfOk, IfErr, OnOk, Some, option_map, slice_get, string_bytes};
 ghost use Rattle.gk_world.specs.Sandbox.{depth, new_sandbox};
 ghost use Rattle.gk_cli.specs.Arguments.{pair_value};
@@ -30,7 +30,7 @@ pub enum Asked {
     Run(Words),
 }
 
-// A request for help comes as an error of clap's.
+// Returns clap's error as a mistake or a request for help. Clap reports both as errors.
 fn asked_for(error: clap::Error) -> Result<Asked, Fault>
     ensures { SaysError error result }
 {
@@ -41,8 +41,7 @@ fn asked_for(error: clap::Error) -> Result<Asked, Fault>
     }
 }
 
-/// What these arguments ask for; the first is the program's name. A mistake is `Usage`, and comes before
-/// `Env`.
+/// Returns what these arguments ask for. The first is the program's name. A mistake is `Usage`, and comes before `Env`.
 fn asked_by(alloc: Global, arguments: &[String]) -> Result<Asked, Fault>
     ensures { SaysAsked (map string_bytes arguments.now) result }
 {
@@ -54,8 +53,8 @@ fn asked_by(alloc: Global, arguments: &[String]) -> Result<Asked, Fault>
     }
 }
 
-// The arguments of the program. One that isn't UTF-8 is `NotUtf8`. No clause says that these are the program's own:
-// `env::args` of std has none.
+// Returns the arguments of the program. One that isn't UTF-8 is `NotUtf8`. No clause says that these are the program's
+// own arguments: `env::args` of std has none.
 fn arguments_of<R: Env + AllocGlobal>(rt: &R) -> Result<Vec<String>, Fault>
     ensures { IfErr result IsArgumentsFault }
 {
@@ -68,8 +67,8 @@ fn arguments_of<R: Env + AllocGlobal>(rt: &R) -> Result<Vec<String>, Fault>
     }
 }
 
-/// Writes a text, and flushes. `Write` comes where a write failed: then a prefix of the text was written, and nothing
-/// was flushed. Or the flush failed: then all of it was written.
+/// Writes a text, and flushes. `Write` comes in two cases. If a write failed, a prefix of the text was written, and
+/// nothing was flushed. If the flush failed, all of the text was written.
 fn show_text<W: Write>(text: &str, out: &mut Counted<W>) -> Result<u8, Fault>
     requires room { FailuresCanRise out.old }
     ensures shown { IfOk result
@@ -90,7 +89,8 @@ fn show_text<W: Write>(text: &str, out: &mut Counted<W>) -> Result<u8, Fault>
     }
 }
 
-/// Writes clap's text for help, and flushes. `Write` is that of `show_text`; at `Memory` standard output was not called.
+/// Writes clap's text for help, and flushes. `Write` comes as in `show_text`. At `Memory`, standard output was not
+/// called.
 fn show_help<W: Write>(alloc: Global, text: &clap::Error, out: &mut Counted<W>) -> Result<u8, Fault>
     requires room { FailuresCanRise out.old }
     ensures well { IfOk result
@@ -115,8 +115,8 @@ fn fault_of_variable(fault: WorldFault) -> Fault
     }
 }
 
-/// Puts the variables into the sandbox, in order; of equal names the last counts. A bad name or a text too
-/// long is `Env`.
+/// Puts the variables into the sandbox, in order. If several have the same name, the last one counts. A bad name or a
+/// text that is too long is `Env`.
 fn put_variables(sandbox: &mut Sandbox, variables: &[(String, String)]) -> Result<(), Fault>
     ensures { SaysVariables (map pair_value variables.now) sandbox.old sandbox.new result }
 {
@@ -129,7 +129,7 @@ fn put_variables(sandbox: &mut Sandbox, variables: &[(String, String)]) -> Resul
     Ok(())
 }
 
-// The name of a file, if it is given.
+// Returns the name of a file, if one is given.
 fn name_given(file: Option<Source>) -> Option<String>
     ensures { option_map string_bytes result
         ≡ option_map (λ source. source.name) (option_map source_value file) }
@@ -140,7 +140,7 @@ fn name_given(file: Option<Source>) -> Option<String>
     }
 }
 
-// The name of the source at a place, if there is one.
+// Returns the name of the source at index `input`, if there is one.
 #[tactic(auto, using(crate::proofs::ProgramLemmas::name_there, crate::proofs::ProgramLemmas::no_name_there))]
 fn name_at(sources: Vec<Source>, input: usize) -> Option<String>
     ensures { option_map string_bytes result
@@ -154,7 +154,7 @@ fn name_at(sources: Vec<Source>, input: usize) -> Option<String>
     }
 }
 
-// The name of the file that a fault of the run is of, if it is of one.
+// Returns the name of the file that has a fault of the run, if a file has it.
 fn name_of_fault(fault: RunFault, files: SuiteFiles<Source>) -> Option<String>
     ensures { option_map string_bytes result
         ≡ name_at_fault (suite_value source_value files) fault }
@@ -171,10 +171,10 @@ fn name_of_fault(fault: RunFault, files: SuiteFiles<Source>) -> Option<String>
     }
 }
 
-// The program's fault for one of the run: files have their names in place of numbers.
+// Returns the program's fault for a fault of the run. Files are named instead of numbered.
 fn fault_of_run(fault: RunFault, files: SuiteFiles<Source>) -> Fault
     ensures named { IsFaultOfRun (suite_value source_value files) fault result }
-    // This is what is printed of it.
+    // This is the line that is printed.
     ensures line { line_of result ≡ Some (said_line
         (name_at_fault (suite_value source_value files) fault) fault) }
 {
@@ -188,7 +188,7 @@ fn fault_of_run(fault: RunFault, files: SuiteFiles<Source>) -> Fault
     }
 }
 
-// The program's fault for one of the run, by what is written of it. With `--lint`, all files that don't read are listed.
+// Returns the program's fault for a fault of the run, by the mode. With `--lint`, all invalid files are listed.
 fn fault_as(alloc: Global, mode: Mode, fault: RunFault, files: SuiteFiles<Source>) -> Fault
     ensures { IsFaultAs mode (suite_value source_value files) fault result }
 {
@@ -203,15 +203,15 @@ fn fault_as(alloc: Global, mode: Mode, fault: RunFault, files: SuiteFiles<Source
     }
 }
 
-/// How a run goes, and what is written of it or in place of it.
+/// The options of a run, and what is written for it or in place of it.
 #[derive(Clone, Copy)]
 pub struct Manner<'a> {
     options: &'a Options,
     mode: Mode,
 }
 
-// Runs the suite, and writes its report or its explanation; or runs nothing, and writes what is found in it.
-// Sources that are run give up their bytes once they are read.
+// Runs the suite, and writes its report or its explanation; or runs nothing, and writes what is found in it. Sources
+// that are run drop their bytes once they are read.
 fn write_run<W: Write>(
     alloc: Global,
     sandbox: &mut Sandbox,
@@ -221,7 +221,7 @@ fn write_run<W: Write>(
 ) -> Result<u8, RunFault>
     requires room { FailuresCanRise out.old }
     requires outside { depth sandbox.old ≡ 0 }
-    // Files whose findings are written keep their bytes; the names stay in any case.
+    // Files whose findings are written keep their bytes. The names stay in every mode.
     ensures left { AreLeft manner.entry.mode
         (suite_value source_value files.old) (suite_value source_value files.new) }
     ensures quiet { OnOk result (failures_of out.new ≡ failures_of out.old) }
@@ -243,10 +243,10 @@ fn write_run<W: Write>(
     }
 }
 
-/// Does what `write_run` does, and flushes what is written. A fault names the file that it comes from. `Write` comes
-/// where a write or the flush failed; then a prefix of that, or all of it, was written. At `Memory` nothing or a
-/// prefix of it was written. At any other fault nothing was; with `--lint`, the fault of each file that doesn't read
-/// is in it.
+/// Does what `write_run` does, and flushes the output. A fault names the file that it comes from. `Write` comes if a
+/// write or the flush failed; a prefix of the output, or all of it, was written then. At `Memory`, nothing or a prefix
+/// of it was written. At any other fault nothing was written. With `--lint`, such a fault includes that of each invalid
+/// file.
 fn run_sources<W: Write>(
     alloc: Global,
     sandbox: &mut Sandbox,
@@ -256,17 +256,16 @@ fn run_sources<W: Write>(
 ) -> Result<u8, Fault>
     requires room { FailuresCanRise out.old }
     requires outside { depth sandbox.old ≡ 0 }
-    // What was written and the status are those of one run of these inputs, or of what is found in them.
+    // The output and the status are those of one run of these inputs, or of what is found in them.
     ensures run { IfOk result (IsRunOfFiles manner.entry (suite_value source_value files)
         sandbox.old.now (device_of W.contents out.old) (device_of W.contents out.new)) }
-    // A status comes only where the writer did not fail, and was flushed once.
+    // A status comes only if the writer did not fail, and was flushed once.
     ensures quiet { OnOk result (failures_of out.new ≡ failures_of out.old) }
     ensures flushed { OnOk result (flushes_of out.new ≡ one_more (flushes_of out.old)) }
     // A fault is that of the run, or the flush failed.
     ensures fault { IfErr result (SaysRun manner.entry (suite_value source_value files)
         sandbox.old.now (device_of W.contents out.old) (device_of W.contents out.new)) }
-    // Where standard output isn't at fault, it was not called, or memory was refused after a
-    // prefix of what is written of the run.
+    // If standard output isn't at fault, it was not called, or memory was refused after a prefix of the run's output.
     ensures calls { IfErr result
         (SaysCallsOfRun (device_of W.contents out.old) (device_of W.contents out.new)) }
 {
@@ -280,7 +279,7 @@ fn run_sources<W: Write>(
     }
 }
 
-// What `run_words` does, in a sandbox that is new: puts the variables, reads the files, runs the suite or lists
+// Does what `run_words` does, in a new sandbox: puts in the variables, reads the files, and runs the suite or lists
 // what is found in it.
 fn run_in<S: System, W: Write>(
     alloc: Global,
@@ -309,8 +308,8 @@ fn run_in<S: System, W: Write>(
     run_sources(alloc, sandbox, manner, files, out)
 }
 
-/// Runs what is asked for: puts the variables into an empty sandbox, reads the library file, the hooks file and
-/// the files, and runs the suite, or lists what is found in it. The first fault in this order ends it.
+/// Runs what is asked for: puts the variables into an empty sandbox, reads the library file, the hooks file and the
+/// feature files, and runs the suite, or lists what is found in it. The first fault in this order ends it.
 fn run_words<S: System, W: Write>(
     alloc: Global,
     system: &mut S,
@@ -318,14 +317,13 @@ fn run_words<S: System, W: Write>(
     out: &mut Counted<W>,
 ) -> Result<u8, Fault>
     requires room { FailuresCanRise out.old }
-    // The files were read from the system under their names, in order, and no other was. What was
-    // written and the status are those of one run of the bytes that it gave, or of what is found
-    // in these.
+    // The files were read from the system under their names, in order, and no others were. The output and the status
+    // are those of one run of the bytes that it returned, or of what is found in them.
     ensures run { IfOk result (IsRun S.reads words system.old system.new
         (device_of W.contents out.old) (device_of W.contents out.new)) }
     ensures quiet { OnOk result (failures_of out.new ≡ failures_of out.old) }
     ensures flushed { OnOk result (flushes_of out.new ≡ one_more (flushes_of out.old)) }
-    // The first file that the system didn't give is the fault, and no file was read after it.
+    // The fault is that of the first file that the system didn't return, and no file was read after it.
     ensures fault { IfErr result (SaysProgram S.reads words system.old system.new
         (device_of W.contents out.old) (device_of W.contents out.new)) }
     ensures calls { IfErr result
@@ -361,8 +359,9 @@ fn run_asked<S: System, W: Write>(
     }
 }
 
-/// Runs the program on its arguments, with the files of this system. The answer is the status to end with. A fault
-/// is that of the arguments, or says why what they ask for was not done. What is proved is said of some arguments.
+/// Runs the program on its arguments, with the files of this system, and returns the status to end with. A fault is
+/// that of the arguments, or says why what they ask for was not done. The clauses speak of some arguments, as
+/// `env::args` doesn't say which.
 pub fn run<R: Env + AllocGlobal, S: System, W: Write>(
     rt: &R,
     system: &mut S,
@@ -375,8 +374,7 @@ pub fn run<R: Env + AllocGlobal, S: System, W: Write>(
     ensures flushed { OnOk result (flushes_of out.new ≡ one_more (flushes_of out.old)) }
     ensures fault { IfErr result (IsFaultForSome S.reads system.old system.new
         (device_of W.contents out.old) (device_of W.contents out.new)) }
-    // Where standard output isn't at fault, it was not called, or memory was refused after a
-    // prefix of what is written of the run.
+    // If standard output isn't at fault, it was not called, or memory was refused after a prefix of the run's output.
     ensures calls { IfErr result
         (SaysCallsOfRun (device_of W.contents out.old) (device_of W.contents out.new)) }
 {

@@ -1,4 +1,4 @@
--- What an action works with, and what is wrong with the block that stands under its step. The table of actions in the guide says which action works with what.
+-- The texts and tables that actions work with, and the faults of the block under a step. The table of actions in the guide says which action works with which.
 use Rattle.std.specs.Prelude.{codes, not, ℕ, Bool, true, false, ◌==◌, ◌&&◌, List, [], ◌∷◌, ◌++◌, length, if◌then◌else◌}
 use Rattle.std.specs.List.{list_all}
 use Rattle.std.specs.Str.{bytes_eq}
@@ -8,7 +8,7 @@ use Rattle.gk_steps.specs.declared.action.Action.TheVariants as actions
 use Rattle.gk_lint.specs.declared.step_faults.StepFault.{StepFault}
 use Rattle.gk_lint.specs.declared.step_faults.StepFault.TheVariants.{NoText, NoTable, BadTable, IgnoredText, IgnoredTable}
 
--- Whether an action works with a text: that of the field `text` where the pattern has it, and else the doc string.
+-- Whether an action works with a text: that of the field `text` if the pattern has one, and otherwise the doc string.
 abbrev pub takes_text : Action → Bool
 takes_text actions.WriteFile = true
 takes_text actions.AppendFile = true
@@ -34,28 +34,28 @@ is_header _ = false
 abbrev pub is_pair : List (List ℕ) → Bool
 is_pair row = length row == 2
 
--- Whether rows have two cells each.
+-- Whether each row has two cells.
 abbrev pub are_pairs : List (List (List ℕ)) → Bool
 are_pairs rows = list_all is_pair rows
 
--- Whether a table is one of files: its columns are `name` and `text`. With any other, `write_files` fails.
+-- Whether a table is a table of files: its columns are `name` and `text`. With any other table, `write_files` fails.
 abbrev pub is_of_files : List (List (List ℕ)) → Bool
 is_of_files [] = false
 is_of_files (header ∷ rows) = is_header header && are_pairs rows
 
--- A fault where a test holds, and else none.
+-- A fault if a test holds, and otherwise none.
 abbrev pub fault_if : Bool → StepFault → List StepFault
 fault_if holds fault = if holds then fault ∷ [] else []
 
--- What is wrong with a table under a step of this action.
+-- The faults of a table under a step with this action.
 abbrev pub table_faults : Action → List (List (List ℕ)) → List StepFault
 table_faults action rows = if takes_table action then fault_if (not (is_of_files rows)) BadTable else IgnoredTable ∷ []
 
--- Whether a text is wanted that neither a field `text` nor a doc string gives.
+-- Whether an action works with a text that no field `text` gives, so that it needs a doc string.
 abbrev pub lacks_text : Action → Bool → Bool
 lacks_text action has_field = takes_text action && not has_field
 
--- What is wrong with what stands under a step, by its action and by whether its pattern has a field `text`: a text or a table that the action needs isn't there, its table isn't one of files, or what stands there is ignored.
+-- The faults of the block under a step, by its action and by whether its pattern has a field `text`: the action needs a text or a table that is missing, its table isn't a table of files, or the block is ignored.
 abbrev pub block_faults : Action → Bool → BlockValue → List StepFault
 block_faults action has_field Empty = fault_if (lacks_text action has_field) NoText ++ fault_if (takes_table action) NoTable
 block_faults action has_field (Text text) = fault_if (takes_table action) NoTable ++ fault_if (not (lacks_text action has_field)) IgnoredText

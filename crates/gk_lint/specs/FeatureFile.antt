@@ -1,4 +1,4 @@
--- What is found in a feature file.
+-- Findings of a feature file.
 use Rattle.std.specs.Prelude.{ℕ, List, ◌++◌, Option}
 use Rattle.gk_gherkin.specs.Lines.{Lines, lines_of}
 use Rattle.gk_gherkin.specs.Feature.{FeatureValue}
@@ -11,11 +11,11 @@ use Rattle.gk_lint.specs.MissingParts.{missing_parts}
 use Rattle.gk_lint.specs.ScenarioNames.{same_names}
 use Rattle.gk_lint.specs.Misspelt.{misspelt}
 
--- What is found of a file that has this feature, or none, and these lines: that they end with CR alone, what vanishes of the feature, scenarios with the name of one before, and the misspelt lines.
+-- The findings of a file with this feature, or none, and these lines: that they end with CR alone, the missing parts of the feature, scenarios with the name of an earlier one, and the misspelt lines.
 abbrev pub file_findings : Option FeatureValue → Lines → List Finding
 file_findings feature lines = cr_alone lines ++ (missing_parts feature ++ (same_names feature ++ misspelt Elsewhere lines))
 
--- Findings that are all those of a file of these bytes, in the order of their lines.
+-- These findings are all those of a file with these bytes, in the order of their lines.
 pub record AreOfFile (bytes : List ℕ) (findings : List Finding) : Type 0 where
   pub feature : Option FeatureValue
   pub reads : Reads (lines_of bytes) feature

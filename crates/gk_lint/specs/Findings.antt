@@ -12,15 +12,15 @@ use Rattle.gk_lint.specs.StepFaults.{fault_text, has_fault}
 abbrev pub at_line : ℕ → FindingKind → Finding
 at_line line kind = record { line = line; kind = kind }
 
--- A finding at a line where a test holds, and else none.
+-- A finding at a line if a test holds, and otherwise none.
 abbrev pub found_if : Bool → ℕ → FindingKind → List Finding
 found_if holds line kind = if holds then at_line line kind ∷ [] else []
 
--- What is found at a line with some faults: each of these once, however often it stands among them.
+-- The findings at a line with some faults: one for each fault of `these` that is among `faults`, even if it is there several times.
 abbrev pub named_once : List StepFault → ℕ → List StepFault → List Finding
 named_once these line faults = flat_map (λ fault. found_if (has_fault faults fault) line (OfStep fault)) these
 
--- The text of a finding, which names the keyword as it has to be spelt.
+-- The text of a finding. It names a keyword by its correct spelling.
 unfoldable pub finding_text : FindingKind → List ℕ
 finding_text CrAlone = codes "file whose lines end with CR alone"
 finding_text FileWithoutFeature = codes "file without feature"
@@ -34,7 +34,7 @@ finding_text HookOfNoTag = codes "hook for a tag that stands nowhere"
 finding_text UnusedEntry = codes "entry that no step finds"
 finding_text (LikeKeyword keyword) = codes "description begins like the keyword " ++ spelling keyword
 
--- The same findings in the order of their lines: the lines don't fall, and of each line there are the same findings in the same order.
+-- The same findings in the order of their lines: the line numbers never decrease, and each line has the same findings in the same order.
 pub record AreInOrder (findings ordered : List Finding) : Type 0 where
   pub by_line : IsNonDecreasingBy (λ (f : Finding). f.line) ordered
   pub of_each_line : (n : ℕ) → filter (λ (f : Finding). f.line == n) ordered ≡ filter (λ (f : Finding). f.line == n) findings

@@ -1,4 +1,4 @@
--- The entries of a library that nothing finds.
+-- Entries of a library that nothing finds.
 use Rattle.std.specs.Prelude.{not, ℕ, Bool, ◌==◌, List, [], ◌∷◌, flat_map, if◌then◌else◌}
 use Rattle.std.specs.List.{list_any, enumerate_from}
 use Rattle.gk_gherkin.specs.Lines.{LineValue, Lines}
@@ -7,11 +7,11 @@ use Rattle.gk_lint.specs.declared.findings.Finding.{Finding}
 use Rattle.gk_lint.specs.declared.findings.FindingKind.TheVariants.{UnusedEntry}
 use Rattle.gk_lint.specs.Findings.{found_if}
 
--- The number of a line at which an entry stands; none of a blank line or a comment.
+-- The number of a line if it is an entry, and none for a blank line or a comment.
 abbrev pub entry_line : LineValue → List ℕ
 entry_line line = if is_ignored line then [] else line.line ∷ []
 
--- The numbers of the lines at which the entries of a library stand, in their order.
+-- The line numbers of a library's entries, in their order.
 abbrev pub entry_lines : Lines → List ℕ
 entry_lines lines = flat_map entry_line lines
 
@@ -19,14 +19,14 @@ entry_lines lines = flat_map entry_line lines
 abbrev pub is_among : List ℕ → ℕ → Bool
 is_among numbers n = list_any (λ other. other == n) numbers
 
--- What is found of an entry, by its position in the library and its line: that it isn't used.
+-- The findings of an entry, by its position in the library and its line: that it isn't used.
 abbrev pub unused_entry : (ℕ → Bool) → ℕ × ℕ → List Finding
 unused_entry is_used entry = found_if (not (is_used entry.0)) entry.1 UnusedEntry
 
--- What is found of the entries at these lines, of which the first has this position.
+-- The findings of the entries at these lines. The first of them has this position.
 abbrev pub unused_from : ℕ → (ℕ → Bool) → List ℕ → List Finding
 unused_from position is_used lines = flat_map (unused_entry is_used) (enumerate_from position lines)
 
--- What is found of a library file, given the positions of the entries that are used: each of its other entries, at its line.
+-- The findings of a library file, given the positions of the entries that are used: each of its other entries, at its line.
 abbrev pub unused_entries : List ℕ → Lines → List Finding
 unused_entries used lines = unused_from 0 (is_among used) (entry_lines lines)

@@ -1,4 +1,4 @@
--- Where a line stands: among steps, in a doc string or elsewhere.
+-- The context of a line: among steps, in a doc string or elsewhere.
 use Rattle.std.specs.Prelude.{ℕ, Bool, ◌&&◌, List, length, slice_index, if◌then◌else◌}
 use Rattle.std.specs.List.{list_any}
 use Rattle.gk_gherkin.specs.declared.class.Class.{Class}
@@ -19,12 +19,12 @@ use Rattle.gk_lint.specs.declared.line_context.LineKind.TheVariants as kinds
 use Rattle.gk_lint.specs.declared.line_context.LineContext.{LineContext}
 use Rattle.gk_lint.specs.declared.line_context.LineContext.TheVariants.{Elsewhere, AmongSteps, AfterStep, InText}
 
--- The fence of doc strings, as the grammar has it.
+-- The fence of doc strings, as a fence of the grammar.
 abbrev pub fence_of : TextFence → Fence
 fence_of Quotes = fences.Quotes
 fence_of Backticks = fences.Backticks
 
--- What a line of a class is, as far as it says where the next one stands.
+-- The kind of a line of this class. The context of the next line depends on it.
 abbrev pub kind_of : Class → LineKind
 kind_of classes.Blank = Ignored
 kind_of classes.Comment = Ignored
@@ -40,32 +40,32 @@ kind_of (classes.FenceLine fences.Quotes) = kinds.Fence Quotes
 kind_of (classes.FenceLine fences.Backticks) = kinds.Fence Backticks
 kind_of classes.Other = Description
 
--- Whether a text begins with one of some keywords that a blank follows. (Cucumber's Gherkin reference: steps)
+-- Whether a text begins with one of some keywords that a space or tab follows. (Cucumber's Gherkin reference: steps)
 abbrev pub begins_with_one_of : List Keyword → List ℕ → Bool
 begins_with_one_of words text = list_any (λ k. begins text (keyword_text k) && is_blank (slice_index text (length (keyword_text k)))) words
 
--- Proof machinery: what a line with this trimmed text is where it begins neither as a heading nor as a step, a row, a comment or tags: a fence, or else a description.
+-- Proof machinery: the kind of a line with this trimmed text, which begins neither as a heading nor as a step, a row, a comment or tags: a fence, or otherwise a description.
 abbrev pub kind_of_rest : List ℕ → LineKind
 kind_of_rest text =
     if begins text (fence_text fences.Quotes) then kinds.Fence Quotes else
     (if begins text (fence_text fences.Backticks) then kinds.Fence Backticks else Description)
 
--- What a line is outside of doc strings.
+-- The kind of a line outside of doc strings.
 abbrev pub line_kind : LineValue → LineKind
 line_kind line = kind_of (class line)
 
--- The given context comes next if steps can stand here; if none can, none can next either.
+-- The context `next` if steps are possible here. If none is possible here, none is possible on the next line either.
 abbrev pub under : LineContext → LineContext → LineContext
 under next Elsewhere = Elsewhere
 under next context = next
 
--- A fence opens a doc string after a step alone. (Cucumber's Gherkin reference: doc strings)
+-- A fence opens a doc string only after a step. (Cucumber's Gherkin reference: doc strings)
 abbrev pub after_fence : TextFence → LineContext → LineContext
 after_fence fence Elsewhere = Elsewhere
 after_fence fence AfterStep = InText fence
 after_fence fence context = AmongSteps
 
--- Where the line after one of this kind stands, outside of doc strings. Steps stand under the headings of backgrounds and scenarios, and nowhere else. (Cucumber's Gherkin reference: steps)
+-- The context of the line after one of this kind, outside of doc strings. Steps are only under the headings of backgrounds and scenarios. (Cucumber's Gherkin reference: steps)
 abbrev pub after_kind : LineContext → LineKind → LineContext
 after_kind context Ignored = context
 after_kind context StepsHeading = AmongSteps
@@ -75,7 +75,7 @@ after_kind context (kinds.Fence fence) = after_fence fence context
 after_kind context Description = under AmongSteps context
 after_kind context kinds.Other = under AmongSteps context
 
--- Where the line after this one stands. A doc string goes on up to the line that closes it. (Cucumber's Gherkin reference: doc strings)
+-- The context of the line after this one. A doc string continues up to the line that closes it. (Cucumber's Gherkin reference: doc strings)
 unfoldable pub after : LineContext → LineValue → LineContext
 after (InText fence) line = if closes (fence_of fence) line then AmongSteps else InText fence
 after context line = after_kind context (line_kind line)

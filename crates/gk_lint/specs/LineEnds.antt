@@ -6,7 +6,7 @@ use Rattle.gk_lint.specs.declared.findings.Finding.{Finding}
 use Rattle.gk_lint.specs.declared.findings.FindingKind.TheVariants.{CrAlone}
 use Rattle.gk_lint.specs.Findings.{found_if}
 
--- A carriage return.
+-- Whether a byte is a carriage return.
 abbrev pub is_cr : ℕ → Bool
 is_cr b = b == 13
 
@@ -18,10 +18,10 @@ has_cr text = list_any is_cr text
 abbrev pub have_cr : Lines → Bool
 have_cr lines = list_any (λ (line : LineValue). has_cr line.text) lines
 
--- Whether lines are one line with a carriage return: what was meant as its lines ends with CR, which ends no line.
+-- Whether lines are one line with a carriage return: the intended lines end with CR, which ends no line.
 abbrev pub is_one_with_cr : Lines → Bool
 is_one_with_cr lines = (length lines == 1) && have_cr lines
 
--- What is found of the lines of a file: that they are such a line, at line 1.
+-- The findings of a file's lines: that they are such a line, at line 1.
 abbrev pub cr_alone : Lines → List Finding
 cr_alone lines = found_if (is_one_with_cr lines) 1 CrAlone

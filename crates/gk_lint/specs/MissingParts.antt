@@ -1,4 +1,4 @@
--- Missing parts, by which something of a feature never runs: files without a feature, features without scenarios, scenarios without steps, outlines without rows.
+-- Missing parts, without which something in a feature never runs: files without a feature, features without scenarios, scenarios without steps, outlines without rows.
 use Rattle.std.specs.Prelude.{Bool, ◌==◌, ◌&&◌, List, [], ◌∷◌, ◌++◌, length, flat_map, Option, Some, None}
 use Rattle.std.specs.List.{list_all}
 use Rattle.gk_gherkin.specs.Feature.{ExamplesValue, ScenarioValue, RuleValue, FeatureValue}
@@ -15,19 +15,19 @@ has_no_rows e = length e.rows == 0
 abbrev pub have_no_rows : List ExamplesValue → Bool
 have_no_rows examples = list_all has_no_rows examples
 
--- An outline without rows has no case, and so never runs.
+-- Whether a scenario is an outline without rows. It has no case, and so it never runs.
 abbrev pub lacks_rows : ScenarioValue → Bool
 lacks_rows s = is_outline s && have_no_rows s.examples
 
--- What is found of a scenario: that it has no steps of its own, and that it is an outline without rows.
+-- The findings of a scenario: that it has no steps itself, and that it is an outline without rows.
 unfoldable pub of_scenario : ScenarioValue → List Finding
 of_scenario s = found_if (length s.steps == 0) s.line ScenarioWithoutSteps ++ found_if (lacks_rows s) s.line OutlineWithoutRows
 
--- What is found of scenarios, one after the other.
+-- The findings of scenarios, one scenario after the other.
 abbrev pub of_scenarios : List ScenarioValue → List Finding
 of_scenarios scenarios = flat_map of_scenario scenarios
 
--- What is found of the scenarios of rules, one rule after the other.
+-- The findings of the scenarios of rules, one rule after the other.
 abbrev pub of_rules : List RuleValue → List Finding
 of_rules rules = flat_map (λ (r : RuleValue). of_scenarios r.scenarios) rules
 
@@ -43,11 +43,11 @@ have_no_scenarios rules = list_all has_no_scenarios rules
 abbrev pub lacks_scenarios : FeatureValue → Bool
 lacks_scenarios f = (length f.scenarios == 0) && have_no_scenarios f.rules
 
--- What is found of a feature: that it has no scenarios, and what is found of each of them.
+-- The findings of a feature: that it has no scenarios, and the findings of its scenarios and of those of its rules.
 unfoldable pub of_feature : FeatureValue → List Finding
 of_feature f = found_if (lacks_scenarios f) f.line FeatureWithoutScenarios ++ (of_scenarios f.scenarios ++ of_rules f.rules)
 
--- What is found of a file's feature, or that it has none, at line 1.
+-- The findings of a file's feature, or that the file has none, at line 1.
 abbrev pub missing_parts : Option FeatureValue → List Finding
 missing_parts None = at_line 1 FileWithoutFeature ∷ []
 missing_parts (Some f) = of_feature f

@@ -1,4 +1,4 @@
--- Lines of descriptions that were meant for something else: those that begin like a keyword, and steps outside of scenarios.
+-- Description lines that were probably not meant as descriptions: those that begin like a keyword, and steps outside of scenarios.
 use Rattle.std.specs.Prelude.{List, [], ◌∷◌, ◌++◌, Option, Some, None}
 use Rattle.gk_gherkin.specs.Lines.{LineValue, Lines}
 use Rattle.gk_gherkin.specs.Text.{trim}
@@ -15,32 +15,32 @@ use Rattle.gk_lint.specs.Findings.{at_line, found_if}
 use Rattle.gk_lint.specs.Likeness.{like}
 use Rattle.gk_lint.specs.LineContext.{begins_with_one_of, line_kind, after}
 
--- What is found at a line that begins like a keyword, or like none.
+-- The findings of a line, by the keyword that it begins like, if any.
 abbrev pub likened : LineValue → Option Keyword → List Finding
 likened line None = []
 likened line (Some keyword) = at_line line.line (LikeKeyword keyword) ∷ []
 
--- The keywords that steps begin with, before others join them by `And`, `But` or `*`, which begin a sentence or a bullet as well.
+-- The keywords that a group of steps begins with. `And`, `But` and `*` add further steps to it, but they also begin sentences and bullets.
 abbrev pub opening_words : List Keyword
 opening_words = Given ∷ When ∷ Then ∷ []
 
--- What is found at the line of a step that stands here: that it has one of these keywords, where no step can stand.
+-- The findings of a step line in this context: that it has one of these keywords, and no step is possible here.
 abbrev pub of_step : LineContext → LineValue → List Finding
 of_step Elsewhere line = found_if (begins_with_one_of opening_words (trim line.text)) line.line StepOutside
 of_step context line = []
 
--- What is found at a line of this kind that stands here: a description that begins like a keyword, or a step outside of a scenario.
+-- The findings of a line of this kind in this context: a description that begins like a keyword, or a step outside of a scenario.
 abbrev pub of_kind : LineContext → LineValue → LineKind → List Finding
 of_kind context line Description = likened line (like (trim line.text))
 of_kind context line kinds.Step = of_step context line
 of_kind context line kind = []
 
--- What is found at a line that stands here: a doc string may hold anything.
+-- The findings of a line in this context. A doc string may hold anything.
 unfoldable pub misspelt_at : LineContext → LineValue → List Finding
 misspelt_at (InText fence) line = []
 misspelt_at context line = of_kind context line (line_kind line)
 
--- What is found at lines, of which the first stands here.
+-- The findings of lines. The first of them is in this context.
 abbrev pub misspelt : LineContext → Lines → List Finding
 misspelt context [] = []
 misspelt context (line ∷ lines) = misspelt_at context line ++ misspelt (after context line) lines

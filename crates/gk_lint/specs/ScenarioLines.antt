@@ -1,4 +1,4 @@
--- The lines at which scenarios are, and those of `--line` at which none is.
+-- Lines of cases, and the lines of `--line` that have no case.
 use Rattle.std.specs.Prelude.{not, ℕ, List, [], ◌∷◌, map, filter, flat_map, if◌then◌else◌}
 use Rattle.gk_gherkin.specs.Feature.{RowValue, ExamplesValue, ScenarioValue, FeatureValue}
 use Rattle.gk_select.specs.Outline.{is_outline}
@@ -13,7 +13,7 @@ lines_of_rows rows = map (λ (r : RowValue). r.line) rows
 abbrev pub lines_of_examples : List ExamplesValue → List ℕ
 lines_of_examples examples = flat_map (λ (e : ExamplesValue). lines_of_rows e.rows) examples
 
--- The lines of the cases of a scenario: of an outline those of its rows, else that of its heading. (Cucumber's Gherkin reference: scenario outline)
+-- The lines of the cases of a scenario: those of the rows of an outline, and otherwise that of the heading. (Cucumber's Gherkin reference: scenario outline)
 abbrev pub lines_of_scenario : ScenarioValue → List ℕ
 lines_of_scenario s = if is_outline s then lines_of_examples s.examples else s.line ∷ []
 
@@ -21,7 +21,7 @@ lines_of_scenario s = if is_outline s then lines_of_examples s.examples else s.l
 abbrev pub lines_of_scenarios : List ScenarioValue → List ℕ
 lines_of_scenarios scenarios = flat_map lines_of_scenario scenarios
 
--- The lines of the cases of a feature: those of its own scenarios, and then of those of its rules.
+-- The lines of the cases of a feature: those of the feature's scenarios, and then those of its rules' scenarios.
 abbrev pub lines_of_feature : FeatureValue → List ℕ
 lines_of_feature f = lines_of_scenarios (scenarios_of f)
 
@@ -29,6 +29,6 @@ lines_of_feature f = lines_of_scenarios (scenarios_of f)
 abbrev pub lines_of_features : List FeatureValue → List ℕ
 lines_of_features features = flat_map lines_of_feature features
 
--- Those of some lines at which no case of these features is, in their order.
+-- The lines at which these features have no case, in their order.
 abbrev pub without_scenario : List FeatureValue → List ℕ → List ℕ
 without_scenario features lines = filter (λ line. not (is_among (lines_of_features features) line)) lines

@@ -1,4 +1,4 @@
--- Scenarios of one feature with one name.
+-- Scenarios of one feature that have the same name.
 use Rattle.std.specs.Prelude.{ℕ, Bool, false, ◌||◌, List, [], ◌∷◌, ◌++◌, flat_map, Option, Some, None}
 use Rattle.std.specs.Str.{bytes_eq}
 use Rattle.gk_gherkin.specs.Feature.{ScenarioValue, RuleValue, FeatureValue}
@@ -14,12 +14,12 @@ scenarios_of_rules rules = flat_map (λ (r : RuleValue). r.scenarios) rules
 abbrev pub scenarios_of : FeatureValue → List ScenarioValue
 scenarios_of f = f.scenarios ++ scenarios_of_rules f.rules
 
--- What is found of scenarios, given which names are those of scenarios before them: each that has the name of one before it.
+-- The findings of scenarios, given the names of the scenarios before them: each that has the name of an earlier one.
 abbrev pub named_again : (List ℕ → Bool) → List ScenarioValue → List Finding
 named_again seen [] = []
 named_again seen (s ∷ ss) = found_if (seen s.name) s.line NameTwice ++ named_again (λ name. bytes_eq s.name name || seen name) ss
 
--- What is found of a file's feature: each scenario that has the name of one before it.
+-- The findings of a file's feature: each scenario that has the name of an earlier one.
 abbrev pub same_names : Option FeatureValue → List Finding
 same_names None = []
 same_names (Some f) = named_again (λ name. false) (scenarios_of f)

@@ -1,4 +1,4 @@
--- What is wrong with a step, in the order in which it is named.
+-- Faults of a step, in the order in which they are named.
 use Rattle.std.specs.Prelude.{codes, ℕ, Bool, ◌==◌, List, [], ◌∷◌}
 use Rattle.std.specs.List.{list_any}
 use Rattle.gk_lint.specs.declared.step_faults.StepFault.{StepFault}
@@ -19,7 +19,7 @@ fault_text IgnoredTable = codes "table that is ignored"
 abbrev pub all_faults : List StepFault
 all_faults = Undefined ∷ CleanupWithoutStep ∷ NotAllowed ∷ NoText ∷ NoTable ∷ BadTable ∷ IgnoredText ∷ IgnoredTable ∷ []
 
--- Where a fault stands among the faults.
+-- The position of a fault in `all_faults`, counted from 0.
 abbrev pub number_of_fault : StepFault → ℕ
 number_of_fault Undefined = 0
 number_of_fault CleanupWithoutStep = 1

@@ -1,4 +1,4 @@
--- Where steps are carried out, and which actions may stand there.
+-- Sites at which steps are carried out, and the actions that are allowed there.
 use Rattle.std.specs.Prelude.{Bool, true, false}
 use Rattle.gk_gherkin.specs.declared.hooks.HookKind.{HookKind}
 use Rattle.gk_gherkin.specs.declared.hooks.HookKind.TheVariants as kinds
@@ -7,7 +7,7 @@ use Rattle.gk_steps.specs.declared.action.Action.TheVariants as actions
 use Rattle.gk_lint.specs.declared.step_sites.StepSite.{StepSite}
 use Rattle.gk_lint.specs.declared.step_sites.StepSite.TheVariants.{Scenario, Hook, Cleanup}
 
--- Where the steps of a hook are carried out. A hook before a tag is one of a scenario where the tag is a scenario's. (behave's documentation: environment file functions)
+-- The site of a hook's steps. A hook before a tag is a hook of a scenario if the tag is a scenario's. (behave's documentation: environment file functions)
 abbrev pub site_of_hook : HookKind → StepSite
 site_of_hook kinds.BeforeScenario = Scenario
 site_of_hook kinds.BeforeTag = Scenario
@@ -19,13 +19,13 @@ may_skip Scenario = true
 may_skip Hook = false
 may_skip Cleanup = false
 
--- Whatever isn't a cleanup may register one. (behave's documentation: cleanups)
+-- Any step except that of a cleanup may register a cleanup. (behave's documentation: cleanups)
 abbrev pub may_register : StepSite → Bool
 may_register Scenario = true
 may_register Hook = true
 may_register Cleanup = false
 
--- Whether an action may stand at a site; where it may not, it always fails.
+-- Whether an action is allowed at a site. An action that isn't allowed always fails there.
 abbrev pub may_stand : Action → StepSite → Bool
 may_stand actions.AtCleanup site = may_register site
 may_stand actions.SkipScenario site = may_skip site

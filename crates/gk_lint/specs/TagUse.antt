@@ -1,4 +1,4 @@
--- Hooks for tags that stand nowhere.
+-- Hooks for tags that no feature has.
 use Rattle.std.specs.Prelude.{not, ℕ, Bool, List, [], ◌++◌, flat_map, Option, Some, None}
 use Rattle.gk_gherkin.specs.Feature.{ExamplesValue, ScenarioValue, RuleValue, FeatureValue}
 use Rattle.gk_gherkin.specs.Hooks.{HookValue}
@@ -27,23 +27,23 @@ tags_of_rule r = r.tags ++ tags_of_scenarios r.scenarios
 abbrev pub tags_of_rules : List RuleValue → List (List ℕ)
 tags_of_rules rules = flat_map tags_of_rule rules
 
--- All tags that stand in a feature: above it, its rules, its scenarios and their Examples. (Cucumber's Gherkin reference: tags)
+-- All tags in a feature: above it, its rules, its scenarios and their Examples. (Cucumber's Gherkin reference: tags)
 abbrev pub tags_of : FeatureValue → List (List ℕ)
 tags_of f = f.tags ++ (tags_of_scenarios f.scenarios ++ tags_of_rules f.rules)
 
--- All tags that stand in features.
+-- All tags in features.
 abbrev pub tags_in : List FeatureValue → List (List ℕ)
 tags_in features = flat_map tags_of features
 
--- What is found of a hook at a line, by the tag that it is for: that the tag stands nowhere.
+-- The findings of a hook at a line, by the tag that it is for: that no feature has the tag.
 abbrev pub of_tag : (List ℕ → Bool) → ℕ → Option (List ℕ) → List Finding
 of_tag stands line None = []
 of_tag stands line (Some tag) = found_if (not (stands tag)) line HookOfNoTag
 
--- What is found of hooks, by which tags stand in the features: each hook for a tag that stands nowhere. It never runs. (behave's documentation: environment file functions)
+-- The findings of hooks, by the tags that the features have: each hook for a tag that none has. Such a hook never runs. (behave's documentation: environment file functions)
 abbrev pub idle_hooks : (List ℕ → Bool) → List HookValue → List Finding
 idle_hooks stands hooks = flat_map (λ (h : HookValue). of_tag stands h.line h.tag) hooks
 
--- What is found of a hooks file beside these features.
+-- The findings of a hooks file that is used with these features.
 abbrev pub hooks_of_no_tag : List FeatureValue → List HookValue → List Finding
 hooks_of_no_tag features hooks = idle_hooks (is_one_of (tags_in features)) hooks

@@ -1,4 +1,4 @@
--- The steps of a feature and of a hooks file, as they are written and as they are run.
+-- Steps of a feature and of a hooks file, as they are written and as they are run.
 use Rattle.std.specs.List.{list_any}
 use Rattle.std.specs.Prelude.{◌≡◌, ℕ, Bool, ◌||◌, List, [], ◌∷◌, ◌++◌, map, flat_map, Option, if◌then◌else◌}
 use Rattle.gk_gherkin.specs.Feature.{StepValue, RowValue, ExamplesValue, BackgroundValue, ScenarioValue, RuleValue, FeatureValue}
@@ -17,7 +17,7 @@ use Rattle.gk_lint.specs.StepSites.{site_of_hook}
 use Rattle.gk_lint.specs.Findings.{named_once}
 use Rattle.gk_lint.specs.Lookups.{faults_in, positions_in}
 
--- A step as it is written, at its line, where it is carried out, and the steps that it is run as.
+-- A step as it is written: its line, its site, and the steps that it is run as.
 pub record WrittenStep : Type 0 where
   pub line : ℕ
   pub site : StepSite
@@ -35,7 +35,7 @@ in_rows step header rows = map (λ (r : RowValue). filled_step (filled header r.
 abbrev pub in_examples : StepValue → List ExamplesValue → List StepValue
 in_examples step examples = flat_map (λ (e : ExamplesValue). in_rows step e.header e.rows) examples
 
--- The steps that a step of a scenario is run as: in an outline one for each row, else itself. (Cucumber's Gherkin reference: scenario outline)
+-- The steps that a step of a scenario is run as: in an outline one for each row, and otherwise the step itself. (Cucumber's Gherkin reference: scenario outline)
 abbrev pub runs_in : ScenarioValue → StepValue → List StepValue
 runs_in s step = if is_outline s then in_examples step s.examples else step ∷ []
 
@@ -55,7 +55,7 @@ of_scenarios scenarios = flat_map of_scenario scenarios
 abbrev pub of_background : Option BackgroundValue → List WrittenStep
 of_background background = map (as_written sites.Scenario) (background_steps background)
 
--- The steps of a rule: of its Background, and of its scenarios. (Cucumber's Gherkin reference: rule)
+-- The steps of a rule: those of its Background, and those of its scenarios. (Cucumber's Gherkin reference: rule)
 abbrev pub of_rule : RuleValue → List WrittenStep
 of_rule r = of_background r.background ++ of_scenarios r.scenarios
 
@@ -63,15 +63,15 @@ of_rule r = of_background r.background ++ of_scenarios r.scenarios
 abbrev pub of_rules : List RuleValue → List WrittenStep
 of_rules rules = flat_map of_rule rules
 
--- The steps of a feature: of its Background, of its scenarios, and of its rules. (Cucumber's Gherkin reference: feature)
+-- The steps of a feature: those of its Background, of its scenarios, and of its rules. (Cucumber's Gherkin reference: feature)
 abbrev pub of_feature : FeatureValue → List WrittenStep
 of_feature f = of_background f.background ++ (of_scenarios f.scenarios ++ of_rules f.rules)
 
--- The steps of all Backgrounds of a feature, of its own and of those of its rules. (Cucumber's Gherkin reference: background)
+-- The steps of all Backgrounds of a feature: its own, and those of its rules. (Cucumber's Gherkin reference: background)
 abbrev pub background_steps_of : FeatureValue → List StepValue
 background_steps_of f = background_steps f.background ++ flat_map (λ (r : RuleValue). background_steps r.background) f.rules
 
--- The steps that the written steps of a feature are run as are those of its cases and of its Backgrounds: whatever is asked of steps, one of the first answers yes exactly where one of the others does. So each step of a case is looked up, and no other but those of a Background that no case has.
+-- The written steps of a feature are run as the steps of its cases and of its Backgrounds. Any test holds for one of the former if and only if it holds for one of the latter. So each step of a case is looked up, and no other step except those of a Background that no case has.
 abbrev pub LooksUpWhatIsRun : Type 0
 LooksUpWhatIsRun = (f : FeatureValue) (asked : StepValue → Bool) → list_any asked (flat_map (λ (w : WrittenStep). w.runs) (of_feature f)) ≡ (list_any asked (flat_map (λ (c : CaseValue). c.steps) (cases f)) || list_any asked (background_steps_of f))
 
@@ -83,14 +83,14 @@ of_hook h = map (as_written (site_of_hook h.kind)) h.steps
 abbrev pub of_hooks : List HookValue → List WrittenStep
 of_hooks hooks = flat_map of_hook hooks
 
--- What is found at a written step: each fault that it has as it is run, in some row or other.
+-- The findings of a written step: each fault of at least one of the steps that it is run as.
 abbrev pub at_step : LibraryValue → WrittenStep → List Finding
 at_step library written = named_once all_faults written.line (faults_in library written.site written.runs)
 
--- What is found of written steps, one after the other.
+-- The findings of written steps, one step after the other.
 abbrev pub found_in : LibraryValue → List WrittenStep → List Finding
 found_in library written = flat_map (at_step library) written
 
--- The positions of the entries that written steps find, one after the other.
+-- The positions of the entries that written steps find, one step after the other.
 abbrev pub used_in : LibraryValue → List WrittenStep → List ℕ
 used_in library written = flat_map (λ (w : WrittenStep). positions_in library w.runs) written

@@ -1,4 +1,4 @@
-//! What an action works with, and what is wrong with the block that stands under its step.
+//! The texts and tables that actions work with, and the faults of the block under a step.
 ghost use Rattle.std.specs.Prelude.{◌≡◌, ◌++◌, map, OnOk};
 ghost use Rattle.gk_gherkin.specs.Feature.{texts, block_value};
 ghost use Rattle.gk_lint.specs.Blocks as spec;
@@ -27,7 +27,7 @@ fn takes_table(action: Action) -> bool
     }
 }
 
-// Whether a row is the header of a table of files.
+// Returns whether a row is the header of a table of files.
 fn is_header(row: &[String]) -> bool
     ensures { result ≡ spec.is_header (texts row.now) }
 {
@@ -43,7 +43,7 @@ fn is_pair(row: &[String]) -> bool
     row.len() == 2
 }
 
-// Whether rows have two cells each.
+// Returns whether each row has two cells.
 fn are_pairs(rows: &[Vec<String>]) -> bool
     ensures { result ≡ spec.are_pairs (map (λ row. texts row.items) rows.now) }
 {
@@ -55,7 +55,7 @@ fn are_pairs(rows: &[Vec<String>]) -> bool
     true
 }
 
-// Whether a table is one of files.
+// Returns whether a table is a table of files.
 fn is_of_files(rows: &[Vec<String>]) -> bool
     ensures { result ≡ spec.is_of_files (map (λ row. texts row.items) rows.now) }
 {
@@ -65,7 +65,7 @@ fn is_of_files(rows: &[Vec<String>]) -> bool
     }
 }
 
-/// Adds a fault where a test holds. An error comes only where a growth was refused.
+/// Adds a fault if a test holds. An error comes only if a growth was refused.
 pub fn add_if(faults: &mut Vec<StepFault>, holds: bool, fault: StepFault) -> Result<(), AllocError>
     ensures { OnOk result (faults.new.items ≡ faults.old.items ++ spec.fault_if holds fault) }
 {
@@ -75,7 +75,7 @@ pub fn add_if(faults: &mut Vec<StepFault>, holds: bool, fault: StepFault) -> Res
     Ok(())
 }
 
-// Adds what is wrong with a table under a step of this action.
+// Adds the faults of a table under a step with this action.
 fn add_table_faults(
     faults: &mut Vec<StepFault>,
     action: Action,
@@ -90,8 +90,8 @@ fn add_table_faults(
     add_if(faults, true, StepFault::IgnoredTable)
 }
 
-/// Adds what is wrong with what stands under a step of this action, whose pattern has a field `text` or not. An error
-/// comes only where a growth was refused; some of it may have been added then.
+/// Adds the faults of the block under a step with this action. `has_field` says whether the pattern of the step has a
+/// field `text`. An error comes only if a growth was refused; some of the faults may have been added then.
 pub fn add_block_faults(
     faults: &mut Vec<StepFault>,
     action: Action,

@@ -1,4 +1,4 @@
-//! What is found in a feature file.
+//! Findings of a feature file.
 ghost use Rattle.std.specs.Prelude.{◌≡◌, ◌≤◌, ◌⊎◌, length, option_map, IfOk, IfErr};
 ghost use Rattle.std.specs.Str.Lines.{lines};
 ghost use Rattle.gk_gherkin.specs.Lines.{numbered_from};
@@ -17,16 +17,17 @@ use crate::scenario_names::add_same_names;
 use gk_gherkin::{Feature, LIMIT, ReadFault, read_feature, text_of};
 use std::alloc::{AllocError, Global};
 
-/// What is found of a feature file that has been read: of its feature, or that it has none, and of its text, in the order of
-/// lines. Of `text_of` a file's bytes and the feature that `read_feature` returns of them, it is what `lint_feature_file`
-/// returns of the file. An error comes only where a growth was refused.
+/// Returns the findings of a feature file that has been read, in the order of lines: those of its feature, or that it
+/// has none, and those of its text. If `text_of` and `read_feature` returned the text and the feature for a file's
+/// bytes, these are the findings that `lint_feature_file` returns for them. An error comes only if a growth was
+/// refused.
 pub fn lint_feature(
     alloc: Global,
     feature: &Option<Feature>,
     text: &str,
 ) -> Result<Vec<Finding>, AllocError>
     requires { length text.now ≤ LIMIT }
-    // All findings are answered, and nothing else.
+    // Returns all findings, and no others.
     ensures { IfOk result (λ findings. AreInOrder (spec.file_findings
         (option_map feature_value feature.now) (numbered_from 1 (lines text.now)))
         findings.items) }
@@ -39,16 +40,17 @@ pub fn lint_feature(
     in_order(findings)
 }
 
-/// What is found in a feature file of these bytes, in the order of lines: that its lines end with CR alone, that it has
-/// no feature, that the feature has no scenarios, scenarios without steps, outlines without rows, scenarios with the
-/// name of one before them, the lines of descriptions that begin like a keyword, and steps outside of scenarios.
+/// Returns the findings of a feature file with these bytes, in the order of lines. Three kinds concern the whole file:
+/// its lines end with CR alone, it has no feature, or the feature has no scenarios. The others are scenarios without
+/// steps, outlines without rows, scenarios with the name of an earlier one, description lines that begin like a
+/// keyword, and steps outside of scenarios.
 ///
-/// Where the file doesn't read, the error is the fault that `read_feature` returns of it. `Memory`
-/// comes only where a growth was refused.
+/// If the file is invalid, the error is the fault that `read_feature` returns for it. `Memory` comes only if a growth
+/// was refused.
 pub fn lint_feature_file(alloc: Global, bytes: &[u8]) -> Result<Vec<Finding>, ReadFault>
-    // All findings are answered, and nothing else.
+    // Returns all findings, and no others.
     ensures found { IfOk result (λ findings. AreOfFile bytes.now findings.items) }
-    // Which fault it is.
+    // The error is refused memory or a fault of these bytes.
     ensures fault { IfErr result (λ e. (e ≡ Memory) ⊎ FaultSays FeatureFault e bytes.now) }
 {
     let feature = read_feature(alloc, bytes)?;

@@ -8,34 +8,36 @@ use crate::keywords::Keyword;
 use crate::step_faults::{StepFault, has_fault};
 use std::alloc::{AllocError, Global};
 
-/// What was found.
+/// The kind of a finding.
 #[derive(Clone, Copy, Debug, PartialEq, Eq)]
 pub enum FindingKind {
-    /// The lines of the file end with CR alone, which ends no line, so that it is read as one. It is found at line 1.
+    /// The lines of the file end with CR alone. CR ends no line, so the file is read as one line. The finding is at
+    /// line 1.
     CrAlone,
-    /// The file has no feature. It is found at line 1, in an empty file, too.
+    /// The file has no feature. The finding is at line 1, even in an empty file.
     FileWithoutFeature,
     /// The feature has no scenarios, and none of its rules has any.
     FeatureWithoutScenarios,
-    /// The scenario has no steps of its own.
+    /// The scenario itself has no steps.
     ScenarioWithoutSteps,
-    /// The outline has no rows, so there is no case of it.
+    /// The outline has no rows, so it has no case.
     OutlineWithoutRows,
-    /// The line of a description begins like the keyword.
+    /// The description line begins like the keyword.
     LikeKeyword(Keyword),
-    /// A step with `Given`, `When` or `Then` stands where no step can, and so is part of a description.
+    /// A step with `Given`, `When` or `Then` is in a place in which no step is possible, and so is part of a
+    /// description.
     StepOutside,
-    /// A scenario before it in the feature has the same name.
+    /// An earlier scenario of the feature has the same name.
     NameTwice,
-    /// The step has the fault as it is run, in some row where it stands in an outline.
+    /// The step has the fault as it is run; in an outline, in at least one row.
     OfStep(StepFault),
-    /// No step finds the entry of the library, and no cleanup.
+    /// No step and no cleanup finds the entry of the library.
     UnusedEntry,
-    /// The hook is for a tag that stands in no feature.
+    /// The hook is for a tag that no feature has.
     HookOfNoTag,
 }
 
-/// What was found, and the line at which it stands, counted from 1.
+/// A finding. Its line is counted from 1.
 #[derive(Clone, Copy, Debug, PartialEq, Eq)]
 pub struct Finding {
     pub line: u32,
@@ -43,7 +45,7 @@ pub struct Finding {
 }
 
 impl FindingKind {
-    /// The text of a finding, which names the keyword as it has to be spelt. An error comes only where a growth was
+    /// Returns the text of a finding. It names a keyword by its correct spelling. An error comes only if a growth was
     /// refused.
     #[tactic(auto, unfolding(crate::specs::Findings::finding_text))]
     pub fn text(self, alloc: Global) -> Result<String, AllocError>
@@ -75,7 +77,7 @@ impl FindingKind {
     }
 }
 
-/// Adds a finding at a line where a test holds. An error comes only where a growth was refused.
+/// Adds a finding at a line if a test holds. An error comes only if a growth was refused.
 pub fn add_if(
     findings: &mut Vec<Finding>,
     holds: bool,
@@ -91,8 +93,8 @@ pub fn add_if(
     Ok(())
 }
 
-/// Adds what is found at a line with some faults: each of these once, however often it stands among them. An error comes
-/// only where a growth was refused; some of it may have been added then.
+/// Adds the findings at a line with some faults: one for each fault of `these` that is among `faults`, even if it is
+/// there several times. An error comes only if a growth was refused; some of the findings may have been added then.
 pub fn add_once(
     findings: &mut Vec<Finding>,
     these: &[StepFault],
@@ -109,8 +111,8 @@ pub fn add_once(
     Ok(())
 }
 
-/// The same findings in the order of their lines. Those of one line stay in their order. An error comes only where a
-/// growth was refused; the findings are gone then.
+/// Returns the same findings in the order of their lines. Those of one line keep their order. An error comes only if a
+/// growth was refused; the findings are dropped then.
 pub fn in_order(findings: Vec<Finding>) -> Result<Vec<Finding>, AllocError>
     ensures { IfOk result (λ ordered. AreInOrder findings.items ordered.items) }
 {

@@ -1,4 +1,4 @@
-//! The keywords that a misspelt line may have meant.
+//! Keywords that the author of a misspelt line may have meant.
 ghost use Rattle.std.specs.Prelude.{◌≡◌};
 ghost use Rattle.gk_lint.specs.Keywords as spec;
 
@@ -26,7 +26,7 @@ const OUTLINE: &str = "Scenario Outline";
 
 const TEMPLATE: &str = "Scenario Template";
 
-/// The keywords of headings. One that another begins with comes after it.
+/// The keywords of headings. A keyword comes after every longer one that begins with it.
 pub const HEADINGS: [Keyword; 9] = [
     Keyword::Feature,
     Keyword::Rule,
@@ -50,7 +50,7 @@ pub const STEP_WORDS: [Keyword; 6] = [
 ];
 
 impl Keyword {
-    /// The keyword as it is written, a heading's without its colon.
+    /// Returns the keyword as it is written, without the colon of a heading.
     pub fn text(self) -> &'static str
         ensures { result.now ≡ spec.keyword_text self }
     {
@@ -73,7 +73,7 @@ impl Keyword {
         }
     }
 
-    /// The keyword as it has to be spelt: a heading's with its colon.
+    /// Returns the correct spelling of the keyword, with the colon of a heading.
     pub fn spelling(self) -> &'static str
         ensures { result.now ≡ spec.spelling self }
     {

@@ -1,7 +1,7 @@
-//! What is found before a run: what of a feature file would vanish in silence, steps that are undefined or can't
-//! work, and what of a library or a hooks file isn't used. What a run would read comes in; all its findings and nothing
-//! else go out, in the order of their lines. Nothing is run.
-//! Where a comment names no source, what it says is this project's profile.
+//! Findings before a run: parts of a feature file that a run would silently ignore, steps that are undefined or can't
+//! work, and parts of a library or a hooks file that aren't used. The functions take what a run would read, and return
+//! all of its findings and no others, in the order of their lines. They run nothing.
+//! If a comment names no source, what it says is this project's profile.
 #![tactic(auto)]
 
 mod blocks;

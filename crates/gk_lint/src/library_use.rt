@@ -1,4 +1,4 @@
-//! The entries of a library that nothing finds.
+//! Entries of a library that nothing finds.
 ghost use Rattle.std.specs.Prelude.{◌≡◌, ◌≤◌, ◌++◌, ℕ, length, OnOk, IfOk};
 ghost use Rattle.std.specs.List.Sorted.{IsNonDecreasing};
 ghost use Rattle.std.specs.Str.Lines.{lines};
@@ -11,7 +11,7 @@ use gk_gherkin::{BorrowedLine, LIMIT, borrowed_line};
 use gk_steps::is_ignored;
 use std::alloc::{AllocError, Global};
 
-// Adds the number of a line at which an entry stands.
+// Adds the number of a line if it is an entry.
 fn add_entry_line(lines: &mut Vec<u32>, line: &BorrowedLine<'_>) -> Result<(), AllocError>
     ensures { OnOk result (lines.new.items
         ≡ lines.old.items ++ spec.entry_line (borrowed_value line.now)) }
@@ -22,7 +22,7 @@ fn add_entry_line(lines: &mut Vec<u32>, line: &BorrowedLine<'_>) -> Result<(), A
     Ok(())
 }
 
-// The numbers of the lines at which the entries of a library file stand.
+// Returns the line numbers of a library file's entries.
 fn entry_lines(alloc: Global, text: &str) -> Result<Vec<u32>, AllocError>
     requires { length text.now ≤ LIMIT }
     ensures { IfOk result (λ found.
@@ -38,7 +38,7 @@ fn entry_lines(alloc: Global, text: &str) -> Result<Vec<u32>, AllocError>
     Ok(found)
 }
 
-/// The same numbers in rising order. An error comes only where a growth was refused.
+/// Returns the same numbers in ascending order. An error comes only if a growth was refused.
 pub fn rising(alloc: Global, numbers: &[usize]) -> Result<Vec<usize>, AllocError>
     ensures rising { IfOk result (λ r. IsNonDecreasing r.items) }
     ensures same { IfOk result (λ r. (n : ℕ) → is_among r.items n ≡ is_among numbers.now n) }
@@ -49,7 +49,7 @@ pub fn rising(alloc: Global, numbers: &[usize]) -> Result<Vec<usize>, AllocError
     Ok(rising)
 }
 
-/// Whether a number is among numbers in rising order. Takes no memory.
+/// Returns whether a number is among numbers in ascending order. Takes no memory.
 pub fn has(numbers: &[usize], n: usize) -> bool
     requires { IsNonDecreasing numbers.now }
     ensures { result ≡ is_among numbers.now n }
@@ -57,7 +57,7 @@ pub fn has(numbers: &[usize], n: usize) -> bool
     numbers.binary_search(&n).is_ok()
 }
 
-// What is found of the entries at these lines. The positions that are used rise.
+// Returns the findings of the entries at these lines. The positions of the used entries are in ascending order.
 fn unused_at(alloc: Global, used: &[usize], lines: &[u32]) -> Result<Vec<Finding>, AllocError>
     requires { IsNonDecreasing used.now }
     ensures { IfOk result (λ found. found.items
@@ -71,12 +71,12 @@ fn unused_at(alloc: Global, used: &[usize], lines: &[u32]) -> Result<Vec<Finding
     Ok(findings)
 }
 
-/// What is found of a library file of this text, in the order of lines: each entry that isn't used. `used` has the
-/// positions of the entries that steps, hooks and their cleanups find, in any order and as often as they are found, as
-/// `lint_steps` and `lint_hooks` return them. An error comes only where a growth was refused.
+/// Returns the findings of a library file with this text, in the order of lines: each entry that isn't used. `used` has
+/// the positions of the entries that steps, hooks and their cleanups find. They may be in any order and may be
+/// repeated, as in the results of `lint_steps` and `lint_hooks`. An error comes only if a growth was refused.
 pub fn lint_library(alloc: Global, text: &str, used: &[usize]) -> Result<Vec<Finding>, AllocError>
     requires { length text.now ≤ LIMIT }
-    // All findings are answered, and nothing else.
+    // Returns all findings, and no others.
     ensures { IfOk result (λ findings. findings.items
         ≡ spec.unused_entries used.now (numbered_from 1 (lines text.now))) }
 {

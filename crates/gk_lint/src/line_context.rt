@@ -1,4 +1,4 @@
-//! Where a line stands: among steps, in a doc string or elsewhere.
+//! The context of a line: among steps, in a doc string or elsewhere.
 ghost use Rattle.std.specs.Prelude.{◌≡◌, ◌&&◌, length, slice_index};
 ghost use Rattle.gk_gherkin.specs.Text.{begins, is_blank};
 ghost use Rattle.gk_gherkin.specs.Lines.{borrowed_value};
@@ -10,18 +10,18 @@ use crate::keywords::{Keyword, STEP_WORDS};
 use gk_gherkin::BorrowedLine;
 use gk_gherkin::text::{begins, is_blank, trim};
 
-/// What a line is, as far as it says where the next one stands.
+/// The kind of a line. The context of the next line depends on it.
 #[derive(Clone, Copy)]
 pub enum LineKind {
     /// A blank line or a comment.
     Ignored,
-    /// The heading of a background or a scenario, under which steps stand.
+    /// The heading of a background or a scenario, which has steps under it.
     StepsHeading,
     /// Another heading.
     OtherHeading,
     Step,
     Fence(TextFence),
-    /// A line that is nothing else, and so part of a description.
+    /// A line of no other kind, which is part of a description.
     Description,
     /// Tags or a row.
     Other,
@@ -34,14 +34,14 @@ pub enum TextFence {
     Backticks,
 }
 
-/// Where a line stands.
+/// The context of a line.
 #[derive(Clone, Copy)]
 pub enum LineContext {
-    /// Where no step can stand.
+    /// A place in which no step is possible.
     Elsewhere,
     /// Under the heading of a background or a scenario.
     AmongSteps,
-    /// There, with nothing but blank lines and comments since a step.
+    /// Under such a heading, with only blank lines and comments since a step.
     AfterStep,
     /// In a doc string.
     InText(TextFence),
@@ -54,7 +54,7 @@ fn begins_word(text: &str, word: &str) -> bool
     begins(text, word) && (word.len() < text.len() && is_blank(text.as_bytes()[word.len()]))
 }
 
-/// Whether a text begins with one of some keywords that a blank follows.
+/// Returns whether a text begins with one of some keywords that a space or tab follows.
 pub fn begins_with_one_of(text: &str, some: &[Keyword]) -> bool
     ensures { result ≡ spec.begins_with_one_of some.now text.now }
 {
@@ -76,7 +76,7 @@ fn begins_as_scenario(text: &str) -> bool
         || begins(text, "Scenario Template:")
 }
 
-// The kind of a text that begins neither as a heading nor as a step.
+// Returns the kind of a text that begins neither as a heading nor as a step.
 fn kind_of_rest(text: &str) -> LineKind
     ensures { result ≡ spec.kind_of_rest text.now }
 {
@@ -89,7 +89,7 @@ fn kind_of_rest(text: &str) -> LineKind
     }
 }
 
-// The kind of a trimmed text that is neither blank, comment nor tags.
+// Returns the kind of a trimmed text that is neither empty, a comment nor tags.
 #[tactic(auto, unfolding(gk_gherkin::specs::Class::class_of_words))]
 fn kind_of_words(text: &str) -> LineKind
     ensures { result ≡ spec.kind_of (words.class_of_words text.now) }
@@ -124,7 +124,7 @@ fn kind_of_text(text: &str) -> LineKind
     }
 }
 
-/// What a line is outside of doc strings.
+/// Returns the kind of a line outside of doc strings.
 #[tactic(auto, unfolding(gk_gherkin::specs::Class::class))]
 pub fn line_kind(line: &BorrowedLine<'_>) -> LineKind
     ensures { result ≡ spec.line_kind (borrowed_value line.now) }
@@ -141,7 +141,7 @@ fn fence_text(fence: TextFence) -> &'static str
     }
 }
 
-// Whether a line closes the doc string that a fence opened.
+// Returns whether a line closes the doc string that a fence opened.
 #[tactic(auto, unfolding(gk_gherkin::specs::DocStrings::closes))]
 fn closes(fence: TextFence, line: &BorrowedLine<'_>) -> bool
     ensures { result ≡ texts.closes (spec.fence_of fence) (borrowed_value line.now) }
@@ -150,7 +150,7 @@ fn closes(fence: TextFence, line: &BorrowedLine<'_>) -> bool
     begins(text, fence_text(fence)) && text.len() == 3
 }
 
-// Where the line after one of this kind stands, outside of doc strings.
+// Returns the context of the line after one of this kind, outside of doc strings.
 fn after_kind(context: LineContext, kind: LineKind) -> LineContext
     ensures { result ≡ spec.after_kind context kind }
 {
@@ -174,7 +174,7 @@ fn after_kind(context: LineContext, kind: LineKind) -> LineContext
     }
 }
 
-/// Where the next line stands.
+/// Returns the context of the next line.
 #[tactic(auto, unfolding(crate::specs::LineContext::after))]
 pub fn after(context: LineContext, line: &BorrowedLine<'_>) -> LineContext
     ensures { result ≡ spec.after context (borrowed_value line.now) }

@@ -14,21 +14,21 @@ fn has_cr(text: &str) -> bool
     text.as_bytes().iter().any(|byte| *byte == b'\r')
 }
 
-// Whether there was a carriage return before, or is one in this text.
+// Returns whether there was a carriage return before, or this text has one.
 fn has_cr_so_far(before: bool, text: &str) -> bool
     ensures { result ≡ (before || spec.has_cr text.now) }
 {
     before || has_cr(text)
 }
 
-// Whether there is one line before the one of this number, with a carriage return.
+// Returns whether exactly one line comes before this line number, and a carriage return was found.
 fn is_one_before(number: u32, has_cr: bool) -> bool
     ensures { result ≡ ((number == 2) && has_cr) }
 {
     number == 2 && has_cr
 }
 
-// Whether a text is one line with a carriage return.
+// Returns whether a text is one line with a carriage return.
 fn is_one_with_cr(text: &str) -> bool
     requires { length text.now ≤ LIMIT }
     ensures { result ≡ spec.is_one_with_cr (numbered_from 1 (lines text.now)) }
@@ -42,7 +42,7 @@ fn is_one_with_cr(text: &str) -> bool
     is_one_before(number, found)
 }
 
-/// Adds that the lines of a text end with CR alone, where they do. An error comes only where a growth was refused.
+/// Adds that the lines of a text end with CR alone, if they do. An error comes only if a growth was refused.
 pub fn add_cr_alone(findings: &mut Vec<Finding>, text: &str) -> Result<(), AllocError>
     requires { length text.now ≤ LIMIT }
     ensures { OnOk result (findings.new.items ≡ findings.old.items

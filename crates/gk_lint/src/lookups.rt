@@ -1,4 +1,4 @@
-//! What is wrong with a step as it is run, and which entries of the library it finds.
+//! Faults of a step as it is run, and the entries of the library that it finds.
 ghost use Rattle.std.specs.Prelude.{◌≡◌, [], ◌++◌, OnOk};
 ghost use Rattle.gk_gherkin.specs.Feature.{step_value, block_value};
 ghost use Rattle.gk_steps.specs.Finding.{library_value, found_value, found_any, action_of};
@@ -11,29 +11,29 @@ use gk_gherkin::{Block, Step};
 use gk_steps::{Action, Found, Library};
 use std::alloc::{AllocError, Global};
 
-/// What was found of steps that were looked up: what is wrong with them, and the positions in the library of the
-/// entries that they found.
+/// The results of steps that were looked up: their faults, and the positions in the library of the entries that they
+/// found.
 #[derive(Debug, Drop)]
 pub struct Lookups {
     pub faults: Vec<StepFault>,
     pub used: Vec<usize>,
 }
 
-// The text of the step that `at_cleanup` registers.
+// Returns the text of the step that `at_cleanup` registers.
 fn cleanup_text<'a>(library: &Library, found: &'a Found) -> &'a str
     ensures { result.now ≡ spec.cleanup_text (library_value library.now) (found_value found.now) }
 {
     library.used_fields(found).step.unwrap_or("")
 }
 
-// Whether what was found has a field `text`.
+// Returns whether the entry that was found has a field `text`.
 fn has_text(library: &Library, found: &Found) -> bool
     ensures { result ≡ spec.has_text (library_value library.now) (found_value found.now) }
 {
     library.used_fields(found).text.is_some()
 }
 
-// Adds that an action always fails at a site, where it does.
+// Adds a fault if an action always fails at a site.
 fn add_site_faults(
     faults: &mut Vec<StepFault>,
     action: Action,
@@ -46,7 +46,7 @@ fn add_site_faults(
 }
 
 impl Lookups {
-    /// Nothing was looked up yet. Takes no memory.
+    /// Returns empty results. Takes no memory.
     pub fn new(alloc: Global) -> Lookups
         ensures faults { result.faults.items ≡ [] }
         ensures used { result.used.items ≡ [] }
@@ -57,7 +57,7 @@ impl Lookups {
         }
     }
 
-    // Looks up the text of a cleanup, which is carried out with the block of the step that registers it.
+    // Looks up the text of a cleanup. It is carried out with the block of the step that registers it.
     fn add_cleanup(
         &mut self,
         alloc: Global,
@@ -86,7 +86,7 @@ impl Lookups {
         }
     }
 
-    // Adds what is wrong with the block of what was found, or with the cleanup that it registers.
+    // Adds the faults of the block, by the entry that was found, or those of the cleanup that it registers.
     fn add_found(
         &mut self,
         alloc: Global,
@@ -113,7 +113,7 @@ impl Lookups {
         }
     }
 
-    /// Looks a step up as it is run at a site. An error comes only where a growth was refused; some of what was found may
+    /// Looks up a step as it is run at a site. An error comes only if a growth was refused; some of the results may
     /// have been added then.
     #[tactic(auto, unfolding(crate::specs::Lookups::faults_of, crate::specs::Lookups::positions_of))]
     pub fn add(

@@ -64,7 +64,7 @@ fn has_no_scenarios(rule: &Rule) -> bool
     rule.scenarios.is_empty()
 }
 
-// Whether each of some rules has no scenario.
+// Returns whether each of some rules has no scenario.
 fn lack_scenarios(rules: &[Rule]) -> bool
     ensures { result ≡ list_all (λ r. spec.has_no_scenarios (rule_value r)) rules.now }
 {
@@ -93,8 +93,8 @@ fn add_of_feature(findings: &mut Vec<Finding>, feature: &Feature) -> Result<(), 
     add_of_rules(findings, &feature.rules)
 }
 
-/// Adds which parts of a file's feature are missing, or that the file has none. An error comes only where a growth was refused;
-/// some of it may have been added then.
+/// Adds the missing parts of a file's feature, or that the file has no feature. An error comes only if a growth was
+/// refused; some of the findings may have been added then.
 pub fn add_missing_parts(
     findings: &mut Vec<Finding>,
     feature: &Option<Feature>,

@@ -1,5 +1,5 @@
-//! Lines of descriptions that were meant for something else: those that begin like a keyword, and steps outside of
-//! scenarios.
+//! Description lines that were probably not meant as descriptions: those that begin like a keyword, and steps outside
+//! of scenarios.
 ghost use Rattle.std.specs.Prelude.{◌≡◌, ◌≤◌, ◌++◌, OnOk, length};
 ghost use Rattle.std.specs.Str.Lines.{lines};
 ghost use Rattle.gk_gherkin.specs.Lines.{borrowed_value, numbered_from};
@@ -17,10 +17,10 @@ use gk_gherkin::text::trim;
 use gk_gherkin::{BorrowedLine, LIMIT, borrowed_line};
 use std::alloc::{AllocError, Global};
 
-// The keywords that steps begin with, before others join them.
+// The keywords that a group of steps begins with, before others add further steps to it.
 const OPENING_WORDS: [Keyword; 3] = [Keyword::Given, Keyword::When, Keyword::Then];
 
-// Adds what is found at a line of a description.
+// Adds the finding of a description line, if it begins like a keyword.
 fn add_like(
     findings: &mut Vec<Finding>,
     alloc: Global,
@@ -38,7 +38,7 @@ fn add_like(
     Ok(())
 }
 
-// Adds what is found at the line of a step that stands here.
+// Adds the finding of a step line in this context, if there is one.
 fn add_step(
     findings: &mut Vec<Finding>,
     context: LineContext,
@@ -61,7 +61,7 @@ fn add_step(
     }
 }
 
-// Adds what is found at a line that stands here, outside of doc strings.
+// Adds the findings of a line in this context, outside of doc strings.
 fn add_of_kind(
     findings: &mut Vec<Finding>,
     alloc: Global,
@@ -79,7 +79,7 @@ fn add_of_kind(
     }
 }
 
-// Adds what is found at a line that stands here.
+// Adds the findings of a line in this context.
 #[tactic(auto, unfolding(crate::specs::Misspelt::misspelt_at))]
 fn add_at(
     findings: &mut Vec<Finding>,
@@ -96,8 +96,8 @@ fn add_at(
     }
 }
 
-/// Adds what is found at the lines of a text. An error comes only where a growth was refused; some of it may have been
-/// added then.
+/// Adds the findings of misspelt lines of a text. An error comes only if a growth was refused; some of the findings may
+/// have been added then.
 pub fn add_misspelt(
     findings: &mut Vec<Finding>,
     alloc: Global,

@@ -1,4 +1,4 @@
-//! Tags that rules name and that stand nowhere.
+//! Tags that tag rules name and that no feature has.
 ghost use Rattle.std.specs.Prelude.{◌≡◌, map, IfOk};
 ghost use Rattle.gk_gherkin.specs.Feature.{feature_value};
 ghost use Rattle.gk_select.specs.TagRules.{tag_rule_value};
@@ -11,7 +11,7 @@ use gk_gherkin::Feature;
 use gk_select::TagRule;
 use std::alloc::{AllocError, Global};
 
-// The tags that rules name, one rule after the other.
+// Returns the tags that tag rules name, one rule after the other.
 fn named_by<'a>(alloc: Global, rules: &'a [TagRule]) -> Result<Vec<&'a str>, AllocError>
     ensures { IfOk result (λ named. map (λ t. t.now) named.items
         ≡ spec.named_by (map tag_rule_value rules.now)) }
@@ -24,7 +24,7 @@ fn named_by<'a>(alloc: Global, rules: &'a [TagRule]) -> Result<Vec<&'a str>, All
     Ok(named)
 }
 
-// Those of some tags that aren't in a set, in their order.
+// Returns the tags that aren't in a set, in their order.
 fn not_in<'a>(
     alloc: Global,
     tags: &TextSet<'_>,
@@ -42,15 +42,15 @@ fn not_in<'a>(
     Ok(left)
 }
 
-/// The tags that rules name and that stand nowhere in these features, neither above a feature or a rule nor above a
-/// scenario or its Examples: in the order of the rules and of the tags in each, and each as often as it is named. An
-/// error comes only where a growth was refused.
+/// Returns the tags that tag rules name and that these features don't have, neither above a feature or a rule nor above
+/// a scenario or its Examples. They are in the order of the rules and of the tags in each, and a tag is repeated as
+/// often as it is named. An error comes only if a growth was refused.
 pub fn tags_that_stand_nowhere<'a>(
     alloc: Global,
     rules: &'a [TagRule],
     features: &[Feature],
 ) -> Result<Vec<&'a str>, AllocError>
-    // All of them are answered, and nothing else.
+    // Returns all of these tags, and no others.
     ensures { IfOk result (λ left. map (λ t. t.now) left.items
         ≡ spec.nowhere (map feature_value features.now) (map tag_rule_value rules.now)) }
 {

@@ -1,4 +1,4 @@
-//! The lines at which scenarios are, and those of `--line` at which none is.
+//! Lines of cases, and the lines of `--line` that have no case.
 ghost use Rattle.std.specs.Prelude.{◌≡◌, ◌++◌, not, map, filter, OnOk, IfOk};
 ghost use Rattle.std.specs.List.Sorted.{IsNonDecreasing};
 ghost use Rattle.gk_gherkin.specs.Feature.{row_value, examples_value, scenario_value, feature_value};
@@ -61,7 +61,7 @@ fn push_feature(lines: &mut Vec<usize>, alloc: Global, feature: &Feature) -> Res
     push_scenarios(lines, &scenarios)
 }
 
-// The lines of the cases of features.
+// Returns the lines of the cases of features.
 fn lines_of_features(alloc: Global, features: &[Feature]) -> Result<Vec<usize>, AllocError>
     ensures { IfOk result (λ lines. lines.items
         ≡ spec.lines_of_features (map feature_value features.now)) }
@@ -73,7 +73,7 @@ fn lines_of_features(alloc: Global, features: &[Feature]) -> Result<Vec<usize>, 
     Ok(lines)
 }
 
-// Those of some lines that aren't among numbers in rising order.
+// Returns the lines that aren't among numbers in ascending order.
 fn not_among(alloc: Global, numbers: &[usize], lines: &[u32]) -> Result<Vec<u32>, AllocError>
     requires { IsNonDecreasing numbers.now }
     ensures { IfOk result (λ left. left.items
@@ -88,8 +88,8 @@ fn not_among(alloc: Global, numbers: &[usize], lines: &[u32]) -> Result<Vec<u32>
     Ok(left)
 }
 
-/// Those of some lines at which no scenario and no row of an outline is in these features, in their order: a `--line` of
-/// such a line chooses nothing. An error comes only where a growth was refused.
+/// Returns the lines at which these features have neither a plain scenario nor a row of an outline, in their order. A
+/// `--line` with such a line selects nothing. An error comes only if a growth was refused.
 pub fn lines_without_scenario(
     alloc: Global,
     lines: &[u32],

@@ -1,4 +1,4 @@
-//! Scenarios of one feature with one name.
+//! Scenarios of one feature that have the same name.
 ghost use Rattle.std.specs.Prelude.{◌≡◌, ◌∷◌, [], ◌++◌, false, List, map, option_map, OnOk, IfOk};
 ghost use Rattle.gk_gherkin.specs.Feature.{ScenarioValue, scenario_value, rule_value, feature_value};
 ghost use Rattle.gk_lint.specs.TextSets.{in_set};
@@ -34,7 +34,8 @@ fn push_rules<'a>(all: &mut Vec<&'a Scenario>, rules: &'a [Rule]) -> Result<(), 
     Ok(())
 }
 
-/// All scenarios of a feature: its own, and then those of its rules. An error comes only where a growth was refused.
+/// Returns all scenarios of a feature: its own, and then those of its rules. An error comes only if a growth was
+/// refused.
 pub fn scenarios_of<'a>(
     alloc: Global,
     feature: &'a Feature,
@@ -48,7 +49,7 @@ pub fn scenarios_of<'a>(
     Ok(all)
 }
 
-// Adds what is found of a scenario, and its name to those that were seen.
+// Adds the finding of a scenario, if its name was seen before, and adds its name to `seen`.
 fn add_named<'a>(
     findings: &mut Vec<Finding>,
     seen: &mut TextSet<'a>,
@@ -78,8 +79,8 @@ fn add_named_again(
     Ok(())
 }
 
-/// Adds each scenario of a file's feature that has the name of one before it. An error comes only where a growth was
-/// refused; some of them may have been added then.
+/// Adds a finding for each scenario of a file's feature that has the name of an earlier one. An error comes only if a
+/// growth was refused; some of the findings may have been added then.
 pub fn add_same_names(
     findings: &mut Vec<Finding>,
     alloc: Global,

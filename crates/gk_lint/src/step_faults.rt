@@ -1,8 +1,8 @@
-//! What is wrong with a step, in the order in which it is named.
+//! Faults of a step, in the order in which they are named.
 ghost use Rattle.std.specs.Prelude.{◌≡◌};
 ghost use Rattle.gk_lint.specs.StepFaults as spec;
 
-/// What is wrong with a step.
+/// A fault of a step.
 #[derive(Clone, Copy, Debug, PartialEq, Eq)]
 pub enum StepFault {
     /// The step finds no entry of the library. (behave's documentation: undefined steps)
@@ -10,16 +10,16 @@ pub enum StepFault {
     /// The step registers a cleanup whose text finds no entry of type `step`. (behave's documentation:
     /// cleanups)
     CleanupWithoutStep,
-    /// The action of the step, or of the cleanup that it registers, always fails where it is carried out: a cleanup that
-    /// registers another one or skips the scenario, or a hook that skips and isn't before a scenario. (behave's
+    /// The action of the step, or of the cleanup that it registers, always fails at its site: a cleanup registers
+    /// another one or skips the scenario, or a hook that isn't before a scenario or a tag skips it. (behave's
     /// documentation: cleanups, skipping scenarios)
     NotAllowed,
-    /// The action works with a text, and there is neither a field `text` nor a doc string.
+    /// The action works with a text, but there is neither a field `text` nor a doc string.
     NoText,
-    /// The action works with a table, and there is none.
+    /// The action works with a table, but there is none.
     NoTable,
-    /// The action works with a table of files, and this is none: its first row isn't `name` and `text`, or another row
-    /// hasn't two cells.
+    /// The action works with a table of files, but this is a different table: its first row isn't `name` and `text`, or
+    /// another row doesn't have two cells.
     BadTable,
     /// The doc string is ignored: the action works with no text, or with the field `text`.
     IgnoredText,
@@ -44,7 +44,7 @@ const IGNORED_TEXT: &str = "doc string that is ignored";
 const IGNORED_TABLE: &str = "table that is ignored";
 
 impl StepFault {
-    /// The text of a fault.
+    /// Returns the text of the fault.
     pub fn text(self) -> &'static str
         ensures { result.now ≡ spec.fault_text self }
     {
@@ -79,7 +79,7 @@ fn is_same_fault(a: StepFault, b: StepFault) -> bool
     a == b
 }
 
-/// Whether a fault is among some faults.
+/// Returns whether a fault is among some faults.
 pub fn has_fault(faults: &[StepFault], fault: StepFault) -> bool
     ensures { result ≡ spec.has_fault faults.now fault }
 {

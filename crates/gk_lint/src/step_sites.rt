@@ -1,14 +1,14 @@
-//! Where steps are carried out, and which actions may stand there.
+//! Sites at which steps are carried out, and the actions that are allowed there.
 ghost use Rattle.std.specs.Prelude.{◌≡◌};
 ghost use Rattle.gk_lint.specs.StepSites as spec;
 
 use gk_gherkin::HookKind;
 use gk_steps::Action;
 
-/// Where a step is carried out, as far as it says which actions may stand there.
+/// The site at which a step is carried out. It decides which actions are allowed there.
 #[derive(Clone, Copy, Debug, PartialEq, Eq)]
 pub enum StepSite {
-    /// In a scenario, with its Backgrounds, or in a hook before a scenario.
+    /// In a scenario, including its Backgrounds, or in a hook before a scenario or a tag.
     Scenario,
     /// In another hook.
     Hook,
@@ -16,7 +16,7 @@ pub enum StepSite {
     Cleanup,
 }
 
-/// Where the steps of a hook are carried out.
+/// Returns the site of a hook's steps.
 pub fn site_of_hook(kind: HookKind) -> StepSite
     ensures { result ≡ spec.site_of_hook kind }
 {
@@ -44,7 +44,7 @@ fn may_register(site: StepSite) -> bool
     }
 }
 
-/// Whether an action may stand at a site; where it may not, it always fails.
+/// Returns whether an action is allowed at a site. An action that isn't allowed always fails there.
 pub fn may_stand(action: Action, site: StepSite) -> bool
     ensures { result ≡ spec.may_stand action site }
 {

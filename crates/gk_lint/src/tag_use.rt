@@ -1,4 +1,4 @@
-//! Hooks for tags that stand nowhere.
+//! Hooks for tags that no feature has.
 ghost use Rattle.std.specs.Prelude.{◌≡◌, ◌++◌, ℕ, List, map, OnOk, IfOk};
 ghost use Rattle.gk_gherkin.specs.Feature.{texts, examples_value, scenario_value, rule_value, feature_value};
 ghost use Rattle.gk_gherkin.specs.Hooks.{hook_value, hooks_value};
@@ -69,7 +69,7 @@ fn push_feature<'a>(all: &mut Vec<&'a str>, feature: &'a Feature) -> Result<(), 
     push_rules(all, &feature.rules)
 }
 
-// All tags that stand in features.
+// Returns all tags in features.
 fn tags_in<'a>(alloc: Global, features: &'a [Feature]) -> Result<Vec<&'a str>, AllocError>
     ensures { IfOk result (λ all. map (λ t. t.now) all.items
         ≡ spec.tags_in (map feature_value features.now)) }
@@ -81,8 +81,8 @@ fn tags_in<'a>(alloc: Global, features: &'a [Feature]) -> Result<Vec<&'a str>, A
     Ok(all)
 }
 
-/// The set of all tags that stand in features: above a feature, a rule, a scenario or its Examples. An error comes only
-/// where a growth was refused.
+/// Returns the set of all tags in features: above a feature, a rule, a scenario or its Examples. An error comes only if
+/// a growth was refused.
 pub fn set_of_tags<'a>(alloc: Global, features: &'a [Feature]) -> Result<TextSet<'a>, AllocError>
     ensures { IfOk result (λ set. (tag : List ℕ) →
         in_set set tag ≡ is_one_of (spec.tags_in (map feature_value features.now)) tag) }
@@ -92,7 +92,7 @@ pub fn set_of_tags<'a>(alloc: Global, features: &'a [Feature]) -> Result<TextSet
     Ok(tags)
 }
 
-// Adds what is found of a hook, by which tags stand in the features.
+// Adds the finding of a hook, if there is one, by the tags that the features have.
 fn add_idle_hook(
     findings: &mut Vec<Finding>,
     tags: &TextSet<'_>,
@@ -110,7 +110,7 @@ fn add_idle_hook(
     }
 }
 
-// What is found of hooks, by which tags stand in the features.
+// Returns the findings of hooks, by the tags that the features have.
 fn idle_hooks(alloc: Global, tags: &TextSet<'_>, hooks: &[Hook]) -> Result<Vec<Finding>, AllocError>
     ensures { IfOk result (λ findings. findings.items
         ≡ spec.idle_hooks (in_set tags.now) (map hook_value hooks.now)) }
@@ -122,15 +122,15 @@ fn idle_hooks(alloc: Global, tags: &TextSet<'_>, hooks: &[Hook]) -> Result<Vec<F
     Ok(findings)
 }
 
-/// What is found of a hooks file beside these features, in the order of lines: each hook for a tag that stands nowhere
-/// in them, neither above a feature or a rule nor above a scenario or its Examples. An error comes only where a
-/// growth was refused.
+/// Returns the findings of a hooks file that is used with these features, in the order of lines: each hook for a tag
+/// that they don't have, neither above a feature or a rule nor above a scenario or its Examples. An error comes only if
+/// a growth was refused.
 pub fn lint_hook_tags(
     alloc: Global,
     hooks: &HookFile,
     features: &[Feature],
 ) -> Result<Vec<Finding>, AllocError>
-    // All findings are answered, and nothing else.
+    // Returns all findings, and no others.
     ensures { IfOk result (λ findings. AreInOrder
         (spec.hooks_of_no_tag (map feature_value features.now) (hooks_value hooks.now))
         findings.items) }

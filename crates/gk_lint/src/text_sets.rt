@@ -6,14 +6,14 @@ ghost use Rattle.gk_lint.specs.TextSets as spec;
 use std::alloc::{AllocError, Global};
 use std::collections::HashSet;
 
-/// Texts, each of them once.
+/// A set of texts.
 #[derive(Drop)]
 pub struct TextSet<'a> {
     texts: HashSet<&'a str>,
 }
 
 impl<'a> TextSet<'a> {
-    /// The empty set. Takes no memory.
+    /// Returns the empty set. Takes no memory.
     pub fn new(alloc: Global) -> TextSet<'a>
         ensures { (text : List ℕ) → spec.in_set result text ≡ false }
     {
@@ -22,7 +22,7 @@ impl<'a> TextSet<'a> {
         }
     }
 
-    /// Adds a text, and returns whether it is new. An error comes only where a growth was refused.
+    /// Adds a text, and returns whether it is new. An error comes only if a growth was refused.
     pub fn add(&mut self, text: &'a str) -> Result<bool, AllocError>
         ensures is_new { IfOk result (λ is_new. is_new ≡ not (spec.in_set self.old text.now)) }
         ensures has { OnOk result ((other : List ℕ) →
@@ -31,7 +31,7 @@ impl<'a> TextSet<'a> {
         Ok(self.texts.insert(text)?)
     }
 
-    /// Whether the set has a text. Takes no memory.
+    /// Returns whether the set has a text. Takes no memory.
     pub fn has(&self, text: &str) -> bool
         ensures { result ≡ spec.in_set self.now text.now }
     {
@@ -39,7 +39,7 @@ impl<'a> TextSet<'a> {
     }
 }
 
-/// The set of some texts. An error comes only where a growth was refused.
+/// Returns the set of some texts. An error comes only if a growth was refused.
 pub fn set_of<'a>(alloc: Global, texts: &[&'a str]) -> Result<TextSet<'a>, AllocError>
     ensures { IfOk result (λ set. (text : List ℕ) →
         spec.in_set set text ≡ spec.is_one_of (map (λ t. t.now) texts.now) text) }

@@ -1,4 +1,4 @@
-//! What is found of the steps of a feature and of a hooks file.
+//! Findings of the steps of a feature and of a hooks file.
 ghost use Rattle.std.specs.Prelude.{◌≡◌, [], ◌++◌, map, option_map, OnOk, IfOk};
 ghost use Rattle.std.specs.List.{AllByRecursion};
 ghost use Rattle.gk_gherkin.specs.Feature.{step_value, examples_value, background_value};
@@ -23,8 +23,8 @@ use gk_select::{fill_step, is_outline};
 use gk_steps::Library;
 use std::alloc::{AllocError, Global};
 
-/// What is found of steps, and the position in the library of each entry that a step or its cleanup finds, as often as
-/// it is found.
+/// The findings of steps, and the position in the library of each entry that a step or its cleanup finds. A position is
+/// repeated as often as its entry is found.
 #[derive(Debug, Drop)]
 pub struct StepFindings {
     pub findings: Vec<Finding>,
@@ -78,7 +78,7 @@ fn look_up_examples(
     Ok(())
 }
 
-// Looks up what a step of a scenario is run as.
+// Looks up the steps that a step of a scenario is run as.
 fn look_up_runs(
     lookups: &mut Lookups,
     alloc: Global,
@@ -101,7 +101,7 @@ fn look_up_runs(
     }
 }
 
-// Adds what was found of one written step.
+// Adds the results of one written step.
 fn add_lookups(found: &mut StepFindings, line: u32, lookups: Lookups) -> Result<(), AllocError>
     ensures found { OnOk result (found.new.findings.items
         ≡ found.old.findings.items ++ named_once all_faults line lookups.faults.items) }
@@ -113,7 +113,7 @@ fn add_lookups(found: &mut StepFindings, line: u32, lookups: Lookups) -> Result<
     found.used.append(&mut lookups.used)
 }
 
-// Adds what is found of a step of a scenario.
+// Adds the results of a step of a scenario.
 fn add_scenario_step(
     found: &mut StepFindings,
     alloc: Global,
@@ -172,7 +172,7 @@ fn add_scenarios(
     Ok(())
 }
 
-// Adds what is found of a step that is run at a site as it is written.
+// Adds the results of a step that is run at a site as it is written.
 fn add_plain_step(
     found: &mut StepFindings,
     alloc: Global,
@@ -315,7 +315,7 @@ fn add_hooks(
     Ok(())
 }
 
-// Nothing was found yet.
+// Returns empty results.
 fn nothing_found(alloc: Global) -> StepFindings
     ensures found { result.findings.items ≡ [] }
     ensures used { result.used.items ≡ [] }
@@ -326,7 +326,7 @@ fn nothing_found(alloc: Global) -> StepFindings
     }
 }
 
-// The findings in the order of lines.
+// Puts the findings in the order of their lines.
 fn ordered(found: StepFindings) -> Result<StepFindings, AllocError>
     ensures found { IfOk result (λ o. AreInOrder found.findings.items o.findings.items) }
     ensures used { IfOk result (λ o. o.used.items ≡ found.used.items) }
@@ -338,23 +338,23 @@ fn ordered(found: StepFindings) -> Result<StepFindings, AllocError>
     })
 }
 
-/// What is found of the steps of a feature that `read_feature` returned, in the order of lines: those of its
-/// Backgrounds, its scenarios and its rules. Of an outline the steps of its cases are looked up, each filled from its
-/// row; what is found of several rows stands once, at the line of the step. Each step is looked up once, and what is
-/// found at a step is named once.
+/// Returns the findings of the steps of a feature that `read_feature` returned, in the order of lines: those of its
+/// Backgrounds, its scenarios and its rules. For an outline the steps of its cases are looked up, each filled from its
+/// row. Findings of several rows are listed once, at the line of the step. Each step is looked up once, and each
+/// finding at a step is listed once.
 ///
-/// An error comes only where a growth was refused.
+/// An error comes only if a growth was refused.
 pub fn lint_steps(
     alloc: Global,
     library: &Library,
     feature: &Feature,
 ) -> Result<StepFindings, AllocError>
     requires { IsExpandable (feature_value feature.now) }
-    // All findings are answered, and nothing else.
+    // Returns all findings, and no others.
     ensures found { IfOk result (λ r. AreInOrder
         (found_in (library_value library.now) (spec.of_feature (feature_value feature.now)))
         r.findings.items) }
-    // So are the positions of all entries that the steps find.
+    // Returns the positions of all entries that the steps find.
     ensures used { IfOk result (λ r. r.used.items
         ≡ used_in (library_value library.now) (spec.of_feature (feature_value feature.now))) }
 {
@@ -363,18 +363,18 @@ pub fn lint_steps(
     ordered(found)
 }
 
-/// What is found of the steps of hooks, in the order of lines, as `lint_steps` has it. An error comes only where a
-/// growth was refused.
+/// Returns the findings of the steps of hooks, in the order of lines, as `lint_steps` does for a feature. An error
+/// comes only if a growth was refused.
 pub fn lint_hooks(
     alloc: Global,
     library: &Library,
     hooks: &HookFile,
 ) -> Result<StepFindings, AllocError>
-    // All findings are answered, and nothing else.
+    // Returns all findings, and no others.
     ensures found { IfOk result (λ r. AreInOrder
         (found_in (library_value library.now) (spec.of_hooks (hooks_value hooks.now)))
         r.findings.items) }
-    // So are the positions of all entries that the steps find.
+    // Returns the positions of all entries that the steps find.
     ensures used { IfOk result (λ r. r.used.items
         ≡ used_in (library_value library.now) (spec.of_hooks (hooks_value hooks.now))) }
 {
