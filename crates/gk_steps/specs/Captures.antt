@@ -14,7 +14,7 @@ abbrev pub capture_value : Capture → FieldValue
 capture_value (taken.Text text) = TextField text.now
 capture_value (taken.Number n) = NumberField n
 
--- Something is kept exactly if there are fields, and it is what is kept of them.
+-- Something is kept exactly if fields are found, and it is what is kept of them.
 abbrev pub AreKept : {K : Type 0} → (K → List FieldValue → Type 0) → Option K → Option (List FieldValue) → Type 0
 AreKept keeps None None = Unit {0}
 AreKept keeps (Some kept) (Some fields) = keeps kept fields

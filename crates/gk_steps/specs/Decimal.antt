@@ -22,7 +22,7 @@ is_numeral digits = nat_lt 0 (length digits) && list_all (λ c. is_digit c 10) d
 abbrev pub IsNumber : List ℕ → Type 0
 IsNumber text = IsNumeral 10 (without_leading_sign text) × FitsSigned w64 (signed_digits_value 10 text)
 
--- `IsNumber` as a test.
+-- The test for `IsNumber`.
 abbrev pub is_number : List ℕ → Bool
 is_number text = is_numeral (without_leading_sign text) && is_i64 (signed_digits_value 10 text)
 

@@ -105,7 +105,7 @@ abbrev pub shortest_match : (List ℕ → Option (List (List ℕ))) → FieldKin
 shortest_match rest_match kind taken [] = None
 shortest_match rest_match kind taken (b ∷ rest) = elim (spans_with rest_match kind (taken ++ b ∷ []) rest) [ Some spans ↦ Some spans | None ↦ shortest_match rest_match kind (taken ++ b ∷ []) rest ]
 
--- The same with the longest such span.
+-- The spans of a field and of the rest of its pattern. The field takes the longest such span.
 abbrev pub longest_match : (List ℕ → Option (List (List ℕ))) → FieldKind → List ℕ → List ℕ → Option (List (List ℕ))
 longest_match rest_match kind taken [] = None
 longest_match rest_match kind taken (b ∷ rest) = elim (longest_match rest_match kind (taken ++ b ∷ []) rest) [ Some spans ↦ Some spans | None ↦ spans_with rest_match kind (taken ++ b ∷ []) rest ]

@@ -17,7 +17,7 @@ said taken = option_map capture_value taken
 abbrev pub first_of : Option FieldValue → Bool → FieldValue → Option FieldValue
 first_of so_far is_named field = option_or so_far (if is_named then Some field else None)
 
--- `firsts` has the field that `named` gives for each name.
+-- The fields in `firsts` are those that `named` gives for the names.
 pub record AreFirst (named : List ℕ → Option FieldValue) (firsts : FirstFields) : Type 0 where
   pub name : said firsts.name ≡ named (codes "name")
   pub to : said firsts.to ≡ named (codes "to")
@@ -25,7 +25,7 @@ pub record AreFirst (named : List ℕ → Option FieldValue) (firsts : FirstFiel
   pub number : said firsts.number ≡ named (codes "n")
   pub text : said firsts.text ≡ named (codes "text")
 
--- `firsts` has the first field of each name in these pieces. The values have the number and kinds of the pieces' fields.
+-- The fields in `firsts` are the first ones of the names in these pieces. The values have the number and kinds of the pieces' fields.
 pub record KeepsFirst (ps : List PieceValue) (firsts : FirstFields) (fs : List FieldValue) : Type 0 where
   pub fit : HaveKindsOf ps fs
   pub first : AreFirst (λ name. field_named name ps fs) firsts

@@ -53,7 +53,7 @@ fn as_alloc_error(fault: LibraryFault) -> AllocError
 pub fn default_library(alloc: Global) -> Result<Library, AllocError>
     // What is returned is what the text says.
     ensures read { IfOk result (λ l. ReadsLibrary (lines_of default_text) (library_value l)) }
-    // It has these entries.
+    // The library has the default entries.
     ensures entries { IfOk result (λ l. library_value l ≡ default_entries) }
 {
     match read_library(alloc, DEFAULT_TEXT.as_bytes()) {

@@ -193,7 +193,7 @@ impl Index {
         }
     }
 
-    /// Returns the index if it is used for lookups, and `None` if it lists nothing.
+    /// Returns the index if it is used for lookups, and `None` if it has no buckets.
     pub(crate) fn into_asked(self) -> Option<Index>
         ensures { IfSome result (λ i. i ≡ self) }
     {

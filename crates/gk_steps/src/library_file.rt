@@ -101,8 +101,8 @@ fn read_entries(alloc: Global, text: &str) -> Result<LibraryBuilder, LibraryFaul
 ///
 /// `TooLong` and `NotUtf8` come before any fault of a line. `Memory` comes only if a growth was refused. It also
 /// requires that the first line that isn't ignored has a type, an `=>` and a pattern's text that begins with a piece:
-/// no other file asks for memory. A refusal returns nothing of what was read before it. (behave's documentation: step
-/// implementations)
+/// no other file asks for memory. A refusal returns nothing of what was read before it.
+/// (behave's documentation: step implementations)
 pub fn read_library(alloc: Global, bytes: &[u8]) -> Result<Library, LibraryFault>
     // What is returned is what the lines say.
     ensures found { IfOk result (λ l.
@@ -110,7 +110,7 @@ pub fn read_library(alloc: Global, bytes: &[u8]) -> Result<Library, LibraryFault
     // What the lines say is returned, unless memory runs out.
     ensures only { (entries : LibraryValue) → IsText bytes.now
         → ReadsLibrary (lines_of bytes.now) entries → AnswersLibrary result entries }
-    // Which fault is returned.
+    // A returned fault holds for the bytes.
     ensures fault { IfErr result (λ e. LibraryFaultSays e bytes.now) }
 {
     match text_of(bytes) {

@@ -204,8 +204,8 @@ pub(crate) fn match_from_left<'t, K: Captures<'t>>(
 impl Pattern {
     /// Returns the fields of the preferred match of a text, if there is one. A text that doesn't fit the ends of the
     /// pattern is passed over. A table is made only for the pieces from the first field whose share depends on more
-    /// than the literal and the plain field after it. At most one whole table is filled: (pieces + 1) times (characters
-    /// + 1) cells.
+    /// than the literal and the plain field after it. At most one whole table is filled: (pieces + 1) times
+    /// (characters + 1) cells.
     pub fn matches(&self, alloc: Global, text: &str) -> Result<Option<Vec<Field>>, AllocError>
         ensures found { IfOk result (λ found.
             IsMatchResult (pattern_value self.now) text.now (fields_said found)) }
