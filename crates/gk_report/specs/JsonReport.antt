@@ -26,7 +26,7 @@ status_data status = string (status_text status)
 abbrev pub array_data : List Data → Data
 array_data values = array (items_of values)
 
--- The members of a step after its line: a failed one has its reason.
+-- The members of a step after its line: the reason if the step failed, then these.
 abbrev pub reason_and : Option Reason → Members → Members
 reason_and None members = members
 reason_and (Some why) members = member (codes "reason") (string (reason_text why)) members
@@ -58,7 +58,7 @@ rule_data r = object (member (codes "around") (status_data r.around) (member (co
 abbrev pub rules_data : List RuleRow → Data
 rules_data rules = array_data (map rule_data rules)
 
--- The members of a feature after its name: one with a rule has its rules.
+-- The members of a feature after its name: its rules if it has any, then these.
 abbrev pub rules_and : List RuleRow → Members → Members
 rules_and [] members = members
 rules_and (r ∷ rules) members = member (codes "rules") (rules_data (r ∷ rules)) members
@@ -74,7 +74,7 @@ feature_data no_skipped f = object (
     member (codes "source") (string f.source) (
     member (codes "status") (status_data f.status) no_members)))))))
 
--- The object of counts without undefined ones, of which features and scenarios have none.
+-- The object of counts without undefined ones. Features and scenarios have none.
 abbrev pub counts_data : Counts → Data
 counts_data c = object (
     member (codes "failed") (number_data c.failed) (
@@ -104,7 +104,7 @@ summary_data s = object (
 abbrev pub printed_features : Bool → List FeatureRow → List FeatureRow
 printed_features no_skipped rows = filter (λ f. not (is_hidden no_skipped f.status)) rows
 
--- The report as one document: its printed features, how the run's own hooks and cleanups ended, the status that the run ends with, the counts.
+-- The report as one document: its printed features, how the run's own hooks and cleanups ended, the status that the run ends with, and the counts.
 abbrev pub document : Bool → List FeatureRow → Status → ℕ → Summary → Data
 document no_skipped rows around status summary = object (
     member (codes "features") (array_data (map (feature_data no_skipped) (printed_features no_skipped rows))) (
@@ -112,29 +112,29 @@ document no_skipped rows around status summary = object (
     member (codes "status") (number_data status) (
     member (codes "summary") (summary_data summary) no_members))))
 
--- What stands before the features.
+-- The text before the features.
 unfoldable pub json_head : List ℕ
 json_head = codes "{\"features\":["
 
--- The object of a feature, after a comma where it isn't the first that is printed.
+-- The object of a feature, after a comma unless it is the first that is printed.
 abbrev pub feature_object : Bool → Bool → FeatureRow → List ℕ
 feature_object no_skipped first f = cond first [] (codes ",") ++ compact_text (feature_data no_skipped f)
 
--- The part of a feature: its object, or nothing where it is hidden.
+-- The part of a feature: its object, or nothing if it is hidden.
 unfoldable pub json_part : Bool → Bool → FeatureRow → List ℕ
 json_part no_skipped first f = cond (is_hidden no_skipped f.status) [] (feature_object no_skipped first f)
 
--- What stands after the features.
+-- The text after the features.
 unfoldable pub json_tail : Status → ℕ → Summary → List ℕ
 json_tail around status summary =
     codes "],\"run\":" ++ compact_text (status_data around) ++ codes ",\"status\":" ++ compact_text (number_data status)
     ++ codes ",\"summary\":" ++ compact_text (summary_data summary) ++ codes "}" ++ line_feed
 
--- A comma, unless nothing stands before.
+-- A comma, unless nothing comes before it.
 abbrev pub comma_unless : Bool → List ℕ
 comma_unless first = cond first [] (codes ",")
 
--- Values, each after a comma but for the first.
+-- Values, each after a comma. The first has no comma if `first` is true.
 abbrev pub joined : Bool → List Data → List ℕ
 joined first [] = []
 joined first (d ∷ ds) = comma_unless first ++ compact_text d ++ joined false ds
@@ -147,54 +147,54 @@ objects_text no_skipped first cases = joined first (map case_data (printed_cases
 abbrev pub objects_left : Bool → ObjectsLeft → List ℕ
 objects_left no_skipped left = objects_text no_skipped left.first (map case_row left.cases.now)
 
--- How many scenarios follow.
+-- The number of scenarios that follow.
 abbrev pub objects_to_go : ObjectsLeft → ℕ
 objects_to_go left = length left.cases.now
 
--- The rules of a feature behind a comma, where it has one.
+-- The member with the rules of a feature, after a comma; empty if it has no rules.
 abbrev pub rules_member : List RuleRow → List ℕ
 rules_member [] = []
 rules_member (r ∷ rules) = codes ",\"rules\":" ++ compact_text (rules_data (r ∷ rules))
 
--- What stands before the scenarios in the object of a feature.
+-- The text before the scenarios in the object of a feature.
 unfoldable pub object_start : Bool → FeatureRow → List ℕ
 object_start first f =
     comma_unless first ++ codes "{\"around\":" ++ compact_text (status_data f.around) ++ codes ",\"line\":" ++ decimal f.line ++ codes ",\"name\":" ++ compact_text (string f.name)
     ++ rules_member f.rules ++ codes ",\"scenarios\":["
 
--- What stands after them.
+-- The text after the scenarios in the object of a feature.
 unfoldable pub object_end : FeatureRow → List ℕ
 object_end f = codes "],\"source\":" ++ compact_text (string f.source) ++ codes ",\"status\":" ++ compact_text (status_data f.status) ++ codes "}"
 
--- Proof machinery from here on: writing an object member by member. What ends it well from the new events, with these members before, ends it well from the old ones.
+-- Proof machinery from here on: writing an object member by member. Members that complete the object after the new events complete it after the old ones if the added members come before them.
 abbrev pub AddsMembers : (Members → Members) → Log → Log → Type 0
 AddsMembers add old new = (rest : Members) (end : Log) → SendsMembers rest new end → SendsMembers (add rest) old end
 
--- Where a call succeeds, it writes these members.
+-- If a call succeeds, it writes these members.
 abbrev pub WritesMembers : {W T E : Type 0} → (W → Log) → W → (Members → Members) → Result T E → W → Type 0
 WritesMembers written old add result new = OnOk result (AddsMembers add (written old) (written new))
 
--- Where a call succeeds, it writes this value.
+-- If a call succeeds, it writes this value.
 abbrev pub WritesValue : {W T E : Type 0} → (W → Log) → W → Data → Result T E → W → Type 0
 WritesValue written old value result new = OnOk result (SendsValue value (written old) (written new))
 
--- How many members a step's object has.
+-- The number of members of a step's object.
 abbrev pub step_members : Option Reason → ℕ
 step_members None = 4
 step_members (Some why) = 5
 
--- How many members an object of counts has.
+-- The number of members of an object of counts.
 abbrev pub count_members : Bool → ℕ
 count_members of_steps = cond of_steps 6 5
 
--- The member of undefined ones, which the counts of steps alone have.
+-- The member with the undefined ones, for counts of steps only, then these members.
 abbrev pub undefined_and : Bool → ℕ → Members → Members
 undefined_and of_steps n members = cond of_steps (member (codes "undefined") (number_data n) members) members
 
--- The object of counts, of steps or not.
+-- The object of counts: with undefined ones for steps, otherwise without them.
 abbrev pub counts_data_of : Bool → Counts → Data
 counts_data_of of_steps c = cond of_steps (step_counts_data c) (counts_data c)
 
--- What stands after the features, by the texts of its values.
+-- The text after the features, from the texts of its values.
 unfoldable pub tail_of : List ℕ → ℕ → List ℕ → List ℕ
 tail_of run status counts = codes "],\"run\":" ++ run ++ codes ",\"status\":" ++ decimal status ++ codes ",\"summary\":" ++ counts ++ codes "}" ++ line_feed

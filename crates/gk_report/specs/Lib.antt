@@ -1,4 +1,4 @@
--- What a report says, in reading order. A definition whose comment names no source is this project's profile, or a word that the others use.
+-- Definitions of what a report says, in reading order. A definition whose comment names no source belongs to this project's profile, or is a term that the others use.
 pub mod ReportTexts
 pub mod Summary
 pub mod RuleGroups

@@ -1,4 +1,4 @@
--- The part of a feature, made piece by piece.
+-- The part of a feature in a report, made piece by piece.
 use Rattle.std.specs.Prelude.{◌≡◌, ◌≢◌, ℕ, ◌+◌, List, [], ◌++◌, length}
 use Rattle.gk_run.specs.declared.results.FeatureResult.{FeatureResult}
 use Rattle.gk_run.specs.Results.{feature_row}
@@ -11,41 +11,41 @@ use Rattle.gk_report.specs.PlainReport.{lines_left, lines_to_go, feature_end}
 use Rattle.gk_report.specs.JsonReport.{objects_left, objects_to_go, object_end}
 use Rattle.gk_report.specs.Report.{part}
 
--- These lines of scenarios, and what stands after them.
+-- The lines of scenarios, and the text after them.
 abbrev pub lines_and_end : PartPieces → LinesLeft → List ℕ
 lines_and_end p lines = lines_left p.style.no_skipped lines ++ feature_end p.feature.now.around
 
--- These objects of scenarios, and what stands after them.
+-- The objects of scenarios, and the text after them.
 abbrev pub objects_and_end : PartPieces → ObjectsLeft → List ℕ
 objects_and_end p objects = objects_left p.style.no_skipped objects ++ object_end (feature_row p.feature.now)
 
--- What is left of a part, where so much of its scenarios is.
+-- The text that is left of a part, by what is left of its scenarios.
 abbrev pub rest_by : PartPieces → Left → List ℕ
 rest_by p (Whole first) = part p.style first (feature_row p.feature.now)
 rest_by p (Lines lines) = lines_and_end p lines
 rest_by p (Objects objects) = objects_and_end p objects
 rest_by p Nothing = []
 
--- What is left of a part: all of it, or the lines or objects of the scenarios from one on and what stands after them, or nothing.
+-- The text that is left of a part. It is all of the part; or the lines or objects of the scenarios from one on, and the text after them; or nothing.
 unfoldable pub rest : PartPieces → List ℕ
 rest p = rest_by p p.left
 
--- A piece isn't empty, and it and what is left after it are what was left.
+-- A piece isn't empty. Together with what is left after it, it is what was left before it.
 pub record IsPiece (old text new : List ℕ) : Type 0 where
   pub whole : old ≡ text ++ new
   pub some : text ≢ []
 
--- Proof machinery: how many texts are pushed at most where nothing was.
+-- Proof machinery: the greatest number of texts to push if none is pushed yet.
 abbrev pub whole_to_go : FeatureResult → ℕ
 whole_to_go f = (length f.rules.items + length f.cases.items) + 2
 
--- Proof machinery: how many are pushed at most where so much of the scenarios is left.
+-- Proof machinery: the greatest number of texts to push, by what is left of the scenarios.
 abbrev pub to_go_by : PartPieces → Left → ℕ
 to_go_by p (Whole first) = whole_to_go p.feature.now
 to_go_by p (Lines lines) = lines_to_go lines + 1
 to_go_by p (Objects objects) = objects_to_go objects + 1
 to_go_by p Nothing = 0
 
--- Proof machinery: how many texts are pushed at most.
+-- Proof machinery: the greatest number of texts to push.
 abbrev pub to_go : PartPieces → ℕ
 to_go p = to_go_by p p.left

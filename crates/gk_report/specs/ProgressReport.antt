@@ -5,7 +5,7 @@ use Rattle.gk_run.specs.declared.results.Status.TheVariants as statuses
 use Rattle.gk_run.specs.Results.{CaseRow, FeatureRow}
 use Rattle.gk_report.specs.ReportTexts.{status_text, one_line, line_feed, is_hidden, printed_cases}
 
--- The character of a scenario: `.`, `F`, `S`, `U` or `M`; no verdict is undefined. (behave's documentation: the progress formatter)
+-- The character of a scenario: `.`, `F`, `S`, `U` or `M`. No verdict is undefined. (behave's documentation: the progress formatter)
 abbrev pub status_mark : Status → ℕ
 status_mark statuses.Passed = 46
 status_mark statuses.Failed = 70
@@ -18,10 +18,10 @@ status_mark statuses.Memory = 77
 abbrev pub case_marks : Bool → List CaseRow → List ℕ
 case_marks no_skipped cases = map (λ c. status_mark c.status) (printed_cases no_skipped cases)
 
--- The line of a feature: its source's name, the characters of its scenarios, its verdict.
+-- The line of a feature: its source's name, the characters of its scenarios, and its verdict.
 abbrev pub progress_line : Bool → FeatureRow → List ℕ
 progress_line no_skipped f = one_line f.source ++ codes "  " ++ case_marks no_skipped f.cases ++ codes "  " ++ status_text f.status ++ line_feed
 
--- The part of a feature: its line, none where it is hidden.
+-- The part of a feature: its line, or nothing if it is hidden.
 unfoldable pub progress_part : Bool → FeatureRow → List ℕ
 progress_part no_skipped f = cond (is_hidden no_skipped f.status) [] (progress_line no_skipped f)

@@ -1,4 +1,4 @@
--- The report as bytes: its head, the parts of the features in order, its tail.
+-- The report as bytes: its head, the parts of the features in order, and its tail.
 use Rattle.std.specs.Prelude.{◌≡◌, ℕ, Bool, true, false, ◌&&◌, List, [], ◌∷◌, ◌++◌}
 use Rattle.serde_json.specs.Written.{compact_text}
 use Rattle.gk_run.specs.declared.results.Status.{Status}
@@ -19,7 +19,7 @@ head_in formats.Plain = []
 head_in formats.Progress = []
 head_in formats.Json = json_head
 
--- The part of a feature in a format; first is true as long as each earlier part was empty.
+-- The part of a feature in a format. `first` is true as long as each earlier part was empty.
 abbrev pub part_in : Format → Bool → Bool → FeatureRow → List ℕ
 part_in formats.Plain no_skipped first f = plain_part no_skipped f
 part_in formats.Progress no_skipped first f = progress_part no_skipped f
@@ -39,12 +39,12 @@ head style = head_in style.format
 abbrev pub part : Style → Bool → FeatureRow → List ℕ
 part style first f = part_in style.format style.no_skipped first f
 
--- Nothing is printed.
+-- Whether nothing is printed.
 abbrev pub is_empty : List ℕ → Bool
 is_empty [] = true
 is_empty (b ∷ bs) = false
 
--- The parts of features in order, after parts that were all empty or not.
+-- The parts of features in order. `first` is true if each part before them was empty.
 abbrev pub parts_from : Style → Bool → List FeatureRow → List ℕ
 parts_from style first [] = []
 parts_from style first (f ∷ fs) = part style first f ++ parts_from style (first && is_empty (part style first f)) fs
@@ -53,15 +53,15 @@ parts_from style first (f ∷ fs) = part style first f ++ parts_from style (firs
 abbrev pub parts : Style → List FeatureRow → List ℕ
 parts style rows = parts_from style true rows
 
--- The tail of a report. The counts are those of all features, hidden ones too.
+-- The tail of a report. The counts are those of all features, including hidden ones.
 abbrev pub tail : Style → List FeatureRow → Status → List ℕ
 tail style rows around = tail_in style.format (summary_of rows) around (status_of rows around)
 
--- The tail by a summary's counts.
+-- The tail of a report, from the counts of a summary.
 abbrev pub tail_by : Style → Summary → Status → List ℕ
 tail_by style summary around = tail_in style.format summary around (status_by summary around)
 
--- Of whatever results this is the summary, the text is their tail.
+-- For all results that have this summary, the text is their tail.
 abbrev pub IsTailOf : Style → Summary → Status → List ℕ → Type 0
 IsTailOf style summary around text = (rows : List FeatureRow) → summary ≡ summary_of rows → text ≡ tail style rows around
 
@@ -69,13 +69,13 @@ IsTailOf style summary around text = (rows : List FeatureRow) → summary ≡ su
 abbrev pub report : Style → Results → List ℕ
 report style results = head style ++ (parts style results.features ++ tail style results.features results.around)
 
--- A JSON report is the compact text of one document, and a line feed.
+-- A JSON report is the compact text of one document, followed by a line feed.
 abbrev pub IsOneDocument : Type 0
 IsOneDocument = (no_skipped : Bool) (results : Results) →
     report (record { format = formats.Json; no_skipped = no_skipped }) results
     ≡ compact_text (document no_skipped results.features results.around (status results) (summary_of results.features)) ++ line_feed
 
--- How a report grows. One feature more adds its part, which is the first that is printed where nothing is printed yet. What is written after some features begins the report of whatever results begin with them. The head, the parts of all features and the tail are the whole.
+-- How a report grows. One more feature adds its part, which is the first printed one if nothing is printed yet. What is written after some features begins the report of all results that begin with them. The head, the parts of all features and the tail are the whole report.
 pub record ReportsGrowByParts : Type 0 where
   pub next : (style : Style) (rows : List FeatureRow) (row : FeatureRow) →
       parts style (rows ++ row ∷ []) ≡ parts style rows ++ part style (is_empty (parts style rows)) row

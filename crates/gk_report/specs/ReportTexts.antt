@@ -1,4 +1,4 @@
--- The texts that the formats share, and what each of them leaves out.
+-- The texts that the formats share, and what each format leaves out.
 use Rattle.std.specs.Prelude.{◌≡◌, ℕ, Bool, cond, not, ◌&&◌, ◌==◌, List, [], ◌∷◌, ◌++◌, codes, filter, flat_map, String, string_bytes, Result, OnOk, IfOk}
 use Rattle.gk_run.specs.declared.results.Status.{Status}
 use Rattle.gk_run.specs.declared.results.Status.TheVariants as statuses
@@ -32,7 +32,7 @@ reason_text reasons.NoStep = codes "no such step"
 reason_text reasons.NotHere = codes "not allowed here"
 reason_text reasons.Asked = codes "fail step"
 
--- A byte of a name or a text as it is printed: a line feed as a backslash and `n`.
+-- A byte of a name or a text as it is printed: a line feed becomes a backslash and `n`.
 abbrev pub byte_text : ℕ → List ℕ
 byte_text byte = cond (byte == 10) (92 ∷ 110 ∷ []) (byte ∷ [])
 
@@ -44,7 +44,7 @@ one_line text = flat_map byte_text text
 abbrev pub line_feed : List ℕ
 line_feed = 10 ∷ []
 
--- Where skipped ones are left out, what is skipped isn't printed. (behave's documentation: `--no-skipped`)
+-- Whether a feature or a scenario with this verdict is hidden: it is skipped, and skipped ones are left out. (behave's documentation: `--no-skipped`)
 abbrev pub is_hidden : Bool → Status → Bool
 is_hidden no_skipped status = no_skipped && is_skipped status
 
@@ -52,14 +52,14 @@ is_hidden no_skipped status = no_skipped && is_skipped status
 abbrev pub printed_cases : Bool → List CaseRow → List CaseRow
 printed_cases no_skipped cases = filter (λ c. not (is_hidden no_skipped c.status)) cases
 
--- Where a call succeeds, this text stands at the end of what was there.
+-- If a call succeeds, the new text is the old one followed by this text.
 abbrev pub Pushes : {T E Y Z : Type 0} → String Y → List ℕ → Result T E → String Z → Type 0
 Pushes old part result new = OnOk result (string_bytes new ≡ string_bytes old ++ part)
 
--- Where a call succeeds, what it pushed and what is left are what was left.
+-- If a call succeeds, what it pushed and what is still left are what was left before.
 abbrev pub PushesSome : {T E Y Z : Type 0} → String Y → List ℕ → Result T E → String Z → List ℕ → Type 0
 PushesSome old left result new still = OnOk result (string_bytes new ++ still ≡ string_bytes old ++ left)
 
--- Where a call succeeds, this is the text that it returns.
+-- If a call succeeds, it returns this text.
 abbrev pub AnswersText : {E Y : Type 0} → Result (String Y) E → List ℕ → Type 0
 AnswersText result expected = IfOk result (λ text. string_bytes text ≡ expected)

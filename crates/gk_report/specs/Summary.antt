@@ -7,11 +7,11 @@ use Rattle.gk_report.specs.declared.summary.Counts.{Counts}
 use Rattle.gk_report.specs.declared.summary.Summary.{Summary}
 use Rattle.gk_run.specs.Results.{CaseRow, FeatureRow, Results, is_passed, is_failed, is_skipped, is_undefined, is_untested, is_memory}
 
--- The greatest number that a count can be.
+-- The greatest value of a count.
 abbrev pub greatest : ℕ
 greatest = 2 ^ 64 - 1
 
--- How many statuses of a list pass a test; the count stops rising at the greatest number.
+-- The number of statuses in a list that pass a test. It stops rising at the greatest value.
 abbrev pub count_of : (Status → Bool) → List Status → ℕ
 count_of test statuses = min greatest (count_by test statuses)
 
@@ -46,7 +46,7 @@ statuses_of_case c = map (λ s. s.status) c.steps
 abbrev pub statuses_of_feature : FeatureRow → List Status
 statuses_of_feature f = flat_map statuses_of_case f.cases
 
--- The statuses of all steps of all scenarios; the steps of hooks and cleanups aren't among them. (behave's documentation: summary)
+-- The statuses of all steps of all scenarios. The steps of hooks and cleanups are not among them. (behave's documentation: summary)
 abbrev pub step_statuses : List FeatureRow → List Status
 step_statuses rows = flat_map statuses_of_feature rows
 
@@ -58,7 +58,7 @@ summary_of rows = record { features = counts_of (feature_statuses rows); scenari
 abbrev pub verdicts : List FeatureRow → Status → List Status
 verdicts rows around = around ∷ feature_statuses rows ++ scenario_statuses rows
 
--- The status of a run: 4 where one of these is memory; else 1 where one is failed or a step is undefined; else 0. The hooks and cleanups of a scenario and of a feature count by its verdict, those of a rule by its feature's.
+-- The status of a run: 4 if one of these verdicts is memory; otherwise 1 if one is failed or a step is undefined; otherwise 0. The hooks and cleanups of a scenario or a feature count through its verdict, those of a rule through its feature's verdict.
 abbrev pub status_of : List FeatureRow → Status → ℕ
 status_of rows around =
     cond (list_any is_memory (verdicts rows around)) 4
@@ -68,19 +68,19 @@ status_of rows around =
 abbrev pub status : Results → ℕ
 status results = status_of results.features results.around
 
--- Of whatever results this is the summary, the number is their status, where the run's own hooks and cleanups ended so.
+-- For all results that have this summary, the number is their status, if the run's own hooks and cleanups ended with this status.
 abbrev pub IsStatusOf : Summary → Status → ℕ → Type 0
 IsStatusOf summary around number = (rows : List FeatureRow) → summary ≡ summary_of rows → number ≡ status_of rows around
 
--- Of whatever results the old summary was, the new one is that of these and one more.
+-- For all results that have the old summary, the new one is that of these results and one more.
 abbrev pub CountsOneMore : Summary → FeatureRow → Summary → Type 0
 CountsOneMore old row new = (rows : List FeatureRow) → old ≡ summary_of rows → new ≡ summary_of (rows ++ row ∷ [])
 
--- One more, up to the greatest number.
+-- A count plus one, up to the greatest value.
 abbrev pub raised : ℕ → ℕ
 raised n = min (n + 1) greatest
 
--- The counts after one status more.
+-- The counts after one more status.
 abbrev pub one_status_more : Counts → Status → Counts
 one_status_more c statuses.Passed = record c { passed = raised c.passed }
 one_status_more c statuses.Failed = record c { failed = raised c.failed }
@@ -89,15 +89,15 @@ one_status_more c statuses.Undefined = record c { undefined = raised c.undefined
 one_status_more c statuses.Untested = record c { untested = raised c.untested }
 one_status_more c statuses.Memory = record c { memory = raised c.memory }
 
--- The summary after one scenario more.
+-- The summary after one more scenario.
 abbrev pub one_case_more : Summary → CaseRow → Summary
 one_case_more s c = record s { scenarios = one_status_more s.scenarios c.status; steps = fold one_status_more s.steps (statuses_of_case c) }
 
--- The summary after one feature more.
+-- The summary after one more feature.
 abbrev pub one_feature_more : Summary → FeatureRow → Summary
 one_feature_more s f = fold one_case_more (record s { features = one_status_more s.features f.status }) f.cases
 
--- The status by the counts and the run's own hooks and cleanups.
+-- The status of a run, from the counts and from how its own hooks and cleanups ended.
 abbrev pub status_by : Summary → Status → ℕ
 status_by s around =
     cond (is_memory around || nat_lt 0 s.features.memory || nat_lt 0 s.scenarios.memory) 4

@@ -1,4 +1,4 @@
-//! The JSON report: one document, whose objects `serde_json` writes from the results where they lie.
+//! The JSON report: one document, whose objects `serde_json` writes directly from the results.
 ghost use Rattle.std.specs.Prelude.{◌≡◌, [], ◌++◌, codes, map, Some, IfOk, string_bytes};
 ghost use Rattle.serde.specs.Event.{Log};
 ghost use Rattle.serde_json.specs.Data.{string, member};
@@ -85,7 +85,7 @@ fn write_status<S: Serializer>(out: &mut S, key: &str, status: Status) -> Result
     write_text(out, key, status_text(status))
 }
 
-// The reason of a step that failed.
+// Writes the reason of a step that failed.
 fn write_reason<S: Serializer>(out: &mut S, reason: Option<Reason>) -> Result<(), S::Error>
     ensures { WritesMembers S.written out.old (reason_and reason) result out.new }
 {
@@ -95,7 +95,7 @@ fn write_reason<S: Serializer>(out: &mut S, reason: Option<Reason>) -> Result<()
     }
 }
 
-// How many members the object of a step has.
+// Returns the number of members of a step's object.
 fn step_members(reason: Option<Reason>) -> usize
     ensures { result ≡ spec.step_members reason }
 {
@@ -162,7 +162,7 @@ fn write_rules<S: Serializer>(out: &mut S, rules: &[RuleResult]) -> Result<(), S
     out.end_seq()
 }
 
-// The undefined ones, of steps alone.
+// Writes the undefined ones, for steps only.
 fn write_undefined<S: Serializer>(out: &mut S, count: u64, of_steps: bool) -> Result<(), S::Error>
     ensures { WritesMembers S.written out.old (undefined_and of_steps count) result out.new }
 {
@@ -172,7 +172,7 @@ fn write_undefined<S: Serializer>(out: &mut S, count: u64, of_steps: bool) -> Re
     write_number(out, "undefined", count)
 }
 
-// How many members the object of counts has.
+// Returns the number of members of an object of counts.
 fn count_members(of_steps: bool) -> usize
     ensures { result ≡ spec.count_members of_steps }
 {
@@ -209,7 +209,7 @@ fn write_summary<S: Serializer>(out: &mut S, summary: &Summary) -> Result<(), S:
     out.end_map()
 }
 
-// The text of a value. Writing one of those here fails only where a growth is refused.
+// Returns the text of a value. Writing a value of this module fails only if a growth is refused.
 fn json_text<T: Serialize>(alloc: Global, value: &T) -> Result<String, AllocError>
     ensures { IfOk result (λ text.
         (log : Log) × T.writes value.now (Some []) log × IsTextOf log (string_bytes text)) }
@@ -259,7 +259,7 @@ fn push_status(out: &mut String, alloc: Global, status: Status) -> Result<(), Al
     push_string(out, alloc, status_text(status))
 }
 
-// The member of the rules of a feature that has one.
+// Pushes the member with the rules of a feature, if it has any.
 fn push_rules(out: &mut String, alloc: Global, rules: &[RuleResult]) -> Result<(), AllocError>
     ensures { Pushes out.old (rules_member (map rule_row rules.now)) result out.new }
 {
@@ -271,7 +271,7 @@ fn push_rules(out: &mut String, alloc: Global, rules: &[RuleResult]) -> Result<(
     out.push_str(array.as_str())
 }
 
-// A comma, unless nothing stands before.
+// Pushes a comma, unless nothing comes before it.
 fn push_comma(out: &mut String, first: bool) -> Result<(), AllocError>
     ensures { Pushes out.old (comma_unless first) result out.new }
 {
@@ -295,7 +295,7 @@ fn push_object(
     out.push_str(object.as_str())
 }
 
-/// What stands before the features. An error comes only where a growth was refused.
+/// Returns the text before the features. An error comes only if a growth was refused.
 #[tactic(auto, unfolding(crate::specs::JsonReport::json_head))]
 pub fn json_head(alloc: Global) -> Result<String, AllocError>
     ensures { AnswersText result spec.json_head }
@@ -303,8 +303,8 @@ pub fn json_head(alloc: Global) -> Result<String, AllocError>
     Ok(String::from_str(alloc, "{\"features\":[")?)
 }
 
-/// Pushes what stands before the scenarios in the object of a feature, and before it a comma where it isn't
-/// the first that is printed. An error comes only where a growth was refused.
+/// Pushes the text before the scenarios in the object of a feature, after a comma unless the object is the first that
+/// is printed. An error comes only if a growth was refused.
 #[tactic(auto, unfolding(crate::specs::JsonReport::object_start))]
 pub fn push_object_start(
     out: &mut String,
@@ -324,8 +324,7 @@ pub fn push_object_start(
     Ok(())
 }
 
-/// Pushes what stands after the scenarios in the object of a feature. An error comes only where a growth was
-/// refused.
+/// Pushes the text after the scenarios in the object of a feature. An error comes only if a growth was refused.
 #[tactic(auto, unfolding(crate::specs::JsonReport::object_end))]
 pub fn push_object_end(
     out: &mut String,
@@ -342,10 +341,10 @@ pub fn push_object_end(
     Ok(())
 }
 
-/// The objects that are left of the scenarios of a feature.
+/// The objects that are left of a feature's scenarios.
 #[derive(Clone, Copy, Debug)]
 pub struct ObjectsLeft<'a> {
-    // No scenario before these is printed.
+    // Whether no scenario before these is printed.
     first: bool,
     cases: &'a [CaseResult],
 }
@@ -356,7 +355,7 @@ impl<'a> ObjectsLeft<'a> {
     ghost use Rattle.gk_report.specs.ReportTexts.{PushesSome};
     ghost use Rattle.gk_report.specs.JsonReport.{objects_text, objects_left, objects_to_go};
 
-    /// The objects of all scenarios of a feature. Takes no memory.
+    /// Returns the objects of all scenarios of a feature. Takes no memory.
     pub fn new(feature: &'a FeatureResult) -> ObjectsLeft<'a>
         ensures objects { (no_skipped : Bool) → objects_left no_skipped result
             ≡ objects_text no_skipped true (feature_row feature.now).cases }
@@ -368,8 +367,8 @@ impl<'a> ObjectsLeft<'a> {
         }
     }
 
-    /// Pushes the object of the next scenario, and before it a comma where it isn't the first that is printed.
-    /// Answers whether there was one, printed or hidden. An error comes only where a growth was refused.
+    /// Pushes the object of the next scenario, after a comma unless the object is the first that is printed. Returns
+    /// whether there was a next scenario, printed or hidden. An error comes only if a growth was refused.
     pub fn push_next(
         &mut self,
         out: &mut String,
@@ -411,8 +410,8 @@ fn tail_text(alloc: Global, run: &str, status: u8, counts: &str) -> Result<Strin
     Ok(out)
 }
 
-/// What stands after the features: the counts of a summary, `around` being how the run's own hooks and
-/// cleanups ended, and the status that the run ends with. An error comes only where a growth was refused.
+/// Returns the text after the features: how the run's own hooks and cleanups ended (`around`), the status that the run
+/// ends with, and the counts of a summary. An error comes only if a growth was refused.
 pub fn json_tail(alloc: Global, summary: &Summary, around: Status) -> Result<String, AllocError>
     ensures { AnswersText result
         (spec.json_tail around (status_by summary.now around) summary.now) }

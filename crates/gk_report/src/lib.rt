@@ -1,5 +1,5 @@
-//! The report of a run. A style and the results of the run's features come in, and how its own hooks and
-//! cleanups ended; the report's text goes out piece by piece, and the status that the run ends with.
+//! The report of a run. The crate takes a style, the results of the run's features, and how the run's own hooks and
+//! cleanups ended. It returns the report's text piece by piece, and the status that the run ends with.
 #![tactic(auto)]
 
 mod json_report;

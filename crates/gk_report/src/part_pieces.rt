@@ -13,24 +13,24 @@ use crate::report_texts::hides;
 use gk_run::FeatureResult;
 use std::alloc::{AllocError, Global};
 
-// A piece that has so many bytes is complete.
+// A piece with this number of bytes is complete.
 const PIECE_BYTES: usize = 16 * 1024;
 
 // What is left of a part.
 #[derive(Clone, Copy, Debug)]
 enum Left<'a> {
-    // All of it. It is the first that is printed, or not.
+    // All of it, and whether it is the first that is printed.
     Whole(bool),
-    // The lines of scenarios, and what stands after them.
+    // The lines of scenarios, and the text after them.
     Lines(LinesLeft<'a>),
-    // The objects of scenarios, and what stands after them.
+    // The objects of scenarios, and the text after them.
     Objects(ObjectsLeft<'a>),
     Nothing,
 }
 
-/// The part of a feature, made piece by piece. A piece ends with the first scenario at which it has 16 KB, and
-/// the last one with the part. In progress the part is one piece. In JSON the list of the feature's rules
-/// stands in the first piece.
+/// The part of a feature, made piece by piece. A piece ends with the first scenario at which it has at least 16 KB, and
+/// the last one ends with the part. In the progress format the part is one piece. In JSON the list of the feature's
+/// rules is in the first piece.
 #[derive(Clone, Copy, Debug)]
 pub struct PartPieces<'a> {
     style: Style,
@@ -38,7 +38,7 @@ pub struct PartPieces<'a> {
     left: Left<'a>,
 }
 
-/// The part of a feature, of which no piece is made yet, `first` being true as long as each earlier part of the
+/// Returns the part of a feature, before any piece of it is made. `first` is true as long as each earlier part of the
 /// report was empty. Takes no memory.
 #[tactic(auto, unfolding(crate::specs::PartPieces::rest))]
 pub fn pieces(style: Style, first: bool, feature: &FeatureResult) -> PartPieces<'_>
@@ -60,7 +60,7 @@ impl<'a> PartPieces<'a> {
     ghost use Rattle.gk_report.specs.JsonReport.{objects_to_go};
     ghost use Rattle.gk_report.specs.PartPieces.{rest, to_go, whole_to_go, lines_and_end, objects_and_end, IsPiece};
 
-    // Pushes what stands before the scenarios of a part that is whole. Answers whether more may be left.
+    // Pushes the text before the scenarios of a part that is whole. Returns whether more may be left.
     #[tactic(auto, unfolding(crate::specs::PartPieces::rest, crate::specs::PlainReport::plain_part, crate::specs::ProgressReport::progress_part, crate::specs::JsonReport::json_part))]
     fn push_start(
         &mut self,
@@ -98,7 +98,7 @@ impl<'a> PartPieces<'a> {
         }
     }
 
-    // Pushes the next of these lines, or what stands after them. Answers whether more may be left.
+    // Pushes the next of these lines, or the text after them. Returns whether more may be left.
     #[tactic(auto, unfolding(crate::specs::PartPieces::rest))]
     fn push_lines(&mut self, out: &mut String, lines: LinesLeft<'a>) -> Result<bool, AllocError>
         ensures pushed { PushesSome out.old (lines_and_end self.old lines.entry)
@@ -117,7 +117,7 @@ impl<'a> PartPieces<'a> {
         Ok(false)
     }
 
-    // Pushes the next of these objects, or what stands after them. Answers whether more may be left.
+    // Pushes the next of these objects, or the text after them. Returns whether more may be left.
     #[tactic(auto, unfolding(crate::specs::PartPieces::rest))]
     fn push_objects(
         &mut self,
@@ -141,7 +141,7 @@ impl<'a> PartPieces<'a> {
         Ok(false)
     }
 
-    // Pushes some of what is left: a scenario at most. Answers whether more may be left.
+    // Pushes some of what is left: at most one scenario. Returns whether more may be left.
     #[tactic(auto, unfolding(crate::specs::PartPieces::rest))]
     fn push_next(&mut self, out: &mut String, alloc: Global) -> Result<bool, AllocError>
         ensures pushed { PushesSome out.old (rest self.old) result out.new (rest self.new) }
@@ -156,7 +156,7 @@ impl<'a> PartPieces<'a> {
         }
     }
 
-    // Pushes what is left up to the end of a piece.
+    // Pushes what is left, up to the end of a piece.
     fn push_piece(&mut self, out: &mut String, alloc: Global) -> Result<(), AllocError>
         ensures pushed { PushesSome out.old (rest self.old) result out.new (rest self.new) }
         ensures full { OnOk result
@@ -170,8 +170,8 @@ impl<'a> PartPieces<'a> {
         Ok(())
     }
 
-    /// Makes the next piece, and answers it. None is empty, and `None` comes where nothing is left, or where
-    /// the style hides the feature. An error comes only where a growth was refused; what was left is left.
+    /// Makes and returns the next piece, which is never empty. Returns `None` if nothing is left, or if the style hides
+    /// the feature. An error comes only if a growth was refused, and it leaves the rest of the part as it was.
     pub fn next(&mut self, alloc: Global) -> Result<Option<String>, AllocError>
         ensures piece { IfOk result (λ piece. IfSome piece (λ text.
             IsPiece (rest self.old) (string_bytes text) (rest self.new))) }
@@ -190,9 +190,9 @@ impl<'a> PartPieces<'a> {
     }
 }
 
-/// The part of a feature, `first` being true as long as each earlier part of the report was empty. The text
-/// is empty where the style hides the feature. An error comes only where a growth was refused. (behave's
-/// documentation: `--no-skipped`)
+/// Returns the part of a feature. `first` is true as long as each earlier part of the report was empty. The text is
+/// empty if the style hides the feature. An error comes only if a growth was refused.
+/// (behave's documentation: `--no-skipped`)
 pub fn part(
     alloc: Global,
     style: Style,

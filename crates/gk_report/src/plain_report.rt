@@ -1,4 +1,4 @@
-//! The plain report: the lines of a feature, and the closing lines, which it shares with progress.
+//! The plain report: the lines of a feature, and the closing lines, which it shares with the progress report.
 ghost use Rattle.std.specs.Prelude.{◌≡◌, [], ◌++◌, map, option_map, codes, cond};
 ghost use Rattle.gk_run.specs.Results.{step_row, case_row, rule_row, feature_row};
 ghost use Rattle.gk_report.specs.ReportTexts.{is_hidden, line_feed, Pushes, AnswersText};
@@ -21,8 +21,8 @@ fn push_verdict(out: &mut String, status: Status, reason: Option<Reason>) -> Res
     Ok(())
 }
 
-/// Pushes what a line of a status ends with: three dots, the status, and the reason of what failed. An error
-/// comes only where a growth was refused.
+/// Pushes the end of a line with a status: three dots, the status, the reason if there is one, and a line feed. An
+/// error comes only if a growth was refused.
 #[inline(always)]
 pub fn push_ending(
     out: &mut String,
@@ -37,7 +37,7 @@ pub fn push_ending(
     out.push_str("\n")
 }
 
-// A keyword after an indent, with what stands behind it.
+// Pushes a keyword after an indent, and the text behind it.
 #[inline(always)]
 fn push_keyword(
     out: &mut String,
@@ -70,7 +70,7 @@ fn push_case_line(out: &mut String, case: &CaseResult) -> Result<(), AllocError>
     push_ending(out, case.status, None)
 }
 
-// The line of hooks and cleanups, unless they passed.
+// Pushes the line of hooks and cleanups, unless they passed.
 #[tactic(auto, unfolding(crate::specs::PlainReport::status_line, crate::specs::PlainReport::around_line))]
 fn push_around(out: &mut String, indent: &str, around: Status) -> Result<(), AllocError>
     ensures { Pushes out.old (around_line indent.now around) result out.new }
@@ -94,7 +94,7 @@ fn push_case(out: &mut String, case: &CaseResult) -> Result<(), AllocError>
     Ok(())
 }
 
-// The lines of a scenario, unless it is hidden.
+// Pushes the lines of a scenario, unless it is hidden.
 fn push_printed(out: &mut String, no_skipped: bool, case: &CaseResult) -> Result<(), AllocError>
     ensures { Pushes out.old
         (cond (is_hidden no_skipped case.now.status) [] (case_lines (case_row case.now)))
@@ -106,7 +106,7 @@ fn push_printed(out: &mut String, no_skipped: bool, case: &CaseResult) -> Result
     Ok(())
 }
 
-// Whether the first of these rules begins above a line.
+// Returns whether the first of these rules begins above a line.
 fn begins_above(rules: &[RuleResult], line: u32) -> bool
     ensures { result ≡ by_rule.begins_above (map rule_row rules.now) line }
 {
@@ -116,7 +116,7 @@ fn begins_above(rules: &[RuleResult], line: u32) -> bool
     }
 }
 
-// The line of a rule's hooks and cleanups, unless they passed.
+// Pushes the line of a rule's hooks and cleanups, unless they passed.
 #[tactic(auto, unfolding(crate::specs::PlainReport::status_line, crate::specs::PlainReport::rule_line))]
 fn push_rule_line(out: &mut String, rule: RuleResult) -> Result<(), AllocError>
     ensures { Pushes out.old (rule_line (rule_row rule)) result out.new }
@@ -128,7 +128,7 @@ fn push_rule_line(out: &mut String, rule: RuleResult) -> Result<(), AllocError>
     push_ending(out, rule.around, None)
 }
 
-// The line of the rule that scenarios are in, if they are in one.
+// Pushes the line of the rule that scenarios are in, if they are in one.
 fn push_line_of(out: &mut String, rule: Option<RuleResult>) -> Result<(), AllocError>
     ensures { Pushes out.old (line_of (option_map rule_row rule)) result out.new }
 {
@@ -138,7 +138,7 @@ fn push_line_of(out: &mut String, rule: Option<RuleResult>) -> Result<(), AllocE
     }
 }
 
-/// The lines that are left of the scenarios of a feature, and of its rules.
+/// The lines that are left of a feature's scenarios and rules.
 #[derive(Clone, Copy, Debug)]
 pub struct LinesLeft<'a> {
     // The rule that the next scenario is in, if it is in one.
@@ -155,7 +155,7 @@ impl<'a> LinesLeft<'a> {
     ghost use Rattle.gk_report.specs.RuleGroups.{cases_before};
     ghost use Rattle.gk_report.specs.PlainReport.{scenario_lines, lines_left, lines_to_go};
 
-    /// All lines of the scenarios of a feature, and of its rules. Takes no memory.
+    /// Returns all lines of a feature's scenarios and rules. Takes no memory.
     pub fn new(feature: &'a FeatureResult) -> LinesLeft<'a>
         ensures lines { (no_skipped : Bool) → let f = feature_row feature.now in
             lines_left no_skipped result ≡ scenario_lines no_skipped f.rules f.cases }
@@ -169,7 +169,7 @@ impl<'a> LinesLeft<'a> {
         }
     }
 
-    // Pushes the line of the rule that ends. Answers whether another rule begins.
+    // Pushes the line of the rule that ends. Returns whether another rule begins.
     fn push_rule(&mut self, out: &mut String, no_skipped: bool) -> Result<bool, AllocError>
         requires { cases_before
             (map rule_row self.old.rules.now) (map case_row self.old.cases.now) ≡ [] }
@@ -193,8 +193,8 @@ impl<'a> LinesLeft<'a> {
         }
     }
 
-    /// Pushes the lines of the next scenario, or that of the rule that ends before it. Answers whether more
-    /// may be left. An error comes only where a growth was refused.
+    /// Pushes the lines of the next scenario, or the line of the rule that ends before it. Returns whether more may be
+    /// left. An error comes only if a growth was refused.
     pub fn push_next(&mut self, out: &mut String, no_skipped: bool) -> Result<bool, AllocError>
         ensures pushed { PushesSome out.old (lines_left no_skipped self.old)
             result out.new (lines_left no_skipped self.new) }
@@ -216,7 +216,7 @@ impl<'a> LinesLeft<'a> {
     }
 }
 
-/// Pushes what stands before the scenarios of a feature. An error comes only where a growth was refused.
+/// Pushes the text before the scenarios of a feature. An error comes only if a growth was refused.
 #[tactic(auto, unfolding(crate::specs::PlainReport::status_line, crate::specs::PlainReport::feature_line))]
 pub fn push_feature_line(out: &mut String, feature: &FeatureResult) -> Result<(), AllocError>
     ensures { Pushes out.old (feature_line (feature_row feature.now)) result out.new }
@@ -226,7 +226,7 @@ pub fn push_feature_line(out: &mut String, feature: &FeatureResult) -> Result<()
     push_ending(out, feature.status, None)
 }
 
-/// Pushes what stands after the scenarios of a feature. An error comes only where a growth was refused.
+/// Pushes the text after the scenarios of a feature. An error comes only if a growth was refused.
 pub fn push_feature_end(out: &mut String, around: Status) -> Result<(), AllocError>
     ensures { Pushes out.old (feature_end around) result out.new }
 {
@@ -269,7 +269,7 @@ fn push_undefined(out: &mut String, count: u64, of_steps: bool) -> Result<(), Al
     Ok(())
 }
 
-// A line of counts; of steps with the undefined ones, too.
+// Pushes a line of counts. A line for steps has the undefined ones, too.
 #[tactic(auto, unfolding(crate::specs::PlainReport::count_line))]
 fn push_count_line(
     out: &mut String,
@@ -290,8 +290,8 @@ fn push_count_line(
     Ok(())
 }
 
-/// The closing lines: the counts of a summary, `around` being how the run's own hooks and cleanups ended. An
-/// error comes only where a growth was refused.
+/// Returns the closing lines: how the run's own hooks and cleanups ended (`around`), and the counts of a summary. An
+/// error comes only if a growth was refused.
 #[tactic(auto, unfolding(crate::specs::PlainReport::closing_lines))]
 pub fn closing_text(alloc: Global, summary: &Summary, around: Status) -> Result<String, AllocError>
     ensures { AnswersText result (closing_lines summary.now around) }

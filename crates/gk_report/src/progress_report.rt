@@ -20,7 +20,7 @@ fn mark_text(status: Status) -> &'static str
     }
 }
 
-// The character of a scenario, unless it is hidden.
+// Pushes the character of a scenario, unless it is hidden.
 fn push_mark(out: &mut String, no_skipped: bool, status: Status) -> Result<(), AllocError>
     ensures { Pushes out.old
         (cond (is_hidden no_skipped status) [] (status_mark status ∷ [])) result out.new }
@@ -40,7 +40,7 @@ fn push_marks(out: &mut String, no_skipped: bool, cases: &[CaseResult]) -> Resul
     Ok(())
 }
 
-/// Pushes the line of a feature. An error comes only where a growth was refused.
+/// Pushes the line of a feature. An error comes only if a growth was refused.
 pub fn push_progress_line(
     out: &mut String,
     no_skipped: bool,

@@ -1,4 +1,4 @@
-//! The report of a run in a style: its head, the part of each feature, its tail.
+//! The report of a run in a style: its head, the part of each feature, and its tail.
 ghost use Rattle.std.specs.Prelude.{IfOk, string_bytes};
 ghost use Rattle.gk_report.specs.Report as spec;
 ghost use Rattle.gk_report.specs.ReportTexts.{AnswersText};
@@ -32,7 +32,8 @@ pub struct Style {
     pub no_skipped: bool,
 }
 
-/// What a report begins with: nothing in plain and progress. An error comes only where a growth was refused.
+/// Returns the beginning of a report, which is empty in plain and progress. An error comes only if a growth was
+/// refused.
 pub fn head(alloc: Global, style: Style) -> Result<String, AllocError>
     ensures { AnswersText result (spec.head style) }
 {
@@ -42,9 +43,9 @@ pub fn head(alloc: Global, style: Style) -> Result<String, AllocError>
     }
 }
 
-/// What a report ends with: the counts of a summary, `around` being how the run's own hooks and cleanups
-/// ended. For the report of a run the summary is that of all its features, hidden ones too. An error comes
-/// only where a growth was refused. (behave's documentation: summary)
+/// Returns the end of a report: the counts of a summary, and how the run's own hooks and cleanups ended (`around`). For
+/// the report of a run, the summary is that of all its features, including hidden ones. An error comes only if a growth
+/// was refused. (behave's documentation: summary)
 pub fn tail(
     alloc: Global,
     style: Style,
@@ -60,13 +61,13 @@ pub fn tail(
     }
 }
 
-/// Each JSON report is the compact text of one document, and a line feed.
+/// States that each JSON report is the compact text of one document, followed by a line feed.
 pub fn json_reports_are_documents()
     ensures { IsOneDocument }
 {}
 
-/// The head, the parts in order and the tail make up the report, and what is written after some features
-/// begins the report of whatever results begin with them.
+/// States that the head, the parts in order and the tail make up the report. What is written after some features begins
+/// the report of all results that begin with them.
 pub fn reports_grow_by_parts()
     ensures { ReportsGrowByParts }
 {}

@@ -1,4 +1,4 @@
-//! The texts that the formats share, and what each of them leaves out.
+//! The texts that the formats share, and what each format leaves out.
 #![tactic(auto, unfolding(crate::specs::ReportTexts::status_text, crate::specs::ReportTexts::reason_text))]
 
 ghost use Rattle.std.specs.Prelude.{◌≡◌};
@@ -8,14 +8,14 @@ ghost use Rattle.gk_report.specs.ReportTexts.{is_hidden, one_line, Pushes};
 use gk_run::{Reason, Status};
 use std::alloc::AllocError;
 
-/// Whether a feature or a scenario with this verdict is left out.
+/// Returns whether a feature or a scenario with this verdict is left out.
 pub fn hides(no_skipped: bool, status: Status) -> bool
     ensures { result ≡ is_hidden no_skipped status }
 {
     no_skipped && status == Status::Skipped
 }
 
-/// A status as it is printed.
+/// Returns a status as it is printed.
 pub fn status_text(status: Status) -> &'static str
     ensures { result.now ≡ spec.status_text status }
 {
@@ -29,7 +29,7 @@ pub fn status_text(status: Status) -> &'static str
     }
 }
 
-/// A reason as it is printed.
+/// Returns a reason as it is printed.
 pub fn reason_text(reason: Reason) -> &'static str
     ensures { result.now ≡ spec.reason_text reason }
 {
@@ -51,8 +51,8 @@ pub fn reason_text(reason: Reason) -> &'static str
     }
 }
 
-/// Pushes a name or a text, with a backslash and `n` in place of each line feed. An error comes only where a
-/// growth was refused.
+/// Pushes a name or a text, with a backslash and `n` in place of each line feed. An error comes only if a growth was
+/// refused.
 #[inline(always)]
 pub fn push_one_line(out: &mut String, text: &str) -> Result<(), AllocError>
     ensures { Pushes out.old (one_line text.now) result out.new }

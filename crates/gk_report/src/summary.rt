@@ -1,4 +1,4 @@
-//! What the report counts, and the status that a run ends with.
+//! The counts of a report, and the status that a run ends with.
 ghost use Rattle.std.specs.Prelude.{◌≡◌, [], map, fold};
 ghost use Rattle.gk_run.specs.Results.{step_row, case_row, feature_row};
 ghost use Rattle.gk_report.specs.Summary.{summary_of, one_status_more, one_case_more};
@@ -19,7 +19,7 @@ pub struct Counts {
 impl Counts {
     ghost use Rattle.gk_report.specs.Summary.{counts_of, one_status_more};
 
-    // No status yet.
+    // Returns the counts of no status.
     fn new() -> Counts
         ensures { result ≡ counts_of [] }
     {
@@ -33,7 +33,7 @@ impl Counts {
         }
     }
 
-    // One status more.
+    // Counts one more status.
     fn add(&mut self, status: Status)
         ensures { self.new ≡ one_status_more self.old status }
     {
@@ -59,7 +59,7 @@ pub struct Summary {
 impl Summary {
     ghost use Rattle.gk_report.specs.Summary.{summary_of, CountsOneMore, one_feature_more, status_by, IsStatusOf};
 
-    /// The counts over no feature. Takes no memory.
+    /// Returns the counts over no features. Takes no memory.
     pub fn new() -> Summary
         ensures { result ≡ summary_of [] }
     {
@@ -70,8 +70,7 @@ impl Summary {
         }
     }
 
-    /// Counts one feature more, with its scenarios and their steps. Takes no memory. (behave's
-    /// documentation: summary)
+    /// Counts one more feature, with its scenarios and their steps. Takes no memory. (behave's documentation: summary)
     pub fn add(&mut self, feature: &FeatureResult)
         ensures counts { self.new ≡ one_feature_more self.old (feature_row feature.now) }
         ensures added { CountsOneMore self.old (feature_row feature.now) self.new }
@@ -80,9 +79,9 @@ impl Summary {
         add_cases(self, feature.cases.as_slice());
     }
 
-    /// The status that the run ends with, `around` being how its own hooks and cleanups ended: 4 where
-    /// that or a verdict is memory, else 1 where one of them is failed or a step is undefined, else 0.
-    /// Takes no memory.
+    /// Returns the status that the run ends with, if its own hooks and cleanups ended with `around`. It is 4 if
+    /// `around` or a verdict is memory; otherwise 1 if one of them is failed or a step is undefined; otherwise 0. Takes
+    /// no memory.
     pub fn status(&self, around: Status) -> u8
         ensures counts { result ≡ status_by self.now around }
         ensures status { IsStatusOf self.now around result }

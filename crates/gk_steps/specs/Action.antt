@@ -8,18 +8,18 @@ use Rattle.gk_steps.specs.declared.action.Action.{Action}
 use Rattle.gk_steps.specs.declared.action.ActionRow.{ActionRow}
 use Rattle.gk_steps.specs.declared.action.Action.TheVariants as actions
 
--- What borrowed words say.
+-- The contents of borrowed words.
 abbrev pub words_said : List (Bor (List ℕ)) → List (List ℕ)
 words_said words = map (λ word. word.now) words
 
--- A row of the table of actions: a name, its action, the fields that it needs, and all that it uses.
+-- A row of the table of actions: a name, its action, the fields that it needs, and all fields that it uses.
 pub record ActionRowValue : Type 0 where
   pub name : List ℕ
   pub action : Action
   pub needs : List (List ℕ)
   pub uses : List (List ℕ)
 
--- What an `ActionRow` says.
+-- The value of an `ActionRow`.
 abbrev pub action_row_value : ActionRow → ActionRowValue
 action_row_value row = record { name = row.name.now; action = row.action; needs = words_said row.needs.now; uses = words_said row.uses.now }
 
@@ -43,15 +43,15 @@ number_word = codes "n"
 abbrev pub step_word : List ℕ
 step_word = codes "step"
 
--- The kind that a field of this name has to have: `n` is a number, any other is plain.
+-- The kind that a field of this name must have: a number for `n`, plain for any other name.
 abbrev pub kind_of_field : List ℕ → FieldKind
 kind_of_field name = if bytes_eq name number_word then Decimal else Plain
 
--- The row of an action that uses the fields that it needs, and no other.
+-- The row of an action that uses only the fields that it needs.
 abbrev pub plain_row : List ℕ → Action → List (List ℕ) → ActionRowValue
 plain_row name action needs = record { name = name; action = action; needs = needs; uses = needs }
 
--- The row of an action that needs `name`, and uses `text` where the pattern has it.
+-- The row of an action that needs `name`, and uses `text` if the pattern has it.
 abbrev pub text_row : List ℕ → Action → ActionRowValue
 text_row name action = record { name = name; action = action; needs = name_word ∷ []; uses = name_word ∷ text_word ∷ [] }
 
@@ -84,10 +84,10 @@ action_table =
     ∷ plain_row (codes "fail") actions.Fail []
     ∷ []
 
--- The first row of a name among some rows; none where no row has that name.
+-- The first of some rows with this name; none if no row has it.
 abbrev pub row_among : List ActionRowValue → List ℕ → Option ActionRowValue
 row_among rows name = find (λ (row : ActionRowValue). bytes_eq row.name name) rows
 
--- The row of a name; none where no action has that name.
+-- The row of this name; none if no action has it.
 unfoldable pub action_row : List ℕ → Option ActionRowValue
 action_row name = row_among action_table name

@@ -1,4 +1,4 @@
--- Proof machinery: what a match keeps of what a pattern's fields took.
+-- Proof machinery: what a match keeps of its fields' values.
 use Rattle.std.specs.Prelude.{◌≡◌, ◌++◌, ℕ, List, slice_get, Option, Some, None}
 use Rattle.gk_gherkin.specs.declared.feature.StepType.{StepType}
 use Rattle.gk_steps.specs.declared.finding.Hit.{Hit}
@@ -9,38 +9,38 @@ use Rattle.gk_steps.specs.Matching.{FieldValue, TextField, NumberField, IsMatchR
 use Rattle.gk_steps.specs.Leftmost.{FindsRest}
 use Rattle.gk_steps.specs.Finding.{EntryValue, FoundValue, LibraryValue, IsFoundOf}
 
--- What a field says that took this.
+-- The value of a `Capture`.
 abbrev pub capture_value : Capture → FieldValue
 capture_value (taken.Text text) = TextField text.now
 capture_value (taken.Number n) = NumberField n
 
--- There is something kept where there are fields, and it is what is kept of these.
+-- Something is kept exactly if fields are found, and it is what is kept of them.
 abbrev pub AreKept : {K : Type 0} → (K → List FieldValue → Type 0) → Option K → Option (List FieldValue) → Type 0
 AreKept keeps None None = Unit {0}
 AreKept keeps (Some kept) (Some fields) = keeps kept fields
 AreKept keeps _ _ = ⊥
 
--- This is kept of what a pattern finds in a text.
+-- What is kept of what a pattern finds in a text.
 abbrev pub IsKeptResult : {K : Type 0} → (List PieceValue → K → List FieldValue → Type 0) → List PieceValue → List ℕ → Option K → Type 0
 IsKeptResult keeps ps text kept = (fields : Option (List FieldValue)) × AreKept (keeps ps) kept fields × IsMatchResult ps text fields
 
--- This is kept of what is found with some pieces and their fields before it, whatever the pattern and the text are of which these pieces and this rest are left.
+-- What is kept of the result of every pattern in every text, if these pieces and this rest are left after some pieces and their fields.
 abbrev pub KeepsRest : {K : Type 0} → (List PieceValue → K → List FieldValue → Type 0) → List PieceValue → List FieldValue → List PieceValue → List ℕ → Option K → Type 0
 KeepsRest keeps done before left rest kept = (fields : Option (List FieldValue)) × AreKept (keeps (done ++ left)) kept fields × FindsRest before left rest fields
 
--- The hit of something found: its entry is at that position, and what it keeps is kept of those fields of the entry's pattern.
+-- The hit of a found entry: it has the entry's position, and what is kept of the found fields of its pattern.
 pub record IsHitOf {K : Type 0} (keeps : List PieceValue → K → List FieldValue → Type 0) (entries : LibraryValue) (hit : Hit K) (found : FoundValue) : Type 0 where
   pub position : hit.entry ≡ found.entry
   pub entry : EntryValue
   pub stands : slice_get entries found.entry ≡ Some entry
   pub kept : keeps entry.pattern hit.kept found.fields
 
--- There is a hit where something is found.
+-- There is a hit exactly if an entry is found, and it is the hit of that entry.
 abbrev pub IsHit : {K : Type 0} → (List PieceValue → K → List FieldValue → Type 0) → LibraryValue → Option (Hit K) → Option FoundValue → Type 0
 IsHit keeps entries None None = Unit {0}
 IsHit keeps entries (Some hit) (Some found) = IsHitOf keeps entries hit found
 IsHit keeps entries _ _ = ⊥
 
--- This is the hit of what is found among the entries of one type.
+-- The hit of what is found among the entries of one type.
 abbrev pub HitsWhatIsFound : {K : Type 0} → (List PieceValue → K → List FieldValue → Type 0) → LibraryValue → Option StepType → List ℕ → Option (Hit K) → Type 0
 HitsWhatIsFound keeps entries step_type text hit = (found : Option FoundValue) × IsHit keeps entries hit found × IsFoundOf entries step_type text found

@@ -1,8 +1,8 @@
--- Proof machinery: where a text may be cut, at the boundaries of its characters.
+-- Proof machinery: the character boundaries of a text.
 use Rattle.std.specs.Prelude.{◌≡◌, ◌<◌, ◌≤◌, ℕ, List, length, drop, slice_index}
 use Rattle.std.specs.Str.{chars, IsCharBoundary}
 
--- The boundaries of a text from a position on, from the last to the first.
+-- The character boundaries of a text from a position on, from the last to the first.
 pub record AreBoundariesFrom (low : ℕ) (text : List ℕ) (boundaries : List ℕ) : Type 0 where
   pub some : 0 < length boundaries
   pub cuts : (c : ℕ) → c < length boundaries → IsCharBoundary text (slice_index boundaries c)
@@ -11,6 +11,6 @@ pub record AreBoundariesFrom (low : ℕ) (text : List ℕ) (boundaries : List �
   pub complete : (p : ℕ) → low ≤ p → IsCharBoundary text p → (c : ℕ) × (c < length boundaries) × (slice_index boundaries c ≡ p)
   pub counts : (c : ℕ) → c < length boundaries → length (chars (drop (slice_index boundaries c) text)) ≡ c
 
--- All of them.
+-- All character boundaries of a text, from the last to the first.
 abbrev pub AreBoundaries : List ℕ → List ℕ → Type 0
 AreBoundaries text boundaries = AreBoundariesFrom 0 text boundaries

@@ -5,16 +5,16 @@ use Rattle.std.specs.Char.{is_digit}
 use Rattle.std.specs.Int.{w64}
 use Rattle.std.specs.Str.Parse.{IsNumeral, without_leading_sign, signed_digits_value}
 
--- The largest number that an `i64` holds; the least is one further from zero, and negative.
+-- The largest number that an `i64` holds. The least is negative and one further from zero.
 abbrev pub largest_i64 : ℕ
 largest_i64 = 9223372036854775807
 
--- A number that an `i64` holds.
+-- Whether an `i64` holds a number.
 abbrev pub is_i64 : ℤ → Bool
 is_i64 (pos n) = nat_le n largest_i64
 is_i64 (negsuc n) = nat_le n largest_i64
 
--- A numeral: one ASCII digit or more, and nothing else.
+-- A numeral: one or more ASCII digits, and no other character.
 abbrev pub is_numeral : List ℕ → Bool
 is_numeral digits = nat_lt 0 (length digits) && list_all (λ c. is_digit c 10) digits
 
@@ -22,10 +22,10 @@ is_numeral digits = nat_lt 0 (length digits) && list_all (λ c. is_digit c 10) d
 abbrev pub IsNumber : List ℕ → Type 0
 IsNumber text = IsNumeral 10 (without_leading_sign text) × FitsSigned w64 (signed_digits_value 10 text)
 
--- The same as a test.
+-- The test for `IsNumber`.
 abbrev pub is_number : List ℕ → Bool
 is_number text = is_numeral (without_leading_sign text) && is_i64 (signed_digits_value 10 text)
 
--- The number that a text spells; none where it spells none.
+-- The number that a text spells; none if it spells none.
 abbrev pub number_of : List ℕ → Option ℤ
 number_of text = if is_number text then Some (signed_digits_value 10 text) else None

@@ -1,4 +1,4 @@
--- The step library that counts where no file is given.
+-- The step library that is used if no file is given.
 use Rattle.std.specs.Prelude.{codes, ℕ, List, [], ◌∷◌, ◌++◌, None}
 use Rattle.gk_steps.specs.declared.action.Action.{Action}
 use Rattle.gk_steps.specs.declared.action.Action.TheVariants as actions
@@ -6,7 +6,7 @@ use Rattle.gk_steps.specs.declared.pattern.FieldKind.TheVariants.{Plain, Decimal
 use Rattle.gk_steps.specs.Pattern.{PieceValue, Literal, FieldPiece}
 use Rattle.gk_steps.specs.Finding.{EntryValue, LibraryValue}
 
--- Its text, by lines.
+-- The text of the default library, line by line.
 unfoldable pub default_text : List ℕ
 default_text =
     codes "step a file named \"{name}\" with: => write_file\n"
@@ -38,11 +38,11 @@ default_text =
     ++ codes "step it passes => pass\n"
     ++ codes "step it fails => fail\n"
 
--- An entry for steps of each type.
+-- An entry for steps of every type.
 abbrev pub any_entry : List PieceValue → Action → EntryValue
 any_entry ps action = record { step_type = None; pattern = ps; action = action }
 
--- Its entries.
+-- The entries of the default library.
 abbrev pub default_entries : LibraryValue
 default_entries =
     any_entry (Literal (codes "a file named \"") ∷ FieldPiece (codes "name") Plain ∷ Literal (codes "\" with:") ∷ []) actions.WriteFile

@@ -1,4 +1,4 @@
--- Where an index lists the entries of a library, by the literals at their patterns' ends, and which entries it passes over.
+-- How an index lists the entries of a library by the literals at their patterns' ends, and which entries it passes over.
 use Rattle.std.specs.Prelude.{◌≡◌, ◌⊎◌, ◌+◌, ◌*◌, ◌%◌, ◌<◌, ◌≤◌, ℕ, zero, suc, Bool, true, List, [], ◌∷◌, length, slice_get, Vec, Some, IfSome}
 use Rattle.std.specs.declared.alloc.Global.{Global}
 use Rattle.gk_steps.specs.declared.library.Entry.{Entry}
@@ -9,27 +9,27 @@ use Rattle.gk_steps.specs.declared.entry_index.IndexedEntries.{IndexedEntries}
 use Rattle.gk_steps.specs.Pattern.{PieceValue, Literal, FieldPiece, pattern_value}
 use Rattle.gk_steps.specs.Matching.{MatchesNot}
 
--- The bytes of a literal; none of a field.
+-- The bytes of a literal; empty for a field.
 abbrev pub literal_of : PieceValue → List ℕ
 literal_of (Literal text) = text
 literal_of (FieldPiece name kind) = []
 
--- The literal that a pattern begins with; empty where it begins with a field.
+-- The literal that a pattern begins with; empty if it begins with a field.
 abbrev pub first_literal : List PieceValue → List ℕ
 first_literal [] = []
 first_literal (p ∷ ps) = literal_of p
 
--- The literal that a pattern ends with; empty where it ends with a field.
+-- The literal that a pattern ends with; empty if it ends with a field.
 abbrev pub last_literal : List PieceValue → List ℕ
 last_literal [] = []
 last_literal (p ∷ []) = literal_of p
 last_literal (p ∷ q ∷ ps) = last_literal (q ∷ ps)
 
--- A key with a byte more.
+-- A key extended by one byte.
 abbrev pub key_more : ℕ → ℕ → ℕ
 key_more key byte = (key * 33 + byte) % 16777216
 
--- A key with more bytes.
+-- A key extended by some bytes.
 abbrev pub key_over : ℕ → List ℕ → ℕ
 key_over key [] = key
 key_over key (b ∷ bs) = key_over (key_more key b) bs
@@ -46,21 +46,21 @@ ends_key ps = key_over (first_key ps) (last_literal ps)
 abbrev pub keyed : ℕ → ℕ → Keyed
 keyed key number = record { key = key; number = number }
 
--- A number stands in a bucket, with its key.
+-- A number is in a bucket, with its key.
 abbrev pub IsAmong : Keyed → List Keyed → Type 0
 IsAmong n bucket = (k : ℕ) × (slice_get bucket k ≡ Some n)
 
--- A number stands in a bucket under a key.
+-- A number is in a bucket under a key.
 abbrev pub IsUnder : ℕ → ℕ → List Keyed → Type 0
 IsUnder key number bucket = IsAmong (keyed key number) bucket
 
--- The bucket of a number; empty where there is none.
+-- The bucket with this number; empty if there is none.
 abbrev pub bucket_at : List (Vec Keyed Global) → ℕ → List Keyed
 bucket_at [] k = []
 bucket_at (b ∷ bs) zero = b.items
 bucket_at (b ∷ bs) (suc k) = bucket_at bs k
 
--- The bucket of a key; empty where there is none.
+-- The bucket of a key; empty if there is none.
 abbrev pub bucket_of : List (Vec Keyed Global) → ℕ → List Keyed
 bucket_of buckets key = bucket_at buckets (key % length buckets)
 
@@ -68,7 +68,7 @@ bucket_of buckets key = bucket_at buckets (key % length buckets)
 abbrev pub IsMarked : ℕ → List Bool → Type 0
 IsMarked size marks = slice_get marks size ≡ Some true
 
--- An index lists a pattern at a position: by the length of its first literal; by that of its last one, under the first one's key; and under the key of both.
+-- An index lists a pattern at a position. It marks the length of the first literal, has the length of the last literal under the key of the first, and has the position under the key of both.
 pub record Lists (index : Index) (position : ℕ) (ps : List PieceValue) : Type 0 where
   pub first : IsMarked (length (first_literal ps)) index.firsts.items
   pub last : IsUnder (first_key ps) (length (last_literal ps)) (bucket_of index.lasts.items (first_key ps))
@@ -79,55 +79,55 @@ pub record HasBuckets (index : Index) : Type 0 where
   pub lasts : 0 < length index.lasts.items
   pub positions : 0 < length index.positions.items
 
--- An index that has buckets lists each of these entries at its position. Said twice negated, so that it is a fact that a type can keep.
+-- An index that has buckets lists each of these entries at its position. The statement is doubly negated, so that it is a fact that a type can keep.
 abbrev pub AreListed : Index → List Entry → Type 0
 AreListed index entries = 0 < length index.positions.items → (position : ℕ) (entry : Entry) → slice_get entries position ≡ Some entry → (Lists index position (pattern_value entry.pattern) → ⊥) → ⊥
 
--- The least position under a key in a bucket from a position on, or a larger one that is given where none is less.
+-- The least position from `from` on that a bucket has under a key, or `most` if none is less.
 pub record IsLeastFrom (bucket : List Keyed) (key from most result : ℕ) : Type 0 where
   pub low : from ≤ most → from ≤ result
   pub high : result ≤ most
   pub least : (position : ℕ) → IsUnder key position bucket → from ≤ position → result ≤ position
 
--- No pattern of a kind that is listed at a position between two matches.
+-- No listed pattern of this kind matches at a position between two.
 pub record Skips (IsKind : List PieceValue → Type 0) (index : Index) (from most : ℕ) (text : List ℕ) (result : ℕ) : Type 0 where
   pub low : from ≤ most → from ≤ result
   pub high : result ≤ most
   pub skipped : (position : ℕ) (ps : List PieceValue) → IsKind ps → Lists index position ps → from ≤ position → position < result → MatchesNot ps text
 
--- A text of a size has room for a first and a last literal of these lengths: they stand beside one another, or one literal is the whole text.
+-- A text of this size has room for a first and a last literal of these lengths: they fit side by side, or the last one is the whole text.
 abbrev pub CanStand : ℕ → ℕ → ℕ → Type 0
 CanStand first last size = (first + last ≤ size) ⊎ (last ≡ size)
 
--- Patterns whose first literal has a length and a key.
+-- Patterns whose first literal has this length and key.
 abbrev pub HasFirst : ℕ → ℕ → List PieceValue → Type 0
 HasFirst first key ps = (first ≡ length (first_literal ps)) × (key ≡ first_key ps)
 
--- Patterns whose first literal has a key, and whose last one has a length.
+-- Patterns whose first literal has this key, and whose last literal has this length.
 abbrev pub HasEnds : ℕ → ℕ → List PieceValue → Type 0
 HasEnds key last ps = (key ≡ first_key ps) × (last ≡ length (last_literal ps))
 
--- Patterns whose first literal has a length and a key, and whose last one has one of the first of some lengths.
+-- Patterns whose first literal has this length and key, and whose last literal's length is under that key among the first `count` of these.
 abbrev pub HasEndsAmong : ℕ → ℕ → List Keyed → ℕ → List PieceValue → Type 0
 HasEndsAmong first key lasts count ps = (first ≡ length (first_literal ps)) × (key ≡ first_key ps) × (k : ℕ) × (k < count) × (slice_get lasts k ≡ Some (keyed key (length (last_literal ps))))
 
--- Patterns whose first literal is shorter than a length.
+-- Patterns whose first literal is shorter than this length.
 abbrev pub IsShorter : ℕ → List PieceValue → Type 0
 IsShorter size ps = length (first_literal ps) < size
 
--- Each pattern.
+-- Every pattern.
 abbrev pub IsAny : List PieceValue → Type 0
 IsAny ps = Unit {0}
 
--- No entry at a position between two matches.
+-- No entry matches at a position between two.
 pub record SkipsEntries (entries : List Entry) (from : ℕ) (text : List ℕ) (result : ℕ) : Type 0 where
   pub low : from ≤ length entries → from ≤ result
   pub skipped : (position : ℕ) (entry : Entry) → slice_get entries position ≡ Some entry → from ≤ position → position < result → MatchesNot (pattern_value entry.pattern) text
 
--- The index of these entries lists them.
+-- The index of these entries, if there is one, lists them.
 abbrev pub IsIndexed : IndexedEntries → Type 0
 IsIndexed indexed = IfSome indexed.index (λ i. AreListed i.now indexed.entries.now)
 
--- The index of the entries that were read so far lists them.
+-- The index of the entries read so far lists them.
 abbrev pub HasIndex : LibraryBuilder → Type 0
 HasIndex builder = AreListed builder.index builder.entries.items

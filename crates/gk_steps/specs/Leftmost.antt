@@ -1,4 +1,4 @@
--- Proof machinery: how much of a text the first piece of a pattern takes, where the pieces after it leave no choice.
+-- Proof machinery: how much of a text the first piece of a pattern takes, if the pieces after it leave no choice.
 use Rattle.std.specs.Prelude.{◌≡◌, ◌<◌, ◌+◌, ◌++◌, [], ◌∷◌, ℕ, List, length, take, drop, Option, Some, None, option_map}
 use Rattle.std.specs.Str.{IsCharBoundary}
 use Rattle.gk_steps.specs.declared.leftmost.Cut.{Cut}
@@ -8,13 +8,13 @@ use Rattle.gk_steps.specs.Pattern.{PieceValue, Literal, FieldPiece}
 use Rattle.gk_steps.specs.Matching.{MatchesNot, IsMatchResult, FieldValue}
 use Rattle.gk_steps.specs.Advances.{Takes, values_of}
 
--- A literal stands at a position where the text may be cut.
+-- A literal occurs in a text at a position that is a character boundary.
 pub record CanStandAt (literal : List ℕ) (text : List ℕ) (position : ℕ) : Type 0 where
   pub boundary : IsCharBoundary text position
   pub rest : List ℕ
   pub stands : drop position text ≡ literal ++ rest
 
--- It stands at no such position after the beginning and before another position.
+-- The literal occurs at no such position after the beginning and before another position.
 abbrev pub StandsNowhereBefore : List ℕ → List ℕ → ℕ → Type 0
 StandsNowhereBefore literal text end = (position : ℕ) → 0 < position → position < end → CanStandAt literal text position → ⊥
 
@@ -24,18 +24,18 @@ pub record IsFirst (literal : List ℕ) (text : List ℕ) (position : ℕ) : Typ
   pub here : CanStandAt literal text position
   pub first : StandsNowhereBefore literal text position
 
--- The first such position, or that there is none.
+-- The first such position after the beginning; none if there is none.
 abbrev pub IsFirstPosition : List ℕ → List ℕ → Option ℕ → Type 0
 IsFirstPosition literal text None = StandsNowhereBefore literal text (length text + 1)
 IsFirstPosition literal text (Some position) = IsFirst literal text position
 
--- A piece takes what stands before a position: what the rest of the pattern finds after it, with what the piece says before it, is what the whole finds.
+-- A piece takes the text before a position. What the whole pattern finds is the value of the piece, followed by what the rest of the pattern finds after the position.
 pub record IsCut (piece : PieceValue) (ps : List PieceValue) (text : List ℕ) (position : ℕ) : Type 0 where
   pub boundary : IsCharBoundary text position
   pub takes : Takes piece (take position text)
   pub goes_on : (found : Option (List FieldValue)) → IsMatchResult ps (drop position text) found → IsMatchResult (piece ∷ ps) text (option_map (λ (fields : List FieldValue). values_of piece (take position text) ++ fields) found)
 
--- What the first piece takes depends on more than a literal and a plain field after it: it is a number, or a plain field before another field, or before a literal after which a number or another literal comes.
+-- What the first piece takes depends on more than a literal and a plain field after it. The piece is a number, or a plain field before another field or before a literal that a number or another literal follows.
 abbrev pub DependsOnMore : PieceValue → List PieceValue → Type 0
 DependsOnMore (Literal literal) ps = ⊥
 DependsOnMore (FieldPiece name Decimal) ps = Unit {0}
@@ -46,13 +46,13 @@ DependsOnMore (FieldPiece name Plain) (Literal literal ∷ FieldPiece other Plai
 DependsOnMore (FieldPiece name Plain) (Literal literal ∷ FieldPiece other Decimal ∷ ps) = Unit {0}
 DependsOnMore (FieldPiece name Plain) (Literal literal ∷ Literal other ∷ ps) = Unit {0}
 
--- What is known of the first piece: what it takes, or that the pattern has no match. Nothing is said only where that depends on more.
+-- What is known about the first piece: what it takes, or that the pattern has no match. It is unknown only if it depends on more.
 abbrev pub IsCutOf : PieceValue → List PieceValue → List ℕ → Cut → Type 0
 IsCutOf piece ps text (At position) = IsCut piece ps text position
 IsCutOf piece ps text Nowhere = MatchesNot (piece ∷ ps) text
 IsCutOf piece ps text Unknown = DependsOnMore piece ps
 
--- What is known of a plain field before a literal and other pieces, whatever the field is called.
+-- What is known about a plain field before a literal and other pieces, whatever the field's name.
 abbrev pub IsCutBefore : List ℕ → List PieceValue → List ℕ → Cut → Type 0
 IsCutBefore literal ps text cut = (name : List ℕ) → IsCutOf (FieldPiece name Plain) (Literal literal ∷ ps) text cut
 
@@ -60,6 +60,6 @@ IsCutBefore literal ps text cut = (name : List ℕ) → IsCutOf (FieldPiece name
 abbrev pub IsLeft : List PieceValue → List ℕ → List FieldValue → List PieceValue → List ℕ → Type 0
 IsLeft ps text fields left rest = (found : Option (List FieldValue)) → IsMatchResult left rest found → IsMatchResult ps text (option_map (λ (others : List FieldValue). fields ++ others) found)
 
--- With the fields so far before it, this is what each pattern finds in each text of which these pieces and this rest are left.
+-- The result of every pattern in every text, if these pieces and this rest are left after the fields so far.
 abbrev pub FindsRest : List FieldValue → List PieceValue → List ℕ → Option (List FieldValue) → Type 0
 FindsRest fields left rest found = (ps : List PieceValue) (text : List ℕ) → IsLeft ps text fields left rest → IsMatchResult ps text found

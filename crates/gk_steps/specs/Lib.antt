@@ -1,4 +1,4 @@
--- What patterns and step libraries are, and what they find, in reading order. Where a comment names no source, the definition is this project's profile, or a word that the others use.
+-- Definitions of patterns, step libraries and what they find, in reading order. A definition whose comment names no source belongs to this project's profile, or is a term that the others use.
 pub mod Pattern
 pub mod Decimal
 pub mod Matching
@@ -9,10 +9,10 @@ pub mod FilledCells
 pub mod LibraryFile
 pub mod LibraryFault
 pub mod DefaultFile
--- How a library is kept: up to where it has entries for steps of one type, and the index of its entries.
+-- How a library is stored: the end of its entries for steps of one type, and the index of its entries.
 pub mod Library
 pub mod EntryIndex
--- Proof machinery: what the steps of reading, matching and finding say.
+-- Proof machinery: definitions for the steps of reading, matching and finding.
 pub mod Spelling
 pub mod LibraryLine
 pub mod CharBoundaries

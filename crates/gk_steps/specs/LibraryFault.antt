@@ -1,11 +1,11 @@
--- What the faults of a library file say.
+-- The meaning of the faults of a library file.
 use Rattle.std.specs.Prelude.{codes, ◌≡◌, ◌≢◌, ℕ, List, Option, Some, None}
 use Rattle.gk_gherkin.specs.Lines.{lines_of, IsText, IsTooLong, IsNotUtf8At}
 use Rattle.gk_steps.specs.declared.library_fault.LibraryFault.{LibraryFault}
 use Rattle.gk_steps.specs.declared.library_fault.LibraryFault.TheVariants as faults
 use Rattle.gk_steps.specs.LibraryFile.{StopsLibraryAt, IsBadType, IsBadPattern, IsUnknownAction, IsMissingField, IsOtherKind, IsAmbiguous, LibraryNeedsMemory}
 
--- What a fault says of the bytes: too many before no UTF-8, and both before any fault of the lines; refused memory, that the lines ask for some.
+-- What a fault says about the bytes. `TooLong` comes before `NotUtf8`, and both come before any fault of the lines. `Memory` says that the lines ask for memory.
 abbrev pub LibraryFaultSays : LibraryFault → List ℕ → Type 0
 LibraryFaultSays faults.Memory bytes = IsText bytes × LibraryNeedsMemory (lines_of bytes)
 LibraryFaultSays faults.TooLong bytes = IsTooLong bytes
@@ -17,11 +17,11 @@ LibraryFaultSays (faults.MissingField n) bytes = IsText bytes × StopsLibraryAt 
 LibraryFaultSays (faults.FieldKind n) bytes = IsText bytes × StopsLibraryAt (lines_of bytes) n IsOtherKind
 LibraryFaultSays (faults.Ambiguous n) bytes = IsText bytes × StopsLibraryAt (lines_of bytes) n IsAmbiguous
 
--- No bytes have two faults as a library file, neither of two kinds nor on two lines; refused memory aside, which is no fault of theirs.
+-- No bytes have two faults as a library file, neither of two kinds nor on two lines. Refused memory is excluded: it is no fault of the bytes.
 abbrev pub LibraryFaultIsUnique : Type 0
 LibraryFaultIsUnique = (bytes : List ℕ) (one other : LibraryFault) → one ≢ faults.Memory → other ≢ faults.Memory → LibraryFaultSays one bytes → LibraryFaultSays other bytes → one ≡ other
 
--- The line that a fault names.
+-- The line that a fault names, if it names one.
 abbrev pub line_of_library_fault : LibraryFault → Option ℕ
 line_of_library_fault (faults.NotUtf8 n) = Some n
 line_of_library_fault (faults.BadType n) = Some n

@@ -1,4 +1,4 @@
--- Texts that a pattern matches nowhere, by the literals at its ends.
+-- Texts that a pattern can't match because of the literals at its ends.
 use Rattle.std.specs.Prelude.{◌≡◌, ℕ, List, [], ◌∷◌, ◌++◌}
 use Rattle.gk_steps.specs.Pattern.{PieceValue, Literal, FieldPiece}
 
@@ -18,17 +18,17 @@ EndsWith text suffix = (prefix : List ℕ) × (text ≡ prefix ++ suffix)
 abbrev pub EndsNotWith : List ℕ → List ℕ → Type 0
 EndsNotWith text suffix = (prefix : List ℕ) → text ≡ prefix ++ suffix → ⊥
 
--- A literal that stands first in the pattern begins the text.
+-- If a pattern begins with a literal, the text begins with it.
 abbrev pub FitsStart : List PieceValue → List ℕ → Type 0
 FitsStart (Literal literal ∷ ps) text = BeginsWith text literal
 FitsStart _ text = Unit {0}
 
--- What a text ends with whose pattern ends with this piece.
+-- What the last piece of a pattern requires of the text's end: a literal ends the text, a field requires nothing.
 abbrev pub EndsWithPiece : PieceValue → List ℕ → Type 0
 EndsWithPiece (Literal literal) text = EndsWith text literal
 EndsWithPiece (FieldPiece name kind) text = Unit {0}
 
--- A literal that stands last in the pattern ends the text.
+-- If a pattern ends with a literal, the text ends with it.
 abbrev pub FitsEnd : List PieceValue → List ℕ → Type 0
 FitsEnd [] text = Unit {0}
 FitsEnd (p ∷ []) text = EndsWithPiece p text

@@ -9,7 +9,7 @@ use Rattle.gk_steps.specs.declared.pattern.PatternFault.{PatternFault}
 use Rattle.gk_steps.specs.declared.pattern.PatternFault.TheVariants.{Memory}
 use Rattle.gk_steps.specs.Pattern.{PieceValue, Literal, FieldPiece, piece_value, pieces_said, spelled_literal, spelled_piece, is_name_byte, is_field_name, field_names, field_kind, AreLongestRuns}
 
--- A brace.
+-- A brace: `{` or `}`.
 abbrev pub is_brace : ℕ → Bool
 is_brace b = (b == 123) || (b == 125)
 
@@ -18,32 +18,32 @@ abbrev pub BeginsAtBrace : List ℕ → Type 0
 BeginsAtBrace [] = Unit {0}
 BeginsAtBrace (b ∷ bs) = is_brace b ≡ true
 
--- A text before which a literal ends: it is empty, or begins with a brace that isn't doubled.
+-- A text at which a literal ends: it is empty, or begins with a brace that isn't doubled.
 abbrev pub EndsLiteral : List ℕ → Type 0
 EndsLiteral [] = Unit {0}
 EndsLiteral (b ∷ []) = is_brace b ≡ true
 EndsLiteral (b ∷ c ∷ bs) = (is_brace b ≡ true) × (c ≡ b → ⊥)
 
--- A text that doesn't go on with a byte of a name.
+-- A text that doesn't begin with a byte of a name.
 abbrev pub EndsName : List ℕ → Type 0
 EndsName [] = Unit {0}
 EndsName (b ∷ bs) = is_name_byte b ≡ false
 
--- There is no other name that a text begins with and that ends there.
+-- A text begins with no other complete run of name bytes, and has no other rest after it.
 abbrev pub IsOnlyName : List ℕ → List ℕ → List ℕ → Type 0
 IsOnlyName text name rest = (other after : List ℕ) → list_all is_name_byte other ≡ true → EndsName after → text ≡ other ++ after → (name ≡ other) × (rest ≡ after)
 
--- What stands after the name of a field of this kind.
+-- What follows the name of a field of this kind.
 abbrev pub field_tail : FieldKind → List ℕ
 field_tail Plain = codes "}"
 field_tail Decimal = codes ":d}"
 
--- The pieces of a literal: none where it is empty.
+-- The pieces of a literal: none if it is empty.
 abbrev pub literal_pieces : List ℕ → List PieceValue
 literal_pieces [] = []
 literal_pieces (b ∷ bs) = Literal (b ∷ bs) ∷ []
 
--- What a text spells, whatever names stand twice.
+-- The pieces that a text spells, if names may occur twice.
 pub record IsSpelled (text : List ℕ) (ps : List PieceValue) : Type 0 where
   pub spelled : text ≡ flat_map spelled_piece ps
   pub names : AllByRecursion (λ name. IsTrue (is_field_name name)) (field_names ps)
@@ -63,28 +63,28 @@ pub record HasField (text : List ℕ) (name : List ℕ) (kind : FieldKind) (rest
 abbrev pub HasNoField : List ℕ → Type 0
 HasNoField text = (name : List ℕ) (kind : FieldKind) (rest : List ℕ) → HasField text name kind rest → ⊥
 
--- Pieces with the literal added that a text begins with.
+-- Pieces followed by the literal that a text begins with, unless it is empty.
 pub record AddsLiteral (text : List ℕ) (before : List PieceValue) (after : List PieceValue) (rest : List ℕ) : Type 0 where
   pub literal : List ℕ
   pub has : HasLiteral text literal rest
   pub added : after ≡ before ++ literal_pieces literal
 
--- Pieces with the field added that a text begins with.
+-- Pieces followed by the field that a text begins with.
 pub record AddsField (text : List ℕ) (before : List PieceValue) (after : List PieceValue) (rest : List ℕ) : Type 0 where
   pub name : List ℕ
   pub kind : FieldKind
   pub has : HasField text name kind rest
   pub added : after ≡ before ++ FieldPiece name kind ∷ []
 
--- A field that the text begins with is added to what pieces say, and this is the rest.
+-- The field that a text begins with is added to the values of pieces, and this is the rest.
 abbrev pub PushesField : List ℕ → List Piece → List Piece → List ℕ → Type 0
 PushesField text before after rest = AddsField text (pieces_said before) (pieces_said after) rest
 
--- A literal that the text begins with is added to what pieces say, and this is the rest.
+-- The literal that a text begins with is added to the values of pieces, and this is the rest.
 abbrev pub PushesLiteral : List ℕ → List Piece → List Piece → List ℕ → Type 0
 PushesLiteral text before after rest = AddsLiteral text (pieces_said before) (pieces_said after) rest
 
--- Pieces of which the first, where there is one, is a field.
+-- Pieces whose first, if there is one, is a field.
 abbrev pub BeginWithField : List PieceValue → Type 0
 BeginWithField [] = Unit {0}
 BeginWithField (Literal text ∷ ps) = ⊥
@@ -102,17 +102,17 @@ pub record IsReadTo (text : List ℕ) (done : List PieceValue) (rest : List ℕ)
   pub build : (ps : List PieceValue) → IsSpelled rest ps → BeginWithField ps → IsSpelled text (done ++ ps)
   pub take : (ps : List PieceValue) → IsSpelled text ps → ArePiecesLeft done rest ps
 
--- Pieces that were answered are these, or memory was refused.
+-- The returned pieces have these values, or memory was refused.
 abbrev pub AnswersPieces : Result (Vec Piece Global) PatternFault → List PieceValue → Type 0
 AnswersPieces (Ok pieces) ps = map piece_value pieces.items ≡ ps
 AnswersPieces (Err fault) ps = fault ≡ Memory
 
--- No name stands twice, as a test.
+-- Whether no name occurs twice.
 abbrev pub are_distinct : List PieceValue → Bool
 are_distinct [] = true
 are_distinct (Literal text ∷ ps) = are_distinct ps
 are_distinct (FieldPiece name kind ∷ ps) = not (is_some (field_kind ps name)) && are_distinct ps
 
--- Pieces that are a pattern, as a test: there is one, and no name stands twice.
+-- Whether pieces form a pattern: there is at least one, and no name occurs twice.
 abbrev pub is_pattern : List PieceValue → Bool
 is_pattern ps = nat_lt 0 (length ps) && are_distinct ps

@@ -3,7 +3,7 @@ ghost use Rattle.std.specs.Prelude.{◌≡◌, find, map, option_copied, option_
 ghost use Rattle.std.specs.Str.{bytes_eq};
 ghost use Rattle.gk_steps.specs.Action.{action_row, action_row_value, row_among};
 
-/// What a step does that finds an entry. What each does to the sandbox stands in the guide.
+/// The action of a step that finds an entry. The guide describes what each action does to the sandbox.
 #[derive(Clone, Copy, Debug, PartialEq, Eq)]
 pub enum Action {
     WriteFile,
@@ -32,8 +32,8 @@ pub enum Action {
     Fail,
 }
 
-/// A row of the table of actions: a name, its action, the fields of a pattern that it needs, and all
-/// that it uses.
+/// A row of the table of actions: a name, its action, the fields of a pattern that it needs, and all fields that it
+/// uses.
 #[derive(Clone, Copy, Debug)]
 pub(crate) struct ActionRow {
     pub name: &'static str,
@@ -42,7 +42,7 @@ pub(crate) struct ActionRow {
     pub uses: &'static [&'static str],
 }
 
-// A row of the table: the name, the action, the fields that it needs, and all that it uses.
+// A row of the table: the name, the action, the fields that it needs, and all fields that it uses.
 macro_rules! row {
     ($name:literal, $action:ident, $needs:expr, $uses:expr) => {
         ActionRow {
@@ -88,7 +88,7 @@ fn is_named(row: &ActionRow, name: &str) -> bool
     row.name == name
 }
 
-// The first of some rows that has a name.
+// Returns the first of some rows that has this name.
 fn first_named<'a>(rows: &'a [ActionRow], name: &str) -> Option<&'a ActionRow>
     ensures { option_copied result ≡ find (λ row. bytes_eq row.name.now name.now) rows.now }
 {
@@ -102,7 +102,7 @@ fn row_in(rows: &[ActionRow], name: &str) -> Option<ActionRow>
     first_named(rows, name).copied()
 }
 
-/// The row of a name; none where no action has that name.
+/// Returns the row of this name, or `None` if no action has it.
 pub(crate) fn row_named(name: &str) -> Option<ActionRow>
     ensures { option_map action_row_value result ≡ action_row name.now }
 {

@@ -1,4 +1,4 @@
-//! Advances over a piece, from a column of the table to another.
+//! Advances over a piece, from one column of the table to another.
 ghost use Rattle.std.specs.Prelude.{◌≡◌, ◌<◌, ◌++◌, ℕ, List, [], length, Option, Some, None, IfSome, IsSomeAnd};
 ghost use Rattle.gk_steps.specs.declared.pattern.FieldKind.TheVariants.{Decimal};
 ghost use Rattle.gk_steps.specs.Pattern.{Literal, FieldPiece, piece_value};
@@ -9,7 +9,7 @@ use crate::decimal::LARGEST;
 use crate::digits::longest_digits;
 use crate::pattern::{FieldKind, Piece};
 
-/// The rest after a prefix.
+/// Returns the rest of a text after a prefix, or `None` if the text doesn't begin with it.
 pub(crate) fn rest_after<'a>(text: &'a str, prefix: &str) -> Option<&'a str>
     ensures found { IfSome result (λ rest. text.entry.now ≡ prefix.now ++ rest.now) }
     ensures only { (rest : List ℕ) → text.entry.now ≡ prefix.now ++ rest
@@ -22,7 +22,7 @@ pub(crate) fn rest_after<'a>(text: &'a str, prefix: &str) -> Option<&'a str>
     }
 }
 
-/// The advance over a literal.
+/// Returns the advance over a literal.
 fn literal_advance(
     literal: &str,
     text: &str,
@@ -50,7 +50,7 @@ fn literal_advance(
     None
 }
 
-/// The shortest advance over one character or more.
+/// Returns the shortest advance over one or more characters.
 fn plain_advance(below: &[bool], column: usize) -> Option<usize>
     requires { column < length below.now }
     ensures { IsNearest below.now column result }
@@ -63,7 +63,7 @@ fn plain_advance(below: &[bool], column: usize) -> Option<usize>
     None
 }
 
-/// The longest advance over a number. Looks along a run of digits once.
+/// Returns the longest advance over a number. Scans a run of digits once.
 fn decimal_advance(text: &str, boundaries: &[usize], below: &[bool], column: usize) -> Option<usize>
     requires boundaries { AreBoundaries text.now boundaries.now }
     requires column { column < length boundaries.now }
@@ -84,7 +84,7 @@ fn decimal_advance(text: &str, boundaries: &[usize], below: &[bool], column: usi
     longest_digits(LARGEST, text, boundaries, below, column)
 }
 
-/// The preferred advance over a piece.
+/// Returns the preferred advance over a piece.
 pub(crate) fn advance(
     piece: &Piece,
     text: &str,

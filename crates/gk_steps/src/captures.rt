@@ -1,4 +1,4 @@
-//! What a match keeps of what a pattern's fields took.
+//! What a match keeps of its fields' values.
 ghost use Rattle.std.specs.Prelude.{◌≡◌, ◌++◌, ◌∷◌, List, [], map, IfOk, OnOk};
 ghost use Rattle.gk_steps.specs.Pattern.{PieceValue, piece_value};
 ghost use Rattle.gk_steps.specs.Matching.{FieldValue, IsSpan, field_value, span_value};
@@ -9,19 +9,19 @@ use crate::decimal::number_of;
 use crate::pattern::{Field, FieldKind, Piece};
 use std::alloc::{AllocError, Global};
 
-/// What a field took, in the text that it took it from.
+/// The value of a field, borrowed from the text that the field matched in.
 #[derive(Clone, Copy, Debug)]
 pub(crate) enum Capture<'t> {
     Text(&'t str),
     Number(i64),
 }
 
-/// What is kept of what fields took, in the pattern's order.
+/// What a match keeps of its fields' values, in the pattern's order.
 pub(crate) trait Captures<'t>: Drop {
     /// Whether this is what is kept of these fields of these pieces.
     ghost keeps: { List PieceValue → Self → List FieldValue → Type 0 };
 
-    /// What is kept of no fields. Takes no memory.
+    /// Returns what is kept of no fields. Takes no memory.
     fn empty(alloc: Global) -> Self
         ensures { keeps [] result [] };
 
@@ -40,7 +40,7 @@ pub(crate) trait Captures<'t>: Drop {
             → keeps (ps ++ qs) self.new (before ++ after)) };
 }
 
-/// What a field took that took a span.
+/// Returns the value of a field that took a span.
 #[inline(always)]
 pub(crate) fn capture_of<'t>(kind: FieldKind, span: &'t str) -> Capture<'t>
     requires { IsSpan kind span.now }
@@ -52,7 +52,7 @@ pub(crate) fn capture_of<'t>(kind: FieldKind, span: &'t str) -> Capture<'t>
     }
 }
 
-// What a field says that took this, with a copy of its text.
+// Returns a field with this value, and with a copy of its text.
 #[inline(always)]
 fn copy_of(alloc: Global, taken: Capture<'_>) -> Result<Field, AllocError>
     ensures { IfOk result (λ field. field_value field ≡ capture_value taken.entry) }
@@ -63,7 +63,7 @@ fn copy_of(alloc: Global, taken: Capture<'_>) -> Result<Field, AllocError>
     }
 }
 
-// Adds what a piece says that took a span.
+// Adds the value of a piece that took a span, if the piece is a field.
 #[inline(always)]
 fn push_capture(
     fields: &mut Vec<Field>,
@@ -81,7 +81,7 @@ fn push_capture(
     Ok(())
 }
 
-/// All that they took, with copies of their texts.
+/// Keeps all fields, with copies of their texts.
 impl<'t> Captures<'t> for Vec<Field> {
     ghost keeps = { λ pieces kept fields. map field_value kept.items ≡ fields };
 
@@ -100,7 +100,7 @@ impl<'t> Captures<'t> for Vec<Field> {
     }
 }
 
-/// Nothing: where it is asked only whether there is a match.
+/// Nothing is kept: for searches that only ask whether there is a match.
 #[derive(Drop)]
 pub(crate) struct NoCaptures;
 

@@ -4,7 +4,8 @@ ghost use Rattle.gk_steps.specs.CharBoundaries.{AreBoundaries};
 
 use std::alloc::{AllocError, Global};
 
-/// Returns where a text may be cut, from its end to its beginning: `c` characters come after the boundary at `c`.
+/// Returns the character boundaries of a text, from its end to its beginning: `c` characters come after the boundary at
+/// `c`.
 pub(crate) fn boundaries_of(alloc: Global, text: &str) -> Result<Vec<usize>, AllocError>
     ensures { IfOk result (λ boundaries. AreBoundaries text.now boundaries.items) }
 {

@@ -1,4 +1,4 @@
-//! The step library that counts where no file is given.
+//! The step library that is used if no file is given.
 ghost use Rattle.std.specs.Prelude.{◌≡◌, IfOk};
 ghost use Rattle.gk_gherkin.specs.Lines.{lines_of};
 ghost use Rattle.gk_steps.specs.declared.library_fault.LibraryFault.TheVariants.{Memory};
@@ -11,7 +11,7 @@ use crate::library_fault::LibraryFault;
 use crate::library_file::read_library;
 use std::alloc::{AllocError, Global};
 
-/// The text of the default library, as a library file has it.
+/// The text of the default library, in the form of a library file.
 pub const DEFAULT_TEXT: &str = "step a file named \"{name}\" with: => write_file\n\
 step a file named \"{name}\" containing \"{text}\" => write_file\n\
 step the file \"{name}\" is extended with: => append_file\n\
@@ -41,7 +41,7 @@ step the scenario is skipped => skip_scenario\n\
 step it passes => pass\n\
 step it fails => fail\n";
 
-// Refused memory, as std's error. No other fault can come of the default text.
+// Converts refused memory to std's error. The default text can cause no other fault.
 fn as_alloc_error(fault: LibraryFault) -> AllocError
     requires { fault ≡ Memory }
 {
@@ -49,11 +49,11 @@ fn as_alloc_error(fault: LibraryFault) -> AllocError
     AllocError
 }
 
-/// The library that `DEFAULT_TEXT` spells.
+/// Returns the library that `DEFAULT_TEXT` spells.
 pub fn default_library(alloc: Global) -> Result<Library, AllocError>
-    // What is answered is what the text says.
+    // What is returned is what the text says.
     ensures read { IfOk result (λ l. ReadsLibrary (lines_of default_text) (library_value l)) }
-    // Its entries.
+    // The library has the default entries.
     ensures entries { IfOk result (λ l. library_value l ≡ default_entries) }
 {
     match read_library(alloc, DEFAULT_TEXT.as_bytes()) {

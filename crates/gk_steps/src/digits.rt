@@ -1,4 +1,4 @@
-//! Runs of digits, looked along from a column.
+//! Runs of digits, scanned from a column on.
 ghost use Rattle.std.specs.Prelude.{◌≡◌, ◌<◌, ◌≤◌, ◌+◌, ◌-◌, ◌*◌, length, MatchOption};
 ghost use Rattle.gk_steps.specs.CharBoundaries.{AreBoundaries};
 ghost use Rattle.gk_steps.specs.Advances.{HasDigits, IsLongest};
@@ -6,7 +6,7 @@ ghost use Rattle.gk_steps.specs.Digits.{KnowsDigits, HasNumber};
 
 use crate::decimal::LARGEST;
 
-// A value with one digit more, up to a limit.
+// Returns a value with one more digit, or `None` if it exceeds a limit.
 fn grown(value: u64, digit: u8, most: u64) -> Option<u64>
     requires { (48 ≤ digit) × (digit < 58) }
     ensures { let more = value * 10 + (digit - 48) in
@@ -16,7 +16,7 @@ fn grown(value: u64, digit: u8, most: u64) -> Option<u64>
     if more <= most { Some(more) } else { None }
 }
 
-/// Whether digits stand at a column, with a value up to a limit, after which the rest matches.
+/// Returns whether there are digits at a column, with a value up to a limit, after which the rest matches.
 pub(crate) fn has_digits(
     most: u64,
     text: &str,
@@ -47,7 +47,7 @@ pub(crate) fn has_digits(
     false
 }
 
-/// The longest advance over digits with a value up to a limit, after which the rest matches.
+/// Returns the longest advance over digits with a value up to a limit, after which the rest matches.
 pub(crate) fn longest_digits(
     most: u64,
     text: &str,
@@ -80,15 +80,15 @@ pub(crate) fn longest_digits(
     longest
 }
 
-/// What is known at a column of the digits that stand there: whether the rest matches after some that
-/// spell a number with a plus, and with a minus.
+/// What is known about the digits at a column: whether the rest matches after some that spell a number with a plus, and
+/// after some that spell one with a minus.
 #[derive(Clone, Copy, Debug, PartialEq, Eq)]
 pub(crate) struct Digits {
     pub positive: bool,
     pub negative: bool,
 }
 
-// The same at a column, from the column after: a leading zero changes no value.
+// Returns what `has_digits` does, from its result at the column after: a leading zero changes no value.
 fn digits_at(
     most: u64,
     text: &str,
@@ -114,7 +114,7 @@ fn digits_at(
 }
 
 impl Digits {
-    /// What is known at a column, from the column after.
+    /// Returns what is known at a column, from what is known at the column after.
     pub(crate) fn next(
         &self,
         text: &str,
@@ -136,7 +136,7 @@ impl Digits {
     }
 }
 
-/// Whether there is an advance over a number from a column, with a sign or none.
+/// Returns whether there is an advance over a number from a column, with or without a sign.
 pub(crate) fn has_number(
     text: &str,
     boundaries: &[usize],

@@ -18,20 +18,21 @@ pub(crate) struct Keyed {
     pub number: usize,
 }
 
-/// Where the entries of a library stand, by the literals at their patterns' ends. A text that a pattern matches
-/// begins and ends with these. So each of its beginnings is looked up that has the length of some first literal, and
-/// under that each of its ends that has the length of some last literal beside that one.
+/// The positions of a library's entries, by the literals at their patterns' ends. A text that a pattern matches begins
+/// and ends with these. So a lookup tries each beginning of the text that has the length of some first literal. Under
+/// the key of that beginning it tries each end of the text that has the length of some last literal and fits beside the
+/// first one.
 #[derive(Debug, Drop)]
 pub(crate) struct Index {
-    /// For each length whether a first literal has it.
+    /// For each length, whether a first literal has it.
     pub firsts: Vec<bool>,
-    /// The lengths of last literals, in the buckets of the first literals' keys.
+    /// The lengths of last literals, in the buckets of their first literals' keys.
     pub lasts: Vec<Vec<Keyed>>,
     /// The positions of entries, in the buckets of both literals' keys.
     pub positions: Vec<Vec<Keyed>>,
 }
 
-// The bytes of a literal; none of a field.
+// Returns the text of a literal, or an empty text for a field.
 fn literal_of(piece: &Piece) -> &str
     ensures { result.now ≡ spec.literal_of (piece_value piece.now) }
 {
@@ -41,7 +42,7 @@ fn literal_of(piece: &Piece) -> &str
     }
 }
 
-// The literal that a pattern begins with.
+// Returns the literal that a pattern begins with, or an empty text if there is none.
 fn first_literal(pieces: &[Piece]) -> &str
     ensures { result.now ≡ spec.first_literal (pieces_said pieces.now) }
 {
@@ -51,7 +52,7 @@ fn first_literal(pieces: &[Piece]) -> &str
     }
 }
 
-// The literal that a pattern ends with.
+// Returns the literal that a pattern ends with, or an empty text if there is none.
 fn last_literal(pieces: &[Piece]) -> &str
     ensures { result.now ≡ spec.last_literal (pieces_said pieces.now) }
 {
@@ -61,7 +62,7 @@ fn last_literal(pieces: &[Piece]) -> &str
     }
 }
 
-// A key with a byte more.
+// Extends a key by one byte.
 fn key_more(key: usize, byte: u8) -> usize
     requires { key < 16777216 }
     ensures key { result ≡ spec.key_more key byte }
@@ -70,7 +71,7 @@ fn key_more(key: usize, byte: u8) -> usize
     (key * 33 + byte as usize) % 16777216
 }
 
-// A key with more bytes.
+// Extends a key by some bytes.
 fn key_over(key: usize, bytes: &[u8]) -> usize
     requires { key < 16777216 }
     ensures key { result ≡ spec.key_over key bytes.now }
@@ -96,7 +97,7 @@ fn mark(marks: &mut Vec<bool>, size: usize) -> Result<(), AllocError>
     Ok(())
 }
 
-// The bucket of a key.
+// Returns the bucket of a key; empty if there are no buckets.
 fn bucket_of(buckets: &[Vec<Keyed>], key: usize) -> &[Keyed]
     ensures { result.now ≡ spec.bucket_of buckets.now key }
 {
@@ -106,7 +107,7 @@ fn bucket_of(buckets: &[Vec<Keyed>], key: usize) -> &[Keyed]
     &buckets[key % buckets.len()]
 }
 
-// Whether a number is in a bucket under a key.
+// Returns whether a number is in a bucket under a key.
 fn is_under(bucket: &[Keyed], key: usize, number: usize) -> bool
     ensures { IsTrue result → IsUnder key number bucket.now }
 {
@@ -133,7 +134,7 @@ fn add_number(buckets: &mut Vec<Vec<Keyed>>, key: usize, number: usize) -> Resul
     Ok(())
 }
 
-// Adds a number to the bucket of a key, where it isn't there.
+// Adds a number to the bucket of a key, unless it is already there under that key.
 fn add_once(buckets: &mut Vec<Vec<Keyed>>, key: usize, number: usize) -> Result<(), AllocError>
     requires { 0 < length buckets.old.items }
     ensures size { OnOk result (length buckets.new.items ≡ length buckets.old.items) }
@@ -147,7 +148,7 @@ fn add_once(buckets: &mut Vec<Vec<Keyed>>, key: usize, number: usize) -> Result<
     Ok(())
 }
 
-// The least position under a key in a bucket from a position on, or a larger one that is given where none is less.
+// Returns the least position from `from` on that a bucket has under a key, or `most` if none is less.
 fn least_from(bucket: &[Keyed], key: usize, from: usize, most: usize) -> usize
     ensures { IsLeastFrom bucket.now key from most result }
 {
@@ -161,15 +162,15 @@ fn least_from(bucket: &[Keyed], key: usize, from: usize, most: usize) -> usize
     least
 }
 
-// Whether the length of a last literal is listed under a key, and a text of a size has room for that beside a first
-// literal of a length. It has none where the two would overlap, unless the last literal is the whole text.
+// Returns whether the length of a last literal is listed under a key, and a text of this size has room for it beside a
+// first literal of this length. There is no room if the two would overlap, unless the last literal is the whole text.
 fn can_end(last: Keyed, first: usize, key: usize, size: usize) -> bool
     ensures { result ≡ false → last.key ≡ key → CanStand first last.number size → ⊥ }
 {
     last.key == key && (last.number == size || (last.number <= size && first <= size - last.number))
 }
 
-// So many empty buckets.
+// Returns `size` empty buckets.
 fn empty_buckets(alloc: Global, size: usize) -> Result<Vec<Vec<Keyed>>, AllocError>
     ensures { IfOk result (λ buckets. length buckets.items ≡ size) }
 {
@@ -181,7 +182,7 @@ fn empty_buckets(alloc: Global, size: usize) -> Result<Vec<Vec<Keyed>>, AllocErr
 }
 
 impl Index {
-    /// An index that lists nothing, and isn't asked. Takes no memory.
+    /// Returns an index that lists nothing and isn't used for lookups. Takes no memory.
     pub(crate) fn new(alloc: Global) -> Index
         ensures { length result.positions.items ≡ 0 }
     {
@@ -192,7 +193,7 @@ impl Index {
         }
     }
 
-    /// The index, where it is asked: not where it lists nothing.
+    /// Returns the index if it is used for lookups, and `None` if it has no buckets.
     pub(crate) fn into_asked(self) -> Option<Index>
         ensures { IfSome result (λ i. i ≡ self) }
     {
@@ -203,7 +204,7 @@ impl Index {
         }
     }
 
-    /// Whether there are no more entries than buckets, with one at a position.
+    /// Returns whether there are at least as many buckets as entries, with one more entry at this position.
     pub(crate) fn has_room(&self, position: usize) -> bool
         ensures { IsTrue result → HasBuckets self.now }
     {
@@ -235,7 +236,7 @@ impl Index {
         )
     }
 
-    /// The index of some entries, with room for more.
+    /// Returns the index of some entries, with room for more.
     pub(crate) fn of(alloc: Global, entries: &[Entry]) -> Result<Index, AllocError>
         ensures { IfOk result (λ i. AreListed i entries.now) }
     {
@@ -251,8 +252,8 @@ impl Index {
         Ok(index)
     }
 
-    // The least position between two that the index lists for a text, by a first literal of a key and a last one of a
-    // length.
+    // Returns the least position from `from` on that the index lists for a text, or `most` if none is less. The first
+    // literal has this key, and the last literal has this length.
     fn next_by_ends(&self, key: usize, last: usize, from: usize, most: usize, text: &str) -> usize
         requires { key < 16777216 }
         ensures { Skips (HasEnds key last) self.now from most text.now result }
@@ -265,7 +266,8 @@ impl Index {
         least_from(bucket_of(&self.positions, key), key, from, most)
     }
 
-    // The least position between two that the index lists for a text, by a first literal of a length and a key.
+    // Returns the least position from `from` on that the index lists for a text, or `most` if none is less. The first
+    // literal has this length and key.
     fn next_by_first(&self, first: usize, key: usize, from: usize, most: usize, text: &str) -> usize
         requires { key < 16777216 }
         ensures { Skips (HasFirst first key) self.now from most text.now result }
@@ -282,8 +284,8 @@ impl Index {
         least
     }
 
-    /// The least position between two that the index lists for a text, or the larger one where there is none.
-    // Apart, so that the search of a short library, which has no index, stays small.
+    /// Returns the least position from `from` on that the index lists for a text, or `most` if none is less.
+    // Kept out of line, so that the search of a short library, which has no index, stays small.
     #[inline(never)]
     pub(crate) fn next(&self, from: usize, most: usize, text: &str) -> usize
         ensures { Skips IsAny self.now from most text.now result }
@@ -306,7 +308,7 @@ impl Index {
     }
 }
 
-/// Entries, with their index where there is one.
+/// Entries, with their index if there is one.
 #[derive(Clone, Copy, Debug)]
 pub(crate) struct IndexedEntries<'a> {
     pub entries: &'a [Entry],
@@ -314,8 +316,8 @@ pub(crate) struct IndexedEntries<'a> {
 }
 
 impl IndexedEntries<'_> {
-    /// A position from a position on, such that no entry between them matches a text. The index isn't asked after some
-    /// tries, since that would take longer.
+    /// Returns a position at or after `from`. No entry from `from` up to, but not including, that position matches a
+    /// text. After a few tries the index isn't used, because a lookup would take longer.
     #[inline(always)]
     pub(crate) fn next(&self, from: usize, tries: usize, text: &str) -> usize
         requires { IsIndexed self.now }

@@ -4,22 +4,22 @@ ghost use Rattle.gk_steps.specs.FilledCells.{GoesOnBy};
 
 use std::alloc::AllocError;
 
-/// Counts the cells of tables as matches fill them. It stops at the largest number of 64 bits.
+/// Counts the cells of tables as matches fill them. The count stops at the largest 64-bit number.
 #[derive(Debug, Drop)]
 pub(crate) struct Cells {
-    /// How many were filled so far.
+    /// The number of cells filled so far.
     pub filled: u64,
 }
 
 impl Cells {
-    /// A count at 0.
+    /// Returns a count of 0.
     pub(crate) fn new() -> Cells
         ensures { result.filled ≡ 0 }
     {
         Cells { filled: 0 }
     }
 
-    /// Fills a cell and counts it. No other call fills a cell of a table. The count never falls.
+    /// Fills a cell and counts it. No other call fills a cell of a table. The count never decreases.
     pub(crate) fn fill(&mut self, row: &mut Vec<bool>, cell: bool) -> Result<(), AllocError>
         ensures items { row.new.items
             ≡ (if is_ok result then row.old.items ++ cell ∷ [] else row.old.items) }

@@ -1,4 +1,4 @@
-//! What a step's text finds in a library.
+//! The library entry that a step's text finds.
 ghost use Rattle.std.specs.Prelude.{◌≡◌, ◌≤◌, ◌+◌, List, IfOk, IfErr, MatchBool, option_map, is_some, Option, Some, None};
 ghost use Rattle.gk_steps.specs.Matching.{FieldValue};
 ghost use Rattle.gk_steps.specs.Finding as spec;
@@ -18,21 +18,21 @@ use crate::pattern::{Field, Piece};
 use gk_gherkin::StepType;
 use std::alloc::{AllocError, Global};
 
-/// An entry's position in the library, and what its fields took, in the pattern's order.
+/// A found entry: its position in the library, and its field values in the pattern's order.
 #[derive(Debug, Drop)]
 pub struct Found {
     pub entry: usize,
     pub fields: Vec<Field>,
 }
 
-/// An entry's position in the library, and what was kept of what its fields took.
+/// A found entry: its position in the library, and what was kept of its field values.
 #[derive(Debug, Drop)]
 pub(crate) struct Hit<K> {
     pub entry: usize,
     pub kept: K,
 }
 
-// Whether two types are the same.
+// Returns whether two types are equal.
 fn is_same(a: Option<StepType>, b: Option<StepType>) -> bool
     ensures { MatchBool result (a ≡ b) (a ≡ b → ⊥) }
 {
@@ -45,8 +45,8 @@ fn is_same(a: Option<StepType>, b: Option<StepType>) -> bool
     }
 }
 
-// What a text finds among the entries of one type. An entry whose ends the text doesn't have is passed over here,
-// before a match begins.
+// Searches the entries of one type for a text. An entry whose ends don't fit the text is passed over here, before a
+// match begins.
 #[inline(always)]
 pub(crate) fn find_of<'t, K: Captures<'t>>(
     cells: &mut Cells,
@@ -84,7 +84,7 @@ pub(crate) fn find_of<'t, K: Captures<'t>>(
     Ok(None)
 }
 
-// What was found, where all that the fields took was kept.
+// Returns what was found, from a hit that kept all fields.
 #[inline(always)]
 fn found_of(hit: Option<Hit<Vec<Field>>>) -> Option<Found>
     ensures { (entries : LibraryValue) (found : Option FoundValue)
@@ -102,7 +102,7 @@ fn found_of(hit: Option<Hit<Vec<Field>>>) -> Option<Found>
 
 impl Library {
     /// Returns what a step finds, with what is kept of it. Counts the cells that it fills: at most one whole table for
-    /// each entry of its type and of type `step`. Each call that looks a step up does it by this one.
+    /// each entry of its type and of type `step`. Every lookup of a step uses this call.
     #[inline(always)]
     pub(crate) fn search<'t, K: Captures<'t>>(
         &self,
@@ -127,7 +127,7 @@ impl Library {
         self.search_any(alloc, cells, text)
     }
 
-    // The same among the entries of type `step` alone, and for `find_any`.
+    // Does the same among the entries of type `step` only. `find_any` uses it too.
     fn search_any<'t, K: Captures<'t>>(
         &self,
         alloc: Global,
@@ -146,11 +146,10 @@ impl Library {
         find_of(cells, alloc, &all, None, text)
     }
 
-    /// What a step finds: the preferred match of the first entry of its type that has one, in library
-    /// order, or else of the first entry of type `step`. An entry whose ends the text doesn't have is
-    /// passed over without a table. At most one whole table is filled for each entry of these two types:
-    /// (pieces + 1) times (characters + 1) cells.
-    /// (behave's documentation: step implementations)
+    /// Finds the preferred match of the first entry of the step's type that has a match, in library order. If there is
+    /// none, finds that of the first such entry of type `step`. An entry whose ends don't fit the text is passed over
+    /// without a table. At most one whole table is filled for each entry of these two types: (pieces + 1) times
+    /// (characters + 1) cells. (behave's documentation: step implementations)
     pub fn find(
         &self,
         alloc: Global,
@@ -159,7 +158,7 @@ impl Library {
     ) -> Result<Option<Found>, AllocError>
         ensures found { IfOk result (λ found.
             option_map found_value found ≡ spec.found (library_value self.now) step_type text.now) }
-        // Memory is refused only where the text has the ends of an entry.
+        // Memory is refused only if the text fits the ends of an entry.
         ensures memory { IfErr result (λ e.
             HasCandidateFor (library_value self.now) step_type text.now) }
     {
@@ -167,12 +166,12 @@ impl Library {
         Ok(found_of(self.search(alloc, &mut cells, step_type, text)?))
     }
 
-    /// Returns what `find` does, of the entries of type `step` alone. At most one whole table is filled for each of
+    /// Returns what `find` does, among the entries of type `step` only. At most one whole table is filled for each of
     /// them.
     pub fn find_any(&self, alloc: Global, text: &str) -> Result<Option<Found>, AllocError>
         ensures found { IfOk result (λ found.
             option_map found_value found ≡ spec.found_any (library_value self.now) text.now) }
-        // The same of memory.
+        // Memory is refused only if the text fits the ends of such an entry.
         ensures memory { IfErr result (λ e. HasCandidate (library_value self.now) None text.now) }
     {
         let mut cells = Cells::new();
@@ -184,7 +183,7 @@ impl Library {
     pub fn knows(&self, alloc: Global, step_type: StepType, text: &str) -> Result<bool, AllocError>
         ensures known { IfOk result (λ known.
             known ≡ is_some (spec.found (library_value self.now) step_type text.now)) }
-        // The same of memory.
+        // Memory is refused only if the text fits the ends of an entry.
         ensures memory { IfErr result (λ e.
             HasCandidateFor (library_value self.now) step_type text.now) }
     {
@@ -193,7 +192,7 @@ impl Library {
         Ok(hit.is_some())
     }
 
-    /// The action of the entry at a position. Takes no memory.
+    /// Returns the action of the entry at a position. Takes no memory.
     #[inline(always)]
     pub(crate) fn action_at(&self, entry: usize) -> Action
         ensures { (fields : List FieldValue)
@@ -205,7 +204,7 @@ impl Library {
         }
     }
 
-    /// The action of what was found in this library. Takes no memory.
+    /// Returns the action of what was found in this library. Takes no memory.
     pub fn action(&self, found: &Found) -> Action
         ensures { result ≡ spec.action_of (library_value self.now) (found_value found.now) }
     {

@@ -1,4 +1,4 @@
-//! What the first pieces of a pattern take from the left, where the pieces after them leave no choice.
+//! What the first pieces of a pattern take from the left, if the pieces after them leave no choice.
 ghost use Rattle.std.specs.Prelude.{◌≤◌, [], ◌∷◌, ℕ, List, length, MatchBool};
 ghost use Rattle.gk_steps.specs.declared.pattern.FieldKind.TheVariants as kinds;
 ghost use Rattle.gk_steps.specs.Pattern.{Literal, FieldPiece, piece_value, pieces_said};
@@ -11,15 +11,15 @@ use crate::pattern::{FieldKind, Piece};
 /// How much of a text the first piece of a pattern takes.
 #[derive(Clone, Copy, Debug, PartialEq, Eq)]
 pub(crate) enum Cut {
-    /// So many bytes.
+    /// This number of bytes.
     At(usize),
     /// The pattern has no match.
     Nowhere,
-    /// That depends on the pieces after it.
+    /// It depends on the pieces after it.
     Unknown,
 }
 
-// Whether a literal stands at a position where the text may be cut.
+// Returns whether a literal occurs at a position that is a character boundary.
 #[inline(always)]
 fn stands_at(literal: &str, text: &str, position: usize) -> bool
     requires { position ≤ length text.now }
@@ -30,7 +30,7 @@ fn stands_at(literal: &str, text: &str, position: usize) -> bool
         && text.is_char_boundary(position)
 }
 
-// The first position after a character or more where a literal stands.
+// Returns the first position after one or more characters at which a literal occurs.
 #[inline(always)]
 fn first_position(literal: &str, text: &str) -> Option<usize>
     ensures { IsFirstPosition literal.now text.now result }
@@ -43,7 +43,7 @@ fn first_position(literal: &str, text: &str) -> Option<usize>
     None
 }
 
-// What a literal takes.
+// Returns what a literal takes.
 #[inline(always)]
 fn literal_cut(literal: &str, after: &[Piece], text: &str) -> Cut
     ensures { IsCutOf (Literal literal.now) (pieces_said after.now) text.now result }
@@ -54,7 +54,7 @@ fn literal_cut(literal: &str, after: &[Piece], text: &str) -> Cut
     }
 }
 
-// What a plain field takes before a literal that is the last piece.
+// Returns what a plain field takes before a literal that is the last piece.
 #[inline(always)]
 fn cut_before_last(literal: &str, text: &str) -> Cut
     ensures { IsCutBefore literal.now [] text.now result }
@@ -66,8 +66,8 @@ fn cut_before_last(literal: &str, text: &str) -> Cut
     }
 }
 
-// What a plain field takes before a literal that another plain field comes after: the less the first takes,
-// the more is left for the other.
+// Returns what a plain field takes before a literal that another plain field follows: the less the first takes, the
+// more is left for the other.
 #[inline(always)]
 fn cut_before_field(literal: &str, other: &str, after: &[Piece], text: &str) -> Cut
     ensures { let left = FieldPiece other.now kinds.Plain ∷ pieces_said after.now in
@@ -79,7 +79,7 @@ fn cut_before_field(literal: &str, other: &str, after: &[Piece], text: &str) -> 
     }
 }
 
-// What a plain field takes before a literal.
+// Returns what a plain field takes before a literal.
 #[inline(always)]
 fn cut_before(literal: &str, after: &[Piece], text: &str) -> Cut
     ensures { IsCutBefore literal.now (pieces_said after.now) text.now result }
@@ -96,7 +96,7 @@ fn cut_before(literal: &str, after: &[Piece], text: &str) -> Cut
     }
 }
 
-// What a plain field takes.
+// Returns what a plain field takes.
 #[inline(always)]
 fn plain_cut(after: &[Piece], text: &str) -> Cut
     ensures { (name : List ℕ)
@@ -117,7 +117,7 @@ fn plain_cut(after: &[Piece], text: &str) -> Cut
     }
 }
 
-/// What the first piece of a pattern takes, where that is known without a table.
+/// Returns what the first piece of a pattern takes, if that is known without a table.
 #[inline(always)]
 pub(crate) fn cut_of(piece: &Piece, after: &[Piece], text: &str) -> Cut
     ensures { IsCutOf (piece_value piece.now) (pieces_said after.now) text.now result }

@@ -1,5 +1,5 @@
-//! Patterns and step libraries. A pattern's or a library's text comes in; what matches a step's text,
-//! with its fields, goes out. Where a comment names no source, what it says is this project's profile.
+//! Patterns and step libraries. The crate reads the text of a pattern or a library, and finds what matches a step's
+//! text, with its fields. A comment that names no source describes this project's profile.
 #![tactic(auto)]
 
 mod action;

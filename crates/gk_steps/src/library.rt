@@ -10,8 +10,8 @@ use crate::pattern::Pattern;
 use gk_gherkin::StepType;
 use std::alloc::{AllocError, Global};
 
-/// A pattern and the action of the steps that it matches. An entry is for steps of one type, or with
-/// none for steps of each type. (behave's documentation: step implementations)
+/// A pattern, and the action of the steps that it matches. An entry is for steps of one type, or for steps of every
+/// type if `step_type` is `None`. (behave's documentation: step implementations)
 #[derive(Debug, Drop)]
 pub struct Entry {
     pub step_type: Option<StepType>,
@@ -19,20 +19,21 @@ pub struct Entry {
     pub action: Action,
 }
 
-/// The entries of a step library, in their order.
+/// The entries of a step library, in order.
 #[derive(Debug, Drop)]
 pub struct Library {
     pub entries: Vec<Entry>,
-    // Where the entries for steps of one type end: those from here on are for steps of each type, so a search for one
+    // The end of the entries for steps of one type. Those from here on are for steps of every type, so a search for one
     // type ends here.
     pub(crate) typed: usize,
-    // Which entries may match a text. A short library and one that was not read have none: all entries are tried.
+    // Which entries may match a text. A short library and one that was not read from lines have no index: all entries
+    // are tried.
     index: Option<Index>,
     ghost typed_end: { IsTypedEnd typed entries.items } by { Prim.hlevel props },
     ghost listed: { IfSome index (λ i. AreListed i entries.items) } by { Prim.hlevel props },
 }
 
-// How many entries there are up to and with the last for steps of one type.
+// Returns the number of entries up to and including the last one for steps of one type.
 fn typed_len(entries: &[Entry]) -> usize
     ensures within { result ≤ length entries.now }
     ensures rest { IsTrue (are_for_each_from result entries.now) }
@@ -53,7 +54,7 @@ pub(crate) struct LibraryBuilder {
 }
 
 impl LibraryBuilder {
-    /// No entries. Takes no memory.
+    /// Returns a builder without entries. Takes no memory.
     pub(crate) fn new(alloc: Global) -> LibraryBuilder
         ensures items { result.entries.items ≡ [] }
         ensures indexed { HasIndex result }
@@ -64,7 +65,7 @@ impl LibraryBuilder {
         }
     }
 
-    /// Adds an entry, as the last. The index is made once there are many, and anew with more room where it is full.
+    /// Appends an entry. The index is made once there are many entries, and made again with more room when it is full.
     pub(crate) fn push(&mut self, alloc: Global, entry: Entry) -> Result<(), AllocError>
         requires { HasIndex self.old }
         ensures items { OnOk result
@@ -86,7 +87,7 @@ impl LibraryBuilder {
         Ok(())
     }
 
-    /// The entries, to be searched.
+    /// Borrows the entries for a search.
     pub(crate) fn indexed(&self) -> IndexedEntries<'_>
         requires { HasIndex self.now }
         ensures entries { result.entries.now ≡ self.now.entries.items }
@@ -100,7 +101,7 @@ impl LibraryBuilder {
 }
 
 impl Library {
-    /// The library of these entries.
+    /// Returns the library of these entries.
     pub fn new(entries: Vec<Entry>) -> Library
         ensures { result.entries ≡ entries }
     {
@@ -112,7 +113,7 @@ impl Library {
         }
     }
 
-    /// The library of the entries that were read.
+    /// Returns the library of the entries that were read.
     pub(crate) fn built(builder: LibraryBuilder) -> Library
         requires { HasIndex builder }
         ensures { result.entries ≡ builder.entries }
@@ -125,7 +126,7 @@ impl Library {
         }
     }
 
-    /// All entries, to be searched.
+    /// Borrows all entries for a search.
     pub(crate) fn whole(&self) -> IndexedEntries<'_>
         ensures entries { result.entries.now ≡ self.now.entries.items }
         ensures listed { IsIndexed result }
@@ -136,7 +137,7 @@ impl Library {
         }
     }
 
-    /// The entries before a position, to be searched.
+    /// Borrows the entries before a position for a search.
     pub(crate) fn indexed(&self, size: usize) -> IndexedEntries<'_>
         requires { size ≤ length self.now.entries.items }
         ensures entries { result.entries.now ≡ take size self.now.entries.items }

@@ -5,12 +5,12 @@ ghost use Rattle.gk_steps.specs.declared.library_fault.LibraryFault.TheVariants.
 
 use gk_gherkin::Refused;
 
-/// Why a step library could not be read. Lines are counted from 1. Of more faults than one in a line,
-/// the first of `BadType`, `BadPattern`, `UnknownAction`, `MissingField`, `FieldKind` and `Ambiguous`
-/// comes; of faulty lines the first.
+/// Why a step library could not be read. Lines are counted from 1. If a line has more than one fault, the first of
+/// `BadType`, `BadPattern`, `UnknownAction`, `MissingField`, `FieldKind` and `Ambiguous` is reported. If more than one
+/// line is faulty, the first is reported.
 #[derive(Clone, Copy, Debug, PartialEq, Eq)]
 pub enum LibraryFault {
-    /// The bytes aren't UTF-8. The line is that of the first byte after the longest prefix that is.
+    /// The bytes aren't UTF-8. The line is that of the first byte after the longest prefix that is UTF-8.
     NotUtf8 { line: u32 },
     /// A line whose first word is not `given`, `when`, `then` or `step`.
     BadType { line: u32 },
@@ -20,7 +20,7 @@ pub enum LibraryFault {
     UnknownAction { line: u32 },
     /// A line whose pattern lacks a field that its action needs.
     MissingField { line: u32 },
-    /// A line whose pattern has a field that its action uses, of the other kind.
+    /// A line whose pattern has a field that its action uses, but of the other kind.
     FieldKind { line: u32 },
     /// A line whose pattern's text, as written, is matched by an earlier entry of its type.
     Ambiguous { line: u32 },
@@ -31,7 +31,7 @@ pub enum LibraryFault {
 }
 
 impl LibraryFault {
-    /// The line that the fault names, or none where it names no line.
+    /// Returns the line that the fault names, or `None` if it names no line.
     pub fn line(&self) -> Option<u32>
         ensures { result ≡ line_of_library_fault self.now }
     {
@@ -47,7 +47,7 @@ impl LibraryFault {
         }
     }
 
-    /// The fault's text, as it is printed after the file's name and the line.
+    /// Returns the fault's text, as it is printed after the file's name and the line.
     pub fn text(&self) -> &'static str
         ensures { result.now ≡ library_fault_text self.now }
     {

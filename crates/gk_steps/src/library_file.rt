@@ -17,7 +17,7 @@ use crate::library_line::{is_ignored, read_entry};
 use gk_gherkin::{BorrowedLine, LIMIT, ReadFault, borrowed_line, text_of};
 use std::alloc::Global;
 
-// The fault of the bytes, of those that come where lines alone are read.
+// Converts a fault of reading the lines of a file.
 fn lines_fault(fault: ReadFault) -> LibraryFault
     requires { fault ≢ ReadMemory }
     ensures says { (bytes : List ℕ) → LinesFaultSays fault bytes → LibraryFaultSays result bytes }
@@ -52,7 +52,7 @@ fn add_entry(
     }
 }
 
-// Adds what a line says, where it isn't ignored.
+// Adds the entry of a line, unless the line is ignored.
 fn add_line(
     builder: &mut LibraryBuilder,
     alloc: Global,
@@ -74,7 +74,7 @@ fn add_line(
     }
 }
 
-// The entries that the lines of a text spell.
+// Reads the entries that the lines of a text spell.
 fn read_entries(alloc: Global, text: &str) -> Result<LibraryBuilder, LibraryFault>
     requires { length text.now ≤ LIMIT }
     ensures indexed { IfOk result (λ g. HasIndex g) }
@@ -95,22 +95,22 @@ fn read_entries(alloc: Global, text: &str) -> Result<LibraryBuilder, LibraryFaul
     Ok(builder)
 }
 
-/// The library that the bytes of a file spell. Blank lines and those that begin with `#` are ignored;
-/// any other line is a type (`given`, `when`, `then` or `step`), a blank, a pattern, `=>` and an
-/// action's name. The cut is at the last `=>`, and both sides are trimmed.
+/// Reads the library that the bytes of a file spell. A line is ignored if, trimmed, it is empty or begins with `#`. Any
+/// other line is a type (`given`, `when`, `then` or `step`), a space or a tab, a pattern, `=>` and an action's name. It
+/// is cut at the last `=>`, and both sides are trimmed.
 ///
-/// `TooLong` and `NotUtf8` come before any fault of a line. `Memory` comes only where a growth was
-/// refused, and only where the first line that isn't ignored has a type, an `=>` and a pattern's text that
-/// begins with a piece: nothing else asks for memory. A refusal returns nothing of what was read before it.
+/// `TooLong` and `NotUtf8` come before any fault of a line. `Memory` comes only if a growth was refused. It also
+/// requires that the first line that isn't ignored has a type, an `=>` and a pattern's text that begins with a piece:
+/// no other file asks for memory. A refusal returns nothing of what was read before it.
 /// (behave's documentation: step implementations)
 pub fn read_library(alloc: Global, bytes: &[u8]) -> Result<Library, LibraryFault>
-    // What is answered is what the lines say.
+    // What is returned is what the lines say.
     ensures found { IfOk result (λ l.
         IsText bytes.now × ReadsLibrary (lines_of bytes.now) (library_value l)) }
-    // What the lines say is answered, unless memory runs out.
+    // What the lines say is returned, unless memory runs out.
     ensures only { (entries : LibraryValue) → IsText bytes.now
         → ReadsLibrary (lines_of bytes.now) entries → AnswersLibrary result entries }
-    // Which fault it is.
+    // A returned fault holds for the bytes.
     ensures fault { IfErr result (λ e. LibraryFaultSays e bytes.now) }
 {
     match text_of(bytes) {

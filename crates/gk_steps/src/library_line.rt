@@ -27,7 +27,7 @@ use gk_gherkin::text::{begins, split_word, trim};
 use gk_gherkin::{BorrowedLine, StepType};
 use std::alloc::Global;
 
-/// Returns whether a line of a library file is ignored: it is blank, or begins with `#`. Takes no memory.
+/// Returns whether a line of a library file is ignored: trimmed, it is empty or begins with `#`. Takes no memory.
 pub fn is_ignored(line: &BorrowedLine<'_>) -> bool
     ensures { result ≡ spec.is_ignored (borrowed_value line.now) }
 {
@@ -35,7 +35,7 @@ pub fn is_ignored(line: &BorrowedLine<'_>) -> bool
     text.is_empty() || begins(text, "#")
 }
 
-// The type that a word says.
+// Returns the entry type that a word names, if it names one.
 fn entry_type(word: &str) -> Option<Option<StepType>>
     ensures { result ≡ spec.entry_type word.now }
 {
@@ -52,14 +52,14 @@ fn entry_type(word: &str) -> Option<Option<StepType>>
     }
 }
 
-// Whether bytes begin with an arrow.
+// Returns whether bytes begin with an arrow.
 fn is_arrow(bytes: &[u8]) -> bool
     ensures { result ≡ texts.begins bytes.now (codes "=>") }
 {
     bytes.starts_with(b"=>")
 }
 
-// The two sides of the last arrow.
+// Returns the two sides of the last arrow.
 fn last_arrow<'a>(text: &'a str) -> Option<(&'a str, &'a str)>
     ensures { option_map (λ p. machinery.sides p.0.now p.1.now) result
         ≡ spec.last_arrow text.entry.now }
@@ -75,7 +75,7 @@ fn last_arrow<'a>(text: &'a str) -> Option<(&'a str, &'a str)>
     None
 }
 
-// What a line says of its entry: the type, and the trimmed sides of the arrow.
+// The type of a line's entry, and the trimmed sides of the line's arrow.
 #[derive(Clone, Copy, Debug)]
 struct EntryText<'a> {
     step_type: Option<StepType>,
@@ -83,7 +83,7 @@ struct EntryText<'a> {
     action: &'a str,
 }
 
-// What a line says of its entry.
+// Returns the type of a line's entry, and the trimmed sides of the line's arrow.
 #[tactic(auto, unfolding(crate::specs::LibraryFile::type_of, crate::specs::LibraryFile::sides_of))]
 fn entry_text<'a>(line: &BorrowedLine<'a>) -> Result<EntryText<'a>, LibraryFault>
     ensures said { IfOk result (λ said.
@@ -105,7 +105,7 @@ fn entry_text<'a>(line: &BorrowedLine<'a>) -> Result<EntryText<'a>, LibraryFault
     }
 }
 
-// The pattern of a line.
+// Reads the pattern of a line.
 fn pattern_at(alloc: Global, line: u32, text: &str) -> Result<Pattern, LibraryFault>
     ensures pattern { IfOk result (λ p. SpellsPattern text.now (pattern_value p)) }
     ensures fault { IfErr result (λ f. PatternFaultSays f line text.now) }
@@ -119,7 +119,7 @@ fn pattern_at(alloc: Global, line: u32, text: &str) -> Result<Pattern, LibraryFa
     }
 }
 
-// Whether pieces have the field of a name.
+// Returns whether pieces have a field of this name.
 fn has_field(pieces: &[Piece], name: &str) -> bool
     ensures { result ≡ is_some (field_kind_of (pieces_said pieces.now) name.now) }
 {
@@ -133,7 +133,7 @@ fn has_needed(names: &[&str], pieces: &[Piece]) -> bool
     names.iter().all(|name| has_field(pieces, *name))
 }
 
-// Whether the field of a name is of a kind, where there is one.
+// Returns whether the field of this name, if there is one, is of this kind.
 fn is_none_or_kind(pieces: &[Piece], name: &str, kind: FieldKind) -> bool
     ensures { result
         ≡ machinery.is_none_or_kind (field_kind_of (pieces_said pieces.now) name.now) kind }
@@ -153,7 +153,7 @@ fn is_none_or_kind(pieces: &[Piece], name: &str, kind: FieldKind) -> bool
     }
 }
 
-// The kind that a field of a name has to have.
+// Returns the kind that a field of this name must have.
 fn kind_of_field(name: &str) -> FieldKind
     ensures { result ≡ actions.kind_of_field name.now }
 {
@@ -164,7 +164,7 @@ fn kind_of_field(name: &str) -> FieldKind
     }
 }
 
-// Whether the field of a name is of its kind, where there is one.
+// Returns whether the field of this name, if there is one, is of the kind that the name requires.
 fn has_right_kind(pieces: &[Piece], name: &str) -> bool
     ensures { result ≡ machinery.has_right_kind (pieces_said pieces.now) name.now }
 {
@@ -178,7 +178,7 @@ fn has_right_kinds(names: &[&str], pieces: &[Piece]) -> bool
     names.iter().all(|name| has_right_kind(pieces, *name))
 }
 
-// The action of a name, with the fields that it needs and of the kinds that it uses.
+// Returns the action of this name, if the pieces have its needed fields and its used fields are of the right kinds.
 fn action_at(line: u32, name: &str, pieces: &[Piece]) -> Result<Action, LibraryFault>
     ensures action { IfOk result (λ a. FitsAction name.now (pieces_said pieces.now) a) }
     ensures fault { IfErr result (λ f. ActionFaultSays f line name.now (pieces_said pieces.now)) }
@@ -197,7 +197,7 @@ fn action_at(line: u32, name: &str, pieces: &[Piece]) -> Result<Action, LibraryF
     }
 }
 
-// The entry of a line from what it says of it.
+// Returns the entry of a line, from its type and the sides of its arrow.
 fn entry_from(
     alloc: Global,
     earlier: &IndexedEntries<'_>,
@@ -233,7 +233,7 @@ fn entry_from(
     }
 }
 
-/// The entry that a line spells after earlier ones.
+/// Returns the entry that a line spells after earlier ones.
 pub(crate) fn read_entry(
     alloc: Global,
     earlier: &IndexedEntries<'_>,

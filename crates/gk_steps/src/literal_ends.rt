@@ -1,4 +1,4 @@
-//! Texts that a pattern matches nowhere, by its ends and without a table.
+//! Texts that a pattern can't match because of its ends, found without a table.
 ghost use Rattle.std.specs.Prelude.{◌≡◌, false, IsTrue, MatchBool, nat_eq};
 ghost use Rattle.std.specs.List.{starts_with, ends_with};
 ghost use Rattle.gk_steps.specs.Pattern.{pieces_said, pattern_value};
@@ -8,7 +8,7 @@ ghost use Rattle.gk_steps.specs.LiteralEnds.{FitsStart, FitsEnd};
 
 use crate::pattern::{Pattern, Piece};
 
-/// Whether some bytes begin with others. The last byte of these is compared first, since the patterns of a
+/// Returns whether some bytes begin with others. Compares the last byte of the others first, because the patterns of a
 /// library often begin alike.
 #[tactic(auto, using(crate::proofs::LiteralEndLemmas::last_of_first_differs))]
 pub(crate) fn begins_with_bytes(bytes: &[u8], first: &[u8]) -> bool
@@ -22,7 +22,7 @@ pub(crate) fn begins_with_bytes(bytes: &[u8], first: &[u8]) -> bool
     }
 }
 
-// Whether some bytes end with others. The last byte is compared first.
+// Returns whether some bytes end with others. Compares the last byte first.
 #[tactic(auto, using(crate::proofs::LiteralEndLemmas::last_differs))]
 fn ends_with_bytes(bytes: &[u8], last: &[u8]) -> bool
     ensures value { result ≡ ends_with nat_eq bytes.now last.now }
@@ -34,21 +34,21 @@ fn ends_with_bytes(bytes: &[u8], last: &[u8]) -> bool
     }
 }
 
-/// Whether a text ends with another.
+/// Returns whether a text ends with another.
 pub(crate) fn ends_with(text: &str, back: &str) -> bool
     ensures { MatchBool result (EndsWith text.now back.now) (EndsNotWith text.now back.now) }
 {
     ends_with_bytes(text.as_bytes(), back.as_bytes())
 }
 
-// Whether a text begins with another.
+// Returns whether a text begins with another.
 fn begins_with(text: &str, start: &str) -> bool
     ensures { MatchBool result (BeginsWith text.now start.now) (BeginsNotWith text.now start.now) }
 {
     begins_with_bytes(text.as_bytes(), start.as_bytes())
 }
 
-// Whether the first literal begins the text.
+// Returns whether the first piece, if it is a literal, begins the text.
 fn fits_start(pieces: &[Piece], text: &str) -> bool
     ensures kept { IsTrue result → FitsStart (pieces_said pieces.now) text.now }
     ensures refused { result ≡ false → MatchesNot (pieces_said pieces.now) text.now }
@@ -62,7 +62,7 @@ fn fits_start(pieces: &[Piece], text: &str) -> bool
     }
 }
 
-// Whether the last literal ends the text.
+// Returns whether the last piece, if it is a literal, ends the text.
 fn fits_end(pieces: &[Piece], text: &str) -> bool
     ensures kept { IsTrue result → FitsEnd (pieces_said pieces.now) text.now }
     ensures refused { result ≡ false → MatchesNot (pieces_said pieces.now) text.now }
@@ -77,8 +77,8 @@ fn fits_end(pieces: &[Piece], text: &str) -> bool
 }
 
 impl Pattern {
-    /// Whether the literals at the pattern's ends stand at the text's ends. Where they don't, there is no
-    /// match. Takes no memory.
+    /// Returns whether the literals at the pattern's ends are at the text's ends. If they aren't, there is no match.
+    /// Takes no memory.
     pub fn can_match(&self, text: &str) -> bool
         ensures prefix { IsTrue result → FitsStart (pattern_value self.now) text.now }
         ensures back { IsTrue result → FitsEnd (pattern_value self.now) text.now }

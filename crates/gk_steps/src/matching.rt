@@ -1,4 +1,4 @@
-//! A match by a table.
+//! Matching a text by a table.
 ghost use Rattle.std.specs.Prelude.{◌≡◌, ◌<◌, ◌≤◌, ◌+◌, ◌*◌, ℕ, List, length};
 ghost use Rattle.std.specs.Prelude.{false, IfOk, IfErr, OnOk, IsTrue, Some};
 ghost use Rattle.std.specs.Str.{chars};
@@ -20,7 +20,7 @@ use crate::pattern::{Field, Pattern, Piece};
 use crate::table_rows::{first_row, row_over};
 use std::alloc::{AllocError, Global};
 
-// Whether the cells of a whole table can be counted in 64 bits.
+// Returns whether 64 bits can count the cells of a whole table.
 fn can_count(pieces: &[Piece], boundaries: &[usize]) -> bool
     ensures fits { IsTrue result
         → (length pieces.now + 1) * length boundaries.now ≤ 18446744073709551615 }
@@ -33,7 +33,7 @@ fn can_count(pieces: &[Piece], boundaries: &[usize]) -> bool
     }
 }
 
-// The rows for the last pieces, from none to all of them.
+// Returns the rows for the last pieces, from none to all of them.
 fn table_of(
     cells: &mut Cells,
     alloc: Global,
@@ -88,7 +88,7 @@ fn read<'t, K: Captures<'t>>(
     Ok(kept)
 }
 
-// A match by a table of these boundaries.
+// Matches pieces by a table over these boundaries.
 fn match_pieces<'t, K: Captures<'t>>(
     cells: &mut Cells,
     alloc: Global,
@@ -115,9 +115,9 @@ fn match_pieces<'t, K: Captures<'t>>(
 }
 
 impl Pattern {
-    /// The fields of the preferred match of a text, where there is one, and how many cells of the table
-    /// were filled. All of them are, however little the match needs. Memory is refused, too, where the
-    /// table has more cells than 64 bits can count.
+    /// Returns the fields of the preferred match of a text, if there is one, and the number of cells of the table that
+    /// were filled. All of them are filled, even if the match needs few. Memory is also refused if the table has more
+    /// cells than 64 bits can count.
     pub fn matches_counted(
         &self,
         alloc: Global,
@@ -138,7 +138,7 @@ impl Pattern {
     }
 }
 
-// The match of the pieces that are left by a table, after what is kept so far.
+// Matches the pieces that are left by a table, after what is kept so far.
 fn match_rest<'t, K: Captures<'t>>(
     cells: &mut Cells,
     alloc: Global,
@@ -164,8 +164,9 @@ fn match_rest<'t, K: Captures<'t>>(
     }
 }
 
-/// A match from the left. From the first piece on whose share depends on the pieces after it, a table is made.
-// Apart, so that an entry that is passed over costs little.
+/// Matches pieces from the left. A table is made for the pieces from the first one whose share depends on the pieces
+/// after it.
+// Kept out of line, so that an entry that is passed over costs little.
 #[inline(never)]
 pub(crate) fn match_from_left<'t, K: Captures<'t>>(
     cells: &mut Cells,
@@ -201,14 +202,14 @@ pub(crate) fn match_from_left<'t, K: Captures<'t>>(
 }
 
 impl Pattern {
-    /// The fields of the preferred match of a text, where there is one. A text that the ends of the pattern
-    /// refuse is passed over. A table is made only from the first field on whose share depends on more than the
-    /// literal and the plain field after it. At most one whole table is filled: (pieces + 1) times
+    /// Returns the fields of the preferred match of a text, if there is one. A text that doesn't fit the ends of the
+    /// pattern is passed over. A table is made only for the pieces from the first field whose share depends on more
+    /// than the literal and the plain field after it. At most one whole table is filled: (pieces + 1) times
     /// (characters + 1) cells.
     pub fn matches(&self, alloc: Global, text: &str) -> Result<Option<Vec<Field>>, AllocError>
         ensures found { IfOk result (λ found.
             IsMatchResult (pattern_value self.now) text.now (fields_said found)) }
-        // Memory is refused to no text that is passed over.
+        // Memory is never refused to a text that is passed over.
         ensures memory { IfErr result (λ e. FitsStart (pattern_value self.now) text.now
             × FitsEnd (pattern_value self.now) text.now) }
     {

@@ -7,9 +7,9 @@ use gk_gherkin::Refused;
 /// The kind of a field: `{name}` or `{name:d}`. (behave's documentation: step parameters)
 #[derive(Clone, Copy, Debug, PartialEq, Eq)]
 pub enum FieldKind {
-    /// Takes one character or more, as few as it can.
+    /// Takes one or more characters, as few as possible.
     Plain,
-    /// Takes an optional `+` or `-` and ASCII digits with a value in an `i64`, as many as it can.
+    /// Takes an optional `+` or `-` and ASCII digits with a value in an `i64`, as many digits as possible.
     Decimal,
 }
 
@@ -20,13 +20,13 @@ pub enum Piece {
     Field { name: String, kind: FieldKind },
 }
 
-/// A pattern of step texts: its pieces, in their order.
+/// A pattern of step texts: its pieces, in order.
 #[derive(Debug, Drop)]
 pub struct Pattern {
     pub pieces: Vec<Piece>,
 }
 
-/// What a field took.
+/// The value of a field.
 #[derive(Debug, Drop)]
 pub enum Field {
     Text(String),

@@ -49,7 +49,7 @@ fn is_field_name(text: &[u8]) -> bool
     }
 }
 
-// How many bytes come before the first brace.
+// Returns the number of bytes before the first brace.
 fn plain_len(text: &[u8]) -> usize
     ensures value { result ≡ position_or_len machinery.is_brace text.now }
     ensures within { result ≤ length text.now }
@@ -62,7 +62,7 @@ fn plain_len(text: &[u8]) -> usize
     text.len()
 }
 
-// How many bytes of a name a text begins with.
+// Returns the number of name bytes that a text begins with.
 fn name_len(text: &[u8]) -> usize
     ensures value { result ≡ prefix_len spec.is_name_byte text.now }
     ensures within { result ≤ length text.now }
@@ -75,7 +75,7 @@ fn name_len(text: &[u8]) -> usize
     text.len()
 }
 
-// What comes before the first brace, and the rest.
+// Returns the text before the first brace, and the rest.
 fn plain_run<'a>(text: &'a str) -> (&'a str, &'a str)
     ensures whole { text.entry.now ≡ result.0.now ++ result.1.now }
     ensures plain { flat_map spelled_literal result.0.now ≡ result.0.now }
@@ -85,7 +85,7 @@ fn plain_run<'a>(text: &'a str) -> (&'a str, &'a str)
     (&text[..end], &text[end..])
 }
 
-// The brace that a text begins with twice, and the rest.
+// Returns the brace that a text begins with, if it is doubled, and the rest after both.
 fn doubled_brace<'a>(text: &'a str) -> Option<(&'a str, &'a str)>
     ensures found { IfSome result (λ p.
         text.entry.now ≡ flat_map spelled_literal p.0.now ++ p.1.now) }
@@ -100,7 +100,7 @@ fn doubled_brace<'a>(text: &'a str) -> Option<(&'a str, &'a str)>
     Some(("}", rest))
 }
 
-// Whether a text begins with a literal: with a byte that is no brace, or with a brace twice.
+// Returns whether a text begins with a literal: with a byte that is no brace, or with a doubled brace.
 fn begins_with_literal(text: &str) -> bool
     ensures { MatchBool result (EndsLiteral text.now → ⊥) (EndsLiteral text.now) }
 {
@@ -110,7 +110,7 @@ fn begins_with_literal(text: &str) -> bool
     }
 }
 
-// The literal that a text begins with, which may be empty, and the rest.
+// Returns the literal that a text begins with, which may be empty, and the rest.
 fn literal_run<'a>(alloc: Global, text: &'a str) -> Result<(String, &'a str), AllocError>
     ensures literal { IfOk result (λ p. HasLiteral text.entry.now (string_bytes p.0) p.1.now) }
     ensures within { IfOk result (λ p. length p.1.now ≤ length text.entry.now) }
@@ -127,7 +127,7 @@ fn literal_run<'a>(alloc: Global, text: &'a str) -> Result<(String, &'a str), Al
     Ok((literal, rest))
 }
 
-// The bytes of a name that a text begins with, and the rest.
+// Returns the bytes of a name that a text begins with, and the rest.
 fn name_run<'a>(text: &'a str) -> (&'a str, &'a str)
     ensures whole { text.entry.now ≡ result.0.now ++ result.1.now }
     ensures only { IsOnlyName text.entry.now result.0.now result.1.now }
@@ -136,7 +136,7 @@ fn name_run<'a>(text: &'a str) -> (&'a str, &'a str)
     (&text[..end], &text[end..])
 }
 
-// The kind of a field, from what stands after its name, and the rest.
+// Returns the kind of a field, from what follows its name, and the rest.
 fn field_end<'a>(text: &'a str) -> Option<(FieldKind, &'a str)>
     ensures found { IfSome result (λ p. text.entry.now ≡ field_tail p.0 ++ p.1.now) }
     ensures only { (kind : Kind) (rest : List ℕ) → text.entry.now ≡ field_tail kind ++ rest
@@ -149,7 +149,7 @@ fn field_end<'a>(text: &'a str) -> Option<(FieldKind, &'a str)>
     Some((FieldKind::Decimal, rest))
 }
 
-// The field that a text begins with: its name, its kind and the rest.
+// Returns the field that a text begins with: its name, its kind and the rest.
 fn field_at<'a>(text: &'a str) -> Option<(&'a str, FieldKind, &'a str)>
     ensures { MatchOption result (HasNoField text.entry.now) (λ f.
         HasField text.entry.now f.0.now f.1 f.2.now) }
@@ -165,7 +165,7 @@ fn field_at<'a>(text: &'a str) -> Option<(&'a str, FieldKind, &'a str)>
     }
 }
 
-// Adds the literal that a text begins with, where it isn't empty, and answers the rest.
+// Adds the literal that a text begins with, unless it is empty, and returns the rest.
 fn push_literal<'a>(
     pieces: &mut Vec<Piece>,
     alloc: Global,
@@ -184,7 +184,7 @@ fn push_literal<'a>(
     Ok(rest)
 }
 
-// Adds the field that a text begins with, and answers the rest.
+// Adds the field that a text begins with, and returns the rest, or `None` if there is no field.
 fn push_field<'a>(
     pieces: &mut Vec<Piece>,
     alloc: Global,
@@ -206,7 +206,7 @@ fn push_field<'a>(
     }
 }
 
-// The pieces that a text spells, whatever names stand twice.
+// Returns the pieces that a text spells, if names may occur twice.
 fn read_pieces(alloc: Global, text: &str) -> Result<Vec<Piece>, PatternFault>
     ensures found { IfOk result (λ ps. IsSpelled text.now (pieces_said ps.items)) }
     ensures only { (ps : List PieceValue) → IsSpelled text.now ps → AnswersPieces result ps }
@@ -223,7 +223,7 @@ fn read_pieces(alloc: Global, text: &str) -> Result<Vec<Piece>, PatternFault>
     Ok(pieces)
 }
 
-/// The kind of the field of a name; none where the pieces have no such field.
+/// Returns the kind of the field of this name, or `None` if the pieces have no such field.
 pub(crate) fn field_kind(pieces: &[Piece], name: &str) -> Option<FieldKind>
     ensures { result ≡ spec.field_kind (pieces_said pieces.now) name.now }
 {
@@ -237,7 +237,7 @@ pub(crate) fn field_kind(pieces: &[Piece], name: &str) -> Option<FieldKind>
     None
 }
 
-// Whether no name stands twice.
+// Returns whether no name occurs twice.
 fn are_distinct(pieces: &[Piece]) -> bool
     ensures { result ≡ machinery.are_distinct (pieces_said pieces.now) }
 {
@@ -253,26 +253,26 @@ fn are_distinct(pieces: &[Piece]) -> bool
     true
 }
 
-// Whether pieces are a pattern: there is one, and no name stands twice.
+// Returns whether pieces form a pattern: there is at least one, and no name occurs twice.
 fn is_pattern(pieces: &[Piece]) -> bool
     ensures { result ≡ machinery.is_pattern (pieces_said pieces.now) }
 {
     !pieces.is_empty() && are_distinct(pieces)
 }
 
-/// The pattern that a text spells. `{{` is a literal `{` and `}}` a literal `}`, read from left to
-/// right; otherwise `{` opens a field: a name (an ASCII letter or `_`, then ASCII letters, digits and
-/// `_`), optionally `:d`, and `}`.
+/// Reads the pattern that a text spells. `{{` is a literal `{` and `}}` a literal `}`, read from left to right. Any
+/// other `{` opens a field: a name (an ASCII letter or `_`, then ASCII letters, digits and `_`), optionally `:d`, and
+/// `}`.
 ///
-/// `BadPattern` comes only where the text spells none: an empty text, a lone `}`, anything else in braces,
-/// or a name that stands twice. `Memory` comes only where a growth was refused, and only where the text
-/// begins with a literal or a field: any other text asks for none. (behave's documentation: step parameters)
+/// `BadPattern` comes only if the text spells no pattern: the text is empty, or has a lone `}`, any other text in
+/// braces, or a name that occurs twice. `Memory` comes only if a growth was refused, and only if the text begins with a
+/// literal or a field: any other text asks for no memory. (behave's documentation: step parameters)
 pub fn read_pattern(alloc: Global, text: &str) -> Result<Pattern, PatternFault>
-    // What is answered is what the text spells.
+    // What is returned is what the text spells.
     ensures found { IfOk result (λ p. SpellsPattern text.now (pattern_value p)) }
-    // A text that spells a pattern is no fault of the pattern.
+    // A text that spells a pattern is never a bad pattern.
     ensures bad { (ps : List PieceValue) → SpellsPattern text.now ps → result ≡ Err BadPattern → ⊥ }
-    // Memory is refused to no text that needs none.
+    // Memory is never refused to a text that needs none.
     ensures memory { result ≡ Err Memory → BeginsWithPiece text.now }
 {
     let pieces = read_pieces(alloc, text)?;

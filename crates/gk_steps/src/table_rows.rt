@@ -12,7 +12,7 @@ use crate::filled_cells::Cells;
 use crate::pattern::{FieldKind, Piece};
 use std::alloc::{AllocError, Global};
 
-/// The row of no pieces: they match what is empty.
+/// Returns the row of no pieces, which match only an empty text.
 pub(crate) fn first_row(
     cells: &mut Cells,
     alloc: Global,
@@ -32,7 +32,7 @@ pub(crate) fn first_row(
     Ok(row)
 }
 
-// The row of a plain field: whether a cell before is true in the row below.
+// Returns the row of a plain field: each cell says whether a cell before it is true in the row below.
 fn plain_row(cells: &mut Cells, alloc: Global, below: &[bool]) -> Result<Vec<bool>, AllocError>
     ensures row { IfOk result (λ row. IsPlainRow (length below.now) below.now row.items) }
     ensures most { cells.new.filled ≤ cells.old.filled + length below.now }
@@ -49,7 +49,7 @@ fn plain_row(cells: &mut Cells, alloc: Global, below: &[bool]) -> Result<Vec<boo
     Ok(row)
 }
 
-// The row of a number: one pass, in which leading zeros are taken from the column after.
+// Returns the row of a number, in one pass: at a leading zero it uses what is known at the column after.
 fn decimal_row(
     cells: &mut Cells,
     alloc: Global,
@@ -83,7 +83,8 @@ fn decimal_row(
     Ok(row)
 }
 
-/// The row of a piece and those of the row below: whether they match what stands after each position.
+/// Returns the row of a piece in front of those of the row below. Each cell says whether they match the text after its
+/// position.
 pub(crate) fn row_over(
     cells: &mut Cells,
     alloc: Global,

@@ -1,4 +1,4 @@
-//! What the fields took that actions use.
+//! Field values that actions use.
 ghost use Rattle.std.specs.Prelude.{◌≡◌, ◌++◌, ◌∷◌, [], codes, map, List, IfOk, IfErr, option_map, option_and_then};
 ghost use Rattle.gk_steps.specs.Pattern.{PieceValue, piece_value, pieces_said};
 ghost use Rattle.gk_steps.specs.Advances.{Takes, values_of};
@@ -17,8 +17,8 @@ use crate::pattern::{Field, Piece};
 use gk_gherkin::StepType;
 use std::alloc::{AllocError, Global};
 
-/// What the fields took that actions use. Each is none where the pattern has no such field, or where it
-/// is of the other kind.
+/// The field values that actions use. Each is `None` if the pattern has no such field, or if the field is of the other
+/// kind.
 #[derive(Clone, Copy, Debug)]
 pub struct UsedFields<'a> {
     /// The text of the field `name`.
@@ -33,15 +33,14 @@ pub struct UsedFields<'a> {
     pub text: Option<&'a str>,
 }
 
-/// What a step's action works with: the action, and what the fields took that actions use, as slices of
-/// the step's text.
+/// What a step's action works with: the action, and the field values that actions use, as slices of the step's text.
 #[derive(Clone, Copy, Debug)]
 pub struct FoundUse<'a> {
     pub action: Action,
     pub fields: UsedFields<'a>,
 }
 
-/// What the first field of each of these names took.
+/// The value of the first field of each of these names.
 #[derive(Clone, Copy, Debug)]
 pub(crate) struct FirstFields<'a> {
     pub name: Option<Capture<'a>>,
@@ -51,7 +50,7 @@ pub(crate) struct FirstFields<'a> {
     pub text: Option<Capture<'a>>,
 }
 
-/// Nothing is kept of the others, and no memory is taken.
+/// Keeps no other fields, and takes no memory.
 impl<'t> Captures<'t> for FirstFields<'t> {
     ghost keeps = { KeepsFirst };
 
@@ -73,7 +72,7 @@ impl<'t> Captures<'t> for FirstFields<'t> {
     }
 }
 
-// Where there are no fields.
+// The first fields if there are no fields.
 const NO_FIELDS: FirstFields<'static> = FirstFields {
     name: None,
     to: None,
@@ -82,7 +81,7 @@ const NO_FIELDS: FirstFields<'static> = FirstFields {
     text: None,
 };
 
-// The first field of a name, with one field more, which may have that name.
+// Returns the first field of a name, after one more field, which may have that name.
 #[inline(always)]
 fn first<'a>(so_far: Option<Capture<'a>>, is_named: bool, taken: Capture<'a>) -> Option<Capture<'a>>
     ensures { said result ≡ first_of (said so_far.entry) is_named (capture_value taken.entry) }
@@ -94,7 +93,7 @@ fn first<'a>(so_far: Option<Capture<'a>>, is_named: bool, taken: Capture<'a>) ->
     }
 }
 
-// The first fields, with one field more.
+// Returns the first fields, after one more field.
 #[inline(always)]
 fn with_field<'a>(so_far: FirstFields<'a>, name: &str, taken: Capture<'a>) -> FirstFields<'a>
     ensures { IsAdded name.now (capture_value taken.entry) so_far.entry result }
@@ -108,7 +107,7 @@ fn with_field<'a>(so_far: FirstFields<'a>, name: &str, taken: Capture<'a>) -> Fi
     }
 }
 
-// The first fields, with the field of a piece that took a span, where it is one.
+// Returns the first fields, after one more piece that took a span. Only a field changes them.
 #[inline(always)]
 fn with_piece<'a>(so_far: FirstFields<'a>, piece: &Piece, span: &'a str) -> FirstFields<'a>
     requires { Takes (piece_value piece.now) span.now }
@@ -124,7 +123,7 @@ fn with_piece<'a>(so_far: FirstFields<'a>, piece: &Piece, span: &'a str) -> Firs
     }
 }
 
-// The first fields, with those of the pieces after these.
+// Returns the first fields, joined with those of the pieces after these.
 #[inline(always)]
 fn joined<'a>(so_far: FirstFields<'a>, later: FirstFields<'a>) -> FirstFields<'a>
     ensures { AreJoined so_far.entry later.entry result }
@@ -138,7 +137,7 @@ fn joined<'a>(so_far: FirstFields<'a>, later: FirstFields<'a>) -> FirstFields<'a
     }
 }
 
-// What a field took.
+// Returns the value of a field, with its text borrowed.
 #[inline(always)]
 fn lent<'a>(field: &'a Field) -> Capture<'a>
     ensures { capture_value result ≡ field_value field.now }
@@ -149,7 +148,7 @@ fn lent<'a>(field: &'a Field) -> Capture<'a>
     }
 }
 
-// The first fields of the names, each field looked at once.
+// Returns the first fields of the names. Looks at each field once.
 #[inline(always)]
 fn first_fields<'a>(pieces: &[Piece], fields: &'a [Field]) -> FirstFields<'a>
     ensures { let ps = pieces_said pieces.now in let fs = map field_value fields.now in
@@ -169,7 +168,7 @@ fn first_fields<'a>(pieces: &[Piece], fields: &'a [Field]) -> FirstFields<'a>
     firsts
 }
 
-// The text that a field took.
+// Returns the text that a field took, if it took one.
 #[inline(always)]
 fn text_in<'a>(taken: Option<Capture<'a>>) -> Option<&'a str>
     ensures { option_map (λ t. t.now) result ≡ option_and_then spec.as_text (said taken.entry) }
@@ -180,7 +179,7 @@ fn text_in<'a>(taken: Option<Capture<'a>>) -> Option<&'a str>
     }
 }
 
-// The number that a field took.
+// Returns the number that a field took, if it took one.
 #[inline(always)]
 fn number_in(taken: Option<Capture<'_>>) -> Option<i64>
     ensures { result ≡ option_and_then spec.as_number (said taken.entry) }
@@ -191,7 +190,7 @@ fn number_in(taken: Option<Capture<'_>>) -> Option<i64>
     }
 }
 
-// What they took that actions use.
+// Returns the field values that actions use.
 #[inline(always)]
 fn used_in<'a>(firsts: FirstFields<'a>) -> UsedFields<'a>
     ensures { (library : LibraryValue) (f : FoundValue)
@@ -207,7 +206,7 @@ fn used_in<'a>(firsts: FirstFields<'a>) -> UsedFields<'a>
 }
 
 impl Library {
-    // The first fields of the names in what was found in this library.
+    // Returns the first fields of the names in what was found in this library.
     #[inline(always)]
     fn first_fields<'a>(&self, found: &'a Found) -> FirstFields<'a>
         ensures { AreFirst (spec.field_of (library_value self.now) (found_value found.now)) result }
@@ -218,8 +217,8 @@ impl Library {
         }
     }
 
-    /// Returns what the fields of what was found in this library took that actions use. Each field is looked at
-    /// once. Takes no memory.
+    /// Returns the field values that actions use, from what was found in this library. Looks at each field once. Takes
+    /// no memory.
     #[inline(always)]
     pub fn used_fields<'a>(&self, found: &'a Found) -> UsedFields<'a>
         ensures name { option_map (λ t. t.now) result.name
@@ -236,9 +235,9 @@ impl Library {
         used_in(self.first_fields(found))
     }
 
-    /// What `find` finds, as a step's action works with it. No text is copied: what the fields took are
-    /// slices of this text. Memory is taken only where a table is made. At most one whole table is filled for each
-    /// entry of the step's type and of type `step`: (pieces + 1) times (characters + 1) cells.
+    /// Finds what `find` does, and returns it as a step's action uses it. Copies no text: the field texts are slices of
+    /// this text. Takes memory only if a table is made. At most one whole table is filled for each entry of the step's
+    /// type and of type `step`: (pieces + 1) times (characters + 1) cells.
     /// (behave's documentation: step implementations)
     #[inline(always)]
     pub fn find_used<'a>(
@@ -249,7 +248,7 @@ impl Library {
     ) -> Result<Option<FoundUse<'a>>, AllocError>
         ensures found { IfOk result (λ used. IsUseOf (library_value self.now)
             (spec.found (library_value self.now) step_type text.now) used) }
-        // Memory is refused only where the text has the ends of an entry.
+        // Memory is refused only if the text fits the ends of an entry.
         ensures memory { IfErr result (λ e.
             HasCandidateFor (library_value self.now) step_type text.now) }
     {
