@@ -63,7 +63,7 @@ pub fn texts_have_one_rule()
         ReadsTags text a → ReadsTags text b → a ≡ b }
 {}
 
-/// A text of alternatives spells a rule. The rule holds for a set of tags exactly if one of the alternatives
+/// A text of alternatives spells a rule. The rule holds for a set of tags if and only if one of the alternatives
 /// does. (behave's documentation: tag expressions)
 pub fn alternatives_are_rules()
     ensures { (text : List ℕ) (alternatives : List AlternativeValue) →
