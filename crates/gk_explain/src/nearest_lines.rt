@@ -10,8 +10,8 @@ use std::alloc::{AllocError, Global};
 use std::collections::HashMap;
 use std::marker::Model;
 
-/// A library and, for each text that was asked for, the line, if any, that names the entry nearest to it. So a text that
-/// occurs again, such as a step of a Background in each scenario, isn't compared with all entries again.
+/// A library and, for each text that was asked for, the line, if any, that names the entry nearest to it. So a
+/// text that occurs again, such as a step of a Background in each scenario, isn't compared with all entries again.
 #[derive(Debug, Drop)]
 pub struct NearestLines<'a> {
     library: &'a Library,
