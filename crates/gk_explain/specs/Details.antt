@@ -1,4 +1,4 @@
--- What is said below an event that failed: what its reason means there.
+-- Details below an event that failed: what its reason means there.
 use Rattle.std.specs.Prelude.{ℕ, ℤ, List, [], ◌++◌, Option, Some, None, unwrap_or, codes, option_copied, length}
 use Rattle.std.specs.Fmt.{decimal, signed_decimal}
 use Rattle.gk_gherkin.specs.Feature.{BlockValue, StepValue, block_value}
@@ -25,7 +25,7 @@ use Rattle.gk_explain.specs.Nearest.{nearest_told}
 use Rattle.gk_explain.specs.Shown.{shown, marked_text, marked_text_with}
 use Rattle.gk_explain.specs.Tables.{other_table, refused_file}
 
--- What an action works on.
+-- The kind of thing that an action works on.
 abbrev pub kind_of : Action → Kind
 kind_of actions.WriteFile = kinds.File
 kind_of actions.AppendFile = kinds.File
@@ -48,43 +48,43 @@ held kinds.File s name = s.files name
 held kinds.Variable s name = s.env name
 held kinds.Value s name = see s name
 
--- What an action finds under the name that it is given.
+-- The text that an action finds under the name that it is given; it is empty if there is none.
 abbrev pub found_text : Action → ArgumentsValue → State → List ℕ
 found_text action g s = unwrap_or (held (kind_of action) s g.name) []
 
--- A text that is expected.
+-- The lines of an expected text.
 abbrev pub expected_text : List ℕ → List ℕ
 expected_text text = marked_text (codes "expected") text
 
--- A text that was found.
+-- The lines of a found text.
 abbrev pub found_below : List ℕ → List ℕ
 found_below text = marked_text (codes "found   ") text
 
--- The line that says where two texts differ first.
+-- The line with the position at which two texts first differ.
 unfoldable pub difference_line : Position → List ℕ
 difference_line p = codes "      first difference: line " ++ (decimal p.line ++ (codes ", column " ++ (decimal p.column ++ line_feed)))
 
--- A number that is expected.
+-- The line with an expected number.
 unfoldable pub expected_number : ℤ → List ℕ
 expected_number n = codes "      expected " ++ (signed_decimal n ++ line_feed)
 
--- Two texts, of which one was expected and the other found.
+-- An expected text and a found text.
 unfoldable pub both : List ℕ → List ℕ → List ℕ
 both expected there = expected_text expected ++ found_below there
 
--- Both, with the line among those that are shown in which they differ first, and where they do.
+-- Both texts, each with the line in which they first differ among its shown lines, and the position at which they first differ.
 unfoldable pub compared : List ℕ → List ℕ → List ℕ
 compared expected there = let p = first_difference expected there in marked_text_with (codes "expected") p.line expected ++ (marked_text_with (codes "found   ") p.line there ++ difference_line p)
 
--- A text that was expected in another, and the other.
+-- A text that was expected in another text, and that other text.
 unfoldable pub lacking : List ℕ → List ℕ → List ℕ
 lacking expected there = both expected there ++ codes "      the expected text stands nowhere in the found text\n"
 
--- A number that was expected, and the text of the value that was found.
+-- An expected number, and the text of the found value.
 unfoldable pub unequal : ℤ → List ℕ → List ℕ
 unequal expected there = expected_number expected ++ found_below there
 
--- What an action expected that found something else.
+-- What an action expected and what it found instead.
 abbrev pub difference : Action → ArgumentsValue → List ℕ → List ℕ
 difference actions.FileContains g there = lacking (unwrap_or g.text []) there
 difference actions.NumberIs g there = unequal g.number there
@@ -96,16 +96,16 @@ kind_word kinds.File = codes "file"
 kind_word kinds.Variable = codes "variable"
 kind_word kinds.Value = codes "value"
 
--- The line that says that nothing is there under a name.
+-- The line that says that nothing exists under a name.
 unfoldable pub absent_line : Kind → List ℕ → List ℕ
 absent_line kind name = codes "      there is no " ++ (kind_word kind ++ (codes " \"" ++ (shown name ++ codes "\"\n")))
 
--- What stands in an action's way: what is there under its name, or, where a file is renamed, under the new one.
+-- The text that is in an action's way: the one under its name or, if a file is renamed, the one under the new name.
 abbrev pub present_text : Action → ArgumentsValue → State → List ℕ
 present_text actions.RenameFile g s = unwrap_or (s.files g.to) []
 present_text action g s = found_text action g s
 
--- A number that is to be added.
+-- The line with a number that is to be added.
 unfoldable pub added_number : ℤ → List ℕ
 added_number n = codes "      to be added: " ++ (signed_decimal n ++ line_feed)
 
@@ -113,31 +113,31 @@ added_number n = codes "      to be added: " ++ (signed_decimal n ++ line_feed)
 unfoldable pub sum_out_of_range : List ℕ → ℤ → List ℕ
 sum_out_of_range there n = found_below there ++ added_number n
 
--- The text of a value that is set in an outer layer alone.
+-- The text of a value that is set only in an outer layer.
 unfoldable pub in_outer_layer : List ℕ → List ℕ
 in_outer_layer there = found_below there ++ codes "      it is set in an outer layer alone\n"
 
--- The name that an action gives to what it changes: of a file that is renamed the new one, of a table of files the one at which it ends.
+-- The name that an action gives to what it changes: the new name of a file that is renamed, and for a table of files the name of the file at which it ends.
 abbrev pub given_name : Action → ArgumentsValue → List ℕ
 given_name actions.RenameFile g = g.to
 given_name actions.WriteFiles g = (refused_file g.block).0
 given_name action g = g.name
 
--- The line that says how many bytes a bad name has.
+-- The line with the number of bytes of a bad name.
 unfoldable pub name_length : ℕ → List ℕ
 name_length count = codes "      the name has " ++ (decimal count ++ codes " bytes; 1 to 255 are allowed\n")
 
--- The text that an action gives to what it changes: of a file that is extended the whole text, of a table of files the one at which it ends.
+-- The text that an action gives to what it changes: the whole text of a file that is extended, and for a table of files the text of the file at which it ends.
 abbrev pub new_text : Action → ArgumentsValue → State → List ℕ
 new_text actions.AppendFile g s = joined s.files g.name (unwrap_or g.text [])
 new_text actions.WriteFiles g s = (refused_file g.block).1
 new_text action g s = unwrap_or g.text []
 
--- The line that says how many bytes a text has that is too long.
+-- The line with the number of bytes of a text that is too long.
 unfoldable pub text_length : ℕ → List ℕ
 text_length count = codes "      the text has " ++ (decimal count ++ codes " bytes; at most 1048576 are allowed\n")
 
--- What a reason means for an action at a state. Where a text that is to be run at the end finds no entry, the nearest is named.
+-- What a reason means for an action at a state. If the text of a step that is to be run at the end finds no entry, the nearest one is named.
 abbrev pub details : LibraryValue → Action → ArgumentsValue → Reason → State → List ℕ
 details library action g reasons.Differs s = difference action g (found_text action g s)
 details library action g reasons.Absent s = absent_line (kind_of action) g.name
@@ -156,22 +156,22 @@ abbrev pub outcome_details : LibraryValue → FoundValue → BlockValue → Outc
 outcome_details library f block (Failed why) s = details library (action_of library f) (arguments_of library f block) why s
 outcome_details library f block outcome s = []
 
--- The same of what a look-up found.
+-- The same for the result of a look-up.
 abbrev pub details_if_found : LibraryValue → Option FoundValue → BlockValue → Outcome → State → List ℕ
 details_if_found library None block outcome s = []
 details_if_found library (Some f) block outcome s = outcome_details library f block outcome s
 
--- What a step's mark means: of an undefined step the nearest entry is named.
+-- What a step's mark means. For an undefined step, the nearest entry is named.
 abbrev pub mark_details : LibraryValue → StepValue → Mark → State → List ℕ
 mark_details library step (Acted outcome) s = details_if_found library (found library step.step_type step.text) step.block outcome s
 mark_details library step Undefined s = nearest_told library step.text
 mark_details library step mark s = []
 
--- What is said below an event: of a step the library finds the action, of a cleanup it was found before. The state is the one that the event left; a check, and a change that is refused, leave what they found.
+-- The text below the line of an event. The library finds the action of a step; that of a cleanup was found before. The state is the one that the event left. A check, or a change that is refused, leaves what it found.
 unfoldable pub event_details : LibraryValue → Told → List ℕ
 event_details library (of_step place step mark cleanups s) = mark_details library step mark s
 event_details library (of_cleanup level cleanup outcome s) = outcome_details library cleanup.found cleanup.block outcome s
 
--- What a `Given` says beside its action.
+-- The value of a `Given` without its action.
 abbrev pub given_value : declared.Given → ArgumentsValue
 given_value g = record { name = g.name.now; to = g.to.now; step = g.step.now; number = g.number; text = option_copied g.text; block = block_value g.block.now }

@@ -1,14 +1,14 @@
--- The lines in which two texts differ first are shown.
+-- The law that the lines in which two texts first differ are shown.
 use Rattle.std.specs.Prelude.{◌≡◌, ℕ, ◌+◌, List, ◌∷◌, ◌++◌, length, codes, IsUtf8}
 use Rattle.gk_explain.specs.Shown.{text_lines, marked_line}
 use Rattle.gk_explain.specs.Differences.{first_difference}
 use Rattle.gk_explain.specs.Details.{compared}
 
--- This is the line of a text with this number, counted from 1.
+-- The line of a text with this number, counted from 1.
 abbrev pub IsLine : List ℕ → ℕ → List ℕ → Type 0
 IsLine text number line = (before : List (List ℕ)) × (after : List (List ℕ)) × (text_lines text ≡ before ++ (line ∷ after)) × (length before + 1 ≡ number)
 
--- Where two texts are compared, each of them has a line with the number of the one in which they differ first, and what is shown has that of the expected text and after it that of the found one, however long the texts are.
+-- If two texts are compared, each of them has a line with the number of the line in which they first differ. What is shown has this line of the expected text and, after it, this line of the found text, however long the texts are.
 abbrev pub DifferingLinesAreShown : Type 0
 DifferingLinesAreShown = (expected found : List ℕ) → IsUtf8 expected → IsUtf8 found → (let number = (first_difference expected found).line in
     (line : List ℕ) × (other : List ℕ) × IsLine expected number line × IsLine found number other

@@ -1,4 +1,4 @@
--- An event of a run, as an explainer is told it.
+-- Events of a run, as an explainer is told them.
 use Rattle.std.specs.Prelude.{[]}
 use Rattle.gk_gherkin.specs.Feature.{block_value, step_value}
 use Rattle.gk_steps.specs.Finding.{found_value}
@@ -10,20 +10,20 @@ use Rattle.gk_explain.specs.declared.event.Event.{Event}
 use Rattle.gk_explain.specs.declared.event.Event.TheVariants.{Step, Cleanup}
 use Rattle.gk_explain.specs.declared.event.StepEvent.{StepEvent}
 
--- What a `StepEvent` says: whatever the step registered.
+-- The value of a `StepEvent`, which has no cleanups, whatever the step registered.
 abbrev pub step_told : StepEvent → Told
 step_told e = of_step e.place (step_value e.step.now) e.mark [] (state_of e.sandbox.now.now)
 
--- What a `CleanupEvent` says.
+-- The value of a `CleanupEvent`.
 abbrev pub cleanup_told : CleanupEvent → Told
 cleanup_told e = of_cleanup e.level (record { found = found_value e.found.now; block = block_value e.block.now }) e.outcome (state_of e.sandbox.now.now)
 
--- What an `Event` says.
+-- The value of an `Event`.
 abbrev pub event_told : Event → Told
 event_told (Step e) = step_told e
 event_told (Cleanup e) = cleanup_told e
 
--- The level of the section that an event is of.
+-- The level of the section that an event belongs to.
 abbrev pub level_of : Told → Level
 level_of (of_step place step mark cleanups s) = place.level
 level_of (of_cleanup level cleanup outcome s) = level

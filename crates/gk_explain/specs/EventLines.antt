@@ -18,22 +18,22 @@ use Rattle.gk_explain.specs.Details.{event_details}
 use Rattle.gk_explain.specs.Registrations.{last_of}
 use Rattle.gk_explain.specs.Shown.{escaped}
 
--- The names of the hooks file and of the feature file that steps stand in.
+-- The names of the hooks file and of the feature file that contain the steps.
 pub record NamesValue : Type 0 where
   pub hooks : List ℕ
   pub source : List ℕ
 
--- What a `Names` says.
+-- The value of a `Names`.
 abbrev pub names_value : Names → NamesValue
 names_value names = record { hooks = names.hooks.now; source = names.source.now }
 
--- The file that the steps of a part of a section stand in.
+-- The name of the file that contains the steps of a part of a section.
 abbrev pub file_of : NamesValue → Part → List ℕ
 file_of names parts.Before = names.hooks
 file_of names parts.Steps = names.source
 file_of names parts.After = names.hooks
 
--- What is said in front of a step of a part of a section.
+-- The text before a step of a part of a section.
 abbrev pub part_text : Part → List ℕ
 part_text parts.Before = codes "before: "
 part_text parts.Steps = []
@@ -43,16 +43,16 @@ part_text parts.After = codes "after: "
 unfoldable pub place_text : List ℕ → ℕ → List ℕ
 place_text file line = escaped file ++ codes ":" ++ decimal line ++ codes ": "
 
--- The status of what became of a step, with the reason of one that failed.
+-- The status of a step's mark, with the reason of a step that failed.
 abbrev pub mark_text : Mark → List ℕ
 mark_text mark = step_verdict (status_of_mark mark) (reason_of_mark mark)
 
--- Where a cleanup was registered, in front of it.
+-- The text before a cleanup: the place where it was registered, if there is one.
 abbrev pub registered_text : NamesValue → Option Registration → List ℕ
 registered_text names None = []
 registered_text names (Some r) = place_text (file_of names r.part) r.line
 
--- The line of a cleanup that was registered there.
+-- The line of a cleanup that was registered at this place.
 unfoldable pub line_of_cleanup : NamesValue → Option Registration → Outcome → List ℕ
 line_of_cleanup names at outcome = status_line (codes "  " ++ registered_text names at ++ codes "cleanup") (mark_text (Acted outcome))
 
@@ -61,11 +61,11 @@ unfoldable pub line_of_step : NamesValue → Stage → StepValue → Mark → Li
 line_of_step names place step mark =
     status_line (codes "  " ++ place_text (file_of names place.part) step.line ++ part_text place.part ++ step.keyword ++ codes " " ++ escaped step.text) (mark_text mark)
 
--- The line of an event of a section in which these cleanups are registered and still to run: a cleanup that runs is the last of them.
+-- The line of an event of a section with these cleanups still to run. A cleanup that runs is the last of them.
 abbrev pub event_line : NamesValue → List Registration → Told → List ℕ
 event_line names registered (of_step place step mark cleanups s) = line_of_step names place step mark
 event_line names registered (of_cleanup level cleanup outcome s) = line_of_cleanup names (last_of registered) outcome
 
--- The lines of an event: its own, and what is said below it.
+-- The lines of an event: its own, and the text below it.
 abbrev pub event_lines : LibraryValue → NamesValue → List Registration → Told → List ℕ
 event_lines library names registered told = event_line names registered told ++ event_details library told

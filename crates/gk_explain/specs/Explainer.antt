@@ -1,4 +1,4 @@
--- What an explainer makes of what it is told.
+-- The effect of what an explainer is told.
 use Rattle.std.specs.Prelude.{◌≡◌, Bool, false}
 use Rattle.gk_select.specs.Case.{CaseValue}
 use Rattle.gk_world.specs.State.{State}
@@ -14,40 +14,40 @@ use Rattle.gk_explain.specs.declared.explainer.Explainer.{Explainer}
 use Rattle.gk_explain.specs.SectionLines.{SectionValue, untold, after_events}
 use Rattle.gk_explain.specs.Explanation.{ExplanationValue, explanation_value, with_event, with_ended, with_case_of}
 
--- A growth was refused to an explainer.
+-- Whether a growth was refused to an explainer.
 abbrev pub is_cut : Explainer → Bool
 is_cut e = e.cut
 
--- What an explainer says so far.
+-- What an explainer has said so far.
 abbrev pub said : Explainer → ExplanationValue
 said e = explanation_value e.explanation
 
--- Where an explainer isn't cut now, it wasn't before, and says this of what it said.
+-- If an explainer isn't cut now, it wasn't cut before, and what it says is this change of what it said.
 abbrev pub Becomes : Explainer → (ExplanationValue → ExplanationValue) → Explainer → Type 0
 Becomes old change new = is_cut new ≡ false → (is_cut old ≡ false) × (said new ≡ change (said old))
 
--- It was told an event.
+-- An explainer was told an event.
 abbrev pub Hears : Explainer → Told → Explainer → Type 0
 Hears old told new = Becomes old (with_event told) new
 
--- What ends and is neither failed nor refused memory cuts no explainer: memory is asked for only if there is something to explain.
+-- An end that neither failed nor was refused memory cuts no explainer: memory is asked for only if there is something to explain.
 abbrev pub IsCutOnlyByBad : Status → Explainer → Explainer → Type 0
 IsCutOnlyByBad status old new = is_bad status ≡ false → is_cut new ≡ is_cut old
 
--- How a scenario, or the hooks and cleanups of a rule, ended.
+-- The status with which a scenario, or the hooks and cleanups of a rule, ended.
 abbrev pub told_status : Ended → Status
 told_status (of_case c) = c.status
 told_status (of_rule r) = r.around
 
--- It was told that a scenario or a rule has ended.
+-- An explainer was told that a scenario or a rule has ended.
 abbrev pub Ends : Explainer → Ended → Explainer → Type 0
 Ends old ended new = Becomes old (with_ended ended) new × IsCutOnlyByBad (told_status ended) old new
 
--- What is kept of a case after its events, these cut at one, in order.
+-- What is kept of a case after its events, in order, with these cut at one of them.
 abbrev pub case_told : Explainer → Run → State → CaseValue → Cut → SectionValue
 case_told e run section c cut = let s = said e in after_events s.library s.names (in_order (happened cut (alone run section c))) untold
 
--- A case that was told is explained: an explainer that kept nothing of a scenario, and isn't cut, says what it said, and the explanation of this case, by the lines of all its events, where its result failed or was refused memory.
+-- A case that was told is explained by an explainer that kept nothing of a scenario before and isn't cut now. It says what it said before and, if the case's result failed or was refused memory, the explanation of this case by the lines of all its events.
 abbrev pub CasesAreExplained : Type 0
 CasesAreExplained = (run : Run) (section : State) (c : CaseValue) (row : CaseRow) (old new : Explainer) →
     IsCaseTold Hears Ends run section c row old new → is_cut new ≡ false → (said old).scenario ≡ untold →

@@ -1,4 +1,4 @@
--- What is kept of a run to explain it.
+-- The state that explains a run.
 use Rattle.std.specs.Prelude.{ℕ, List, [], ◌++◌, string_bytes}
 use Rattle.gk_steps.specs.Finding.{LibraryValue}
 use Rattle.gk_run.specs.declared.results.Status.{Status}
@@ -13,7 +13,7 @@ use Rattle.gk_explain.specs.EventLines.{NamesValue}
 use Rattle.gk_explain.specs.SectionLines.{SectionValue, section_value, untold, after_event}
 use Rattle.gk_explain.specs.Headings.{case_heading, rule_heading, feature_heading, run_heading, explained, listed}
 
--- The library that the run finds its steps in; the names of the files; what is kept of the run, of the feature, of the rule and of the scenario that are open; what is ready to be written; and the list of what failed.
+-- The library in which the run finds its steps; the names of the files; what is kept of the open run, feature, rule and scenario; what is ready to be written; and the list of what failed.
 pub record ExplanationValue : Type 0 where
   pub library : LibraryValue
   pub names : NamesValue
@@ -24,7 +24,7 @@ pub record ExplanationValue : Type 0 where
   pub ready : List ℕ
   pub failures : List ℕ
 
--- What an `Explanation` says.
+-- The value of an `Explanation`.
 abbrev pub explanation_value : Explanation → ExplanationValue
 explanation_value e = record {
   library = e.nearest;
@@ -48,11 +48,11 @@ with_section levels.Feature change e = record e { feature = change e.feature }
 with_section levels.Rule change e = record e { rule = change e.rule }
 with_section levels.Scenario change e = record e { scenario = change e.scenario }
 
--- An event more of its section.
+-- One more event, added to its section.
 abbrev pub with_event : Told → ExplanationValue → ExplanationValue
 with_event told e = with_section (level_of told) (after_event e.library e.names told) e
 
--- What has ended so under a heading, with the lines of its events, is ready, and in the list, where it failed or was refused memory.
+-- Something has ended with a status, under a heading and with the lines of its events. It is ready, and in the list, if it failed or was refused memory.
 abbrev pub with_end : List ℕ → Status → List ℕ → ExplanationValue → ExplanationValue
 with_end heading status lines e = record e { ready = e.ready ++ explained heading status lines; failures = e.failures ++ listed heading status }
 
@@ -60,15 +60,15 @@ with_end heading status lines e = record e { ready = e.ready ++ explained headin
 abbrev pub with_case_of : List ℕ → CaseRow → ExplanationValue → ExplanationValue
 with_case_of lines c e = let ended = with_end (case_heading e.names.source c) c.status lines e in record ended { scenario = untold }
 
--- The scenario that is open has ended with a result.
+-- The open scenario has ended with a result.
 abbrev pub with_case : CaseRow → ExplanationValue → ExplanationValue
 with_case c e = with_case_of e.scenario.lines c e
 
--- The rule that is open has ended with a result.
+-- The open rule has ended with a result.
 abbrev pub with_rule : RuleRow → ExplanationValue → ExplanationValue
 with_rule r e = let ended = with_end (rule_heading e.names.source r) r.around e.rule.lines e in record ended { rule = untold }
 
--- What has ended was told.
+-- The end of a scenario or a rule was told.
 abbrev pub with_ended : Ended → ExplanationValue → ExplanationValue
 with_ended (of_case c) e = with_case c e
 with_ended (of_rule r) e = with_rule r e
@@ -77,11 +77,11 @@ with_ended (of_rule r) e = with_rule r e
 abbrev pub with_source : List ℕ → ExplanationValue → ExplanationValue
 with_source source e = record e { names = record { hooks = e.names.hooks; source = source } }
 
--- The feature that is open has ended with a result.
+-- The open feature has ended with a result.
 abbrev pub with_feature : FeatureRow → ExplanationValue → ExplanationValue
 with_feature f e = let ended = with_end (feature_heading e.names.source f) f.around e.feature.lines e in record ended { feature = untold }
 
--- The run has ended, its own hooks and cleanups so.
+-- The run has ended; the status is that of its hooks and cleanups.
 abbrev pub with_run : Status → ExplanationValue → ExplanationValue
 with_run around e = let ended = with_end run_heading around e.run.lines e in record ended { run = untold }
 

@@ -1,4 +1,4 @@
--- The heading of what failed, and its explanation.
+-- Headings and explanations of what failed.
 use Rattle.std.specs.Prelude.{ℕ, cond, List, [], ◌∷◌, ◌++◌, codes}
 use Rattle.gk_run.specs.declared.results.Status.{Status}
 use Rattle.gk_run.specs.Results.{CaseRow, RuleRow, FeatureRow, case_row, rule_row, feature_row}
@@ -18,7 +18,7 @@ case_heading source c = place_text source c.line ++ c.keyword ++ codes ": " ++ e
 unfoldable pub rule_heading : List ℕ → RuleRow → List ℕ
 rule_heading source r = place_text source r.line ++ codes "Rule: (hooks and cleanups)"
 
--- What is said after the name of a feature.
+-- The text after the name of a feature.
 unfoldable pub around_text : List ℕ
 around_text = codes " (hooks and cleanups)"
 
@@ -37,26 +37,26 @@ heading_of source (variants.Rule r) = rule_heading source (rule_row r.now)
 heading_of source (variants.Feature f) = feature_heading source (feature_row f.now)
 heading_of source (variants.Run around) = run_heading
 
--- How it ended.
+-- The status with which it ended.
 abbrev pub ended_status : Ended → Status
 ended_status (variants.Scenario c) = c.now.status
 ended_status (variants.Rule r) = r.now.around
 ended_status (variants.Feature f) = f.now.around
 ended_status (variants.Run around) = around
 
--- An explanation: a heading with a status, the lines of events, an empty line.
+-- An explanation: a heading with a status, the lines of events, and an empty line.
 unfoldable pub explanation_text : List ℕ → Status → List ℕ → List ℕ
 explanation_text heading status lines = status_line heading (status_text status) ++ lines ++ line_feed
 
--- The explanation of what ended so, where it failed or was refused memory.
+-- The explanation of what ended with this status, if it failed or was refused memory; otherwise nothing.
 abbrev pub explained : List ℕ → Status → List ℕ → List ℕ
 explained heading status lines = cond (is_bad status) (explanation_text heading status lines) []
 
--- Its line in the list of what failed.
+-- Its line in the list of what failed, if it failed or was refused memory; otherwise nothing.
 abbrev pub listed : List ℕ → Status → List ℕ
 listed heading status = cond (is_bad status) (heading ++ line_feed) []
 
--- The list of what failed, with an empty line behind it where there is any.
+-- The list of what failed, followed by an empty line unless the list is empty.
 abbrev pub failures_text : List ℕ → List ℕ
 failures_text [] = []
 failures_text (byte ∷ bytes) = (byte ∷ bytes) ++ line_feed

@@ -1,4 +1,4 @@
--- What an explanation says, in reading order. A definition whose comment names no source is this project's profile, or a word that the others use.
+-- The text of an explanation, in reading order. A definition whose comment names no source is this project's profile, or a helper of the others.
 pub mod Event
 pub mod Shown
 pub mod Differences

@@ -1,4 +1,4 @@
--- The entry of a library that comes nearest to the text of a step that none matches.
+-- The entry of a library that is nearest to the text of a step that no entry matches.
 use Rattle.std.specs.Prelude.{ℕ, ◌+◌, ◌-◌, Bool, cond, ◌==◌, nat_lt, List, [], ◌∷◌, ◌++◌, length, take, drop, flat_map, codes, chars, Option, Some, None}
 use Rattle.std.specs.List.{common_prefix_len, position_or_len, best_of}
 use Rattle.gk_gherkin.specs.declared.feature.StepType.{StepType}
@@ -10,22 +10,22 @@ use Rattle.gk_steps.specs.Finding.{EntryValue, LibraryValue}
 use Rattle.gk_report.specs.ReportTexts.{line_feed}
 use Rattle.gk_explain.specs.Shown.{shown_char}
 
--- The same byte.
+-- Whether two bytes are the same.
 abbrev pub is_same : ℕ → ℕ → Bool
 is_same a b = a == b
 
--- What a field leaves of a text, by the pieces after it: what stands from the first byte on with which the next literal begins; nothing at the end of a pattern.
+-- What a field leaves of a text, by the pieces after the field: the part from the first byte on with which the next literal begins. If no literal follows, nothing is left.
 abbrev pub past_field : List PieceValue → List ℕ → List ℕ
 past_field (Literal (b ∷ bs) ∷ ps) text = drop (position_or_len (is_same b) text) text
 past_field ps text = []
 
--- How many bytes of its literals a pattern has in common with a text, from the start on, up to the first that differs. A field takes what stands before the byte with which the next literal begins.
+-- The number of bytes that the literals of a pattern have in common with a text, from the start up to the first byte that differs. A field takes what comes before the byte with which the next literal begins.
 abbrev pub agreement : List PieceValue → List ℕ → ℕ
 agreement [] text = 0
 agreement (Literal literal ∷ ps) text = let common = common_prefix_len is_same literal text in common + cond (nat_lt common (length literal)) 0 (agreement ps (drop common text))
 agreement (FieldPiece name kind ∷ ps) text = agreement ps (past_field ps text)
 
--- An entry agrees with a text longer than another.
+-- Whether an entry agrees longer with a text than another entry does.
 abbrev pub is_nearer : List ℕ → EntryValue → EntryValue → Bool
 is_nearer text e other = nat_lt (agreement other.pattern text) (agreement e.pattern text)
 
@@ -36,15 +36,15 @@ type_word (Some types.Given) = codes "given"
 type_word (Some types.When) = codes "when"
 type_word (Some types.Then) = codes "then"
 
--- A character of a literal as a pattern has it: a brace is doubled. (Python's format strings)
+-- A character of a literal as it is written in a pattern: a brace is doubled. (Python's format strings)
 abbrev pub literal_char : ℕ → List ℕ
 literal_char c = cond (c == 123) (codes "{{") (cond (c == 125) (codes "}}") (shown_char c))
 
--- A literal as a pattern has it, character by character.
+-- A literal as it is written in a pattern, character by character.
 abbrev pub literal_shown : List ℕ → List ℕ
 literal_shown text = flat_map literal_char (chars text)
 
--- A field as a pattern has it.
+-- A field as it is written in a pattern.
 abbrev pub field_shown : List ℕ → FieldKind → List ℕ
 field_shown name Plain = codes "{" ++ (name ++ codes "}")
 field_shown name Decimal = codes "{" ++ (name ++ codes ":d}")
@@ -62,19 +62,19 @@ pattern_shown ps = flat_map piece_shown ps
 unfoldable pub nearest_line : EntryValue → List ℕ
 nearest_line e = codes "      the nearest entry is: " ++ (type_word e.step_type ++ (codes " " ++ (pattern_shown e.pattern ++ line_feed)))
 
--- The first word of a text: what stands before its first blank.
+-- The first word of a text: the part before its first space.
 abbrev pub first_word : List ℕ → List ℕ
 first_word text = take (position_or_len (is_same 32) text) text
 
--- An entry agrees with more of a text than with its first word alone, by two bytes at least, of which one may be the blank after that word. A field that takes the first word agrees with nothing of it.
+-- Whether an entry agrees with a text by at least two bytes more than with the text's first word. One of the two may be the space after that word. A field that takes the first word agrees with nothing of it.
 abbrev pub is_near : EntryValue → List ℕ → Bool
 is_near e text = nat_lt 1 (agreement e.pattern text - agreement e.pattern (first_word text))
 
--- An entry is named where it is near.
+-- The line that names an entry, if the entry is near.
 abbrev pub told_if_near : EntryValue → List ℕ → List ℕ
 told_if_near e text = cond (is_near e text) (nearest_line e) []
 
--- The entry that agrees longest with a text is named, where it is near, whatever steps it is for; of equals the first.
+-- The line that names the entry that agrees longest with a text, if that entry is near, whatever steps it is for. Of equals it is the first.
 abbrev pub nearest_told : LibraryValue → List ℕ → List ℕ
 nearest_told [] text = []
 nearest_told (e ∷ es) text = told_if_near (best_of (is_nearer text) e es) text

@@ -1,4 +1,4 @@
--- Where the cleanups of a section were registered.
+-- Places where the cleanups of a section were registered.
 use Rattle.std.specs.Prelude.{◌≡◌, ◌-◌, Bool, true, false, cond, ◌&&◌, List, [], ◌∷◌, ◌++◌, length, take, map, flat_map, reverse, Option, Some, None}
 use Rattle.std.specs.List.{slice_get}
 use Rattle.gk_gherkin.specs.Feature.{StepValue}
@@ -16,49 +16,49 @@ use Rattle.gk_run.specs.Section.{in_order}
 use Rattle.gk_run.specs.Running.{alone}
 use Rattle.gk_explain.specs.declared.registrations.Registration.{Registration}
 
--- The action that registers a cleanup. (behave's documentation: cleanups)
+-- Whether an action is the one that registers a cleanup. (behave's documentation: cleanups)
 abbrev pub is_at_cleanup : Action → Bool
 is_at_cleanup actions.AtCleanup = true
 is_at_cleanup _ = false
 
--- What a step found registers a cleanup where it passes.
+-- Whether what was found for a step registers a cleanup if the step passes.
 abbrev pub found_registers : LibraryValue → Option FoundValue → Bool
 found_registers library None = false
 found_registers library (Some f) = is_at_cleanup (action_of library f)
 
--- A step was carried out, and passed.
+-- Whether a step was carried out and passed.
 abbrev pub is_passed : Mark → Bool
 is_passed (Acted outcome) = is_pass outcome
 is_passed mark = false
 
--- A step of which this became registered a cleanup: it passed, and its action is the one that registers.
+-- Whether a step with this mark registered a cleanup: it passed, and its action is the one that registers.
 abbrev pub registers : LibraryValue → StepValue → Mark → Bool
 registers library step mark = is_passed mark && found_registers library (found library step.step_type step.text)
 
--- Where an event registered a cleanup, if it did: in which part of its section the step stands, and its line.
+-- The place where an event registered a cleanup, if it did: the part of its section that contains the step, and the step's line.
 abbrev pub registered_by : LibraryValue → Told → List Registration
 registered_by library (of_step place step mark cleanups s) = cond (registers library step mark) (record { part = place.part; line = step.line } ∷ []) []
 registered_by library (of_cleanup level cleanup outcome s) = []
 
--- The last that was registered, if any.
+-- The last of these places, if any.
 abbrev pub last_of : List Registration → Option Registration
 last_of registered = slice_get registered (length registered - 1)
 
--- All but the last that was registered.
+-- All of these places but the last.
 abbrev pub all_but_last : List Registration → List Registration
 all_but_last registered = take (length registered - 1) registered
 
--- Where the cleanups were registered that are still to run, in the order of registration, after an event of their section: the one that it registered is added; where it is itself a cleanup, that was the last. (behave's documentation: cleanups)
+-- The places of the cleanups that are still to run after an event of their section, in the order of registration. If the event registered a cleanup, its place is added; if the event is a cleanup, that was the last, and its place is removed. (behave's documentation: cleanups)
 abbrev pub left_to_run : LibraryValue → Told → List Registration → List Registration
 left_to_run library (of_step place step mark cleanups s) registered = registered ++ registered_by library (of_step place step mark cleanups s)
 left_to_run library (of_cleanup level cleanup outcome s) registered = all_but_last registered
 
--- A cleanup that runs, and the place that is said of it.
+-- A cleanup that runs, and the place given for it.
 pub record PlacedCleanup : Type 0 where
   pub at : Option Registration
   pub cleanup : CleanupValue
 
--- The cleanups that run among events, in order, where these were registered before: of each the last place of those that are still to run.
+-- The cleanups that run among events, in order, after these registrations. Each has the last place of those that are still to run.
 abbrev pub placed_cleanups : LibraryValue → List Registration → List Told → List PlacedCleanup
 placed_cleanups library registered [] = []
 placed_cleanups library registered (of_step place step mark cleanups s ∷ events) = placed_cleanups library (left_to_run library (of_step place step mark cleanups s) registered) events
@@ -69,7 +69,7 @@ abbrev pub placed_by : Told → List PlacedCleanup
 placed_by (of_step place step mark cleanups s) = map (λ cleanup. record { at = Some (record { part = place.part; line = step.line }); cleanup = cleanup }) cleanups
 placed_by (of_cleanup level cleanup outcome s) = []
 
--- The cleanups of a case that run are those that its hooks and steps registered, the last first, and the place that is said of each is that of the step that registered it.
+-- The cleanups of a case that run are those that its hooks and steps registered, the last first. The place given for each is that of the step that registered it.
 abbrev pub CleanupsAreOfTheirSteps : Type 0
 CleanupsAreOfTheirSteps = (run : Run) (section : State) (c : CaseValue) →
     let events = alone run section c in

@@ -3,7 +3,7 @@ use Rattle.std.specs.Prelude.{ℕ, ◌+◌, ◌-◌, Bool, false, cond, not, ◌
 use Rattle.std.specs.Fmt.{decimal, digits}
 use Rattle.std.specs.List.{slice_split}
 
--- Whether a number stands from one to before another.
+-- Whether a number is at least `first` and less than `end`.
 abbrev pub is_within : ℕ → ℕ → ℕ → Bool
 is_within first end c = not (nat_lt c first) && nat_lt c end
 
@@ -11,19 +11,19 @@ is_within first end c = not (nat_lt c first) && nat_lt c end
 abbrev pub is_control : ℕ → Bool
 is_control c = nat_lt c 0x20 || is_within 0x7F 0xA0 c
 
--- Whether a character looks like a space and isn't the one of ASCII: those of Unicode's property White_Space that are no control characters, and the pattern of Braille without a dot.
+-- Whether a character looks like ASCII's space but is another character: one of Unicode's property White_Space that is no control character, or the pattern of Braille without a dot.
 abbrev pub is_unicode_space : ℕ → Bool
 is_unicode_space c = (c == 0xA0) || ((c == 0x1680) || (is_within 0x2000 0x200B c || (is_within 0x2028 0x202A c || ((c == 0x202F) || ((c == 0x205F) || ((c == 0x2800) || (c == 0x3000)))))))
 
--- Whether a character below U+10000 is seen as nothing: those of Unicode's property Default_Ignorable_Code_Point, such as marks of no width and variation selectors, and the marks of annotations.
+-- Whether a character below U+10000 is invisible: one of Unicode's property Default_Ignorable_Code_Point, such as marks of no width and variation selectors, or a mark of annotations.
 abbrev pub is_low_ignorable : ℕ → Bool
 is_low_ignorable c = (c == 0xAD) || ((c == 0x34F) || ((c == 0x61C) || (is_within 0x115F 0x1161 c || (is_within 0x17B4 0x17B6 c || (is_within 0x180B 0x1810 c || (is_within 0x200B 0x2010 c || (is_within 0x202A 0x202F c || (is_within 0x2060 0x2070 c || ((c == 0x3164) || (is_within 0xFE00 0xFE10 c || ((c == 0xFEFF) || ((c == 0xFFA0) || is_within 0xFFF0 0xFFFC c))))))))))))
 
--- The same of those from U+10000 on.
+-- The same for characters from U+10000 on.
 abbrev pub is_high_ignorable : ℕ → Bool
 is_high_ignorable c = is_within 0x1BCA0 0x1BCA4 c || (is_within 0x1D173 0x1D17B c || is_within 0xE0000 0xE1000 c)
 
--- Whether a character is seen as nothing, or as a space that it isn't, and is no control character.
+-- Whether a character is invisible or looks like a space that it isn't. No control character is among these.
 abbrev pub is_disguised : ℕ → Bool
 is_disguised c = is_unicode_space c || (is_low_ignorable c || is_high_ignorable c)
 
@@ -31,7 +31,7 @@ is_disguised c = is_unicode_space c || (is_low_ignorable c || is_high_ignorable 
 abbrev pub numbered : ℕ → List ℕ
 numbered c = codes "\\u{" ++ digits 16 false c ++ codes "}"
 
--- A character whose control characters are escaped: a tab, a line feed and a carriage return by a letter, the others by their number, any other character as itself.
+-- A character, escaped if it is a control character: a tab, a line feed and a carriage return by a letter, the others by their number. Any other character is itself.
 abbrev pub escaped_char : ℕ → List ℕ
 escaped_char c =
     cond (c == 9) (codes "\\t")
@@ -39,15 +39,15 @@ escaped_char c =
     (cond (c == 13) (codes "\\r")
     (cond (is_control c) (numbered c) (encode_utf8 c))))
 
--- A name or a text on one line, with its control characters escaped: it can't end the line, nor command a terminal.
+-- A name or a text on one line, with its control characters escaped. It can't end the line or command a terminal.
 unfoldable pub escaped : List ℕ → List ℕ
 escaped text = flat_map escaped_char (chars text)
 
--- Whether a byte is a control character's, or may be: from U+0080 on they begin with 0xC2. No public contract needs it.
+-- Whether a byte belongs to a control character, or may do so: those from U+0080 on begin with 0xC2. No public contract needs it.
 abbrev pub is_suspect : ℕ → Bool
 is_suspect b = nat_lt b 0x20 || ((b == 0x7F) || (b == 0xC2))
 
--- A character as it is shown between quotes: a backslash twice, what is disguised by its number, any other as above.
+-- A character as it is shown between quotes: a backslash is doubled, a disguised character is shown by its number, and any other as above.
 abbrev pub shown_char : ℕ → List ℕ
 shown_char c = cond (c == 92) (codes "\\\\") (cond (is_disguised c) (numbered c) (escaped_char c))
 
@@ -55,11 +55,11 @@ shown_char c = cond (c == 92) (codes "\\\\") (cond (is_disguised c) (numbered c)
 abbrev pub shown : List ℕ → List ℕ
 shown text = flat_map shown_char (chars text)
 
--- The lines of a text: what stands between its line feeds. A text that ends with a line feed has an empty last line.
+-- The lines of a text: the parts between its line feeds. A text that ends with a line feed has an empty last line.
 abbrev pub text_lines : List ℕ → List (List ℕ)
 text_lines text = slice_split (λ b. b == 10) text
 
--- A line of a text after a mark, between quotes, so that blanks at its end are seen.
+-- A line of a text after a mark, between quotes, so that spaces and tabs at its end are visible.
 unfoldable pub marked_line : List ℕ → List ℕ → List ℕ
 marked_line mark line = codes "      " ++ (mark ++ (codes " \"" ++ (shown line ++ codes "\"\n")))
 
@@ -67,11 +67,11 @@ marked_line mark line = codes "      " ++ (mark ++ (codes " \"" ++ (shown line +
 abbrev pub marked_lines : List ℕ → List (List ℕ) → List ℕ
 marked_lines mark lines = flat_map (marked_line mark) lines
 
--- What stands in place of lines that are left out.
+-- The row that replaces lines that are left out.
 abbrev pub left_out : ℕ → List ℕ
 left_out count = codes "      ... " ++ (decimal count ++ codes " more lines ...\n")
 
--- Lines in at most twenty rows: all of up to twenty lines; of more the first ten, how many are left out, and the last nine.
+-- Lines in at most twenty rows. Up to twenty lines are all shown; of more, the first ten, the number of those left out, and the last nine.
 abbrev pub few_lines : List ℕ → List (List ℕ) → List ℕ
 few_lines mark lines =
     cond (nat_lt 20 (length lines)) (marked_lines mark (take 10 lines) ++ (left_out (length lines - 19) ++ marked_lines mark (drop (length lines - 9) lines))) (marked_lines mark lines)
@@ -80,16 +80,16 @@ few_lines mark lines =
 unfoldable pub marked_text : List ℕ → List ℕ → List ℕ
 marked_text mark text = few_lines mark (text_lines text)
 
--- Whether a line, counted from 1, is one of those that are left out of so many: these are more than twenty, and it is none of the first ten and of the last nine.
+-- Whether a line, counted from 1, is one of those left out of `count` lines: there are more than twenty, and it is none of the first ten or the last nine.
 abbrev pub is_left_out : ℕ → ℕ → Bool
 is_left_out line count = nat_lt 20 count && (nat_lt 10 line && nat_lt line (count - 8))
 
--- Lines round one: the first five, it with three on either side, and the last four, each time with how many are left out between.
+-- Lines around one: the first five, this line with three on either side, and the last four, each time with the number of lines left out between.
 abbrev pub lines_round : List ℕ → ℕ → List (List ℕ) → List ℕ
 lines_round mark line lines =
     marked_lines mark (take 5 lines) ++ (left_out (line - 9) ++ (marked_lines mark (take 7 (drop (line - 4) lines)) ++ (left_out (length lines - (line + 7)) ++ marked_lines mark (drop (length lines - 4) lines))))
 
--- Lines in at most twenty rows, one of which has to be shown: lines round it where it would be left out.
+-- Lines in at most twenty rows, with one that has to be shown: if it would be left out, lines around it.
 abbrev pub few_lines_with : List ℕ → ℕ → List (List ℕ) → List ℕ
 few_lines_with mark line lines = cond (is_left_out line (length lines)) (lines_round mark line lines) (few_lines mark lines)
 

@@ -1,4 +1,4 @@
-//! What is said below an event that failed.
+//! Details below the line of an event that failed.
 ghost use Rattle.std.specs.Prelude.{◌≡◌, ◌++◌, length, option_copied, string_bytes};
 ghost use Rattle.gk_gherkin.specs.Feature.{block_value};
 ghost use Rattle.gk_steps.specs.Finding.{library_value, found_value, action_of, found};
@@ -21,18 +21,18 @@ use gk_steps::{Action, Found, Library};
 use gk_world::Sandbox;
 use std::alloc::{AllocError, Global};
 
-/// What an action works on.
+/// The kind of thing that an action works on.
 #[derive(Clone, Copy, Debug, PartialEq, Eq)]
 pub enum Kind {
     /// A file.
     File,
     /// A variable.
     Variable,
-    /// A value, seen or of the innermost layer.
+    /// A value: the one that is seen, or the one of the innermost layer.
     Value,
 }
 
-/// An action, and what it works with.
+/// An action and the arguments that it works with.
 #[derive(Clone, Copy)]
 pub struct Given<'a> {
     pub action: Action,
@@ -44,9 +44,9 @@ pub struct Given<'a> {
     pub step: &'a str,
     /// The field `n`.
     pub number: i64,
-    /// The field `text`, else the step's doc string.
+    /// The field `text` or, without one, the step's doc string.
     pub text: Option<&'a str>,
-    /// What stands under the step.
+    /// The step's block.
     pub block: &'a Block,
 }
 
@@ -68,7 +68,7 @@ fn kind_of(action: Action) -> Kind
     }
 }
 
-// The text of a file or a variable, or the value that is seen, under a name.
+// Returns the text of a file or a variable, or the value that is seen, under a name.
 fn held<'a>(kind: Kind, sandbox: &'a Sandbox, name: &str) -> Option<&'a str>
     ensures { option_copied result ≡ spec.held kind (state_of sandbox.now.now) name.now }
 {
@@ -79,7 +79,7 @@ fn held<'a>(kind: Kind, sandbox: &'a Sandbox, name: &str) -> Option<&'a str>
     }
 }
 
-// What an action finds under the name that it is given.
+// Returns the text that an action finds under the name that it is given; it is empty if there is none.
 fn found_text<'a>(given: &Given<'_>, sandbox: &'a Sandbox) -> &'a str
     ensures { result.now ≡ spec.found_text given.now.action (given_value given.now)
         (state_of sandbox.now.now) }
@@ -87,7 +87,7 @@ fn found_text<'a>(given: &Given<'_>, sandbox: &'a Sandbox) -> &'a str
     held(kind_of(given.action), sandbox, given.name).unwrap_or("")
 }
 
-// The text of a doc string.
+// Returns the text of a doc string, if the block is one.
 fn doc_string(block: &Block) -> Option<&str>
     ensures { option_copied result ≡ acting.doc_string (block_value block.now) }
 {
@@ -97,7 +97,7 @@ fn doc_string(block: &Block) -> Option<&str>
     }
 }
 
-// What the action of what was found works with.
+// Returns the action of what was found, with its arguments.
 fn given_to<'a>(library: &Library, found: &'a Found, block: &'a Block) -> Given<'a>
     ensures action { result.action
         ≡ action_of (library_value library.now) (found_value found.now) }
@@ -116,7 +116,7 @@ fn given_to<'a>(library: &Library, found: &'a Found, block: &'a Block) -> Given<
     }
 }
 
-// Pushes the line that says where two texts differ first.
+// Appends the line with the position at which two texts first differ.
 #[tactic(auto, unfolding(crate::specs::Details::difference_line))]
 fn push_position(out: &mut String, first: Position) -> Result<(), AllocError>
     ensures { Pushes out.old (spec.difference_line first) result out.new }
@@ -129,7 +129,7 @@ fn push_position(out: &mut String, first: Position) -> Result<(), AllocError>
     Ok(())
 }
 
-// Pushes a number that is expected.
+// Appends the line with an expected number.
 fn push_expected(out: &mut String, number: i64) -> Result<(), AllocError>
     ensures { Pushes out.old (spec.expected_number number) result out.new }
 {
@@ -137,7 +137,7 @@ fn push_expected(out: &mut String, number: i64) -> Result<(), AllocError>
     Ok(())
 }
 
-// Pushes two texts, of which one was expected and the other found.
+// Appends an expected text and a found text.
 #[tactic(auto, unfolding(crate::specs::Details::both))]
 fn push_both(alloc: Global, out: &mut String, expected: &str, found: &str) -> Result<(), AllocError>
     ensures { Pushes out.old (spec.both expected.now found.now) result out.new }
@@ -146,7 +146,8 @@ fn push_both(alloc: Global, out: &mut String, expected: &str, found: &str) -> Re
     push_text(alloc, out, "found   ", found)
 }
 
-// Pushes both, with the line in which they differ first, and where they do.
+// Appends both texts, each with the line in which they first differ among its shown lines, and the position at
+// which they first differ.
 #[tactic(auto, unfolding(crate::specs::Details::compared))]
 fn push_compared(
     alloc: Global,
@@ -162,7 +163,7 @@ fn push_compared(
     push_position(out, first)
 }
 
-// Pushes a text that was expected in another, and the other.
+// Appends a text that was expected in another text, and that other text.
 #[tactic(auto, unfolding(crate::specs::Details::lacking))]
 fn push_lacking(
     alloc: Global,
@@ -176,7 +177,7 @@ fn push_lacking(
     out.push_str("      the expected text stands nowhere in the found text\n")
 }
 
-// Pushes a number that was expected, and the text of the value that was found.
+// Appends an expected number, and the text of the found value.
 #[tactic(auto, unfolding(crate::specs::Details::unequal))]
 fn push_unequal(
     alloc: Global,
@@ -190,7 +191,7 @@ fn push_unequal(
     push_text(alloc, out, "found   ", found)
 }
 
-// Pushes what an action expected that found something else.
+// Appends what an action expected and what it found instead.
 fn push_difference(
     alloc: Global,
     out: &mut String,
@@ -217,7 +218,7 @@ fn kind_word(kind: Kind) -> &'static str
     }
 }
 
-// Pushes the line that says that nothing is there under a name.
+// Appends the line that says that nothing exists under a name.
 #[tactic(auto, unfolding(crate::specs::Details::absent_line))]
 fn push_absent(out: &mut String, kind: Kind, name: &str) -> Result<(), AllocError>
     ensures { Pushes out.old (spec.absent_line kind name.now) result out.new }
@@ -229,7 +230,7 @@ fn push_absent(out: &mut String, kind: Kind, name: &str) -> Result<(), AllocErro
     out.push_str("\"\n")
 }
 
-// What stands in an action's way.
+// Returns the text that is in an action's way.
 fn present_text<'a>(given: &Given<'_>, sandbox: &'a Sandbox) -> &'a str
     ensures { result.now ≡ spec.present_text given.now.action (given_value given.now)
         (state_of sandbox.now.now) }
@@ -240,7 +241,7 @@ fn present_text<'a>(given: &Given<'_>, sandbox: &'a Sandbox) -> &'a str
     }
 }
 
-// Pushes a number that is to be added.
+// Appends the line with a number that is to be added.
 fn push_added(out: &mut String, number: i64) -> Result<(), AllocError>
     ensures { Pushes out.old (spec.added_number number) result out.new }
 {
@@ -248,7 +249,7 @@ fn push_added(out: &mut String, number: i64) -> Result<(), AllocError>
     Ok(())
 }
 
-// Pushes the text of a value, and the number that can't be added to it.
+// Appends the text of a value, and the number that can't be added to it.
 #[tactic(auto, unfolding(crate::specs::Details::sum_out_of_range))]
 fn push_sum(alloc: Global, out: &mut String, found: &str, number: i64) -> Result<(), AllocError>
     ensures { Pushes out.old (spec.sum_out_of_range found.now number) result out.new }
@@ -257,7 +258,7 @@ fn push_sum(alloc: Global, out: &mut String, found: &str, number: i64) -> Result
     push_added(out, number)
 }
 
-// Pushes the text of a value that is set in an outer layer alone.
+// Appends the text of a value that is set only in an outer layer.
 #[tactic(auto, unfolding(crate::specs::Details::in_outer_layer))]
 fn push_in_outer_layer(alloc: Global, out: &mut String, found: &str) -> Result<(), AllocError>
     ensures { Pushes out.old (spec.in_outer_layer found.now) result out.new }
@@ -266,7 +267,7 @@ fn push_in_outer_layer(alloc: Global, out: &mut String, found: &str) -> Result<(
     out.push_str("      it is set in an outer layer alone\n")
 }
 
-// The name that an action gives to what it changes.
+// Returns the name that an action gives to what it changes.
 fn given_name<'a>(given: &Given<'a>) -> &'a str
     ensures { result.now ≡ spec.given_name given.now.action (given_value given.now) }
 {
@@ -277,7 +278,7 @@ fn given_name<'a>(given: &Given<'a>) -> &'a str
     }
 }
 
-// Pushes how many bytes a bad name has.
+// Appends the line with the number of bytes of a bad name.
 #[tactic(auto, unfolding(crate::specs::Details::name_length))]
 fn push_name_length(out: &mut String, count: usize) -> Result<(), AllocError>
     ensures { Pushes out.old (spec.name_length count) result out.new }
@@ -289,14 +290,14 @@ fn push_name_length(out: &mut String, count: usize) -> Result<(), AllocError>
     Ok(())
 }
 
-// How many bytes a text has with more at its end.
+// Returns the number of bytes of a text with `more` at its end.
 fn joined_len(text: &str, more: &str) -> u128
     ensures { result ≡ length (text.now ++ more.now) }
 {
     text.len() as u128 + more.len() as u128
 }
 
-// How many bytes the text has that an action gives to what it changes.
+// Returns the number of bytes of the text that an action gives to what it changes.
 fn new_text_len(given: &Given<'_>, sandbox: &Sandbox) -> u128
     ensures { result ≡ length (spec.new_text given.now.action (given_value given.now)
         (state_of sandbox.now.now)) }
@@ -309,7 +310,7 @@ fn new_text_len(given: &Given<'_>, sandbox: &Sandbox) -> u128
     }
 }
 
-// Pushes how many bytes a text has that is too long.
+// Appends the line with the number of bytes of a text that is too long.
 #[tactic(auto, unfolding(crate::specs::Details::text_length))]
 fn push_text_length(out: &mut String, count: u128) -> Result<(), AllocError>
     ensures { Pushes out.old (spec.text_length count) result out.new }
@@ -321,7 +322,7 @@ fn push_text_length(out: &mut String, count: u128) -> Result<(), AllocError>
     Ok(())
 }
 
-// An action that failed: what it works with, for which reason, and the sandbox that it left.
+// An action that failed: its arguments, the reason, and the sandbox that it left.
 #[derive(Clone, Copy)]
 struct Failure<'a> {
     given: Given<'a>,
@@ -329,7 +330,7 @@ struct Failure<'a> {
     sandbox: &'a Sandbox,
 }
 
-// Pushes what the reason of a failure means.
+// Appends what the reason of a failure means.
 fn push_details(
     alloc: Global,
     out: &mut String,
@@ -359,7 +360,7 @@ fn push_details(
     }
 }
 
-// Pushes what a reason means for a step. The library finds its action.
+// Appends what a reason means for a step. The library finds the step's action.
 fn push_reason(
     alloc: Global,
     out: &mut String,
@@ -388,7 +389,7 @@ fn push_reason(
     }
 }
 
-// Pushes what a reason means for a cleanup.
+// Appends what a reason means for a cleanup.
 fn push_cleanup_reason(
     alloc: Global,
     out: &mut String,
@@ -409,9 +410,9 @@ fn push_cleanup_reason(
     push_details(alloc, out, nearest, &failure)
 }
 
-/// Pushes what is said below the line of an event: what the reason means where its action failed, and the nearest
-/// entry where a step is undefined. An error comes only where a growth was refused; a part of it may have been pushed
-/// then.
+/// Appends the text below the line of an event: what the reason means if its action failed, or the nearest
+/// entry if a step is undefined. An error comes only if a growth was refused; a part of it may have been
+/// appended then.
 #[tactic(auto, unfolding(crate::specs::Details::event_details))]
 pub fn push_event_details(
     alloc: Global,

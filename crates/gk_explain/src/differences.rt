@@ -1,4 +1,4 @@
-//! Where two texts differ first.
+//! The first difference of two texts.
 ghost use Rattle.std.specs.Prelude.{◌≡◌, ◌<◌};
 ghost use Rattle.gk_explain.specs.Differences as spec;
 
@@ -9,7 +9,7 @@ pub struct Position {
     pub column: usize,
 }
 
-// The position after one character more.
+// Returns the position after one more character.
 fn after(position: Position, c: char) -> Position
     requires line { position.line < 18446744073709551615 }
     requires column { position.column < 18446744073709551615 }
@@ -28,8 +28,8 @@ fn after(position: Position, c: char) -> Position
     }
 }
 
-/// Where two texts differ first: the position after all characters that they begin with alike, which may be at the
-/// end of one of them. Takes no memory.
+/// Returns the position at which two texts first differ: the one after all characters that they have in common
+/// at the start. It may be at the end of one of them. Allocates no memory.
 pub fn first_difference(expected: &str, found: &str) -> Position
     ensures { result ≡ spec.first_difference expected.now found.now }
 {

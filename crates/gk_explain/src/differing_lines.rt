@@ -1,8 +1,8 @@
-//! The lines in which two texts differ first.
+//! The lines in which two texts first differ.
 ghost use Rattle.gk_explain.specs.DifferingLines.{DifferingLinesAreShown};
 
-/// Where two texts are compared, each of them has a line with the number of the one in which they differ first, and
-/// that line is among those that are shown, of the expected text and of the found one, however long they are.
+/// If two texts are compared, each of them has a line with the number of the line in which they first differ.
+/// This line of the expected text and this line of the found text are shown, however long the texts are.
 pub fn differing_lines_are_shown()
     ensures { DifferingLinesAreShown }
 {}

@@ -1,4 +1,4 @@
-//! An event of a run, as an explainer is told it.
+//! Events of a run, as an explainer is told them.
 ghost use Rattle.std.specs.Prelude.{◌≡◌};
 ghost use Rattle.gk_explain.specs.Event as spec;
 
@@ -7,7 +7,7 @@ use gk_run::{Level, Mark, Outcome, Stage};
 use gk_steps::Found;
 use gk_world::Sandbox;
 
-/// What happened to a step: where it stands, what became of it, and the sandbox that it left.
+/// What happened to a step: its place, its mark, and the sandbox that it left.
 #[derive(Clone, Copy)]
 pub struct StepEvent<'a> {
     pub place: Stage,
@@ -33,7 +33,7 @@ pub enum Event<'a> {
     Cleanup(CleanupEvent<'a>),
 }
 
-/// The level of the section that an event is of. Takes no memory.
+/// Returns the level of the section that an event belongs to. Allocates no memory.
 pub fn level_of(event: Event<'_>) -> Level
     ensures { result ≡ spec.level_of (spec.event_told event.entry) }
 {

@@ -14,15 +14,15 @@ use gk_report::push_ending;
 use gk_run::{Mark, Outcome, Part, Stage, reason_of, status_of};
 use std::alloc::AllocError;
 
-/// The names of the hooks file and of the feature file that steps stand in.
+/// The names of the hooks file and of the feature file that contain the steps.
 #[derive(Clone, Copy, Debug)]
 pub struct Names<'a> {
     pub hooks: &'a str,
     pub source: &'a str,
 }
 
-/// Pushes a place in a file: its name, and a line. An error comes only where a growth was refused; a part of it may
-/// have been pushed then.
+/// Appends a place in a file: its name, and a line. An error comes only if a growth was refused; a part of it
+/// may have been appended then.
 #[tactic(auto, unfolding(crate::specs::EventLines::place_text))]
 pub fn push_place(out: &mut String, file: &str, line: u32) -> Result<(), AllocError>
     ensures { Pushes out.old (spec.place_text file.now line) result out.new }
@@ -32,7 +32,7 @@ pub fn push_place(out: &mut String, file: &str, line: u32) -> Result<(), AllocEr
     Ok(())
 }
 
-// The file that the steps of a part of a section stand in.
+// Returns the name of the file that contains the steps of a part of a section.
 fn file_of<'a>(names: Names<'a>, part: Part) -> &'a str
     ensures { result.now ≡ spec.file_of (names_value names.entry) part }
 {
@@ -52,14 +52,14 @@ fn part_text(part: Part) -> &'static str
     }
 }
 
-// Pushes what a line of an event ends with.
+// Appends the end of an event's line.
 fn push_mark(out: &mut String, mark: Mark) -> Result<(), AllocError>
     ensures { Pushes out.old (codes " ... " ++ mark_text mark ++ line_feed) result out.new }
 {
     push_ending(out, status_of(mark), reason_of(mark))
 }
 
-// Pushes the line of a step, and of what became of it.
+// Appends the line of a step and its mark.
 #[tactic(auto, unfolding(crate::specs::EventLines::line_of_step, gk_report::specs::PlainReport::status_line))]
 fn push_step_line(
     out: &mut String,
@@ -81,7 +81,7 @@ fn push_step_line(
     push_mark(out, mark)
 }
 
-// Pushes where a cleanup was registered.
+// Appends the place where a cleanup was registered, if there is one.
 fn push_registration(
     out: &mut String,
     names: Names<'_>,
@@ -96,7 +96,7 @@ fn push_registration(
     }
 }
 
-// Pushes the line of a cleanup that was registered there, and of its outcome.
+// Appends the line of a cleanup: the place where it was registered, and its outcome.
 #[tactic(auto, unfolding(crate::specs::EventLines::line_of_cleanup, gk_report::specs::PlainReport::status_line))]
 fn push_cleanup_line(
     out: &mut String,
@@ -113,8 +113,8 @@ fn push_cleanup_line(
     push_mark(out, Mark::Acted(outcome))
 }
 
-/// Pushes the line of an event of a section in which these cleanups are registered and still to run. An error comes
-/// only where a growth was refused; a part of the line may have been pushed then.
+/// Appends the line of an event of a section. `registered` has the places of the section's cleanups that are
+/// still to run. An error comes only if a growth was refused; a part of the line may have been appended then.
 pub fn push_event_line(
     out: &mut String,
     names: Names<'_>,

@@ -18,11 +18,15 @@ use gk_steps::{Found, Library};
 use gk_world::Sandbox;
 use std::alloc::{AllocError, Global};
 
-/// Explains a run that it is told as its observer: each scenario, and the hooks and cleanups of each rule, each
-/// feature and the run, where they failed or were refused memory, by a line for each event, in order, and below the
-/// line of one that failed by what its reason means there, and of a step that is undefined by the nearest entry of the
-/// library. It keeps no event. Where a growth is refused to it, in any call and at any event, it is cut: from then on it
-/// adds nothing, and what is asked of it is answered by an error. The run that it hears goes on.
+/// An observer that explains a run.
+///
+/// It explains each scenario that failed or was refused memory, and in the same way the hooks and cleanups of
+/// each rule, each feature and the run. An explanation has a line for each event, in order. Below the line of
+/// an event that failed, it says what the reason means there. Below an undefined step, it names the nearest
+/// entry of the library, if any is near. It keeps no event.
+///
+/// If a growth is refused to it, in any call and at any event, it is cut: from then on it adds nothing, and
+/// calls for its texts return an error. The run that it hears goes on.
 #[derive(Debug, Drop)]
 pub struct Explainer<'a> {
     alloc: Global,
@@ -31,8 +35,8 @@ pub struct Explainer<'a> {
 }
 
 impl<'a> Explainer<'a> {
-    /// An explainer that was told nothing. `library` is the one in which the run finds its steps, and `hooks` the
-    /// name by which it calls the hooks file. Takes no memory.
+    /// Returns an explainer that was told nothing. `library` is the library in which the run finds its steps,
+    /// and `hooks` is the run's name for the hooks file. Allocates no memory.
     pub fn new(alloc: Global, library: &'a Library, hooks: &'a str) -> Explainer<'a>
         ensures uncut { spec.is_cut result ≡ false }
         ensures said { said result
@@ -45,14 +49,14 @@ impl<'a> Explainer<'a> {
         }
     }
 
-    /// Whether a growth was refused to it. Takes no memory.
+    /// Returns whether a growth was refused to the explainer. Allocates no memory.
     pub fn is_cut(&self) -> bool
         ensures { result ≡ spec.is_cut self.now }
     {
         self.cut
     }
 
-    // Cuts it where a growth was refused to it.
+    // Cuts the explainer if a growth was refused to it.
     fn cut_after(&mut self, added: Result<(), AllocError>)
         ensures cut { OnErr added (spec.is_cut self.new ≡ true) }
         ensures uncut { OnOk added (self.new ≡ self.old) }
@@ -62,7 +66,7 @@ impl<'a> Explainer<'a> {
         }
     }
 
-    /// A feature begins, of the source of this name. It comes before the feature's first event. Where a growth is
+    /// Begins a feature of the source with this name. Call it before the feature's first event. If a growth is
     /// refused, the explainer is cut.
     pub fn begin_feature(&mut self, source: &str)
         ensures { Becomes self.old (with_source source.now) self.new }
@@ -74,9 +78,9 @@ impl<'a> Explainer<'a> {
         self.cut_after(added);
     }
 
-    /// A feature has ended with this result, after its events. What failed of its own hooks and cleanups is
-    /// ready then, too. If a growth is refused, the explainer is cut; none is asked for unless they failed or were
-    /// refused memory.
+    /// Ends a feature with this result, after its events. If the feature's hooks and cleanups failed or were
+    /// refused memory, their explanation is ready then, too. If a growth is refused, the explainer is cut; none
+    /// is asked for unless they failed or were refused memory.
     pub fn end_feature(&mut self, feature: &FeatureResult)
         ensures becomes { Becomes self.old (with_feature (feature_row feature.now)) self.new }
         ensures kept { IsCutOnlyByBad feature.now.around self.old self.new }
@@ -88,9 +92,9 @@ impl<'a> Explainer<'a> {
         self.cut_after(added);
     }
 
-    /// The run has ended, after all events, `around` being how its own hooks and cleanups ended. What failed
-    /// of them is ready then, too. If a growth is refused, the explainer is cut; none is asked for unless they failed
-    /// or were refused memory.
+    /// Ends the run, after all events. `around` is the status of the run's hooks and cleanups. If they failed or
+    /// were refused memory, their explanation is ready then, too. If a growth is refused, the explainer is cut;
+    /// none is asked for unless they failed or were refused memory.
     pub fn end_run(&mut self, around: Status)
         ensures becomes { Becomes self.old (with_run around) self.new }
         ensures kept { IsCutOnlyByBad around self.old self.new }
@@ -102,8 +106,9 @@ impl<'a> Explainer<'a> {
         self.cut_after(added);
     }
 
-    /// The explanations that are ready, and weren't taken before; then none is. Takes no memory. An error comes only
-    /// where a growth was refused to the explainer before, so that it is cut, and leaves it as it is.
+    /// Returns the explanations that are ready and weren't taken before; after that, none is ready. Allocates
+    /// no memory. An error comes only if a growth was refused to the explainer before, so that it is cut; the
+    /// call leaves it as it is then.
     pub fn take_ready(&mut self) -> Result<String, AllocError>
         ensures uncut { IfOk result (λ text. spec.is_cut self.old ≡ false) }
         ensures text { let old = said self.old in IfOk result (λ text.
@@ -118,9 +123,9 @@ impl<'a> Explainer<'a> {
         Ok(self.explanation.take_ready(self.alloc))
     }
 
-    /// The list of what failed, a line for each, with an empty line behind it; it is empty where nothing
-    /// failed. An error comes only where a growth was refused, before, so that the explainer is cut, or now; nothing is
-    /// left of the explainer then.
+    /// Returns the list of what failed, one line each, followed by an empty line. If nothing failed, the text
+    /// is empty. An error comes only if a growth was refused: before, so that the explainer is cut, or in this
+    /// call. The explainer is dropped then.
     pub fn into_failures(self) -> Result<String, AllocError>
         ensures uncut { IfOk result (λ text. spec.is_cut self.entry ≡ false) }
         ensures text { let said = said self.entry in IfOk result (λ text.
@@ -191,14 +196,14 @@ impl Observer for Explainer<'_> {
     }
 }
 
-/// A case that was told is explained where it failed or was refused memory, by the lines of all its events in
-/// order, with what is said below those that failed; and nothing is said of another.
+/// A case that was told is explained if it failed or was refused memory. The explanation has the lines of all
+/// its events in order, with the text below those that failed. Nothing is said about any other case.
 pub fn cases_are_explained()
     ensures { CasesAreExplained }
 {}
 
-/// The cleanups of a case that run are those that its hooks and steps registered, the last first, and the place that is
-/// said of each is that of the step that registered it.
+/// The cleanups of a case that run are those that its hooks and steps registered, the last first. The place
+/// given for each is that of the step that registered it.
 pub fn cleanups_are_of_their_steps()
     ensures { CleanupsAreOfTheirSteps }
 {}

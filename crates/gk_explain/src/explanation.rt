@@ -1,4 +1,5 @@
-//! What is kept of a run to explain it: no event, only its lines, and where cleanups were registered.
+//! The state that explains a run: the lines of its events and the places where cleanups were registered, but no
+//! event.
 ghost use Rattle.std.specs.Prelude.{◌≡◌, ◌++◌, true, false, IfOk, OnOk, OnErr, string_bytes};
 ghost use Rattle.gk_run.specs.Cases as cases;
 ghost use Rattle.gk_report.specs.ReportTexts.{line_feed, Pushes};
@@ -15,7 +16,7 @@ use gk_steps::Library;
 use std::alloc::{AllocError, Global};
 use std::mem;
 
-/// What is kept of each section that is open, and what is explained.
+/// What is kept of each open section, and what is explained.
 #[derive(Debug, Drop)]
 pub struct Explanation<'a> {
     nearest: NearestLines<'a>,
@@ -49,7 +50,7 @@ impl Explained {
         self.failures.push_str("\n")
     }
 
-    // Explains what has ended where it failed or was refused memory. Nothing is kept of its section then.
+    // Explains what has ended if it failed or was refused memory. On success nothing is kept of its section.
     fn end(
         &mut self,
         source: &str,
@@ -82,8 +83,8 @@ impl<'a> Explanation<'a> {
     ghost use Rattle.gk_explain.specs.Headings.{failures_text};
     ghost use Rattle.gk_explain.specs.Explanation.{explanation_value, nothing_said, with_event, with_case, with_rule, with_source, with_feature, with_run, with_taken};
 
-    /// Nothing was told yet, and no feature was begun; the run finds its steps in this library, and the hooks file
-    /// has this name. Takes no memory.
+    /// Returns an explanation that was told nothing, before any feature has begun. The run finds its steps in
+    /// `library`, and `hooks` is the name of the hooks file. Allocates no memory.
     pub fn new(alloc: Global, library: &'a Library, hooks: &'a str) -> Explanation<'a>
         ensures { explanation_value result
             ≡ nothing_said (library_value library.entry.now) hooks.entry.now }
@@ -103,8 +104,8 @@ impl<'a> Explanation<'a> {
         }
     }
 
-    /// A feature of a file of this name begins. An error comes only where a growth was refused; the source
-    /// has no name then.
+    /// Begins a feature of a file with this name. An error comes only if a growth was refused; the source has
+    /// no name then.
     pub fn begin_feature(&mut self, source: &str) -> Result<(), AllocError>
         ensures { OnOk result (explanation_value self.new
             ≡ with_source source.now (explanation_value self.old)) }
@@ -113,7 +114,7 @@ impl<'a> Explanation<'a> {
         self.source.push_str(source)
     }
 
-    /// The feature that is open has ended with this result. Errors are those of `end_case`.
+    /// Ends the open feature with this result. Errors are those of `end_case`.
     pub fn end_feature(&mut self, feature: &FeatureResult) -> Result<(), AllocError>
         ensures ended { OnOk result (explanation_value self.new
             ≡ with_feature (feature_row feature.now) (explanation_value self.old)) }
@@ -124,8 +125,8 @@ impl<'a> Explanation<'a> {
             .end(source, Ended::Feature(feature), &mut self.feature)
     }
 
-    /// Adds an event to what is kept of its section. An error comes only where a growth was refused; the section may
-    /// have a part of its lines then.
+    /// Adds an event to what is kept of its section. An error comes only if a growth was refused; the section
+    /// may have a part of the event's lines then.
     pub fn add(&mut self, alloc: Global, event: Event<'_>) -> Result<(), AllocError>
         ensures { OnOk result (explanation_value self.new
             ≡ with_event (event_told event.entry) (explanation_value self.old)) }
@@ -143,8 +144,8 @@ impl<'a> Explanation<'a> {
         }
     }
 
-    /// The scenario that is open has ended with this result. An error comes only where a growth was refused; a part of
-    /// its explanation may be ready then.
+    /// Ends the open scenario with this result. An error comes only if a growth was refused; a part of its
+    /// explanation may be ready then.
     pub fn end_case(&mut self, case: &CaseResult) -> Result<(), AllocError>
         ensures ended { OnOk result (explanation_value self.new
             ≡ with_case (case_row case.now) (explanation_value self.old)) }
@@ -155,7 +156,7 @@ impl<'a> Explanation<'a> {
             .end(source, Ended::Scenario(case), &mut self.scenario)
     }
 
-    /// The rule that is open has ended with this result. Errors are those of `end_case`.
+    /// Ends the open rule with this result. Errors are those of `end_case`.
     pub fn end_rule(&mut self, rule: &RuleResult) -> Result<(), AllocError>
         ensures ended { OnOk result (explanation_value self.new
             ≡ with_rule (rule_row rule.now) (explanation_value self.old)) }
@@ -166,7 +167,7 @@ impl<'a> Explanation<'a> {
             .end(source, Ended::Rule(rule), &mut self.rule)
     }
 
-    /// The run has ended, its own hooks and cleanups so. Errors are those of `end_case`.
+    /// Ends the run. `around` is the status of the run's hooks and cleanups. Errors are those of `end_case`.
     pub fn end_run(&mut self, around: Status) -> Result<(), AllocError>
         ensures ended { OnOk result (explanation_value self.new
             ≡ with_run around (explanation_value self.old)) }
@@ -177,7 +178,7 @@ impl<'a> Explanation<'a> {
             .end(source, Ended::Run(around), &mut self.run)
     }
 
-    /// What is ready, which then nothing is. Takes no memory.
+    /// Returns what is ready; after that, nothing is ready. Allocates no memory.
     pub fn take_ready(&mut self, alloc: Global) -> String
         ensures taken { let old = explanation_value self.old in string_bytes result ≡ old.ready }
         ensures left { explanation_value self.new ≡ with_taken (explanation_value self.old) }
@@ -185,8 +186,8 @@ impl<'a> Explanation<'a> {
         mem::replace(&mut self.explained.ready, String::new(alloc))
     }
 
-    /// The list of what failed, with an empty line behind it where there is any. An error comes only where a
-    /// growth was refused; nothing is left then.
+    /// Returns the list of what failed, followed by an empty line unless the list is empty. An error comes only
+    /// if a growth was refused; the explanation is dropped then.
     pub fn into_failures(self) -> Result<String, AllocError>
         ensures { let said = explanation_value self.entry in IfOk result (λ text.
             string_bytes text ≡ failures_text said.failures) }

@@ -1,4 +1,4 @@
-//! The heading of what failed, and its explanation.
+//! Headings and explanations of what failed.
 ghost use Rattle.std.specs.Prelude.{◌≡◌};
 ghost use Rattle.gk_run.specs.Results.{case_row, rule_row, feature_row};
 ghost use Rattle.gk_report.specs.ReportTexts.{Pushes};
@@ -10,7 +10,8 @@ use gk_report::push_ending;
 use gk_run::{CaseResult, FeatureResult, RuleResult, Status};
 use std::alloc::AllocError;
 
-/// What has ended: a scenario, or the hooks and cleanups of a rule, of a feature or of the run, and how they ended.
+/// A scenario that has ended, or the hooks and cleanups of a rule, of a feature or of the run, and how they
+/// ended.
 #[derive(Clone, Copy)]
 pub enum Ended<'a> {
     Scenario(&'a CaseResult),
@@ -19,7 +20,7 @@ pub enum Ended<'a> {
     Run(Status),
 }
 
-/// How it ended. Takes no memory.
+/// Returns the status with which it ended. Allocates no memory.
 pub fn ended_status(ended: Ended<'_>) -> Status
     ensures { result ≡ spec.ended_status ended.entry }
 {
@@ -31,7 +32,7 @@ pub fn ended_status(ended: Ended<'_>) -> Status
     }
 }
 
-// Pushes the heading of a scenario of a file.
+// Appends the heading of a scenario of a file.
 #[tactic(auto, unfolding(crate::specs::Headings::case_heading))]
 fn push_case_heading(out: &mut String, source: &str, case: &CaseResult) -> Result<(), AllocError>
     ensures { Pushes out.old (spec.case_heading source.now (case_row case.now)) result out.new }
@@ -42,7 +43,7 @@ fn push_case_heading(out: &mut String, source: &str, case: &CaseResult) -> Resul
     push_escaped(out, case.name.as_str())
 }
 
-// Pushes the heading of the hooks and cleanups of a rule of a file.
+// Appends the heading of the hooks and cleanups of a rule of a file.
 #[tactic(auto, unfolding(crate::specs::Headings::rule_heading))]
 fn push_rule_heading(out: &mut String, source: &str, rule: &RuleResult) -> Result<(), AllocError>
     ensures { Pushes out.old (spec.rule_heading source.now (rule_row rule.now)) result out.new }
@@ -51,7 +52,7 @@ fn push_rule_heading(out: &mut String, source: &str, rule: &RuleResult) -> Resul
     out.push_str("Rule: (hooks and cleanups)")
 }
 
-// Pushes what is said after the name of a feature.
+// Appends the text after the name of a feature.
 #[tactic(auto, unfolding(crate::specs::Headings::around_text))]
 fn push_around(out: &mut String) -> Result<(), AllocError>
     ensures { Pushes out.old spec.around_text result out.new }
@@ -59,7 +60,7 @@ fn push_around(out: &mut String) -> Result<(), AllocError>
     out.push_str(" (hooks and cleanups)")
 }
 
-// Pushes the heading of the hooks and cleanups of the feature of a file.
+// Appends the heading of the hooks and cleanups of the feature of a file.
 #[tactic(auto, unfolding(crate::specs::Headings::feature_heading))]
 fn push_feature_heading(
     out: &mut String,
@@ -75,7 +76,7 @@ fn push_feature_heading(
     push_around(out)
 }
 
-// Pushes the heading of the hooks and cleanups of the run.
+// Appends the heading of the hooks and cleanups of the run.
 #[tactic(auto, unfolding(crate::specs::Headings::run_heading))]
 fn push_run_heading(out: &mut String) -> Result<(), AllocError>
     ensures { Pushes out.old spec.run_heading result out.new }
@@ -83,8 +84,8 @@ fn push_run_heading(out: &mut String) -> Result<(), AllocError>
     out.push_str("Run: (hooks and cleanups)")
 }
 
-/// Pushes the heading of what has ended, in the file of this name. An error comes only where a growth was refused; a
-/// part of the heading may have been pushed then.
+/// Appends the heading of what has ended, in the file with this name. An error comes only if a growth was
+/// refused; a part of the heading may have been appended then.
 pub fn push_heading(out: &mut String, source: &str, ended: Ended<'_>) -> Result<(), AllocError>
     ensures { Pushes out.old (spec.heading_of source.now ended.entry) result out.new }
 {
@@ -96,8 +97,8 @@ pub fn push_heading(out: &mut String, source: &str, ended: Ended<'_>) -> Result<
     }
 }
 
-/// Pushes an explanation: the heading of what has ended with its status, the lines of events, an empty line. An error
-/// comes only where a growth was refused; a part of it may have been pushed then.
+/// Appends an explanation: the heading of what has ended with its status, the lines of events, and an empty
+/// line. An error comes only if a growth was refused; a part of it may have been appended then.
 #[tactic(auto, unfolding(crate::specs::Headings::explanation_text, gk_report::specs::PlainReport::status_line))]
 pub fn push_explanation(
     out: &mut String,

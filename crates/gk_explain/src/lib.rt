@@ -1,6 +1,6 @@
-//! Explanations of a run. Its events come in, as an observer is told them; the lines of what happened in
-//! each scenario that failed, and in the hooks and cleanups of each section that did, go out. Where a
-//! comment names no source, what it says is this project's profile.
+//! Explanations of a run. An explainer is told the run's events as its observer. It makes the lines about each
+//! scenario that failed, and about the hooks and cleanups of each section in which they failed. A comment that
+//! names no source describes this project's profile.
 #![tactic(auto)]
 
 mod details;

@@ -1,4 +1,4 @@
-//! The entry of a library that comes nearest to the text of a step.
+//! The entry of a library that is nearest to the text of a step.
 ghost use Rattle.std.specs.Prelude.{◌≡◌, ◌≤◌, length};
 ghost use Rattle.std.specs.List.{common_prefix_len, position_or_len, best_of};
 ghost use Rattle.gk_steps.specs.Pattern.{piece_value, pieces_said};
@@ -11,7 +11,7 @@ use gk_gherkin::StepType;
 use gk_steps::{Entry, FieldKind, Library, Piece};
 use std::alloc::AllocError;
 
-// How many bytes two texts begin with alike.
+// Returns the number of bytes that two texts have in common at the start.
 fn common_len(literal: &[u8], text: &[u8]) -> usize
     ensures value { result ≡ common_prefix_len spec.is_same literal.now text.now }
     ensures literal { result ≤ length literal.now }
@@ -24,7 +24,7 @@ fn common_len(literal: &[u8], text: &[u8]) -> usize
     len
 }
 
-// How many bytes come before the first one like this.
+// Returns the number of bytes before the first one that equals `byte`, or of the whole text if there is none.
 fn len_before(byte: u8, text: &[u8]) -> usize
     ensures value { result ≡ position_or_len (spec.is_same byte) text.now }
     ensures within { result ≤ length text.now }
@@ -37,7 +37,7 @@ fn len_before(byte: u8, text: &[u8]) -> usize
     text.len()
 }
 
-// What a field leaves of a text, by the pieces after it.
+// Returns what a field leaves of a text, by the pieces after the field.
 fn past_field<'a>(later: &[Piece], text: &'a [u8]) -> &'a [u8]
     ensures value { result.now ≡ spec.past_field (pieces_said later.now) text.now }
     ensures within { length result.now ≤ length text.now }
@@ -50,7 +50,7 @@ fn past_field<'a>(later: &[Piece], text: &'a [u8]) -> &'a [u8]
     &text[text.len()..]
 }
 
-// How many bytes of its literals a pattern has in common with a text.
+// Returns the number of bytes that the literals of a pattern have in common with a text.
 fn agreement(pattern: &[Piece], text: &[u8]) -> usize
     ensures value { result ≡ spec.agreement (pieces_said pattern.now) text.now }
     ensures within { result ≤ length text.now }
@@ -75,7 +75,7 @@ fn agreement(pattern: &[Piece], text: &[u8]) -> usize
     agreed
 }
 
-// The entry that agrees longest with a text, and the first of equals.
+// Returns the entry that agrees longest with a text, and the first of equals.
 fn nearest<'a>(first: &'a Entry, others: &'a [Entry], text: &[u8]) -> &'a Entry
     ensures { entry_value result.now
         ≡ best_of (spec.is_nearer text.now) (entry_value first.now) (entries_said others.now) }
@@ -103,7 +103,7 @@ fn type_word(step_type: Option<StepType>) -> &'static str
     }
 }
 
-// Pushes a character of a literal.
+// Appends a character of a literal.
 fn push_literal_char(out: &mut String, c: char) -> Result<(), AllocError>
     ensures { Pushes out.old (spec.literal_char c) result out.new }
 {
@@ -114,7 +114,7 @@ fn push_literal_char(out: &mut String, c: char) -> Result<(), AllocError>
     }
 }
 
-// Pushes a literal as a pattern has it.
+// Appends a literal as it is written in a pattern.
 fn push_literal(out: &mut String, text: &str) -> Result<(), AllocError>
     ensures { Pushes out.old (spec.literal_shown text.now) result out.new }
 {
@@ -124,7 +124,7 @@ fn push_literal(out: &mut String, text: &str) -> Result<(), AllocError>
     Ok(())
 }
 
-// Pushes a field as a pattern has it.
+// Appends a field as it is written in a pattern.
 fn push_field(out: &mut String, name: &str, kind: FieldKind) -> Result<(), AllocError>
     ensures { Pushes out.old (spec.field_shown name.now kind) result out.new }
 {
@@ -136,7 +136,7 @@ fn push_field(out: &mut String, name: &str, kind: FieldKind) -> Result<(), Alloc
     }
 }
 
-// Pushes a piece of a pattern.
+// Appends a piece of a pattern.
 fn push_piece(out: &mut String, piece: &Piece) -> Result<(), AllocError>
     ensures { Pushes out.old (spec.piece_shown (piece_value piece.now)) result out.new }
 {
@@ -146,7 +146,7 @@ fn push_piece(out: &mut String, piece: &Piece) -> Result<(), AllocError>
     }
 }
 
-// Pushes the pieces of a pattern.
+// Appends the pieces of a pattern.
 fn push_pattern(out: &mut String, pattern: &[Piece]) -> Result<(), AllocError>
     ensures { Pushes out.old (spec.pattern_shown (pieces_said pattern.now)) result out.new }
 {
@@ -156,7 +156,7 @@ fn push_pattern(out: &mut String, pattern: &[Piece]) -> Result<(), AllocError>
     Ok(())
 }
 
-// Pushes the line that names an entry.
+// Appends the line that names an entry.
 #[tactic(auto, unfolding(crate::specs::Nearest::nearest_line))]
 fn push_entry(out: &mut String, entry: &Entry) -> Result<(), AllocError>
     ensures { Pushes out.old (spec.nearest_line (entry_value entry.now)) result out.new }
@@ -169,14 +169,14 @@ fn push_entry(out: &mut String, entry: &Entry) -> Result<(), AllocError>
     Ok(())
 }
 
-// The first word of a text: what stands before its first blank.
+// Returns the first word of a text: the part before its first space.
 fn first_word(text: &[u8]) -> &[u8]
     ensures { result.now ≡ spec.first_word text.now }
 {
     &text[..len_before(b' ', text)]
 }
 
-// Whether an entry agrees with more of a text than with its first word alone, by two bytes at least.
+// Returns whether an entry agrees with a text by at least two bytes more than with the text's first word.
 fn is_near(entry: &Entry, text: &[u8]) -> bool
     ensures { result ≡ spec.is_near (entry_value entry.now) text.now }
 {
@@ -185,9 +185,10 @@ fn is_near(entry: &Entry, text: &[u8]) -> bool
     agreement(pieces, text).saturating_sub(word) > 1
 }
 
-/// Pushes which entry comes nearest to the text of a step: the one that agrees with it longest, and of equals the
-/// first. Nothing is pushed where none agrees with more than its first word. An error comes only where a growth was
-/// refused; a part of the line may have been pushed then.
+/// Appends the line that names the entry nearest to the text of a step: the one that agrees longest with it,
+/// and the first of equals. Nothing is appended unless it agrees with the text by at least two bytes more than
+/// with the text's first word. An error comes only if a growth was refused; a part of the line may have been
+/// appended then.
 pub fn push_nearest(out: &mut String, library: &Library, text: &str) -> Result<(), AllocError>
     ensures { Pushes out.old (spec.nearest_told (library_value library.now) text.now)
         result out.new }

@@ -1,4 +1,4 @@
-//! What is kept of the nearest entries.
+//! A cache of the lines that name nearest entries.
 ghost use Rattle.std.specs.Prelude.{◌≡◌, IfSome, string_bytes};
 ghost use Rattle.gk_steps.specs.Finding.{library_value};
 ghost use Rattle.gk_report.specs.ReportTexts.{Pushes};
@@ -10,8 +10,8 @@ use std::alloc::{AllocError, Global};
 use std::collections::HashMap;
 use std::marker::Model;
 
-/// A library, and for each text that was asked for what is said of the entry that comes nearest to it. So a text that
-/// comes again, as a step of a Background does for each scenario, isn't held against all entries again.
+/// A library and, for each text that was asked for, the line, if any, that names the entry nearest to it. So a
+/// text that occurs again, such as a step of a Background in each scenario, isn't compared with all entries again.
 #[derive(Debug, Drop)]
 pub struct NearestLines<'a> {
     library: &'a Library,
@@ -30,7 +30,7 @@ impl<'a> Model for NearestLines<'a> {
 }
 
 impl<'a> NearestLines<'a> {
-    /// This library, of which no text was asked for. Takes no memory.
+    /// Returns a cache for this library that was asked for no text. Allocates no memory.
     pub fn new(alloc: Global, library: &'a Library) -> NearestLines<'a>
         ensures { result ≡ library_value library.entry.now }
     {
@@ -40,14 +40,14 @@ impl<'a> NearestLines<'a> {
         }
     }
 
-    /// The library. Takes no memory.
+    /// Returns the library. Allocates no memory.
     pub fn library(&self) -> &'a Library
         ensures { library_value result.now ≡ self.now }
     {
         self.library
     }
 
-    // What was kept for a text.
+    // Returns the line kept for a text, if any.
     fn kept(&self, text: &str) -> Option<&str>
         ensures { IfSome result (λ line. line.now ≡ nearest_told self.now text.now) }
     {
@@ -57,7 +57,7 @@ impl<'a> NearestLines<'a> {
         }
     }
 
-    // Keeps what is said of a text.
+    // Keeps the line for a text.
     fn keep(&mut self, alloc: Global, text: &str, line: String) -> Result<(), AllocError>
         requires { string_bytes line ≡ nearest_told self.old text.now }
         ensures kept { self.new ≡ self.old }
@@ -67,8 +67,8 @@ impl<'a> NearestLines<'a> {
         Ok(())
     }
 
-    /// Pushes which entry comes nearest to a text, as `push_nearest`. An error comes only where a growth was refused;
-    /// a part of the line may have been pushed then.
+    /// Appends the line that names the entry nearest to a text, as `push_nearest` does. An error comes only if
+    /// a growth was refused; a part of the line may have been appended then.
     pub fn push(&mut self, alloc: Global, out: &mut String, text: &str) -> Result<(), AllocError>
         ensures pushed { Pushes out.old (nearest_told self.old text.now) result out.new }
         ensures kept { self.new ≡ self.old }

@@ -1,4 +1,4 @@
-//! Where the cleanups of a section were registered.
+//! Places where the cleanups of a section were registered.
 ghost use Rattle.std.specs.Prelude.{◌≡◌, IfOk, OnOk, OnErr, option_map};
 ghost use Rattle.gk_gherkin.specs.Feature.{step_value};
 ghost use Rattle.gk_steps.specs.Finding.{library_value, found_value};
@@ -10,14 +10,15 @@ use gk_run::{Mark, Outcome, Part};
 use gk_steps::{Action, Found, Library};
 use std::alloc::{AllocError, Global};
 
-/// Where a cleanup was registered: in which part of its section the step stands, and its line.
+/// The place where a cleanup was registered: the part of its section that contains the step, and the step's
+/// line.
 #[derive(Clone, Copy, Debug, PartialEq, Eq)]
 pub struct Registration {
     pub part: Part,
     pub line: u32,
 }
 
-// Whether what a step found registers a cleanup where it passes.
+// Returns whether what was found for a step registers a cleanup if the step passes.
 fn found_registers(library: &Library, found: Option<Found>) -> bool
     ensures { result ≡ spec.found_registers (library_value library.now)
         (option_map found_value found) }
@@ -28,7 +29,7 @@ fn found_registers(library: &Library, found: Option<Found>) -> bool
     }
 }
 
-// Whether a step registered a cleanup: it passed, and the library finds the action for it that registers.
+// Returns whether a step registered a cleanup: it passed, and the library finds the registering action for it.
 fn registers(alloc: Global, library: &Library, event: &StepEvent<'_>) -> Result<bool, AllocError>
     ensures { IfOk result (λ registers. registers ≡ spec.registers (library_value library.now)
         (step_value event.now.step.now) event.now.mark) }
@@ -43,9 +44,9 @@ fn registers(alloc: Global, library: &Library, event: &StepEvent<'_>) -> Result<
     }
 }
 
-/// Takes an event of a section up in where the cleanups of it were registered that are still to run: adds the place of
-/// a step that registered one, and takes the last away where it ran. An error comes only where a growth was refused,
-/// and leaves them as they were.
+/// Updates the places of a section's cleanups that are still to run, after an event of the section. Adds the
+/// place of a step that registered a cleanup, and removes the last place if a cleanup ran. An error comes only
+/// if a growth was refused, and leaves the places as they were.
 pub fn take_up(
     alloc: Global,
     registered: &mut Vec<Registration>,

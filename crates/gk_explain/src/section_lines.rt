@@ -1,4 +1,4 @@
-//! What is kept of a section that is open.
+//! The lines and registrations that are kept of an open section.
 ghost use Rattle.std.specs.Prelude.{◌≡◌, OnOk};
 ghost use Rattle.gk_explain.specs.Event.{event_told};
 ghost use Rattle.gk_explain.specs.EventLines.{names_value};
@@ -12,7 +12,8 @@ use crate::nearest_lines::NearestLines;
 use crate::registrations::{Registration, take_up};
 use std::alloc::{AllocError, Global};
 
-/// The lines of a section's events so far, and where its cleanups were registered that are still to run.
+/// The lines of a section's events so far, and the places where its cleanups that are still to run were
+/// registered.
 #[derive(Debug, Drop)]
 pub struct SectionLines {
     lines: String,
@@ -20,7 +21,7 @@ pub struct SectionLines {
 }
 
 impl SectionLines {
-    /// A section of which nothing was told. Takes no memory.
+    /// Returns a section that was told nothing. Allocates no memory.
     pub fn new(alloc: Global) -> SectionLines
         ensures { section_value result ≡ spec.untold }
     {
@@ -30,15 +31,15 @@ impl SectionLines {
         }
     }
 
-    /// The lines so far. Takes no memory.
+    /// Returns the lines so far. Allocates no memory.
     pub fn lines(&self) -> &str
         ensures { let section = section_value self.now in result.now ≡ section.lines }
     {
         self.lines.as_str()
     }
 
-    /// Adds an event: its lines, and where it registered a cleanup. An error comes only where a growth was refused; a
-    /// part of the lines may have been added then.
+    /// Adds an event: its lines, and its change of the cleanups that are still to run. An error comes only if a
+    /// growth was refused; a part of the lines may have been added then.
     pub fn add(
         &mut self,
         alloc: Global,
@@ -56,7 +57,7 @@ impl SectionLines {
         take_up(alloc, &mut self.registered, nearest.library(), event)
     }
 
-    /// Nothing is left of what was told. Takes no memory.
+    /// Drops everything that was told. Allocates no memory.
     pub fn clear(&mut self)
         ensures { section_value self.new ≡ spec.untold }
     {

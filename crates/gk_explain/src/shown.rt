@@ -12,14 +12,14 @@ fn is_within(first: u32, end: u32, code: u32) -> bool
     code >= first && code < end
 }
 
-// Whether a character is a control character, by Unicode's general category Cc.
+// Returns whether a character is a control character, by Unicode's general category Cc.
 fn is_control(code: u32) -> bool
     ensures { result ≡ spec.is_control code }
 {
     code < 0x20 || is_within(0x7F, 0xA0, code)
 }
 
-// Whether a character looks like a space and isn't the one of ASCII.
+// Returns whether a character looks like ASCII's space but is another character.
 fn is_unicode_space(code: u32) -> bool
     ensures { result ≡ spec.is_unicode_space code }
 {
@@ -33,7 +33,8 @@ fn is_unicode_space(code: u32) -> bool
         || code == 0x3000
 }
 
-// Whether a character below U+10000 is seen as nothing, by Unicode's property Default_Ignorable_Code_Point.
+// Returns whether a character below U+10000 is invisible, by Unicode's property Default_Ignorable_Code_Point or
+// as a mark of annotations.
 fn is_low_ignorable(code: u32) -> bool
     ensures { result ≡ spec.is_low_ignorable code }
 {
@@ -53,7 +54,7 @@ fn is_low_ignorable(code: u32) -> bool
         || is_within(0xFFF0, 0xFFFC, code)
 }
 
-// Whether a character from U+10000 on is seen as nothing, by the property above.
+// Returns whether a character from U+10000 on is invisible, by the property above.
 fn is_high_ignorable(code: u32) -> bool
     ensures { result ≡ spec.is_high_ignorable code }
 {
@@ -62,14 +63,15 @@ fn is_high_ignorable(code: u32) -> bool
         || is_within(0xE0000, 0xE1000, code)
 }
 
-// Whether a character is seen as nothing, or as a space that it isn't, and is no control character.
+// Returns whether a character is invisible or looks like a space that it isn't. No control character is among
+// these.
 fn is_disguised(code: u32) -> bool
     ensures { result ≡ spec.is_disguised code }
 {
     is_unicode_space(code) || is_low_ignorable(code) || is_high_ignorable(code)
 }
 
-// Pushes the number of a character, in hexadecimal.
+// Appends a character by its number, in hexadecimal.
 fn push_number(out: &mut String, code: u32) -> Result<(), AllocError>
     ensures { Pushes out.old (spec.numbered code) result out.new }
 {
@@ -78,7 +80,7 @@ fn push_number(out: &mut String, code: u32) -> Result<(), AllocError>
     out.push_str("}")
 }
 
-// Pushes a character, or the escape of a control character.
+// Appends a character, or the escape of a control character.
 fn push_escaped_char(out: &mut String, c: char) -> Result<(), AllocError>
     ensures { Pushes out.old (spec.escaped_char c) result out.new }
 {
@@ -96,7 +98,7 @@ fn push_escaped_char(out: &mut String, c: char) -> Result<(), AllocError>
     }
 }
 
-// Whether a byte is of a control character, or may be: those from U+0080 on begin with 0xC2.
+// Returns whether a byte belongs to a control character, or may do so: those from U+0080 on begin with 0xC2.
 fn is_suspect(byte: u8) -> bool
     ensures { result ≡ spec.is_suspect byte }
 {
@@ -109,7 +111,7 @@ fn has_suspect(text: &str) -> bool
     text.as_bytes().iter().any(|byte| is_suspect(*byte))
 }
 
-// Pushes the characters of a text, each as it is or escaped.
+// Appends the characters of a text, each as it is or escaped.
 fn push_escaped_chars(out: &mut String, text: &str) -> Result<(), AllocError>
     ensures { Pushes out.old (spec.escaped text.now) result out.new }
 {
@@ -156,14 +158,14 @@ pub fn push_shown(out: &mut String, text: &str) -> Result<(), AllocError>
     Ok(())
 }
 
-// The lines of a text.
+// Returns the lines of a text.
 fn lines_of(alloc: Global, text: &str) -> Result<Vec<&str>, AllocError>
     ensures { IfOk result (λ lines. map (λ line. line.now) lines.items ≡ spec.text_lines text.now) }
 {
     text.split('\n').collect(alloc)
 }
 
-// Pushes a line of a text after a mark.
+// Appends a line of a text after a mark.
 #[tactic(auto, unfolding(crate::specs::Shown::marked_line))]
 fn push_line(out: &mut String, mark: &str, line: &str) -> Result<(), AllocError>
     ensures { Pushes out.old (spec.marked_line mark.now line.now) result out.new }
@@ -175,7 +177,7 @@ fn push_line(out: &mut String, mark: &str, line: &str) -> Result<(), AllocError>
     out.push_str("\"\n")
 }
 
-// Pushes lines of a text, each after the same mark.
+// Appends lines of a text, each after the same mark.
 fn push_lines(out: &mut String, mark: &str, lines: &[&str]) -> Result<(), AllocError>
     ensures { Pushes out.old
         (spec.marked_lines mark.now (map (λ line. line.now) lines.now)) result out.new }
@@ -186,7 +188,7 @@ fn push_lines(out: &mut String, mark: &str, lines: &[&str]) -> Result<(), AllocE
     Ok(())
 }
 
-// Pushes what stands in place of lines that are left out.
+// Appends the row that replaces lines that are left out.
 fn push_left_out(out: &mut String, count: usize) -> Result<(), AllocError>
     ensures { Pushes out.old (spec.left_out count) result out.new }
 {
@@ -194,7 +196,7 @@ fn push_left_out(out: &mut String, count: usize) -> Result<(), AllocError>
     Ok(())
 }
 
-// Pushes lines of a text in at most twenty rows.
+// Appends lines of a text in at most twenty rows.
 fn push_few_lines(out: &mut String, mark: &str, lines: &[&str]) -> Result<(), AllocError>
     ensures { Pushes out.old
         (spec.few_lines mark.now (map (λ line. line.now) lines.now)) result out.new }
@@ -210,14 +212,14 @@ fn push_few_lines(out: &mut String, mark: &str, lines: &[&str]) -> Result<(), Al
     push_lines(out, mark, last)
 }
 
-// Whether a line, counted from 1, is one of those that are left out of so many.
+// Returns whether a line, counted from 1, is one of those left out of `count` lines.
 fn is_left_out(line: usize, count: usize) -> bool
     ensures { result ≡ spec.is_left_out line count }
 {
     count > 20 && line > 10 && line < count - 8
 }
 
-// Pushes lines of a text round one that would be left out, with three on either side of it.
+// Appends lines of a text around one that would be left out, with three on either side of it.
 fn push_lines_round(
     out: &mut String,
     mark: &str,
@@ -241,7 +243,7 @@ fn push_lines_round(
     push_lines(out, mark, last)
 }
 
-// Pushes lines of a text in at most twenty rows, with this one among those that are shown.
+// Appends lines of a text in at most twenty rows, with this line among those that are shown.
 fn push_few_lines_with(
     out: &mut String,
     mark: &str,
@@ -258,9 +260,9 @@ fn push_few_lines_with(
     }
 }
 
-/// Pushes the lines of a text, each after a mark and between quotes, in at most twenty rows: of more than twenty
-/// lines those in the middle are left out. An error comes only where a growth was refused; some of the rows may have
-/// been pushed then.
+/// Appends the lines of a text in at most twenty rows, each line after a mark and between quotes. Of more than
+/// twenty lines, those in the middle are left out. An error comes only if a growth was refused; some of the
+/// rows may have been appended then.
 #[tactic(auto, unfolding(crate::specs::Shown::marked_text))]
 pub fn push_text(alloc: Global, out: &mut String, mark: &str, text: &str) -> Result<(), AllocError>
     ensures { Pushes out.old (spec.marked_text mark.now text.now) result out.new }
@@ -269,9 +271,9 @@ pub fn push_text(alloc: Global, out: &mut String, mark: &str, text: &str) -> Res
     push_few_lines(out, mark, &lines)
 }
 
-/// Pushes the lines of a text as `push_text` does, with this one, counted from 1, among those that are shown: where it
-/// would be left out, the first five stand there, it with three on either side, and the last four. An error comes
-/// only where a growth was refused; some of the rows may have been pushed then.
+/// Appends the lines of a text as `push_text` does, with this line, counted from 1, among those that are shown.
+/// If it would be left out, the rows show the first five lines, this line with three on either side, and the
+/// last four. An error comes only if a growth was refused; some of the rows may have been appended then.
 #[tactic(auto, unfolding(crate::specs::Shown::marked_text_with))]
 pub fn push_text_with(
     alloc: Global,

@@ -1,4 +1,4 @@
-//! What is wrong with a table of files, and with its rows.
+//! Faults of a table of files and of its rows.
 ghost use Rattle.std.specs.Prelude.{◌≡◌, map};
 ghost use Rattle.gk_gherkin.specs.Feature.{texts, block_value};
 ghost use Rattle.gk_run.specs.Acting as acting;
@@ -11,14 +11,14 @@ use gk_gherkin::Block;
 use gk_world::{LONGEST_TEXT, is_bad_name};
 use std::alloc::AllocError;
 
-/// The file that a row of a table gives.
+/// The name and the text that a row of a table gives for a file.
 #[derive(Clone, Copy)]
 pub struct RowFile<'a> {
     pub name: &'a str,
     pub text: &'a str,
 }
 
-// Pushes a cell between quotes.
+// Appends a cell between quotes, after a space.
 fn push_cell(out: &mut String, cell: &str) -> Result<(), AllocError>
     ensures { Pushes out.old (spec.quoted cell.now) result out.new }
 {
@@ -27,7 +27,7 @@ fn push_cell(out: &mut String, cell: &str) -> Result<(), AllocError>
     out.push_str("\"")
 }
 
-// Pushes the cells of a row, each between quotes.
+// Appends the cells of a row, each between quotes.
 fn push_cells(out: &mut String, cells: &[String]) -> Result<(), AllocError>
     ensures { Pushes out.old (spec.quoted_cells (texts cells.now)) result out.new }
 {
@@ -37,7 +37,7 @@ fn push_cells(out: &mut String, cells: &[String]) -> Result<(), AllocError>
     Ok(())
 }
 
-// Pushes the header that was found.
+// Appends the line with the header that was found.
 #[tactic(auto, unfolding(crate::specs::Tables::header_line))]
 fn push_header(out: &mut String, cells: &[String]) -> Result<(), AllocError>
     ensures { Pushes out.old (spec.header_line (texts cells.now)) result out.new }
@@ -48,7 +48,7 @@ fn push_header(out: &mut String, cells: &[String]) -> Result<(), AllocError>
     Ok(())
 }
 
-// Pushes the header of rows, which is their first.
+// Appends the line with the header of these rows, which is their first row.
 fn push_first(out: &mut String, rows: &[Vec<String>]) -> Result<(), AllocError>
     ensures { Pushes out.old (spec.found_header (map (λ row. texts row.items) rows.now))
         result out.new }
@@ -59,8 +59,8 @@ fn push_first(out: &mut String, rows: &[Vec<String>]) -> Result<(), AllocError>
     }
 }
 
-/// Pushes which table is expected of files, and the header of the one that was found. An error comes only where a
-/// growth was refused; a part of it may have been pushed then.
+/// Appends which table of files is expected, and the header of the one that was found. An error comes only if a
+/// growth was refused; a part of it may have been appended then.
 pub fn push_table(out: &mut String, block: &Block) -> Result<(), AllocError>
     ensures { Pushes out.old (spec.other_table (block_value block.now)) result out.new }
 {
@@ -73,7 +73,7 @@ pub fn push_table(out: &mut String, block: &Block) -> Result<(), AllocError>
     }
 }
 
-// The file that a row of a table gives.
+// Returns the file that a row of a table gives.
 fn file_of(row: &[String]) -> RowFile<'_>
     ensures { file_value result ≡ acting.row_file (texts row.now) }
 {
@@ -86,14 +86,14 @@ fn file_of(row: &[String]) -> RowFile<'_>
     }
 }
 
-// Whether a file can't be written, for its name or for its text.
+// Returns whether a file can't be written because of its name or its text.
 fn is_refused(file: RowFile<'_>) -> bool
     ensures { result ≡ spec.is_refused (file_value file.entry) }
 {
     is_bad_name(file.name) || file.text.len() > LONGEST_TEXT
 }
 
-// The first of the files of rows that can't be written.
+// Returns the first file of these rows that can't be written. If all can, it has no name and no text.
 fn first_refused(rows: &[Vec<String>]) -> RowFile<'_>
     ensures { file_value result
         ≡ spec.first_refused (map (λ row. texts row.items) rows.now) }
@@ -107,8 +107,8 @@ fn first_refused(rows: &[Vec<String>]) -> RowFile<'_>
     RowFile { name: "", text: "" }
 }
 
-/// The file at which writing the rows of a table ends: the first that can't be written. Of a table without such a row,
-/// and of another block, it has no name and no text. Takes no memory.
+/// Returns the file at which writing the rows of a table ends: the first that can't be written. For a table
+/// without such a row, and for any other block, it has no name and no text. Allocates no memory.
 pub fn refused_file(block: &Block) -> RowFile<'_>
     ensures { file_value result ≡ spec.refused_file (block_value block.now) }
 {

@@ -3,7 +3,7 @@ use Rattle.std.specs.Prelude.{ℕ, List, map, Option, string_bytes}
 use Rattle.gk_gherkin.specs.Feature.{texts, StepValue, step_value}
 use Rattle.gk_select.specs.declared.case.Case.{Case}
 
--- A case: a plain scenario, or an outline filled from one row. Its rule is an index among the rules of the feature, counted from 0; a case of the feature itself has none.
+-- A case: a plain scenario, or an outline filled from one row. Its rule is an index among the rules of the feature, counted from 0; a case in no rule has none.
 pub record CaseValue : Type 0 where
   pub name : List ℕ
   pub keyword : List ℕ
@@ -13,6 +13,6 @@ pub record CaseValue : Type 0 where
   pub own_tags : List (List ℕ)
   pub steps : List StepValue
 
--- What a `Case` says.
+-- The value of a `Case`.
 abbrev pub case_value : Case → CaseValue
 case_value c = record { name = string_bytes c.name; keyword = string_bytes c.keyword; line = c.line; rule = c.rule; tags = texts c.tags.items; own_tags = texts c.own_tags.items; steps = map step_value c.steps.items }

@@ -1,9 +1,9 @@
--- What lists of texts and steps are filled with, and how lists grow.
+-- Lists that grow, and texts filled from a row.
 use Rattle.std.specs.Prelude.{◌≡◌, ℕ, List, ◌++◌, map, Result, IfOk, String}
 use Rattle.gk_gherkin.specs.Feature.{texts}
 use Rattle.gk_select.specs.Filling.{filled}
 
--- Where a call succeeds, these values stand at the end of a list that is otherwise as before.
+-- If a call succeeds, these values are added at the end of a list, which is otherwise unchanged.
 abbrev pub Appends : {T E X V : Type 0} → (X → V) → Result T E → List X → List X → List V → Type 0
 Appends v result old new part = IfOk result (λ _. map v new ≡ map v old ++ part)
 

@@ -1,10 +1,10 @@
--- How many steps the cases have, without the cases.
+-- The number of steps of the cases, counted without the cases.
 use Rattle.std.specs.Prelude.{ℕ, ◌+◌, ◌*◌, ◌-◌, nat_lt, length, sum_by, Option, Some, None, if◌then◌else◌}
 use Rattle.gk_gherkin.specs.Feature.{ExamplesValue, ScenarioValue, RuleValue, FeatureValue}
 use Rattle.gk_select.specs.Inherited.{background_steps}
 use Rattle.gk_select.specs.Outline.{is_outline}
 
--- Proof machinery: what is left of some room after n, and nothing where n is more.
+-- Proof machinery: the room left after n, or `None` if n is more than the room.
 abbrev pub left : ℕ → ℕ → Option ℕ
 left room n = if nat_lt room n then None else Some (room - n)
 
@@ -13,20 +13,20 @@ abbrev pub left_of : Option ℕ → ℕ → Option ℕ
 left_of None n = None
 left_of (Some room) n = left room n
 
--- How many steps the cases of Examples have, with so many steps each.
+-- The number of steps of the cases of Examples, with `steps` steps per case.
 abbrev pub examples_steps : ℕ → ExamplesValue → ℕ
 examples_steps steps e = length e.rows * steps
 
--- How many steps the cases of a scenario have, with so many background steps each.
+-- The number of steps of the cases of a scenario, with `inherited` background steps per case.
 abbrev pub scenario_steps : ℕ → ScenarioValue → ℕ
 scenario_steps inherited s = let steps = inherited + length s.steps in
     if is_outline s then sum_by (examples_steps steps) s.examples else steps
 
--- How many steps the cases of a rule have.
+-- The number of steps of the cases of a rule.
 abbrev pub rule_steps : ℕ → RuleValue → ℕ
 rule_steps inherited r = sum_by (scenario_steps (inherited + length (background_steps r.background))) r.scenarios
 
--- How many steps the cases of a feature have.
+-- The number of steps of the cases of a feature.
 abbrev pub feature_steps : FeatureValue → ℕ
 feature_steps f = let inherited = length (background_steps f.background) in
     sum_by (scenario_steps inherited) f.scenarios + sum_by (rule_steps inherited) f.rules

@@ -46,7 +46,7 @@ rows_cases inherited s e examples n rows = map (λ (r : ℕ × RowValue). row_ca
 abbrev pub examples_cases : InheritedValue → ScenarioValue → ℕ × ExamplesValue → List CaseValue
 examples_cases inherited s e = map (λ (r : ℕ × RowValue). row_case inherited s e.0 e.1 r.0 r.1) (enumerate_from 1 e.1.rows)
 
--- The cases of a scenario: of an outline those of its Examples, counted from 1; else one. (Cucumber's Gherkin reference: scenario outline)
+-- The cases of a scenario: those of an outline's Examples, counted from 1; of any other scenario one. (Cucumber's Gherkin reference: scenario outline)
 abbrev pub scenario_cases : InheritedValue → ScenarioValue → List CaseValue
 scenario_cases inherited s = if is_outline s then flat_map (examples_cases inherited s) (enumerate_from 1 s.examples) else plain_case inherited s ∷ []
 
@@ -58,19 +58,19 @@ rule_cases f r = flat_map (scenario_cases (inherited_in_rule f r.0 r.1)) r.1.sce
 unfoldable pub cases : FeatureValue → List CaseValue
 cases f = flat_map (scenario_cases (inherited_in_feature f)) f.scenarios ++ flat_map (rule_cases f) (enumerate_from 0 f.rules)
 
--- How many steps the cases have.
+-- The number of steps of all cases.
 abbrev pub step_count : FeatureValue → ℕ
 step_count f = sum_by (λ (c : CaseValue). length c.steps) (cases f)
 
--- How many steps a feature may have after expansion.
+-- The maximum number of steps that a feature may have after expansion.
 abbrev pub step_limit : ℕ
 step_limit = 1000000
 
--- More steps than the limit.
+-- The cases have more steps than the limit.
 abbrev pub HasTooManySteps : FeatureValue → Type 0
 HasTooManySteps f = step_limit < step_count f
 
--- In these scenarios each row of Examples has as many cells as its header.
+-- Each row of Examples in these scenarios has as many cells as its header.
 abbrev pub RowsFit : List ScenarioValue → Type 0
 RowsFit scenarios = AllByRecursion (λ (s : ScenarioValue). AllByRecursion AllFit s.examples) scenarios
 
@@ -78,7 +78,7 @@ RowsFit scenarios = AllByRecursion (λ (s : ScenarioValue). AllByRecursion AllFi
 abbrev pub IsExpandable : FeatureValue → Type 0
 IsExpandable f = RowsFit f.scenarios × AllByRecursion (λ (r : RuleValue). RowsFit r.scenarios) f.rules × (length f.rules < 2 ^ 32)
 
--- Scenarios none of which is an outline. (Cucumber's Gherkin reference: scenario outline)
+-- None of these scenarios is an outline. (Cucumber's Gherkin reference: scenario outline)
 abbrev pub ArePlain : List ScenarioValue → Type 0
 ArePlain scenarios = AllByRecursion (λ (s : ScenarioValue). is_outline s ≡ false) scenarios
 
@@ -90,15 +90,15 @@ HasNoOutline f = ArePlain f.scenarios × AllByRecursion (λ (r : RuleValue). Are
 abbrev pub plain_cases : FeatureValue → List CaseValue
 plain_cases f = map (plain_case (inherited_in_feature f)) f.scenarios ++ flat_map (λ (r : ℕ × RuleValue). map (plain_case (inherited_in_rule f r.0 r.1)) r.1.scenarios) (enumerate_from 0 f.rules)
 
--- How many cases a scenario has: an outline as many as its tables have rows under their headers, else one. (Cucumber's Gherkin reference: scenario outline)
+-- The number of cases of a scenario: an outline has one for each row under the headers of its tables, any other scenario has one. (Cucumber's Gherkin reference: scenario outline)
 abbrev pub case_count_of : ScenarioValue → ℕ
 case_count_of s = if is_outline s then sum_by (λ (e : ExamplesValue). length e.rows) s.examples else 1
 
--- How many cases a feature has. (Cucumber's Gherkin reference: scenario outline)
+-- The number of cases of a feature. (Cucumber's Gherkin reference: scenario outline)
 abbrev pub case_count : FeatureValue → ℕ
 case_count f = sum_by case_count_of f.scenarios + sum_by (λ (r : RuleValue). sum_by case_count_of r.scenarios) f.rules
 
--- What the code says of its own values, from here on: the name of a row's case.
+-- The same for the values of the code, from here on: the name of a row's case.
 abbrev pub name_of_row : Scenario → ℕ → Examples → ℕ → Row → List ℕ
 name_of_row s e examples n row = outline_name (filled_by examples.header.items row.cells.items (scenario_value s).name) e n (examples_value examples).name
 
@@ -114,7 +114,7 @@ cases_of_rows i s e examples n rows = rows_cases (inherited_value i) (scenario_v
 abbrev pub RowsFitHeader : Examples → List Row → Type 0
 RowsFitHeader examples rows = AllByRecursion (FitsHeader (examples_value examples)) (map row_value rows)
 
--- The cases of parts of Examples, counted from 1.
+-- The cases of several Examples, counted from 1.
 abbrev pub cases_of_parts : Inherited → Scenario → List Examples → List CaseValue
 cases_of_parts i s parts = flat_map (examples_cases (inherited_value i) (scenario_value s)) (enumerate_from 1 (map examples_value parts))
 

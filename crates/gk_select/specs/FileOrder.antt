@@ -1,4 +1,4 @@
--- In which order the lines of a feature's rules and cases stand.
+-- The order of the lines of a feature's rules and cases.
 use Rattle.std.specs.Prelude.{ℕ, List, ◌∷◌, ◌++◌, map, flat_map, Some}
 use Rattle.std.specs.List.{enumerate_from}
 use Rattle.std.specs.List.Sorted.{IsNonDecreasingBy, IsStrictlyIncreasing}
@@ -13,20 +13,20 @@ use Rattle.gk_select.specs.Expansion.{scenario_cases, rule_cases, cases}
 abbrev pub case_lines : List CaseValue → List ℕ
 case_lines cs = map (λ (c : CaseValue). c.line) cs
 
--- The heading's line of the rule at an index, and then the lines of its cases. (Cucumber's Gherkin reference: rule)
+-- The line of the heading of the rule at an index, and then the lines of its cases. (Cucumber's Gherkin reference: rule)
 abbrev pub rule_lines : FeatureValue → ℕ × RuleValue → List ℕ
 rule_lines f r = r.1.line ∷ case_lines (rule_cases f r)
 
--- The heading's line of a feature, the lines of the cases that are in no rule, and then those of each rule. (Cucumber's Gherkin reference: feature, rule)
+-- The line of a feature's heading, the lines of the cases that are in no rule, and then those of each rule. (Cucumber's Gherkin reference: feature, rule)
 abbrev pub feature_lines : FeatureValue → List ℕ
 feature_lines f = f.line ∷ (case_lines (flat_map (scenario_cases (inherited_in_feature f)) f.scenarios) ++ flat_map (rule_lines f) (enumerate_from 0 f.rules))
 
--- The lines of a feature rise: those of its rules, those of its cases, and both together, so that each case stands below the heading of its rule and above that of the next one. (Cucumber's Gherkin reference: feature, rule)
+-- The lines of a feature rise: those of its rules, those of its cases, and both together. So each case is below the heading of its rule and above that of the next rule. (Cucumber's Gherkin reference: feature, rule)
 pub record IsInFileOrder (f : FeatureValue) : Type 0 where
   pub rising_rules : IsNonDecreasingBy (λ (r : RuleValue). r.line) f.rules
   pub rising_cases : IsNonDecreasingBy (λ (c : CaseValue). c.line) (cases f)
   pub rising : IsStrictlyIncreasing (feature_lines f)
 
--- Each feature that the lines of some bytes read as is in file order. (Cucumber's Gherkin reference: feature)
+-- Each feature that is read from the lines of some bytes is in file order. (Cucumber's Gherkin reference: feature)
 abbrev pub CasesAreInFileOrder : Type 0
 CasesAreInFileOrder = (bytes : List ℕ) (f : FeatureValue) → Reads (lines_of bytes) (Some f) → IsInFileOrder f

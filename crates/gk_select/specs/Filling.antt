@@ -1,4 +1,4 @@
--- How a row of Examples fills a text and a step.
+-- Texts and steps, filled from a row of Examples.
 use Rattle.std.specs.Prelude.{codes, not, ◌≡◌, ℕ, zero, suc, ◌+◌, Bool, true, ◌==◌, ◌&&◌, nat_eq, List, [], ◌∷◌, ◌++◌, length, map, find, flat_map, Contains, Option, Some, None, if◌then◌else◌}
 use Rattle.std.specs.List.{list_all, starts_with}
 use Rattle.std.specs.Str.{bytes_eq}
@@ -8,41 +8,41 @@ use Rattle.gk_gherkin.specs.Feature.{BlockValue, Empty, Text, Table, StepValue}
 abbrev pub placeholder : List ℕ → List ℕ
 placeholder header = codes "<" ++ header ++ codes ">"
 
--- Whether a header has no `>`, so that its placeholder can stand in a text.
+-- Whether a header has no `>`, so that its placeholder can occur in a text.
 abbrev pub can_stand : List ℕ → Bool
 can_stand header = list_all (λ b. not (b == 62)) header
 
--- The header whose placeholder begins a text; there is one at most, as no header that counts has a `>`.
+-- The header whose placeholder begins a text. There is at most one, because no header that counts has a `>`.
 abbrev pub header_at : List (List ℕ) → List ℕ → Option (List ℕ)
 header_at headers text = find (λ header. can_stand header && starts_with nat_eq text (placeholder header)) headers
 
--- The cell of a row that stands under a header: of equal headers the first counts.
+-- The cell of a row under a header. Of equal headers the first counts.
 unfoldable pub cell_under : List (List ℕ) → List (List ℕ) → List ℕ → List ℕ
 cell_under (h ∷ headers) (cell ∷ cells) header = if bytes_eq h header then cell else cell_under headers cells header
 cell_under _ _ header = []
 
--- What a text is filled with at its beginning, and the rest of it, filled: after a placeholder, or after one byte.
+-- A filled text: the cell of the placeholder that begins it, or its first byte, and then the rest of it, filled.
 abbrev pub filled_at : (List ℕ → List ℕ) → Option (List ℕ) → (ℕ → List ℕ) → ℕ → List ℕ
 filled_at cell None rest b = b ∷ rest 0
 filled_at cell (Some header) rest b = cell header ++ rest (length header + 1)
 
--- A text filled, without its first skip bytes, which belong to a placeholder that was filled.
+-- A text filled, without its first `skip` bytes, which belong to a placeholder that was filled.
 unfoldable pub filled_from : List (List ℕ) → List (List ℕ) → ℕ → List ℕ → List ℕ
 filled_from headers cells skip [] = []
 filled_from headers cells (suc skip) (b ∷ bs) = filled_from headers cells skip bs
 filled_from headers cells zero (b ∷ bs) =
     filled_at (cell_under headers cells) (header_at headers (b ∷ bs)) (λ skip. filled_from headers cells skip bs) b
 
--- A text with the row's cell in place of each placeholder, from left to right; a cell isn't looked at again. (Cucumber's Gherkin reference: scenario outline)
+-- A text with the row's cell in place of each placeholder, from left to right. The text of a cell isn't filled again. (Cucumber's Gherkin reference: scenario outline)
 unfoldable pub filled : List (List ℕ) → List (List ℕ) → List ℕ → List ℕ
 filled headers cells text = filled_from headers cells 0 text
 
--- A part of a text: a placeholder, or one byte at which none begins.
+-- A part of a text: a placeholder, or one byte at which no placeholder begins.
 pub data Part : Type 0 where
   Placeholder : List ℕ → Part
   Byte : ℕ → Part
 
--- A header of the row whose placeholder can stand in a text.
+-- A header of the row whose placeholder can occur in a text.
 abbrev pub IsPlaceholder : List (List ℕ) → List ℕ → Type 0
 IsPlaceholder headers header = Contains headers header × (can_stand header ≡ true)
 
@@ -56,12 +56,12 @@ IsCut headers text [] = text ≡ []
 IsCut headers text (Placeholder header ∷ parts) = IsPlaceholder headers header × ((rest : List ℕ) × (text ≡ placeholder header ++ rest) × IsCut headers rest parts)
 IsCut headers text (Byte b ∷ parts) = BeginsWithNone headers text × ((rest : List ℕ) × (text ≡ b ∷ rest) × IsCut headers rest parts)
 
--- A part, with the row's cell in place of a placeholder.
+-- The filled part: a placeholder is replaced by the row's cell.
 abbrev pub filled_part : List (List ℕ) → List (List ℕ) → Part → List ℕ
 filled_part headers cells (Placeholder header) = cell_under headers cells header
 filled_part headers cells (Byte b) = b ∷ []
 
--- Each text has one cut, and its parts filled are the filled text.
+-- A text has exactly one cut, and the filled text is made of the filled parts.
 pub record FillsByCut (headers cells : List (List ℕ)) (text : List ℕ) : Type 0 where
   pub parts : List Part
   pub cut : IsCut headers text parts
@@ -80,17 +80,17 @@ filled_step fill s = record { keyword = s.keyword; step_type = s.step_type; text
 
 -- Proof machinery, from here on: what one call of the code fills.
 
--- The cell under the first header that is a name.
+-- The cell under the first header that equals a name, if any.
 unfoldable pub cell_of : List (List ℕ) → List (List ℕ) → List ℕ → Option (List ℕ)
 cell_of (h ∷ headers) (cell ∷ cells) name = if bytes_eq h name then Some cell else cell_of headers cells name
 cell_of _ _ name = None
 
--- A cell that was found, or else a byte and how it goes on after it.
+-- A cell if one was found; otherwise a byte and what follows it.
 abbrev pub cell_or_byte : Option (List ℕ) → ℕ → List ℕ → List ℕ
 cell_or_byte (Some cell) b after = cell
 cell_or_byte None b after = b ∷ after
 
--- What a piece and the `>` after it are filled with, where the piece has none itself.
+-- The filled text of a piece and the `>` after it. The piece itself has no `>`.
 unfoldable pub filled_piece : List (List ℕ) → List (List ℕ) → List ℕ → List ℕ
 filled_piece headers cells [] = 62 ∷ []
 filled_piece headers cells (b ∷ bs) = cell_or_byte (if b == 60 then cell_of headers cells bs else None) b (filled_piece headers cells bs)

@@ -1,19 +1,19 @@
--- What the scenarios of a feature or of a rule have in common.
+-- The rule, the tags and the Background steps that scenarios have in common.
 use Rattle.std.specs.Prelude.{ℕ, List, [], ◌++◌, map, Option, Some, None}
 use Rattle.gk_gherkin.specs.Feature.{texts, StepValue, BackgroundValue, RuleValue, FeatureValue, step_value}
 use Rattle.gk_select.specs.declared.inherited.Inherited.{Inherited}
 
--- What scenarios have in common: the index of their rule, if they stand in one, and what they inherit, tags and the steps of Backgrounds. (Cucumber's Gherkin reference: rule, background, tag inheritance)
+-- What scenarios have in common: the index of their rule, if they are in one, and the tags and Background steps that they inherit. (Cucumber's Gherkin reference: rule, background, tag inheritance)
 pub record InheritedValue : Type 0 where
   pub rule : Option ℕ
   pub tags : List (List ℕ)
   pub steps : List StepValue
 
--- What an `Inherited` says.
+-- The value of an `Inherited`.
 abbrev pub inherited_value : Inherited → InheritedValue
 inherited_value i = record { rule = i.rule; tags = texts i.feature_tags.now ++ texts i.rule_tags.now; steps = map step_value i.feature_steps.now ++ map step_value i.rule_steps.now }
 
--- The steps of a Background, and none where there is none. (Cucumber's Gherkin reference: background)
+-- The steps of a Background, or none if there is no Background. (Cucumber's Gherkin reference: background)
 abbrev pub background_steps : Option BackgroundValue → List StepValue
 background_steps None = []
 background_steps (Some background) = background.steps

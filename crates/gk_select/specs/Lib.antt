@@ -1,4 +1,4 @@
--- What the cases of a feature are, and which of them are chosen, in reading order. What only the proofs speak of stands last in its file.
+-- The cases of a feature and the choice among them, in reading order. Definitions that only the proofs use come last in their files.
 pub mod Case
 pub mod Filling
 pub mod Copies
@@ -15,6 +15,6 @@ pub mod Alternatives
 pub mod TagRules
 pub mod Choice
 pub mod SelectFault
--- Proof machinery: what the words of an expression build, taken from the last to the first, and how deep it is.
+-- Proof machinery: what the words of an expression build, read from the last to the first, and how deep it is.
 pub mod TagTrees
 pub mod TagMeasures

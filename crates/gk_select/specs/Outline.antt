@@ -1,4 +1,4 @@
--- Which scenarios are outlines, and what the cases of their rows are called.
+-- Outlines, and the names of the cases of their rows.
 use Rattle.std.specs.Prelude.{codes, ◌≡◌, ℕ, Bool, true, false, ◌||◌, List, [], ◌∷◌, ◌++◌, length, decimal}
 use Rattle.std.specs.List.{AllByRecursion}
 use Rattle.std.specs.Str.{bytes_eq}
@@ -10,11 +10,11 @@ abbrev pub has_examples : List ExamplesValue → Bool
 has_examples [] = false
 has_examples (e ∷ es) = true
 
--- A scenario is an outline by its keyword, or where it has Examples. (Cucumber's Gherkin reference: scenario outline)
+-- Whether a scenario is an outline: by its keyword, or because it has Examples. (Cucumber's Gherkin reference: scenario outline)
 abbrev pub is_outline : ScenarioValue → Bool
 is_outline s = bytes_eq s.keyword (codes "Scenario Outline") || (bytes_eq s.keyword (codes "Scenario Template") || has_examples s.examples)
 
--- The name of the case of row R under Examples E of an outline: `NAME -- @E.R EXAMPLESNAME` without blanks at its end, where NAME is filled and EXAMPLESNAME is not. (behave's documentation: the option `scenario_outline_annotation_schema`)
+-- The name of the case of row R under Examples E of an outline: `NAME -- @E.R EXAMPLESNAME`, without trailing spaces and tabs. NAME is filled and EXAMPLESNAME is not. (behave's documentation: the option `scenario_outline_annotation_schema`)
 abbrev pub outline_name : List ℕ → ℕ → ℕ → List ℕ → List ℕ
 outline_name name e r examples = trim_back (name ++ codes " -- @" ++ decimal e ++ codes "." ++ decimal r ++ codes " " ++ examples)
 
@@ -22,6 +22,6 @@ outline_name name e r examples = trim_back (name ++ codes " -- @" ++ decimal e +
 abbrev pub FitsHeader : ExamplesValue → RowValue → Type 0
 FitsHeader e r = length r.cells ≡ length e.header
 
--- All rows of Examples fit.
+-- Each row of Examples has as many cells as the header.
 abbrev pub AllFit : ExamplesValue → Type 0
 AllFit e = AllByRecursion (FitsHeader e) e.rows

@@ -2,14 +2,14 @@
 use Rattle.std.specs.Prelude.{◌≡◌, ℕ, ◌+◌, max, List, [], ◌∷◌, ◌++◌}
 use Rattle.gk_select.specs.TagWords.{WordValue, open_word, close_word, not_word, and_word, or_word, tag_word}
 
--- An expression is terms between `or`, a term is factors between `and`, and a factor is a tag, the negation of a factor, or an expression in parentheses. (Cucumber's tag expressions)
+-- An expression is terms joined by `or`, a term is factors joined by `and`, and a factor is a tag, the negation of a factor, or an expression in parentheses. (Cucumber's tag expressions)
 mutual
-  -- Terms between `or`.
+  -- Terms joined by `or`.
   pub data Expression : Type 0 where
     one_term : Term → Expression
     or_terms : Term → Expression → Expression
 
-  -- Factors between `and`.
+  -- Factors joined by `and`.
   pub data Term : Type 0 where
     one_factor : Factor → Term
     and_factors : Factor → Term → Term
@@ -35,7 +35,7 @@ abbrev mutual
   factor_spelling (negated f) = not_word ∷ factor_spelling f
   factor_spelling (grouped e) = open_word ∷ (spelling e ++ close_word ∷ [])
 
--- How deep `not` and `(`, counted together, are nested in an expression.
+-- The depth of nested `not` and `(`, counted together, in an expression.
 abbrev mutual
   pub depth : Expression → ℕ
   depth (one_term t) = term_depth t
@@ -50,7 +50,7 @@ abbrev mutual
   factor_depth (negated f) = factor_depth f + 1
   factor_depth (grouped e) = depth e + 1
 
--- The most `not` and `(` that may be nested.
+-- The maximum depth of nested `not` and `(`, counted together.
 abbrev pub depth_limit : ℕ
 depth_limit = 100
 
@@ -58,7 +58,7 @@ depth_limit = 100
 abbrev pub SpeltBy : List WordValue → Type 0
 SpeltBy words = (e : Expression) × (spelling e ≡ words)
 
--- The tags that an expression names, in the order in which they stand in it, each as often as it does.
+-- The tags that an expression names, in the order in which they occur, each as often as it occurs.
 abbrev mutual
   pub tags_in : Expression → List (List ℕ)
   tags_in (one_term t) = term_tags t

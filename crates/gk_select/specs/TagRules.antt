@@ -1,4 +1,4 @@
--- Rules of tags: which texts spell them. A rule is an expression.
+-- Rules of tags, and the texts that spell them. A rule is an expression.
 use Rattle.std.specs.Prelude.{◌≡◌, ◌⊎◌, ◌≤◌, ℕ, true, List, [], ◌∷◌, slice_index_or, IsSome}
 use Rattle.std.specs.List.{list_any}
 use Rattle.gk_select.specs.TagWords.{is_of_new_form, words_of_text, word_said, AreWords}
@@ -6,7 +6,7 @@ use Rattle.gk_select.specs.TagGrammar.{Expression, spelling, depth, depth_limit}
 use Rattle.gk_select.specs.Alternatives.{AlternativeValue, ReadsAlternatives, FirstAlternativeSays, or_of}
 use Rattle.gk_select.specs.declared.tag_values.TagRule.{TagRule}
 
--- What a `TagRule` says: the expression that its words spell.
+-- The value of a `TagRule`: the expression that its words spell.
 abbrev pub tag_rule_value : TagRule → Expression
 tag_rule_value r = r.spelt.0
 
@@ -17,7 +17,7 @@ pub record ReadsOldForm (text : List ℕ) (rule : Expression) : Type 0 where
   pub reads : ReadsAlternatives text (first ∷ others)
   pub is : rule ≡ or_of first others
 
--- A text of the new form: it has a blank or a parenthesis, its words spell the rule, and no more than 100 `not` and `(` are nested. (Cucumber's tag expressions)
+-- A text of the new form: it has a space, a tab or a parenthesis, its words spell the rule, and at most 100 `not` and `(` are nested. (Cucumber's tag expressions)
 pub record ReadsNewForm (text : List ℕ) (rule : Expression) : Type 0 where
   pub new_form : list_any is_of_new_form text ≡ true
   pub says : AreWords text (spelling rule)
@@ -31,10 +31,10 @@ ReadsTags text rule = ReadsOldForm text rule ⊎ ReadsNewForm text rule
 abbrev pub SpellsNone : List ℕ → Type 0
 SpellsNone text = (rule : Expression) → ReadsTags text rule → ⊥
 
--- A text of the new form whose first word may stand in an expression: over any other, memory can't run out.
+-- A text of the new form whose first word is valid in an expression. If it isn't, or there is no word, memory can't run out.
 abbrev pub FirstWordSays : List ℕ → Type 0
 FirstWordSays text = (list_any is_of_new_form text ≡ true) × IsSome (word_said (slice_index_or (words_of_text text) 0 []))
 
--- A text over which memory can run out: its first alternative or, in the new form, its first word says something.
+-- A text for which memory can run out: its first alternative or, in the new form, its first word is valid.
 abbrev pub NeedsMemory : List ℕ → Type 0
 NeedsMemory text = FirstAlternativeSays text ⊎ FirstWordSays text

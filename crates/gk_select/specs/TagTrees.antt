@@ -1,4 +1,4 @@
--- That words spell one expression at most: taken from the last to the first, they build it.
+-- The proof that words spell at most one expression: read from the last to the first, they build it.
 use Rattle.std.specs.Prelude.{◌≡◌, List, [], ◌∷◌, ◌++◌, Option, Some, None, option_and_then}
 use Rattle.std.proofs.Common.{refl, ap, sym, ◌∙◌, append_assoc, append-nil}
 use mathlib.Core.HLevel.{Σ_prop_path}
@@ -7,35 +7,35 @@ use native.Mathlib.Nat.{ℕ_set}
 use Rattle.gk_select.specs.TagWords.{WordValue, word_value_set, open_word, close_word, not_word, and_word, or_word, tag_word}
 use Rattle.gk_select.specs.TagGrammar.{Expression, one_term, or_terms, Term, one_factor, and_factors, Factor, tagged, negated, grouped, spelling, term_spelling, factor_spelling, SpeltBy}
 
--- What comes after a factor in its group: what is joined to it by `and`, and what comes after the next `or`.
+-- The rest of a group after a factor: what is joined to the factor by `and`, and what comes after the next `or`.
 pub record Part : Type 0 where
   pub joined : Option Term
   pub later : Option Expression
 
--- What is built: the part of the innermost group, before which a factor is awaited or stands, and the parts of the groups round it.
+-- What is built: the part of the innermost group, with the factor before it if one is read, and the parts of the enclosing groups.
 pub data State : Type 0 where
   waiting : Part → List Part → State
   ready : Factor → Part → List Part → State
 
--- The part of a group that nothing stands in yet.
+-- The part of a group in which nothing is read yet.
 abbrev pub empty : Part
 empty = record { joined = None; later = None }
 
--- A factor, and what is joined to it.
+-- The term of a factor and what is joined to it.
 abbrev pub term_from : Factor → Option Term → Term
 term_from f None = one_factor f
 term_from f (Some t) = and_factors f t
 
--- A term, and what comes after the next `or`.
+-- The expression of a term and what comes after the next `or`.
 abbrev pub expression_from : Term → Option Expression → Expression
 expression_from t None = one_term t
 expression_from t (Some e) = or_terms t e
 
--- The expression that a part is once its first factor stands.
+-- The expression of a factor and the part after it.
 abbrev pub closed : Factor → Part → Expression
 closed f p = expression_from (term_from f p.joined) p.later
 
--- What a word does to what is built from the words after it.
+-- What is built once a word is read before those that built a state; `None` if it can't come there.
 abbrev pub step : WordValue → State → Option State
 step open_word (waiting p ps) = None
 step open_word (ready f p []) = None
@@ -51,12 +51,12 @@ step or_word (ready f p ps) = Some (waiting (record { joined = None; later = Som
 step (tag_word t) (waiting p ps) = Some (ready (tagged t) p ps)
 step (tag_word t) (ready f p ps) = None
 
--- What words build.
+-- What words build, if they build anything.
 abbrev pub run : List WordValue → Option State
 run [] = Some (waiting empty [])
 run (w ∷ ws) = option_and_then (step w) (run ws)
 
--- What an expression builds is that expression.
+-- From here on: the words of an expression build that expression. The first factor of a term.
 abbrev pub first : Term → Factor
 first (one_factor f) = f
 first (and_factors f t) = f
@@ -80,7 +80,7 @@ term_again : (t : Term) → term_from (first t) (others t) ≡ t
 term_again (one_factor f) = refl
 term_again (and_factors f t) = refl
 
--- An expression but for its first factor.
+-- An expression without its first factor.
 abbrev pub part_of : Expression → Part
 part_of e = record { joined = others (head e); later = tail e }
 
@@ -118,7 +118,7 @@ mutual
 pub run_whole : (e : Expression) → run (spelling e) ≡ Some (ready (first (head e)) (part_of e) [])
 run_whole e = ap run (sym (append-nil (spelling e))) ∙ run_expression e [] [] refl
 
--- So an expression is what its words build, and words spell one expression at most.
+-- An expression is what its words build, so words spell at most one expression.
 abbrev pub built : Option State → Expression
 built None = one_term (one_factor (tagged []))
 built (Some (waiting p ps)) = one_term (one_factor (tagged []))
@@ -128,7 +128,7 @@ built (Some (ready f p ps)) = closed f p
 pub built_from : (e : Expression) (ws : List WordValue) → spelling e ≡ ws → e ≡ built (run ws)
 built_from e ws says = sym (ap built (ap run (sym says) ∙ run_whole e) ∙ expression_again e)
 
--- Expressions of the same words are one.
+-- Expressions with the same words are equal.
 pub one_expression : (d e : Expression) → spelling d ≡ spelling e → d ≡ e
 one_expression d e same = built_from d (spelling e) same ∙ sym (built_from e (spelling e) refl)
 

@@ -1,4 +1,4 @@
--- What tag expressions say of a set of tags.
+-- The values of tag expressions for a set of tags.
 use Rattle.std.specs.Prelude.{not, ℕ, ◌+◌, ◌-◌, Bool, true, false, ◌==◌, ◌||◌, ◌&&◌, List, [], ◌∷◌, if◌then◌else◌}
 use Rattle.std.specs.List.{list_any}
 use Rattle.std.specs.Str.{bytes_eq}
@@ -7,7 +7,7 @@ use Rattle.gk_select.specs.TagGrammar.{Expression, one_term, or_terms, Term, one
 use Rattle.gk_select.specs.declared.tag_values.Seen.{Seen}
 use Rattle.gk_select.specs.declared.tag_values.Seen.TheVariants.{Value, Failed, Held}
 
--- Whether an expression holds of a set of tags. (Cucumber's tag expressions)
+-- Whether an expression holds for a set of tags. (Cucumber's tag expressions)
 abbrev mutual
   pub holds : Expression → List (List ℕ) → Bool
   holds (one_term t) tags = term_holds t tags
@@ -22,7 +22,7 @@ abbrev mutual
   factor_holds (negated f) tags = not (factor_holds f tags)
   factor_holds (grouped e) tags = holds e tags
 
--- What only the proofs speak of: what is known of the words taken so far, from the last to the first, once one more word is taken before them.
+-- Proof machinery: the state of the evaluation once the word before those read so far is read too. Words are read from the last to the first.
 abbrev pub seen_before : List (List ℕ) → WordValue → Seen → Seen
 seen_before tags open_word (Value v) = Value v
 seen_before tags close_word (Value v) = Value v
@@ -43,18 +43,18 @@ seen_before tags and_word (Held depth) = Held depth
 seen_before tags or_word (Held depth) = Held depth
 seen_before tags (tag_word tag) (Held depth) = Held depth
 
--- What only the proofs speak of: what is known once these words are taken.
+-- Proof machinery: the state of the evaluation once these words are read.
 abbrev pub seen_of : List (List ℕ) → List WordValue → Seen
 seen_of tags [] = Value false
 seen_of tags (word ∷ words) = seen_before tags word (seen_of tags words)
 
--- What only the proofs speak of: the value that is known.
+-- Proof machinery: the value in a state.
 abbrev pub seen_value : Seen → Bool
 seen_value (Value v) = v
 seen_value (Failed depth) = false
 seen_value (Held depth) = true
 
--- What only the proofs speak of: how many groups deep words are passed over.
+-- Proof machinery: how many groups deep the skipped words are.
 abbrev pub seen_depth : Seen → ℕ
 seen_depth (Value v) = 0
 seen_depth (Failed depth) = depth

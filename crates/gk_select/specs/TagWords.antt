@@ -1,4 +1,4 @@
--- The words of an expression of tags.
+-- The words of a tag expression.
 use Rattle.std.specs.Prelude.{codes, not, ◌≡◌, ℕ, map, Bool, ◌==◌, ◌||◌, ◌&&◌, List, [], ◌∷◌, length, Option, Some, None, if◌then◌else◌}
 use Rattle.std.specs.List.{list_any}
 use Rattle.std.specs.Str.{bytes_eq}
@@ -8,7 +8,7 @@ use Rattle.gk_gherkin.specs.Tags.{is_tag}
 use Rattle.gk_select.specs.declared.tag_words.Word.{Word}
 use Rattle.gk_select.specs.declared.tag_words.Word.TheVariants as words
 
--- A word of an expression. (Cucumber's tag expressions)
+-- A word of a tag expression. (Cucumber's tag expressions)
 pub data WordValue : Type 0 where
   open_word : WordValue
   close_word : WordValue
@@ -18,7 +18,7 @@ pub data WordValue : Type 0 where
   tag_word : List ℕ → WordValue
   deriving IsSet as word_value_set
 
--- What a `Word` says.
+-- The value of a `Word`.
 abbrev pub word_value : Word → WordValue
 word_value words.Open = open_word
 word_value words.Close = close_word
@@ -31,31 +31,31 @@ word_value (words.Tag tag) = tag_word (string_bytes tag)
 abbrev pub is_parenthesis : ℕ → Bool
 is_parenthesis b = (b == 40) || (b == 41)
 
--- A byte that ends a word, and that only a text of the new form has: a blank or a parenthesis.
+-- A byte that ends a word, and that only a text of the new form has: a space, a tab or a parenthesis.
 abbrev pub is_of_new_form : ℕ → Bool
 is_of_new_form b = is_blank b || is_parenthesis b
 
--- A word at the front of a text, which is empty where no word begins there, and the words after it.
+-- The word at the front of a text, which is empty if no word begins there, and the words after it.
 pub record Cut : Type 0 where
   pub front : List ℕ
   pub after : List (List ℕ)
 
--- The words of a text that is cut so.
+-- The words of a text with this cut.
 abbrev pub words_of_cut : Cut → List (List ℕ)
 words_of_cut cut = if length cut.front == 0 then cut.after else cut.front ∷ cut.after
 
--- What a byte does before a text that is cut so: a blank ends a word, a parenthesis is one, any other byte belongs to the word behind it. (Cucumber's tag expressions)
+-- The cut of a text with one more byte before it: a space or a tab ends a word, a parenthesis is a word, and any other byte belongs to the word that follows. (Cucumber's tag expressions)
 abbrev pub cut_before : ℕ → Cut → Cut
 cut_before b cut =
     if is_blank b then record { front = []; after = words_of_cut cut } else
     (if is_parenthesis b then record { front = []; after = (b ∷ []) ∷ words_of_cut cut } else record { front = b ∷ cut.front; after = cut.after })
 
--- How a text is cut.
+-- The cut of a text.
 unfoldable pub cut_of : List ℕ → Cut
 cut_of [] = record { front = []; after = [] }
 cut_of (b ∷ text) = cut_before b (cut_of text)
 
--- The words of a text: it is cut at blanks, and each parenthesis is a word. (Cucumber's tag expressions)
+-- The words of a text: it is cut at spaces and tabs, and each parenthesis is a word. (Cucumber's tag expressions)
 abbrev pub words_of_text : List ℕ → List (List ℕ)
 words_of_text text = words_of_cut (cut_of text)
 
@@ -63,7 +63,7 @@ words_of_text text = words_of_cut (cut_of text)
 abbrev pub is_left_out : ℕ → Bool
 is_left_out b = (b == 44) || (b == 92)
 
--- What a word of a text is, if it may stand in an expression: a tag is `@` and at least one byte, none of them a comma or a backslash. (Cucumber's tag expressions)
+-- The value of a word of a text, if it is valid in an expression. A tag is `@` and at least one byte, none of them a comma or a backslash. (Cucumber's tag expressions)
 abbrev pub word_said : List ℕ → Option WordValue
 word_said word =
     if bytes_eq word (codes "(") then Some open_word else
@@ -73,11 +73,11 @@ word_said word =
     (if bytes_eq word (codes "or") then Some or_word else
     (if is_tag word && not (list_any is_left_out word) then Some (tag_word word) else None)))))
 
--- The words of a text, each of which may stand in an expression. (Cucumber's tag expressions)
+-- The words of a text, all of them valid in an expression. (Cucumber's tag expressions)
 abbrev pub AreWords : List ℕ → List WordValue → Type 0
 AreWords text words = map word_said (words_of_text text) ≡ map Some words
 
--- What only the proofs speak of: the tags among words.
+-- Proof machinery: the tags among words.
 abbrev pub tags_among : List WordValue → List (List ℕ)
 tags_among [] = []
 tags_among (tag_word tag ∷ words) = tag ∷ tags_among words

@@ -1,4 +1,4 @@
-//! The old form of a rule of tags: alternatives between commas.
+//! The old form of a rule of tags: alternatives separated by commas.
 ghost use Rattle.std.specs.Prelude.{◌≡◌, ◌⊎◌, ℕ, List, [], ◌∷◌, Err, false, IsSome, IfOk, IfErr, map, slice_index_or};
 ghost use Rattle.std.specs.List.{list_any};
 ghost use Rattle.std.specs.String.{string_bytes};
@@ -14,7 +14,7 @@ use crate::tag_words::Word;
 use gk_gherkin::text::begins;
 use std::alloc::{AllocError, Global};
 
-/// A tag, with its `@`, that has to be there, or to be absent.
+/// A tag, with its `@`, that has to be present or, if negated, absent.
 #[derive(Debug, Drop)]
 pub struct Alternative {
     negated: bool,
@@ -53,7 +53,7 @@ fn read_alternative(alloc: Global, text: &str) -> Result<Alternative, SelectFaul
     }
 }
 
-// The words of an alternative, after those of the alternatives before it.
+// Appends the words of an alternative to those of the alternatives before it.
 fn push_alternative(words: &mut Vec<Word>, alternative: Alternative) -> Result<(), AllocError>
     ensures { IfOk result (λ _. map word_value words.new.items ≡
         words_with (map word_value words.old.items) (alternative_value alternative)) }
@@ -68,17 +68,17 @@ fn push_alternative(words: &mut Vec<Word>, alternative: Alternative) -> Result<(
     Ok(())
 }
 
-/// The words of the `or` of the alternatives that stand between the commas of a text.
+/// Returns the words of the `or` of the alternatives between the commas of a text.
 pub fn words_of_alternatives(alloc: Global, text: &str) -> Result<Vec<Word>, SelectFault>
-    // What is answered are the words of what stands there.
+    // The words spell the `or` of the text's alternatives.
     ensures found { IfOk result (λ v.
         (first : AlternativeValue) × (others : List AlternativeValue) ×
         (map spec.alternative (pieces text.now) ≡ map Some (first ∷ others)) ×
         (spelling (or_of first others) ≡ map word_value v.items)) }
-    // Memory runs out only after the first alternative was read.
+    // Memory runs out only if the first alternative is valid.
     ensures memory { result ≡ Err Memory →
         IsSome (spec.alternative (slice_index_or (pieces text.now) 0 [])) }
-    // Which fault it is: in a bad text something stands there that says nothing.
+    // The fault is `Memory` or, only for a text with an invalid alternative, `BadTagText`.
     ensures fault { IfErr result (λ e. (e ≡ Memory) ⊎ ((e ≡ BadTagText) ×
         ((alternatives : List AlternativeValue) →
         map spec.alternative (pieces text.now) ≡ map Some alternatives → ⊥))) }

@@ -5,18 +5,17 @@ use gk_gherkin::Step;
 /// A plain scenario, or an outline filled from one row.
 #[derive(Debug, Drop)]
 pub struct Case {
-    /// The scenario's name; of a row `NAME -- @E.R EXAMPLESNAME`, without blanks at its end.
+    /// The scenario's name; for a row `NAME -- @E.R EXAMPLESNAME`, without trailing spaces and tabs.
     pub name: String,
     /// The scenario's keyword, without its colon.
     pub keyword: String,
     /// The line of the scenario's heading, or of the row, counted from 1.
     pub line: u32,
-    /// The index of the case's Rule among the Rules of the file, counted from 0; none for a case of the
-    /// feature itself.
+    /// The index of the case's Rule among the Rules of the file, counted from 0; `None` for a case in no Rule.
     pub rule: Option<u32>,
     /// The tags of the feature, the rule, the scenario and the Examples, in that order, each with its `@`.
     pub tags: Vec<String>,
-    /// The tags of the scenario and the Examples alone.
+    /// The tags of the scenario and the Examples only.
     pub own_tags: Vec<String>,
     /// The steps of the feature's Background, of the rule's Background, and then the scenario's own.
     pub steps: Vec<Step>,

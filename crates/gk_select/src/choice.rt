@@ -8,8 +8,8 @@ ghost use Rattle.gk_select.specs.TagRules.{tag_rule_value};
 use crate::case::Case;
 use crate::tag_values::TagRule;
 
-/// Which cases are chosen: those of whose tags every rule holds, and whose line is among the lines where
-/// there are any. (behave's documentation: tag expressions)
+/// A condition by which cases are chosen: every rule holds for the case's tags, and its line is among the
+/// lines, if there are any. (behave's documentation: tag expressions)
 #[derive(Debug, Drop)]
 pub struct Choice {
     rules: Vec<TagRule>,
@@ -20,7 +20,7 @@ pub struct Choice {
 impl Choice {
     ghost use Rattle.gk_select.specs.Choice.{all_hold, chosen_by, is_at_lines, is_chosen};
 
-    /// The choice by these rules and lines, in any order. Takes no memory.
+    /// Returns the choice by these rules and lines, which may be in any order. Allocates no memory.
     pub fn new(rules: Vec<TagRule>, lines: Vec<u32>) -> Choice
         ensures { chosen_by result ≡ is_chosen (map tag_rule_value rules.items) lines.items }
     {
@@ -29,7 +29,7 @@ impl Choice {
         Choice { rules, lines }
     }
 
-    /// Whether a case is chosen. Takes no memory.
+    /// Returns whether a case is chosen. Allocates no memory.
     pub fn chooses(&self, case: &Case) -> bool
         ensures { result ≡ chosen_by self.now (case_value case.now) }
     {

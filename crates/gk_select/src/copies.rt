@@ -1,4 +1,4 @@
-//! Steps and texts copied, filled from a row or as they are.
+//! Copies of steps and texts, filled from a row or unchanged.
 ghost use Rattle.std.specs.Prelude.{◌≡◌, length, map, IfOk};
 ghost use Rattle.std.specs.String.{string_bytes};
 ghost use Rattle.gk_gherkin.specs.Feature.{texts, block_value, step_value};
@@ -9,7 +9,7 @@ use crate::filling::fill;
 use gk_gherkin::{Block, Step};
 use std::alloc::{AllocError, Global};
 
-/// Pushes copies of texts.
+/// Appends copies of texts.
 pub fn push_texts(alloc: Global, into: &mut Vec<String>, from: &[String]) -> Result<(), AllocError>
     ensures { Appends string_bytes result into.old.items into.new.items (texts from.now) }
 {
@@ -19,7 +19,7 @@ pub fn push_texts(alloc: Global, into: &mut Vec<String>, from: &[String]) -> Res
     Ok(())
 }
 
-/// Returns copies of texts. An error comes only where a growth was refused.
+/// Returns copies of texts. An error comes only if a growth was refused.
 pub fn copied_texts(alloc: Global, from: &[String]) -> Result<Vec<String>, AllocError>
     ensures { IfOk result (λ copies. texts copies.items ≡ texts from.now) }
 {
@@ -79,9 +79,9 @@ fn fill_block(
     }
 }
 
-/// A step of an outline as it is run for a row: its text, its doc string and its table's cells are filled from the row. The
-/// row has as many cells as the header. An error comes only where a growth was refused. (Cucumber's Gherkin reference:
-/// scenario outline)
+/// Returns a step of an outline as it is run for a row: its text, its doc string and its table's cells are
+/// filled from the row. The row must have as many cells as the header. An error comes only if a growth was
+/// refused. (Cucumber's Gherkin reference: scenario outline)
 pub fn fill_step(
     alloc: Global,
     step: &Step,
@@ -104,7 +104,7 @@ pub fn fill_step(
     })
 }
 
-/// Pushes steps filled from a row.
+/// Appends steps, filled from a row.
 pub fn push_filled_steps(
     alloc: Global,
     into: &mut Vec<Step>,
@@ -122,7 +122,7 @@ pub fn push_filled_steps(
     Ok(())
 }
 
-/// Pushes copies of steps: filled under no header, they stay as they are.
+/// Appends copies of steps. They are filled under an empty header, which changes nothing.
 pub fn push_steps(alloc: Global, into: &mut Vec<Step>, from: &[Step]) -> Result<(), AllocError>
     ensures { Appends step_value result into.old.items into.new.items (map step_value from.now) }
 {

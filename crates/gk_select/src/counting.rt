@@ -1,4 +1,4 @@
-//! How many steps a feature has after expansion, counted before anything is built.
+//! The number of steps that a feature has after expansion, counted before anything is built.
 ghost use Rattle.std.specs.Prelude.{◌≡◌, ◌+◌, ◌*◌, ◌<◌, ◌^◌, not, nat_lt, length, map, sum_by, option_map, Option, Some};
 ghost use Rattle.gk_gherkin.specs.Feature.{background_value, examples_value, scenario_value, rule_value, feature_value};
 ghost use Rattle.gk_select.specs.Expansion.{step_count};
@@ -8,17 +8,17 @@ ghost use Rattle.gk_select.specs.Counting.{left, examples_steps, scenario_steps,
 use crate::outline::is_outline;
 use gk_gherkin::{Background, Examples, Feature, Rule, Scenario};
 
-/// How many steps a feature may have after expansion.
+/// The maximum number of steps that a feature may have after expansion.
 pub const STEP_LIMIT: usize = 1_000_000;
 
-/// What is left of the room after some cases of as many steps each.
+/// Returns the room left after `cases` cases of `steps` steps each, or `None` if there is too little.
 fn room_after(room: usize, cases: usize, steps: usize) -> Option<usize>
     ensures { result ≡ left room (cases * steps) }
 {
     room.checked_sub(cases.checked_mul(steps)?)
 }
 
-/// The same, where each case has inherited steps and its own.
+/// Returns the room left after cases that each have inherited and own steps, or `None` if there is too little.
 fn room_after_cases(room: usize, cases: usize, inherited: usize, own: usize) -> Option<usize>
     ensures { result ≡ left room (cases * (inherited + own)) }
 {
@@ -105,7 +105,7 @@ fn room_after_feature(feature: &Feature) -> Option<usize>
     room_after_rules(room, inherited, &feature.rules)
 }
 
-/// Whether the cases of a feature have no more steps than the limit.
+/// Returns whether the cases of a feature have at most `STEP_LIMIT` steps.
 pub fn has_room(feature: &Feature) -> bool
     ensures { result ≡ not (nat_lt STEP_LIMIT (step_count (feature_value feature.now))) }
 {

@@ -55,7 +55,8 @@ fn plain_case(
     })
 }
 
-// The name of a row's case: the scenario's, filled in, with the numbers of the examples and the row.
+// Returns the name of a row's case: the scenario's filled name, the numbers of the Examples and the row, and
+// the name of the Examples.
 fn row_name(
     alloc: Global,
     scenario: &Scenario,
@@ -78,7 +79,7 @@ fn row_name(
     )
 }
 
-// A row's own tags: those of its scenario and of its examples.
+// Returns a row's own tags: those of its scenario, then those of its Examples.
 fn own_row_tags(
     alloc: Global,
     scenario: &Scenario,
@@ -92,7 +93,7 @@ fn own_row_tags(
     Ok(tags)
 }
 
-// Copies of the inherited steps and the scenario's own, which are filled in from a row.
+// Returns copies of the inherited steps and, after them, the scenario's own steps, filled from a row.
 fn row_steps(
     alloc: Global,
     inherited: &Inherited<'_>,
@@ -258,7 +259,7 @@ fn push_rules_cases(
     Ok(())
 }
 
-// The cases of a feature that is given up: the texts of its plain scenarios are moved.
+// Returns the cases of a feature that is consumed: the texts of its plain scenarios are moved.
 #[tactic(auto, unfolding(crate::specs::Expansion::cases))]
 fn moved_cases(alloc: Global, feature: Feature) -> Result<Vec<Case>, AllocError>
     requires { IsExpandable (feature_value feature) }
@@ -274,7 +275,7 @@ fn moved_cases(alloc: Global, feature: Feature) -> Result<Vec<Case>, AllocError>
     Ok(cases)
 }
 
-// The case of a plain scenario, whose texts are copied.
+// Returns the case of a plain scenario, whose texts are copied.
 fn copied_case(
     alloc: Global,
     inherited: &Inherited<'_>,
@@ -331,7 +332,7 @@ fn push_copied_scenarios(
     Ok(())
 }
 
-// The cases of a feature that is kept: each text is copied.
+// Returns the cases of a feature that is kept: each text is copied.
 #[tactic(auto, unfolding(crate::specs::Expansion::cases))]
 fn copied_cases(alloc: Global, feature: &Feature) -> Result<Vec<Case>, AllocError>
     requires { IsExpandable (feature_value feature.now) }
@@ -347,23 +348,23 @@ fn copied_cases(alloc: Global, feature: &Feature) -> Result<Vec<Case>, AllocErro
     Ok(cases)
 }
 
-/// The cases of a feature in file order: each plain scenario once, and each row of an outline once.
+/// Returns the cases of a feature in file order: each plain scenario once, and each row of an outline once.
 ///
-/// A scenario is an outline by its keyword, `Scenario Outline` or `Scenario Template`, or where it has
-/// Examples; it has one case for each row of its tables, and none where there is no row. Name, step
-/// texts, doc strings and table cells are filled from the row; tags and the steps of a Background are not.
+/// A scenario is an outline if its keyword is `Scenario Outline` or `Scenario Template`, or if it has Examples.
+/// An outline has one case for each row of its tables, and none if there is no row. Name, step texts, doc
+/// strings and table cells are filled from the row; tags and the steps of a Background are not.
 ///
-/// `TooMany` comes exactly where the cases have more steps than `STEP_LIMIT`; they are counted before
-/// anything is built. `Memory` comes only where a growth was refused, and never in place of `TooMany`.
-/// A refusal answers no cases. The feature's texts are copied; `into_cases` moves them. (Cucumber's
-/// Gherkin reference: scenario outline, background, tag inheritance)
+/// `TooMany` comes if and only if the cases have more steps than `STEP_LIMIT`; they are counted before anything
+/// is built. `Memory` comes only if a growth was refused, and never in place of `TooMany`. On an error no cases
+/// are returned. The feature's texts are copied; `into_cases` moves them. (Cucumber's Gherkin reference:
+/// scenario outline, background, tag inheritance)
 pub fn expand(alloc: Global, feature: &Feature) -> Result<Vec<Case>, SelectFault>
     requires { IsExpandable (feature_value feature.now) }
-    // What is answered is the feature's cases.
+    // The result is the feature's cases.
     ensures ok { IfOk result (λ v. map case_value v.items ≡ cases (feature_value feature.now)) }
     // More steps than the limit are refused.
     ensures too_many { HasTooManySteps (feature_value feature.now) → result ≡ Err TooMany }
-    // Which fault it is.
+    // The fault is `TooMany` if there are more steps than the limit, otherwise `Memory`.
     ensures fault { IfErr result (λ e. MatchBool
         (nat_lt step_limit (step_count (feature_value feature.now))) (e ≡ TooMany) (e ≡ Memory)) }
 {
@@ -373,15 +374,15 @@ pub fn expand(alloc: Global, feature: &Feature) -> Result<Vec<Case>, SelectFault
     Ok(copied_cases(alloc, feature)?)
 }
 
-/// What `expand` answers, of a feature that is given up: a plain scenario's texts are moved into its
-/// case. A refusal answers no cases, and the feature is dropped.
+/// Returns the same cases as `expand`, but consumes the feature: the texts of a plain scenario are moved into
+/// its case. On an error no cases are returned, and the feature is dropped.
 pub fn into_cases(alloc: Global, feature: Feature) -> Result<Vec<Case>, SelectFault>
     requires { IsExpandable (feature_value feature) }
-    // What is answered is the feature's cases.
+    // The result is the feature's cases.
     ensures ok { IfOk result (λ v. map case_value v.items ≡ cases (feature_value feature)) }
     // More steps than the limit are refused.
     ensures too_many { HasTooManySteps (feature_value feature) → result ≡ Err TooMany }
-    // Which fault it is.
+    // The fault is `TooMany` if there are more steps than the limit, otherwise `Memory`.
     ensures fault { IfErr result (λ e. MatchBool
         (nat_lt step_limit (step_count (feature_value feature))) (e ≡ TooMany) (e ≡ Memory)) }
 {

@@ -1,4 +1,4 @@
-//! An outline's texts, filled from a row.
+//! Texts of an outline, filled from a row.
 ghost use Rattle.std.specs.Prelude.{◌≡◌, ◌++◌, length, option_map, IfOk};
 ghost use Rattle.std.specs.String.{string_bytes};
 ghost use Rattle.gk_gherkin.specs.Feature.{texts};
@@ -7,7 +7,7 @@ ghost use Rattle.gk_select.specs.Filling.{filled};
 
 use std::alloc::{AllocError, Global};
 
-/// The cell under the first header that is `name`.
+/// Returns the cell under the first header that equals `name`, if any.
 fn cell_under<'a>(header: &[String], row: &'a [String], name: &str) -> Option<&'a str>
     requires { length row.now ≡ length header.now }
     ensures { option_map (λ cell. cell.now) result ≡
@@ -21,7 +21,7 @@ fn cell_under<'a>(header: &[String], row: &'a [String], name: &str) -> Option<&'
     None
 }
 
-/// Pushes what a text that ends in a `>` is filled with; `piece` is the text before that `>`, and has none itself.
+/// Appends the filled text of `piece` and the `>` after it. `piece` itself has no `>`.
 fn push_piece(
     filled: &mut String,
     piece: &str,
@@ -45,10 +45,10 @@ fn push_piece(
     filled.push('>')
 }
 
-/// A text with the row's cell in place of each `<h>` with h a header, from left to right.
+/// Returns a text with the row's cell in place of each `<h>` whose h is a header, from left to right.
 ///
-/// A cell isn't looked at again, and of two equal headers the first counts. A `<` that begins no
-/// placeholder stays. The row has as many cells as the header. An error comes only where a growth was
+/// The text of a cell isn't filled again. Of two equal headers the first counts. A `<` that begins no
+/// placeholder stays. The row must have as many cells as the header. An error comes only if a growth was
 /// refused. (Cucumber's Gherkin reference: scenario outline)
 pub fn fill(
     alloc: Global,
@@ -60,7 +60,7 @@ pub fn fill(
     ensures { IfOk result (λ s.
         string_bytes s ≡ filled (texts header.now) (texts row.now) text.now) }
 {
-    // A placeholder ends at the first `>` after its `<`, so only what stands before a `>` is looked up.
+    // A placeholder ends at the first `>` after its `<`, so only text before a `>` is looked up.
     let mut filled = String::new(alloc);
     let mut rest = text;
     while let Some((piece, after)) = rest.split_once('>') {

@@ -1,4 +1,4 @@
-//! What the scenarios of a feature or of a rule have in common.
+//! The rule, the tags and the Background steps that scenarios have in common.
 ghost use Rattle.std.specs.Prelude.{◌≡◌, ◌++◌, map, option_map, IfOk};
 ghost use Rattle.gk_gherkin.specs.Feature.{texts, background_value, step_value, feature_value, rule_value};
 ghost use Rattle.gk_select.specs.Copies.{Appends};
@@ -9,8 +9,8 @@ use crate::copies::{copied_texts, push_steps, push_texts};
 use gk_gherkin::{Background, Feature, Rule, Step};
 use std::alloc::{AllocError, Global};
 
-/// The index of the rule that scenarios stand in, if there is one, and the tags and steps of Backgrounds that
-/// they inherit: those of the feature, and then those of the rule.
+/// The index of the rule that scenarios are in, if any, and the tags and Background steps that they inherit.
+/// Those of the feature come first, then those of the rule.
 #[derive(Clone, Copy, Debug)]
 pub struct Inherited<'a> {
     pub rule: Option<u32>,
@@ -30,7 +30,7 @@ fn steps_of<'a>(background: &'a Option<Background>) -> &'a [Step]
     }
 }
 
-/// What a feature's own scenarios inherit.
+/// Returns what a feature's own scenarios inherit.
 pub fn inherited_in_feature<'a>(feature: &'a Feature) -> Inherited<'a>
     ensures { inherited_value result ≡ spec.inherited_in_feature (feature_value feature.now) }
 {
@@ -43,7 +43,7 @@ pub fn inherited_in_feature<'a>(feature: &'a Feature) -> Inherited<'a>
     }
 }
 
-/// What the scenarios of the rule at this index inherit.
+/// Returns what the scenarios of the rule at this index inherit.
 pub fn inherited_in_rule<'a>(feature: &'a Feature, index: u32, rule: &'a Rule) -> Inherited<'a>
     ensures { inherited_value result ≡
         spec.inherited_in_rule (feature_value feature.now) index (rule_value rule.now) }
@@ -57,7 +57,7 @@ pub fn inherited_in_rule<'a>(feature: &'a Feature, index: u32, rule: &'a Rule) -
     }
 }
 
-/// Pushes copies of the inherited steps.
+/// Appends copies of the inherited steps.
 pub fn push_inherited_steps(
     alloc: Global,
     steps: &mut Vec<Step>,
@@ -70,7 +70,7 @@ pub fn push_inherited_steps(
     push_steps(alloc, steps, inherited.rule_steps)
 }
 
-/// Own steps after copies of the inherited ones.
+/// Returns copies of the inherited steps, followed by the own steps.
 pub fn after_inherited_steps(
     alloc: Global,
     inherited: &Inherited<'_>,
@@ -89,7 +89,7 @@ pub fn after_inherited_steps(
     Ok(steps)
 }
 
-/// Returns copies of the inherited tags and of a case's own.
+/// Returns copies of the inherited tags, followed by copies of a case's own tags.
 pub fn after_inherited_tags(
     alloc: Global,
     inherited: &Inherited<'_>,

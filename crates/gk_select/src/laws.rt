@@ -15,15 +15,15 @@ ghost use Rattle.gk_select.specs.TagRules.{ReadsTags};
 
 use gk_gherkin::rules_are_counted;
 
-/// Each text has one cut for a header row, and the filled text is that of its parts. (Cucumber's
+/// Each text has exactly one cut for a header row, and the filled text is made of the filled parts. (Cucumber's
 /// Gherkin reference: scenario outline)
 pub fn texts_have_one_cut()
     ensures { (headers cells : List (List ℕ)) (text : List ℕ) → FillsByCut headers cells text }
 {}
 
-/// Features that `read_feature` answers meet the condition of `expand` and `into_cases`: in what the grammar reads each
-/// row of Examples has as many cells as its header, and each rule has a line of its own. (Cucumber's Gherkin reference:
-/// examples, rule)
+/// Features that `read_feature` returns meet the condition of `expand` and `into_cases`. In what the grammar
+/// reads, each row of Examples has as many cells as its header. There are fewer than 2^32 rules, because each
+/// rule has its own line. (Cucumber's Gherkin reference: examples, rule)
 pub fn read_features_are_expandable()
     ensures { (bytes : List ℕ) (f : FeatureValue) → IsText bytes → Reads (lines_of bytes) (Some f)
         → IsExpandable f }
@@ -31,26 +31,27 @@ pub fn read_features_are_expandable()
     rules_are_counted();
 }
 
-/// Where no scenario is an outline, the cases are the scenarios, each with the tags and steps that it
-/// inherits before its own. (Cucumber's Gherkin reference: example, background, tag inheritance)
+/// If no scenario is an outline, the cases are the scenarios, each with its inherited tags and steps before its
+/// own. (Cucumber's Gherkin reference: example, background, tag inheritance)
 pub fn plain_scenarios_are_cases()
     ensures { (f : FeatureValue) → HasNoOutline f → cases f ≡ plain_cases f }
 {}
 
-/// An outline has as many cases as its tables have rows under their headers, and any other scenario one.
-/// (Cucumber's Gherkin reference: scenario outline)
+/// A feature has one case for each row under the headers of an outline's tables, and one for each other
+/// scenario. (Cucumber's Gherkin reference: scenario outline)
 pub fn rows_are_cases()
     ensures { (f : FeatureValue) → length (cases f) ≡ case_count f }
 {}
 
-/// The rules of the cases are indexes among the feature's rules, and never fall from one case to the next; a
+/// The rules of the cases are indexes among the feature's rules and are non-decreasing from case to case. A
 /// case without a rule counts lowest. (Cucumber's Gherkin reference: rule)
 pub fn cases_fall_into_rules()
     ensures { (f : FeatureValue) → FallIntoRules (length f.rules) (map (λ c. c.rule) (cases f)) }
 {}
 
-/// The lines of what a feature file reads as rise: those of its rules, those of its cases, and both together, so that
-/// each case stands below the heading of its rule and above that of the next one. (Cucumber's Gherkin reference: rule)
+/// In a feature that is read from a file, the lines of the rules rise, those of the cases rise, and both
+/// together rise. So each case is below the heading of its rule and above that of the next rule. (Cucumber's
+/// Gherkin reference: rule)
 pub fn cases_are_in_file_order()
     ensures { CasesAreInFileOrder }
 {}
@@ -62,8 +63,8 @@ pub fn texts_have_one_rule()
         ReadsTags text a → ReadsTags text b → a ≡ b }
 {}
 
-/// A text of alternatives spells a rule, and it holds of the sets of which one of them does. (behave's
-/// documentation: tag expressions)
+/// A text of alternatives spells a rule. The rule holds for a set of tags if and only if one of the alternatives
+/// does. (behave's documentation: tag expressions)
 pub fn alternatives_are_rules()
     ensures { (text : List ℕ) (alternatives : List AlternativeValue) →
         ReadsAlternatives text alternatives → (rule : Expression) × ReadsTags text rule ×

@@ -1,11 +1,11 @@
-//! From features to cases: outlines expanded, and the choice of cases by tags and lines. A feature or a `--tags`
-//! text comes in; the cases in file order, or a rule of tags, go out.
+//! Expansion of features into cases, and the choice of cases by tags and lines. A feature becomes its cases in
+//! file order; a `--tags` text becomes a rule of tags.
 #![tactic(auto)]
 
 // A case.
 mod case;
 
-// What a case has: filled texts, copied and inherited tags and steps, a name.
+// Parts of a case: filled texts, copied and inherited tags and steps, a name.
 mod copies;
 mod filling;
 mod inherited;
@@ -18,7 +18,7 @@ mod expansion;
 // The words of a text of tags.
 mod tag_words;
 
-// Expressions, and the sets of tags that they hold of.
+// Expressions, and the sets of tags that they hold for.
 mod tag_grammar;
 mod tag_values;
 

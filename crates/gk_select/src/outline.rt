@@ -1,4 +1,4 @@
-//! Which scenarios are outlines, and what the cases of their rows are called.
+//! Outlines, and the names of the cases of their rows.
 ghost use Rattle.std.specs.Prelude.{◌≡◌, IfOk};
 ghost use Rattle.std.specs.String.{string_bytes};
 ghost use Rattle.gk_gherkin.specs.Feature.{scenario_value};
@@ -18,7 +18,7 @@ pub fn is_outline(scenario: &Scenario) -> bool
         || !scenario.examples.is_empty()
 }
 
-/// The name of the case of a row, counted from 1, under Examples, counted from 1.
+/// Returns the name of the case of a row under Examples. Rows and Examples are counted from 1.
 pub fn case_name(
     alloc: Global,
     name: &str,

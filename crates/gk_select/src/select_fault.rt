@@ -1,4 +1,4 @@
-//! Why a feature is not expanded, or a text of tags is refused.
+//! Reasons why a feature is not expanded or a text of tags is refused.
 ghost use Rattle.std.specs.Prelude.{◌≡◌, Some};
 ghost use Rattle.gk_select.specs.SelectFault.{text_of_select_fault};
 ghost use Rattle.gk_select.specs.declared.select_fault.SelectFault.TheVariants.{Memory};
@@ -6,10 +6,10 @@ ghost use Rattle.gk_select.specs.declared.select_fault.SelectFault.TheVariants.{
 use gk_gherkin::Refused;
 use std::fmt;
 
-/// Why a feature is not expanded, or a text of tags is refused.
+/// The reason why a feature is not expanded or a text of tags is refused.
 #[derive(Clone, Copy, Debug, PartialEq, Eq)]
 pub enum SelectFault {
-    /// The cases of a feature have more than `LIMIT` steps.
+    /// The cases of a feature have more than `STEP_LIMIT` steps.
     TooMany,
     /// The text spells no rule of tags.
     BadTagText,
@@ -25,7 +25,7 @@ impl<E: Refused> From<E> for SelectFault {
     }
 }
 
-// Writes what the fault is called.
+// Writes the text of the fault.
 impl fmt::Display for SelectFault {
     ghost output = { λ e. Some (text_of_select_fault e) };
 

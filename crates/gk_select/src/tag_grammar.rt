@@ -1,4 +1,4 @@
-//! Whether words spell an expression.
+//! The check that words spell an expression.
 ghost use Rattle.std.specs.Prelude.{◌≡◌, ◌⊎◌, ◌<◌, ◌≤◌, ℕ, Err, length, map, max, IfOk, IfErr};
 ghost use Rattle.gk_select.specs.declared.select_fault.SelectFault.TheVariants.{BadTagText, Memory};
 ghost use Rattle.gk_select.specs.SelectFault.{AnswersOrLacksMemory};
@@ -11,17 +11,17 @@ use crate::select_fault::SelectFault;
 use crate::tag_words::Word;
 use std::alloc::Global;
 
-// The most `not` and `(` that may be nested.
+// The maximum depth of nested `not` and `(`, counted together.
 const DEPTH_LIMIT: usize = 100;
 
-/// What the words taken so far have built.
+/// The depths of what the words read so far have built. Words are read from the last to the first.
 #[derive(Debug, Drop)]
 struct Built {
-    /// How deep the factor is that stands in front, if one does.
+    /// The depth of the factor just read, if any.
     factor: Option<usize>,
-    /// How deep what stands behind it in its group.
+    /// The depth of what comes after that factor in its group.
     behind: usize,
-    /// How deep the parts of the groups round it, the innermost last.
+    /// The depths of the parts of the enclosing groups, the innermost last.
     outer: Vec<usize>,
 }
 
@@ -42,7 +42,7 @@ fn larger(a: usize, b: usize) -> usize
 }
 
 impl Built {
-    // What there is once the word before is taken.
+    // Returns what is built once the word before those read so far is read too.
     fn before(self, word: &Word) -> Result<Built, SelectFault>
         ensures { AnswersOrLacksMemory built_value result
             (measure_before (word_value word.now) self.factor self.behind self.outer.items) }
@@ -96,14 +96,14 @@ impl Built {
     }
 }
 
-/// Whether these words spell an expression in which no more than 100 `not` and `(` are nested.
+/// Checks that words spell an expression in which at most 100 `not` and `(` are nested.
 pub fn check_words(alloc: Global, words: &[Word]) -> Result<(), SelectFault>
-    // Where no fault is answered, they spell one.
+    // If no fault is returned, the words spell one.
     ensures found { IfOk result (λ _. (e : Expression) ×
         (spelling e ≡ map word_value words.now) × (depth e ≤ depth_limit)) }
-    // Memory runs out only where there are words.
+    // Memory runs out only if there are words.
     ensures memory { result ≡ Err Memory → 0 < length words.now }
-    // Which fault it is: bad words spell none.
+    // The fault is `Memory` or, only for words that spell none, `BadTagText`.
     ensures fault { IfErr result (λ e. (e ≡ Memory) ⊎ ((e ≡ BadTagText) × ((e : Expression) →
         spelling e ≡ map word_value words.now → depth e ≤ depth_limit → ⊥))) }
 {

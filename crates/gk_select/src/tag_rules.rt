@@ -54,31 +54,36 @@ fn read_either_form(alloc: Global, text: &str) -> Result<TagRule, SelectFault>
     }
 }
 
-/// The rule that a text spells: an expression where it has a blank or a parenthesis, and else
-/// alternatives between commas, one of which has to hold.
+/// Returns the rule that a text spells.
 ///
-/// In an expression `not` binds before `and`, and `and` before `or`; parentheses make groups. A tag is
-/// `@` and at least one byte. Words end at a blank, which is a space or a tab, and at a parenthesis.
+/// A text with a space, a tab or a parenthesis is an expression. Any other text is alternatives separated by
+/// commas; at least one of them has to hold.
 ///
-/// An alternative is an optional `~`, an optional `@` and a name of at least one byte. With `~` the tag
-/// has to be absent. Without an `@` the name doesn't begin with `~` or `-`, and the `@` is added.
+/// In an expression `not` binds before `and`, and `and` before `or`; parentheses make groups. A tag is `@` and
+/// at least one byte. Words end at a space, a tab or a parenthesis.
 ///
-/// A text of alternatives spells no rule where one of them is none. An expression spells none where the
-/// grammar doesn't have its words, where one of its tags has a comma or a backslash, and where more than
-/// 100 `not` and `(` are nested. `BadTagText` comes only there. `Memory` comes only where a
-/// growth was refused, so it may come in place of either answer; but never where the first alternative is
-/// none, nor where the first word of an expression is none or there is no word.
-/// The time that it takes is linear in the text. (behave's documentation: tag expressions; Cucumber's tag
+/// An alternative is an optional `~`, an optional `@` and a name of at least one byte. With `~` the tag has to
+/// be absent. A name without an `@` must not begin with `~` or `-`; the `@` is added.
+///
+/// A text of alternatives spells no rule if one of them is malformed. An expression spells none if its words
+/// don't follow the grammar, or if one of its tags has a comma or a backslash. Nor does it if more than 100
+/// `not` and `(` are nested.
+///
+/// `BadTagText` comes only for a text that spells no rule. `Memory` comes only if a growth was refused, so it
+/// can come in place of a rule or of `BadTagText`. It never comes if the first alternative is malformed, if the
+/// first word of an expression is invalid, or if there is no word.
+///
+/// The time is linear in the length of the text. (behave's documentation: tag expressions; Cucumber's tag
 /// expressions)
 pub fn read_tags(alloc: Global, text: &str) -> Result<TagRule, SelectFault>
-    // What is answered is what the text spells.
+    // The result is a rule that the text spells.
     ensures found { IfOk result (λ r. ReadsTags text.now (tag_rule_value r)) }
-    // What the text spells is answered, unless memory runs out.
+    // If the text spells a rule, that rule is returned, unless memory runs out.
     ensures only { (rule : Expression) → ReadsTags text.now rule →
         AnswersOrLacksMemory tag_rule_value result (Some rule) }
-    // Memory runs out only after the first alternative, or the first word, was read.
+    // Memory runs out only if the first alternative, or the first word of an expression, is valid.
     ensures memory { result ≡ Err Memory → NeedsMemory text.now }
-    // Which fault it is: a bad text spells nothing.
+    // The fault is `Memory` or, only for a text that spells no rule, `BadTagText`.
     ensures fault { IfErr result (λ e. (e ≡ Memory) ⊎ ((e ≡ BadTagText) × SpellsNone text.now)) }
 {
     read_either_form(alloc, text)

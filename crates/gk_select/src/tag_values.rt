@@ -1,4 +1,4 @@
-//! Rules of tags, asked about a set of tags: the words of an expression are taken from the last to the first.
+//! Rules of tags, evaluated for a set of tags. The words of an expression are read from the last to the first.
 ghost use Rattle.std.specs.Prelude.{◌≡◌, ◌-◌, ◌<◌, ◌^◌, ◌++◌, map, OnOk, IfOk};
 ghost use Rattle.std.specs.List.{list_any};
 ghost use Rattle.std.specs.Str.{bytes_eq};
@@ -11,15 +11,16 @@ ghost use Rattle.gk_select.specs.TagWords.{word_value, tags_among};
 use crate::tag_words::Word;
 use std::alloc::{AllocError, Global};
 
-/// What is known of the words taken so far.
+/// The state of the evaluation after the words read so far.
 #[derive(Clone, Copy, Debug)]
 pub enum Seen {
-    /// The value of the factor that stands in front, where all joined to it holds and nothing behind
-    /// the next `or` does.
+    /// The value of the factor just read. All that is joined to it holds, and nothing after the next `or` does.
     Value(bool),
-    /// The term fails, and the rest of it is passed over, now so many groups deep.
+    /// The term fails, and the rest of it is skipped. The number is how many groups deep the skipped words are
+    /// now.
     Failed(usize),
-    /// The expression holds, and the rest of it is passed over, now so many groups deep.
+    /// The expression holds, and the rest of it is skipped. The number is how many groups deep the skipped
+    /// words are now.
     Held(usize),
 }
 
@@ -34,7 +35,7 @@ impl Seen {
         }
     }
 
-    // What is known once the word before is taken.
+    // Returns the state once the word before those read so far is read too.
     pub fn before(self, word: &Word, tags: &[String]) -> Seen
         requires { seen_depth self < 2 ^ 64 - 1 }
         ensures { result ≡ seen_before (texts tags.now) (word_value word.now) self }
@@ -76,7 +77,7 @@ fn is_among(tag: &str, tags: &[String]) -> bool
     tags.iter().any(|other| tag == other.as_str())
 }
 
-// Pushes the tags among some words.
+// Appends the tags among the words.
 fn push_tags<'a>(all: &mut Vec<&'a str>, words: &'a [Word]) -> Result<(), AllocError>
     ensures { OnOk result (map (λ t. t.now) all.new.items
         ≡ map (λ t. t.now) all.old.items ++ tags_among (map word_value words.now)) }
@@ -89,7 +90,7 @@ fn push_tags<'a>(all: &mut Vec<&'a str>, words: &'a [Word]) -> Result<(), AllocE
     Ok(())
 }
 
-/// An expression of tags, which holds of a set of tags or doesn't.
+/// A tag expression, which either holds for a set of tags or doesn't.
 #[derive(Debug, Drop)]
 pub struct TagRule {
     words: Vec<Word>,
@@ -99,7 +100,7 @@ pub struct TagRule {
 impl TagRule {
     ghost use Rattle.gk_select.specs.TagRules.{tag_rule_value};
 
-    /// The rule that these words spell.
+    /// Returns the rule that these words spell.
     pub fn of_words(words: Vec<Word>) -> TagRule
         requires { SpeltBy (map word_value words.items) }
         ensures { (e : Expression) → spelling e ≡ map word_value words.items →
@@ -108,7 +109,7 @@ impl TagRule {
         TagRule { words }
     }
 
-    /// Whether the rule holds of a set of tags, each with its `@`. Takes no memory. (behave's
+    /// Returns whether the rule holds for a set of tags, each with its `@`. Allocates no memory. (behave's
     /// documentation: tag expressions; Cucumber's tag expressions)
     pub fn selects(&self, tags: &[String]) -> bool
         ensures { result ≡ holds (tag_rule_value self.now) (texts tags.now) }
@@ -123,8 +124,8 @@ impl TagRule {
         seen.value()
     }
 
-    /// The tags that the rule names, each with its `@`, in the order of its text and as often as they stand
-    /// there, whether negated or not. An error comes only where a growth was refused.
+    /// Returns the tags that the rule names, each with its `@`, in the order of its text. A tag is listed as
+    /// often as it occurs there, whether negated or not. An error comes only if a growth was refused.
     pub fn tags(&self, alloc: Global) -> Result<Vec<&str>, AllocError>
         ensures { IfOk result (λ tags. map (λ t. t.now) tags.items
             ≡ tags_in (tag_rule_value self.now)) }

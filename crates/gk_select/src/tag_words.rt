@@ -1,4 +1,4 @@
-//! The words of an expression of tags.
+//! The words of a tag expression.
 ghost use Rattle.std.specs.Prelude.{codes, not, ◌≡◌, ◌⊎◌, ◌&&◌, ◌<◌, ◌≤◌, ◌++◌, ◌∷◌, [], ℕ, List, Err, Some, true, false, map, take, drop, length, slice_index, slice_index_or, IsSome, IfOk, IfErr, if◌then◌else◌};
 ghost use Rattle.std.specs.List.{list_any};
 ghost use Rattle.std.specs.Str.{IsUtf8, IsCharBoundary};
@@ -13,7 +13,7 @@ use crate::select_fault::SelectFault;
 use gk_gherkin::text::{begins, is_blank};
 use std::alloc::Global;
 
-/// A word of an expression.
+/// A word of a tag expression.
 #[derive(Debug, Drop)]
 pub enum Word {
     /// `(`
@@ -30,7 +30,7 @@ pub enum Word {
     Tag(String),
 }
 
-/// Whether a byte ends a word: a blank or a parenthesis.
+/// Returns whether a byte ends a word: a space, a tab or a parenthesis.
 pub fn is_of_new_form(byte: u8) -> bool
     ensures { result ≡ spec.is_of_new_form byte }
 {
@@ -90,7 +90,7 @@ fn first_cut(text: &[u8]) -> usize
     text.len()
 }
 
-// Where the word at the front of a text ends, or the blank there.
+// Returns the end of the word at the front of a text, or of the space or tab there.
 fn word_end(text: &[u8]) -> usize
     requires { 0 < length text.now }
     ensures within { result ≤ length text.now }
@@ -104,14 +104,14 @@ fn word_end(text: &[u8]) -> usize
     if end == 0 { 1 } else { end }
 }
 
-/// The words of a text, in time linear in it. (Cucumber's tag expressions)
+/// Returns the words of a text, in time linear in its length. (Cucumber's tag expressions)
 pub fn words_of(alloc: Global, text: &str) -> Result<Vec<Word>, SelectFault>
-    // What is answered is what the text says.
+    // The result is what the text says.
     ensures found { IfOk result (λ v. AreWords text.now (map word_value v.items)) }
-    // Memory runs out only where the first word says something.
+    // Memory runs out only if the first word is valid in an expression.
     ensures memory { result ≡ Err Memory →
         IsSome (spec.word_said (slice_index_or (words_of_text text.now) 0 [])) }
-    // Which fault it is: a bad text has a word that says nothing.
+    // The fault is `Memory` or, only for a text with an invalid word, `BadTagText`.
     ensures fault { IfErr result (λ e. (e ≡ Memory) ⊎
         ((e ≡ BadTagText) × ((words : List WordValue) → AreWords text.now words → ⊥))) }
 {
