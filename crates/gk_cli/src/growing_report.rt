@@ -29,7 +29,7 @@ pub fn write_piece<W: Write>(out: &mut Counted<W>, text: &str) -> Result<(), Run
 }
 
 // Writes the part of a feature piece by piece. `is_first` says whether the parts before it are all empty. Returns
-// whether they still are with this part.
+// whether they still are, including this one.
 fn write_part<W: Write>(
     alloc: Global,
     style: Style,
@@ -59,7 +59,7 @@ fn write_part<W: Write>(
 #[derive(Debug, Drop)]
 pub struct GrowingReport {
     style: Style,
-    // Counts the features whose parts are written.
+    // The counts of the features whose parts are written.
     summary: Summary,
     // Whether each of these parts is empty.
     is_first: bool,

@@ -16,11 +16,11 @@ module _ {U S : Type 0} (undone : U → S → S) where
   abbrev pub Records : (U → S → Type 0) → List U → S → List U → S → Type 0
   Records fits old before new after = (u : U) × (new ≡ old ++ u ∷ []) × fits u after × (undone u after ≡ before)
 
-  -- For each mark up to this one, the new undos since the mark lead from after to the same contents as the old ones from before.
+  -- For each mark up to this one, the new undos since the mark lead from `after` to the same contents as the old ones from `before`.
   abbrev pub RewindsTheSameTo : ℕ → List U → S → List U → S → Type 0
   RewindsTheSameTo mark old before new after = (m : ℕ) → m ≤ mark → rewound (drop m new) after ≡ rewound (drop m old) before
 
-  -- For each mark up to this one, if the old undos since the mark all fit before, the new ones all fit after.
+  -- For each mark up to this one, if the old undos since the mark all fit `before`, the new ones all fit `after`.
   abbrev pub StaysFitTo : (U → S → Type 0) → ℕ → List U → S → List U → S → Type 0
   StaysFitTo fits mark old before new after = (m : ℕ) → m ≤ mark → FitAll fits (drop m old) before → FitAll fits (drop m new) after
 

@@ -52,7 +52,7 @@ abbrev pub IsFault : Option WorldFault → WorldFault → Type 0
 IsFault refusal Memory = refusal ≡ None
 IsFault refusal fault = refusal ≡ Some fault
 
--- A change succeeds only if nothing refuses it, and fails with that reason otherwise. If nothing refuses it, it can still fail with Memory.
+-- A change succeeds only if nothing refuses it; otherwise it fails with the reason of the refusal. If nothing refuses it, it can still fail with Memory.
 abbrev pub IsAnswer : {A : Type 0} → Option WorldFault → Result A WorldFault → Type 0
 IsAnswer refusal (Ok x) = refusal ≡ None
 IsAnswer refusal (Err fault) = IsFault refusal fault

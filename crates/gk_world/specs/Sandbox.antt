@@ -75,7 +75,7 @@ pub record IsSame (old new : SandboxValue) : Type 0 where
   pub marks : new.marks ≡ old.marks
   pub recorded : length new.entries ≡ length old.entries
 
--- Whatever is done in a layer, its end restores what there was at its beginning. (behave's documentation: context layers)
+-- Whatever is done in a layer, its end restores what was there at its beginning. (behave's documentation: context layers)
 abbrev pub LayersGiveBack : Type 0
 LayersGiveBack = (s t u : SandboxValue) → Works (begun s) t → Ends t u → IsSame s u
 

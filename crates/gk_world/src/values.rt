@@ -52,7 +52,7 @@ impl Values {
         }
     }
 
-    /// Returns the value of a name that is visible if `layers` layers are open, if there is one. It doesn't allocate.
+    /// Returns the visible value of a name with `layers` open layers, if there is one. It doesn't allocate.
     pub fn get(&self, layers: usize, name: &str) -> Option<&str>
         requires { layers ≤ state.layers }
         ensures { option_copied result ≡ see (state_at layers self.now) name.now }

@@ -59,7 +59,7 @@ impl World {
         self.values.names_differ();
     }
 
-    /// Returns what is visible if `layers` layers are open.
+    /// Returns what is visible with `layers` open layers.
     pub fn listing(&self, alloc: Global, layers: usize) -> Result<Listing, AllocError>
         requires { layers ≤ state.layers }
         ensures { IfOk result (IsListing (state_of (contents_of layers self.now))) }
