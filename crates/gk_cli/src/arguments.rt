@@ -440,8 +440,8 @@ fn words_by<'a>(
 
 /// Reads the command-line arguments. The first is the program's name.
 ///
-/// `--tags T`, `--line N` (1 to 4,294,967,295) and `--env NAME=VALUE` can be given several times. All other options can
-/// be given at most once: `--library FILE`, `--hooks FILE`, `--format F` (`plain`, `progress` or `json`; `plain` by
+/// `--tags T`, `--line N` (1 to 4,294,967,295) and `--env NAME=VALUE` can be given several times. The following can be
+/// given at most once: `--library FILE`, `--hooks FILE`, `--format F` (`plain`, `progress` or `json`; `plain` by
 /// default), `--dry-run`, `--stop`, `--no-skipped`, `--explain` and `--lint`. `--explain` excludes `--format`,
 /// `--dry-run` and `--no-skipped`. `--lint` excludes these three, `--explain`, `--stop` and `--env`. Options and files
 /// can be in any order, and `--opt=value` is the same as `--opt value`.
