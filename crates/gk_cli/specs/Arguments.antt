@@ -1,4 +1,4 @@
--- What the arguments of the command line ask for.
+-- What the command-line arguments ask for.
 use Rattle.std.specs.Prelude.{◌≡◌, ◌≢◌, ◌≤◌, ◌==◌, ◌&&◌, ◌||◌, is_some, ℕ, Bool, List, [], ◌∷◌, true, false, Option, Some, None, Result, Ok, Err, if◌then◌else◌, codes, string_bytes, map, fold, option_map, unwrap_or}
 use Rattle.std.specs.List.{All, Any, after_first, before_first, list_any}
 use Rattle.std.specs.Option.{option_map_or}
@@ -26,7 +26,7 @@ use Rattle.gk_cli.specs.declared.arguments.Words.{Words}
 use Rattle.gk_cli.specs.declared.arguments.WordsFault.{WordsFault}
 use Rattle.gk_cli.specs.declared.arguments.WordsFault.TheVariants.{Usage, Env, Memory}
 
--- The files: at least one, in as many places as one likes.
+-- The files: at least one, anywhere among the arguments.
 abbrev pub files_rule : Rule
 files_rule = record (new_rule (codes "files")) {
   action = Some Append;
@@ -35,11 +35,11 @@ files_rule = record (new_rule (codes "files")) {
   required = true;
 }
 
--- The option `--tags T`, as often as one likes. (behave's documentation: command line arguments)
+-- The option `--tags T`, any number of times. (behave's documentation: command line arguments)
 abbrev pub tags_rule : Rule
 tags_rule = record (new_rule (codes "tags")) { long = Some (codes "tags"); action = Some Append; value_names = 1 }
 
--- The option `--line N`, as often as one likes, where N fits a `u32` and isn't 0.
+-- The option `--line N`, any number of times. N fits a `u32` and isn't 0.
 abbrev pub line_rule : Rule
 line_rule = record (new_rule (codes "line")) {
   long = Some (codes "line");
@@ -48,23 +48,23 @@ line_rule = record (new_rule (codes "line")) {
   value_names = 1;
 }
 
--- The option `--library FILE`, once at most.
+-- The option `--library FILE`, at most once.
 abbrev pub library_rule : Rule
 library_rule = record (new_rule (codes "library")) { long = Some (codes "library"); action = Some Set; value_names = 1 }
 
--- The option `--hooks FILE`, once at most.
+-- The option `--hooks FILE`, at most once.
 abbrev pub hooks_rule : Rule
 hooks_rule = record (new_rule (codes "hooks")) { long = Some (codes "hooks"); action = Some Set; value_names = 1 }
 
--- The option `--env NAME=VALUE`, as often as one likes.
+-- The option `--env NAME=VALUE`, any number of times.
 abbrev pub env_rule : Rule
 env_rule = record (new_rule (codes "env")) { long = Some (codes "env"); action = Some Append; value_names = 1 }
 
--- The option `--format F`, once at most. (behave's documentation: command line arguments)
+-- The option `--format F`, at most once. (behave's documentation: command line arguments)
 abbrev pub format_rule : Rule
 format_rule = record (new_rule (codes "format")) { long = Some (codes "format"); action = Some Set; value_names = 1 }
 
--- A flag, once at most: clap finds `true` for it where it stands among the arguments, and `false` where it doesn't.
+-- A flag, at most once: clap finds `true` for it if it is among the arguments, and `false` otherwise.
 abbrev pub flag_rule : Text → Rule
 flag_rule name = record (new_rule name) { long = Some name; action = Some SetTrue }
 
@@ -79,11 +79,11 @@ rules =
 abbrev pub with_version : App → App
 with_version app = record app { top = record app.top { has_version = true } }
 
--- The command: its name, that it has a version, and its rules. Help and the version's options are clap's own.
+-- The command: its name, that it has a version, and its rules. clap itself adds the options for help and the version.
 abbrev pub command : App
 command = fold with_rule (with_version (new_app (codes "gherkin_run"))) rules
 
--- What clap finds in the arguments, of which the first is the program's name.
+-- What clap finds in the arguments. The first argument is the program's name.
 abbrev pub found_in : List Text → List Row
 found_in arguments = matches_of command arguments
 
@@ -93,63 +93,63 @@ format_name Plain = codes "plain"
 format_name Progress = codes "progress"
 format_name Json = codes "json"
 
--- A format has this name.
+-- Whether a format has this name.
 abbrev pub is_format : Text → Bool
 is_format name = list_any (λ format. bytes_eq (format_name format) name) (Plain ∷ Progress ∷ Json ∷ [])
 
--- The format that `--format` asks for, by its name; plain where there is none. (behave's documentation: command line arguments)
+-- The name of the format that `--format` asks for; plain if there is none. (behave's documentation: command line arguments)
 abbrev pub format_asked : List Row → Text
 format_asked rows = unwrap_or (first_of (codes "format") rows) (codes "plain")
 
--- Whether a flag stands among the arguments.
+-- Whether a flag is among the arguments.
 abbrev pub is_set : Text → List Row → Bool
 is_set name rows = option_map_or (λ text. bytes_eq text (codes "true")) (one_of name rows) false
 
--- What is asked to be written: the report of a run, or in place of it an explanation, or what is found before a run.
+-- What is to be written: the report of a run, an explanation instead of it, or the findings before a run.
 abbrev pub mode_asked : List Row → Mode
 mode_asked rows = if is_set (codes "explain") rows then Explanation else (if is_set (codes "lint") rows then Findings else Report)
 
--- Whether an option stands among the arguments with a value.
+-- Whether an option is among the arguments, with a value.
 abbrev pub is_given : Text → List Row → Bool
 is_given name rows = is_some (first_of name rows)
 
--- Whether a dry run, a format or leaving out what was skipped is asked for.
+-- Whether `--dry-run`, `--no-skipped` or `--format` is given.
 abbrev pub shapes_report : List Row → Bool
 shapes_report rows = is_set (codes "dry-run") rows || (is_set (codes "no-skipped") rows || is_given (codes "format") rows)
 
--- Whether an explanation is asked for beside a dry run, a format or leaving out what was skipped: there is none of these.
+-- Whether `--explain` is given together with `--dry-run`, `--no-skipped` or `--format`, which it excludes.
 abbrev pub explanation_clashes : List Row → Bool
 explanation_clashes rows = is_set (codes "explain") rows && shapes_report rows
 
--- Whether findings are asked for beside an explanation, stopping, a variable, a dry run, a format or leaving out what was skipped: nothing runs, so there is none of these.
+-- Whether `--lint` is given together with an option that it excludes: `--explain`, `--stop`, `--env`, `--dry-run`, `--no-skipped` or `--format`. With `--lint` nothing runs.
 abbrev pub lint_clashes : List Row → Bool
 lint_clashes rows = is_set (codes "lint") rows && (is_set (codes "explain") rows || (is_set (codes "stop") rows || (is_given (codes "env") rows || shapes_report rows)))
 
--- Whether findings or an explanation are asked for beside what there is none of.
+-- Whether `--lint` or `--explain` is given together with an option that it excludes.
 abbrev pub is_clash : List Row → Bool
 is_clash rows = lint_clashes rows || explanation_clashes rows
 
--- The faults in what clap found: findings or an explanation that are asked for beside what there is none of; else a format of an unknown name.
+-- The faults in what clap found: an option that `--lint` or `--explain` excludes, or otherwise a format with an unknown name.
 abbrev pub faults_found : List Row → Kinds
 faults_found rows = if is_clash rows then (ArgumentConflict ∷ []) else (if is_format (format_asked rows) then [] else (InvalidValue ∷ []))
 
--- The faults in the arguments, a request for help among them: those of the first step at which clap fails; where there are none, those in what it found.
+-- The faults in the arguments, including a request for help. They are those of the first step at which clap fails. If it doesn't fail, they are those in what it found.
 abbrev pub faults_in : List Text → Kinds
 faults_in arguments = or_else (fault_of command arguments) (faults_found (found_in arguments))
 
--- The values of one option or of the files, in order.
+-- The values of an option, or the files, in order.
 abbrev pub values_of : Text → List Row → List Text
 values_of id rows = unwrap_or (all_of id rows) []
 
--- A text that spells a line's number.
+-- A text that spells a line number.
 abbrev pub IsLineNumber : Text → Type 0
 IsLineNumber text = IsUnsignedIn 1 4294967295 text
 
--- The number that it spells, in decimal digits after a plus or none.
+-- The number that the text spells, in decimal digits after an optional plus.
 abbrev pub line_number : Text → ℕ
 line_number text = digits_value 10 (without_leading_plus text)
 
--- The format of a name; an unknown name has none.
+-- The format with this name; an unknown name has none.
 abbrev pub SaysFormat : Text → Option Format → Type 0
 SaysFormat name (Some format) = format_name format ≡ name
 SaysFormat name None = is_format name ≡ false
@@ -159,11 +159,11 @@ pub record PairValue : Type 0 where
   pub name : Text
   pub text : Text
 
--- What a pair of strings says.
+-- The value of a pair of strings.
 abbrev pub pair_value : String Global × String Global → PairValue
 pair_value pair = record { name = string_bytes pair.0; text = string_bytes pair.1 }
 
--- A text has an `=`, which is byte 61.
+-- Whether a text has an `=`, which is byte 61.
 abbrev pub has_equals : Text → Bool
 has_equals text = has_byte 61 text
 
@@ -178,7 +178,7 @@ SaysVariable text (Err Env) = has_equals text ≡ false
 SaysVariable text (Err Memory) = Unit {0}
 SaysVariable text (Err (Usage e)) = ⊥
 
--- The variables that some texts of `--env` name: the first text without `=` is a fault.
+-- The variables that texts of `--env` name; a text without `=` is a fault.
 abbrev pub SaysVariables : List Text → Result (Vec (String Global × String Global) Global) WordsFault → Type 0
 SaysVariables texts (Ok variables) = All (λ text. has_equals text ≡ true) texts × (map pair_value variables.items ≡ map split_at_equals texts)
 SaysVariables texts (Err Env) = Any (λ text. has_equals text ≡ false) texts
@@ -194,7 +194,7 @@ pub record AreAsked (rows : List Row) (options : Options) : Type 0 where
   pub format : format_name options.style.format ≡ format_asked rows
   pub no_skipped : options.style.no_skipped ≡ is_set (codes "no-skipped") rows
 
--- What is asked for is what clap found.
+-- The arguments ask for what clap found.
 pub record IsAskedBy (rows : List Row) (w : Words) : Type 0 where
   pub files : map string_bytes w.files.items ≡ values_of (codes "files") rows
   pub options : AreAsked rows w.options
@@ -204,34 +204,34 @@ pub record IsAskedBy (rows : List Row) (w : Words) : Type 0 where
   pub variables : map pair_value w.env.items ≡ map split_at_equals (values_of (codes "env") rows)
   pub equals : All (λ text. has_equals text ≡ true) (values_of (codes "env") rows)
 
--- What is asked for, from what clap found; `Env` comes where an `--env` has no `=`.
+-- What the arguments ask for, from what clap found. `Env` comes if an `--env` has no `=`.
 abbrev pub SaysMatches : List Row → Result Words WordsFault → Type 0
 SaysMatches rows (Ok w) = IsAskedBy rows w
 SaysMatches rows (Err (Usage e)) = ⊥
 SaysMatches rows (Err Env) = Any (λ text. has_equals text ≡ false) (values_of (codes "env") rows)
 SaysMatches rows (Err Memory) = Unit {0}
 
--- Arguments without a fault give what clap finds in them, a file at least and no line 0; `Usage` has one of their faults and comes before `Env`; `Memory` may come in place of any answer.
+-- Arguments without a fault give what clap finds in them: at least one file, and no line 0. `Usage` has one of their faults and comes before `Env`. `Memory` can come instead of any other result.
 abbrev pub SaysArguments : List Text → Result Words WordsFault → Type 0
 SaysArguments arguments (Ok w) = (faults_in arguments ≡ []) × IsAskedBy (found_in arguments) w × (w.files.items ≢ []) × All (λ n. 1 ≤ n) w.options.lines.items
 SaysArguments arguments (Err (Usage e)) = IsAmong (kind_of e) (faults_in arguments)
 SaysArguments arguments (Err Env) = (faults_in arguments ≡ []) × SaysMatches (found_in arguments) (Err Env)
 SaysArguments arguments (Err Memory) = Unit {0}
 
--- Proof machinery: an argument of clap's has this rule, and excludes nothing.
+-- Proof machinery: a clap argument has this rule, and excludes nothing.
 pub record HasRule (rule : Rule) (a : Arg) : Type 0 where
   pub same : rule_of a ≡ rule
   pub plain : IsPlainArg a
   pub local : a.global ≡ false
 
--- Proof machinery: clap's command so far is that one, nothing in it excludes anything, and a subcommand lifts no demand.
+-- Proof machinery: clap's command so far is this one, nothing in it excludes anything, and a subcommand lifts no requirement.
 pub record IsCommand (wanted : App) (c : Command) : Type 0 where
   pub app : app_of c ≡ wanted
   pub plain : IsPlain c
   pub local : (fields_of c).has_globals ≡ false
   pub demands : (fields_of c).subcommand_negates_reqs ≡ false
 
--- What becomes of an error of clap's: out of memory is a fault of its own.
+-- The fault that an error of clap's becomes: Memory if clap ran out of memory, and Usage otherwise.
 abbrev pub IsFaultBy : Error → WordsFault → Type 0
 IsFaultBy e (Usage f) = (f ≡ e) × (kind_of e ≢ OutOfMemory)
 IsFaultBy e Env = ⊥

@@ -23,11 +23,11 @@ failures_of c = c.failures
 abbrev pub idle_of : {T : Type 0} → Counted T → ℕ
 idle_of c = c.idle
 
--- One more, up to the greatest `u64`.
+-- One more, up to the largest `u64`.
 abbrev pub one_more : ℕ → ℕ
 one_more n = min (n + 1) (2 ^ 64 - 1)
 
--- The failures are below the greatest `u64`, where a count stays, so that one more of them is seen.
+-- The count of failures is less than the largest `u64`, at which a count stays, so one more failure changes it.
 abbrev pub FailuresCanRise : {T : Type 0} → Counted T → Type 0
 FailuresCanRise c = failures_of c < 2 ^ 64 - 1
 
@@ -51,17 +51,17 @@ HasFailedOnce old new = failures_of new ≡ one_more (failures_of old)
 abbrev pub IsNeverIdle : {T : Type 0} → Counted T → Counted T → Type 0
 IsNeverIdle old new = idle_of new ≡ idle_of old
 
--- One call of `read` or `write` in between moved no byte, and each other one at least one.
+-- One call of `read` or `write` in between moved no byte, and each other call moved at least one.
 abbrev pub IsIdleOnce : {T : Type 0} → Counted T → Counted T → Type 0
 IsIdleOnce old new = idle_of new ≡ one_more (idle_of old)
 
--- The count of idle calls after a read or a write: it moved no byte where it failed, and where it gave or took none, as of an empty piece.
+-- The count of idle calls after a read or a write. The call moved no byte if it failed, or if it gave or took none, as it does for an empty piece.
 abbrev pub counted_idle : {E : Type 0} → Result ℕ E → ℕ → ℕ
 counted_idle (Ok zero) n = one_more n
 counted_idle (Ok (suc k)) n = n
 counted_idle (Err e) n = one_more n
 
--- The count of failures after a write: one that took no byte of a piece that isn't empty has failed.
+-- The count of failures after a write. A write that took no byte of a nonempty piece counts as failed.
 abbrev pub counted_write : {E : Type 0} → Result ℕ E → List ℕ → ℕ → ℕ
 counted_write (Ok zero) [] n = n
 counted_write (Ok zero) (b ∷ bs) n = one_more n

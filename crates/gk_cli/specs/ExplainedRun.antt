@@ -1,4 +1,4 @@
--- A run whose explanation is written as its features end.
+-- A run whose explanation is written as each feature ends.
 use Rattle.std.specs.List.{FoldsTo}
 use Rattle.std.specs.Prelude.{◌≡◌, ◌⊎◌, ◌&&◌, ℕ, Bool, true, false, List, [], ◌∷◌, ◌++◌}
 use Rattle.gk_world.specs.State.{Contents, State, state_of}
@@ -36,11 +36,11 @@ use Rattle.gk_cli.specs.Suite.{Device}
 abbrev pub plain_style : Style
 plain_style = record { format = formats.Plain; no_skipped = false }
 
--- What an explanation ends with, once an explainer was told the end of a run with these results: what it says of the run's own hooks and cleanups, the list of what failed, and the closing lines of the plain report.
+-- The end of an explanation, once an explainer was told the end of a run with these results: what it says about the run's own hooks and cleanups, the list of failures, and the closing lines of the plain report.
 abbrev pub last_text : ExplanationValue → List FeatureRow → Status → List ℕ
 last_text e rows around = let ended = with_run around e in ended.ready ++ (failures_text ended.failures ++ tail plain_style rows around)
 
--- A feature of a run that stands so was told to an explainer with this result, and this is what the explainer has ready of it.
+-- A feature of a run in this state, with this result, was told to an explainer, and this is the text that it has ready of the feature.
 pub record IsFeatureExplained (run : Run) (now : State) (is_open : Bool) (f : ChosenValue) (row : FeatureRow) (text : List ℕ) (old new : Explainer) : Type 0 where
   pub begun : Explainer
   pub begins : Becomes old (with_source f.source) begun
@@ -52,7 +52,7 @@ pub record IsFeatureExplained (run : Run) (now : State) (is_open : Bool) (f : Ch
   pub taken : said new ≡ with_taken (said ended)
   pub uncut : (is_cut ended ≡ false) × (is_cut new ≡ false)
 
--- Features of a run that stands so were told to an explainer with these results, one after another, and this is what the explainer had ready of all of them.
+-- Features of a run in this state, with these results, were told to an explainer, one after another. This is the text that it had ready of all of them.
 abbrev pub AreExplained : Run → State → Bool → List ChosenValue → List FeatureRow → List ℕ → Explainer → Explainer → Type 0
 AreExplained run now is_open [] [] text old new = (text ≡ []) × (old ≡ new)
 AreExplained run now is_open [] (row ∷ rows) text old new = ⊥
@@ -61,7 +61,7 @@ AreExplained run now is_open (f ∷ fs) (row ∷ rows) text old new =
     (this later : List ℕ) × (next : Explainer) × (text ≡ this ++ later)
     × IsFeatureExplained run now is_open f row this old next × AreExplained run now (is_open && stays_open run row.status) fs rows later next new
 
--- The events of the before hook of a run, all of them or those up to the one in which memory was refused, and its first features were told to an explainer of the run's library and of a hooks file of this name, and this is what it had ready of them. The features are told from the run's state where its before hook passed.
+-- The explainer, with the run's library and a hooks file of this name, was told events of the run's before hook and then the run's first features. The events are all of the hook's, or those up to the one that ran out of memory. If the before hook passed, the features are told from the run's state. This is the text that the explainer had ready of all these.
 pub record AreFirstExplained (run : Run) (hooks : List ℕ) (outside : State) (opening : List Event) (features : List ChosenValue) (rows : List FeatureRow) (text : List ℕ) (new : Explainer) : Type 0 where
   pub first : Explainer
   pub silent : said first ≡ nothing_said run.library hooks
@@ -72,7 +72,7 @@ pub record AreFirstExplained (run : Run) (hooks : List ℕ) (outside : State) (o
   pub from : has_passed (ended_in opening) ≡ true → state ≡ section_state run levels.Run [] outside
   pub told : AreExplained run state (has_passed (ended_in opening)) features rows text begun new
 
--- The explanation of a run with these results: all of the run was told to an explainer that isn't cut.
+-- The explanation of a run with these results: the whole run was told to an explainer that isn't cut.
 pub record IsExplanation (run : Run) (hooks : List ℕ) (contents : Contents) (features : List ChosenValue) (results : Results) (text : List ℕ) : Type 0 where
   pub opening : List Event
   pub parts : List ℕ
@@ -92,7 +92,7 @@ pub record IsExplained (run : Run) (hooks : List ℕ) (contents : Contents) (fea
   pub written : IsWritten old new text
   pub returned : answer ≡ status results
 
--- A prefix of what an explainer had ready of the first features of a run was written, whose results begin judged ones.
+-- A prefix of the text that an explainer had ready of a run's first features was written. Their results begin a judged list.
 pub record IsExplainedInPart (run : Run) (hooks : List ℕ) (contents : Contents) (features : List ChosenValue) (old new : Device) (fault : RunFault) : Type 0 where
   pub done : List ChosenValue
   pub others : List ChosenValue
@@ -113,7 +113,7 @@ pub record IsExplainedInShort (run : Run) (hooks : List ℕ) (contents : Content
   pub explains : IsExplanation run hooks contents features results text
   pub stopped : IsStopped old new text fault
 
--- What was written where an explanation ends without its whole text: a prefix of that of the first features, or of the whole one.
+-- What was written if an explanation ends without its whole text: a prefix of the text of the first features, or of the whole one.
 abbrev pub IsExplainedUpTo : Run → List ℕ → Contents → List ChosenValue → Device → Device → RunFault → Type 0
 IsExplainedUpTo run hooks contents features old new fault = IsExplainedInPart run hooks contents features old new fault ⊎ IsExplainedInShort run hooks contents features old new fault
 
@@ -132,18 +132,18 @@ abbrev pub ExplainsNext : Glue → SandboxValue → Chosen → Device → Explai
 ExplainsNext glue now feature old before new after =
     IsExplainedNext (run_of glue.library.now glue.hooks.now before.suite.stop) (state_of now.now) (opens_features before.suite) (opens_features after.suite) (chosen_value feature) old before new after
 
--- A feature has no result, or it was told and what was ready of it wasn't written whole.
+-- A feature has no result, or it was told and the text that was ready of it wasn't written whole.
 abbrev pub EndsExplaining : Run → State → Bool → ChosenValue → Explainer → Device → Device → RunFault → Type 0
 EndsExplaining run now is_open f old there new fault =
     ((there ≡ new) × (fault ≡ Memory))
     ⊎ ((row : FeatureRow) × (text : List ℕ) × (told : Explainer) × IsFeatureResult run now is_open f row × IsFeatureExplained run now is_open f row text old told × IsStopped there new text fault)
 
--- The same of the next feature of a run.
+-- The same for the next feature of a run.
 abbrev pub EndsNextExplaining : Glue → SandboxValue → Chosen → Device → ExplainedSoFar → Device → RunFault → Type 0
 EndsNextExplaining glue now feature old before new fault =
     EndsExplaining (run_of glue.library.now glue.hooks.now before.suite.stop) (state_of now.now) (opens_features before.suite) (chosen_value feature) before.explainer old new fault
 
--- Features were run and told, and what the explainer had ready of them was written.
+-- Features were run and told, and the text that the explainer had ready of them was written.
 pub record AreExplainedNext (run : Run) (now : State) (is_open : Bool) (features : List ChosenValue) (old : Device) (so_far : ExplainedSoFar) (new : Device) (grown : ExplainedSoFar) : Type 0 where
   pub rows : List FeatureRow
   pub results : AreFeatures run now is_open features rows
@@ -152,7 +152,7 @@ pub record AreExplainedNext (run : Run) (now : State) (is_open : Bool) (features
   pub written : IsWritten old new text
   pub counted : so_far.summary ≡ summary_of [] → grown.summary ≡ summary_of rows
 
--- The first of some features were run and told, and a prefix of what the explainer had ready of them was written.
+-- The first of some features were run and told, and a prefix of the text that the explainer had ready of them was written.
 pub record AreExplainedUpTo (run : Run) (now : State) (is_open : Bool) (features : List ChosenValue) (old : Device) (so_far : ExplainedSoFar) (new : Device) (fault : RunFault) : Type 0 where
   pub done : List ChosenValue
   pub others : List ChosenValue
@@ -174,24 +174,24 @@ abbrev pub EndsExplainingFeatures : Glue → SandboxValue → List ChosenValue �
 EndsExplainingFeatures glue now features old before new fault =
     AreExplainedUpTo (run_of glue.library.now glue.hooks.now before.suite.stop) (state_of now.now) (opens_features before.suite) features old before new fault
 
--- What an explainer has ready was taken and written.
+-- The text that an explainer has ready was taken and written.
 pub record IsReadyWritten (old : Device) (there : Explainer) (new : Device) (here : Explainer) : Type 0 where
   pub uncut : (is_cut there ≡ false) × (is_cut here ≡ false)
   pub written : IsWritten old new (let e = said there in e.ready)
   pub taken : said here ≡ with_taken (said there)
 
--- What an explainer has ready wasn't written whole: nothing was where memory was refused, else a prefix.
+-- The text that an explainer has ready wasn't written whole: memory ran out and nothing was written, or a prefix was.
 abbrev pub IsReadyStopped : Device → Explainer → Device → Explainer → RunFault → Type 0
 IsReadyStopped old there new here fault =
     ((old ≡ new) × (fault ≡ Memory))
     ⊎ ((is_cut there ≡ false) × (is_cut here ≡ false) × IsStopped old new (let e = said there in e.ready) fault × (said here ≡ with_taken (said there)))
 
--- The end of an explanation of whatever results have these counts was written, and their status is returned.
+-- For any results with these counts, the end of their explanation was written, and their status is returned.
 abbrev pub IsEndWritten : Explainer → Summary → Status → Device → Device → ℕ → Type 0
 IsEndWritten told summary around old new answer =
     (rows : List FeatureRow) → summary ≡ summary_of rows → (is_cut told ≡ false) × IsWritten old new (last_text (said told) rows around) × (answer ≡ status_of rows around)
 
--- It wasn't written whole: nothing was where memory was refused, else a prefix.
+-- The end of an explanation wasn't written whole: memory ran out and nothing was written, or a prefix was.
 abbrev pub IsEndStopped : Explainer → Summary → Status → Device → Device → RunFault → Type 0
 IsEndStopped told summary around old new fault =
     ((old ≡ new) × (fault ≡ Memory))

@@ -1,4 +1,4 @@
--- What a whole run may return and write that is explained.
+-- What a whole run with an explanation can return and write.
 use Rattle.std.specs.Prelude.{◌⊎◌, ℕ, false, List}
 use Rattle.gk_world.specs.State.{Contents}
 use Rattle.gk_run.specs.Run.{Run}
@@ -9,19 +9,19 @@ use Rattle.gk_cli.specs.RunFault.{IsUnread}
 use Rattle.gk_cli.specs.Suite.{Device, IsUntouched}
 use Rattle.gk_cli.specs.ExplainedRun.{IsExplained, IsExplainedUpTo}
 
--- What stays the same during a run of these inputs that is explained: it isn't dry, whatever is asked for.
+-- What stays constant during an explained run of these inputs. It isn't dry, whatever the request says.
 abbrev pub explained_run : Request → Inputs → Run
 explained_run r inputs = record { library = inputs.library; hooks = inputs.hooks; dry_run = false; stop = r.stop }
 
--- What is asked for reads, and the explanation of a run of it with judged results was written, whose status is returned.
+-- The request reads, the explanation of a run of it with judged results was written, and their status is returned.
 abbrev pub Explained : Request → List ℕ → Contents → Device → Device → ℕ → Type 0
 Explained r hooks contents old new answer = (inputs : Inputs) × AreInputs r inputs × IsExplained (explained_run r inputs) hooks contents inputs.features old new answer
 
--- What is asked for reads, and a prefix of what is said of a run of it was written.
+-- The request reads, and a prefix of the text that explains a run of it was written.
 abbrev pub ExplainedInPart : Request → List ℕ → Contents → Device → Device → RunFault → Type 0
 ExplainedInPart r hooks contents old new fault = (inputs : Inputs) × AreInputs r inputs × IsExplainedUpTo (explained_run r inputs) hooks contents inputs.features old new fault
 
--- What each fault says, as of a run's report: where the writer failed, it failed once, and a prefix was written; where memory was refused, nothing was written, or a prefix was, and the writer didn't fail. Else what is asked for doesn't read, and nothing was written.
+-- What each fault means, as for a run's report. If the writer failed, it failed once, and a prefix was written. If memory ran out, nothing or a prefix was written, and the writer didn't fail. Otherwise the request doesn't read, and nothing was written.
 abbrev pub SaysExplanationFault : Request → List ℕ → Contents → Device → Device → RunFault → Type 0
 SaysExplanationFault r hooks contents old new Write = ExplainedInPart r hooks contents old new Write
 SaysExplanationFault r hooks contents old new Memory = IsUntouched old new ⊎ ExplainedInPart r hooks contents old new Memory

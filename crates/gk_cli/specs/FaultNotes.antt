@@ -1,4 +1,4 @@
--- What is said below a fault of a run.
+-- The notes below a fault of a run.
 use Rattle.std.specs.Prelude.{ℕ, ◌-◌, List, [], ◌++◌, codes, slice_get, Option, Some, None, option_map}
 use Rattle.std.specs.Str.Lines.{lines}
 use Rattle.std.specs.Str.Lossy.{utf8_lossy}
@@ -11,7 +11,7 @@ use Rattle.gk_cli.specs.Hints.{hint}
 use Rattle.gk_cli.specs.Source.{SourceValue}
 use Rattle.gk_cli.specs.SuiteFiles.{FilesValue}
 
--- The file that a fault is of: none for the texts of tags, and where no file is at fault.
+-- The file that a fault is in. The texts of tags are in none, and Write and Memory have none.
 abbrev pub file_of : FilesValue → RunFault → Option SourceValue
 file_of files (Read input fault) = slice_get files.sources input
 file_of files (Library fault) = files.library
@@ -21,7 +21,7 @@ file_of files (Select None fault) = None
 file_of files Write = None
 file_of files Memory = None
 
--- The name of the file that a fault is of.
+-- The name of the file that a fault is in.
 abbrev pub name_at_fault : FilesValue → RunFault → Option (List ℕ)
 name_at_fault files fault = option_map (λ (file : SourceValue). file.name) (file_of files fault)
 
@@ -34,25 +34,25 @@ line_at_fault (Select input fault) = None
 line_at_fault Write = None
 line_at_fault Memory = None
 
--- The line of a file with this number, counted from 1. Bytes that aren't UTF-8 stand there as U+FFFD. (std's `lines` and `from_utf8_lossy`)
+-- The line of a file with this number, counted from 1. Bytes that aren't UTF-8 appear as U+FFFD. (std's `lines` and `from_utf8_lossy`)
 abbrev pub line_text : List ℕ → ℕ → Option (List ℕ)
 line_text bytes n = slice_get (lines (utf8_lossy bytes)) (n - 1)
 
--- A text below a fault, on a line of its own.
+-- A text below a fault, on a separate line after four spaces.
 unfoldable pub note : List ℕ → List ℕ
 note text = codes "    " ++ (text ++ codes "\n")
 
--- A line of a file as it is quoted: what can't be seen is shown.
+-- A line of a file as it is quoted, with invisible characters as escapes.
 abbrev pub quote : Option (List ℕ) → List ℕ
 quote None = []
 quote (Some text) = note (shown text)
 
--- What is quoted of a file, where a line of it is named.
+-- The quoted line of a file, if a line of it is named.
 abbrev pub quote_of : Option SourceValue → Option ℕ → List ℕ
 quote_of None line = []
 quote_of (Some file) None = []
 quote_of (Some file) (Some n) = quote (line_text file.bytes n)
 
--- What is said below a fault: the line that it names, and what is to be done about it.
+-- The notes below a fault: the line that it names, and a hint on how to fix it.
 abbrev pub notes : FilesValue → RunFault → List ℕ
 notes files fault = quote_of (file_of files fault) (line_at_fault fault) ++ note (hint fault)

@@ -1,4 +1,4 @@
--- The lines in which findings are written.
+-- The output lines of findings.
 use Rattle.std.specs.Prelude.{ℕ, List, ◌++◌, codes, flat_map}
 use Rattle.std.specs.Fmt.{decimal}
 use Rattle.gk_explain.specs.EventLines.{place_text}
@@ -14,18 +14,18 @@ finding_line name f = place_text name f.line ++ (finding_text f.kind ++ codes "\
 abbrev pub finding_lines : List ℕ → List Finding → List ℕ
 finding_lines name findings = flat_map (finding_line name) findings
 
--- What is written of a tag of `--tags` that stands nowhere: the tag, with what can't be seen as an escape.
+-- The line for a tag of `--tags` that occurs nowhere: the tag, with invisible characters as escapes.
 unfoldable pub tag_line : List ℕ → List ℕ
 tag_line tag = codes "--tags " ++ (shown tag ++ codes ": stands nowhere\n")
 
--- What is written of such tags, one after the other.
+-- The lines for such tags, one after the other.
 abbrev pub tag_lines : List (List ℕ) → List ℕ
 tag_lines tags = flat_map tag_line tags
 
--- What is written of a `--line` that chooses nothing.
+-- The line for a `--line` that chooses nothing.
 abbrev pub idle_line : ℕ → List ℕ
 idle_line n = codes "--line " ++ (decimal n ++ codes ": chooses no scenario\n")
 
--- What is written of such numbers, one after the other.
+-- The lines for such numbers, one after the other.
 abbrev pub idle_lines : List ℕ → List ℕ
 idle_lines numbers = flat_map idle_line numbers

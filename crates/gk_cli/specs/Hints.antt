@@ -1,4 +1,4 @@
--- What is to be done about each fault, in one line.
+-- Hints on how to fix each fault, in one line each.
 use Rattle.std.specs.Prelude.{ℕ, List, codes}
 use Rattle.gk_gherkin.specs.declared.read_fault.ReadFault.{ReadFault}
 use Rattle.gk_gherkin.specs.declared.read_fault.ReadFault.TheVariants as read_faults
@@ -9,19 +9,19 @@ use Rattle.gk_steps.specs.declared.library_fault.LibraryFault.TheVariants as lib
 use Rattle.gk_cli.specs.declared.run_fault.RunFault.{RunFault}
 use Rattle.gk_cli.specs.declared.run_fault.RunFault.TheVariants.{Read, Library, Hooks, Select, Write, Memory}
 
--- What is to be done about a file that is too long.
+-- The hint for a file that is too long.
 unfoldable pub long_file_hint : List ℕ
 long_file_hint = codes "divide the file"
 
--- What is to be done about bytes that aren't UTF-8.
+-- The hint for bytes that aren't UTF-8.
 unfoldable pub encoding_hint : List ℕ
 encoding_hint = codes "save the file as UTF-8"
 
--- What is to be done where memory ran out.
+-- The hint if memory ran out.
 unfoldable pub memory_hint : List ℕ
 memory_hint = codes "divide the files, or spread them over several runs"
 
--- What is to be done about a fault of a feature file.
+-- The hint for a fault of a feature file.
 unfoldable pub read_hint : ReadFault → List ℕ
 read_hint (read_faults.NotUtf8 n) = encoding_hint
 read_hint (read_faults.Unexpected n) = codes "write the keyword exactly, and look at the line above, too: a description ends at the first step, and a step has one block"
@@ -35,12 +35,12 @@ read_hint (read_faults.BadHook n) = codes "write before_ or after_, and then all
 read_hint read_faults.TooLong = long_file_hint
 read_hint read_faults.Memory = memory_hint
 
--- What is to be done about a fault of a hooks file: as in a feature file, but for a line that can't stand there.
+-- The hint for a fault of a hooks file. It is the one for a feature file, except for an unexpected line.
 unfoldable pub hooks_hint : ReadFault → List ℕ
 hooks_hint (read_faults.Unexpected n) = codes "write each heading as before_all: or after_all:, and below it only steps, each with its keyword"
 hooks_hint fault = read_hint fault
 
--- What is to be done about a fault of a library file.
+-- The hint for a fault of a library file.
 unfoldable pub library_hint : LibraryFault → List ℕ
 library_hint library_faults.TooLong = long_file_hint
 library_hint (library_faults.NotUtf8 n) = encoding_hint
@@ -52,13 +52,13 @@ library_hint (library_faults.FieldKind n) = codes "write {n:d} for the number; n
 library_hint (library_faults.Ambiguous n) = codes "put the special entry first, or make it differ"
 library_hint library_faults.Memory = memory_hint
 
--- What is to be done about cases with too many steps, and about a text of tags that spells no rule.
+-- The hint for cases with too many steps, and for a text of tags that spells no rule.
 unfoldable pub select_hint : SelectFault → List ℕ
 select_hint select_faults.TooMany = codes "divide the outline or the file"
 select_hint select_faults.BadTagText = codes "write it as '@a and not @b', or as @a,~@b"
 select_hint select_faults.Memory = memory_hint
 
--- What is to be done about a fault of a run.
+-- The hint for a fault of a run.
 abbrev pub hint : RunFault → List ℕ
 hint (Read input fault) = read_hint fault
 hint (Library fault) = library_hint fault

@@ -1,4 +1,4 @@
--- What a run is asked for, and which inputs that spells.
+-- The request for a run, and the inputs that it spells.
 use Rattle.std.specs.Prelude.{◌≡◌, ◌≤◌, ℕ, Bool, List, [], ◌∷◌, ◌++◌, map, take, slice_get, Option, Some, None, option_map}
 use denote.Ref.{Bor}
 use Rattle.std.specs.List.{AllByRecursion}
@@ -26,7 +26,7 @@ use Rattle.gk_cli.specs.declared.inputs.ReadInputs.{ReadInputs}
 use Rattle.gk_cli.specs.declared.source.Source.{Source}
 use Rattle.gk_cli.specs.Source.{SourceValue, source_value}
 
--- What a run is asked for: the texts of tags, the lines, whether it is a dry run, whether the first failure stops it, the report's style, the bytes of a library file or none, those of a hooks file or none, and the sources.
+-- A request for a run: the texts of tags, the lines, whether it is a dry run, whether the first failure stops it, and the report's style; the bytes of the library file and of the hooks file, if they are given; and the sources.
 pub record Request : Type 0 where
   pub tags : List (List ℕ)
   pub lines : List ℕ
@@ -37,7 +37,7 @@ pub record Request : Type 0 where
   pub hooks : Option (List ℕ)
   pub sources : List SourceValue
 
--- What options, a library file, a hooks file and sources ask for.
+-- The request that options, a library file, a hooks file and sources make.
 abbrev pub request_of : Options → Option (List ℕ) → Option (List ℕ) → List SourceValue → Request
 request_of options library hooks sources = record {
   tags = texts options.tags.items;
@@ -50,16 +50,16 @@ request_of options library hooks sources = record {
   sources = sources;
 }
 
--- What options, the bytes of a library file and of a hooks file, and sources ask for.
+-- The request that options, the bytes of a library file and of a hooks file, and sources make.
 abbrev pub asked_of : Options → Option (Bor (List ℕ)) → Option (Bor (List ℕ)) → List SourceValue → Request
 asked_of options library hooks sources =
     request_of options (option_map (λ (bytes : Bor (List ℕ)). bytes.now) library) (option_map (λ (bytes : Bor (List ℕ)). bytes.now) hooks) sources
 
--- What a run's arguments ask for.
+-- The request that the arguments of a run make.
 abbrev pub asked : Options → Option (Bor (List ℕ)) → Option (Bor (List ℕ)) → List Source → Request
 asked options library hooks sources = asked_of options library hooks (map source_value sources)
 
--- The inputs as they read: the library, the hooks, and the sources' features with their cases and the choice among them.
+-- The inputs of a run: the library, the hooks, and the sources' features with their cases and the choice among them.
 pub record Inputs : Type 0 where
   pub library : LibraryValue
   pub hooks : List HookValue
@@ -70,12 +70,12 @@ abbrev pub AreRules : List (List ℕ) → List Expression → Type 0
 AreRules [] rules = rules ≡ []
 AreRules (text ∷ more) rules = (rule : Expression) × (others : List Expression) × ReadsTags text rule × AreRules more others × (rules ≡ rule ∷ others)
 
--- The library file spells these entries; where none is given, the default library does.
+-- The library file spells these entries; if none is given, the default library does.
 abbrev pub IsLibrary : Option (List ℕ) → LibraryValue → Type 0
 IsLibrary None entries = ReadsLibrary (lines_of default_text) entries
 IsLibrary (Some bytes) entries = IsText bytes × ReadsLibrary (lines_of bytes) entries
 
--- The hooks file spells these hooks; where none is given, there are none.
+-- The hooks file spells these hooks; if none is given, there are none.
 abbrev pub AreHooks : Option (List ℕ) → List HookValue → Type 0
 AreHooks None hooks = hooks ≡ []
 AreHooks (Some bytes) hooks = IsText bytes × ReadsHooks (lines_of bytes) hooks
@@ -92,24 +92,24 @@ head_of r = record { line = r.line; tags = r.tags }
 abbrev pub chosen_of : (CaseValue → Bool) → List ℕ → FeatureValue → ChosenValue
 chosen_of chooses source f = record { source = source; name = f.name; line = f.line; tags = f.tags; rules = map head_of f.rules; members = map (member_by chooses) (cases f) }
 
--- The feature of a source before others; a source without one counts nowhere.
+-- The feature of a source before others; a source without one adds nothing.
 abbrev pub with_reading : (CaseValue → Bool) → List ℕ → Option FeatureValue → List ChosenValue → List ChosenValue
 with_reading chooses source None others = others
 with_reading chooses source (Some f) others = chosen_of chooses source f ∷ others
 
--- The cases of what a source reads as have no more steps than the limit.
+-- The cases of a source's feature, if it has one, have no more steps than the limit.
 abbrev pub IsWithinLimit : Option FeatureValue → Type 0
 IsWithinLimit None = Unit {0}
 IsWithinLimit (Some f) = step_count f ≤ step_limit
 
--- The sources read as these features: each source's bytes are a text whose lines have a reading within the limit of steps, and the features are theirs, in order.
+-- The sources read as these features, in order. Each source's bytes are a text whose lines have a reading within the limit of steps.
 abbrev pub AreRead : (CaseValue → Bool) → List SourceValue → List ChosenValue → Type 0
 AreRead chooses [] features = features ≡ []
 AreRead chooses (s ∷ ss) features =
     (reading : Option FeatureValue) × (others : List ChosenValue)
     × IsText s.bytes × Reads (lines_of s.bytes) reading × IsWithinLimit reading × AreRead chooses ss others × (features ≡ with_reading chooses s.name reading others)
 
--- What is asked for reads as these inputs.
+-- The request reads as these inputs.
 pub record AreInputs (r : Request) (inputs : Inputs) : Type 0 where
   pub rules : List Expression
   pub tags : AreRules r.tags rules
@@ -117,7 +117,7 @@ pub record AreInputs (r : Request) (inputs : Inputs) : Type 0 where
   pub hooks : AreHooks r.hooks inputs.hooks
   pub features : AreRead (is_chosen rules r.lines) r.sources inputs.features
 
--- A text of tags is the first that spells no rule.
+-- One of the texts of tags is the first that spells no rule.
 pub record HasBadTags (tags : List (List ℕ)) : Type 0 where
   pub before : List (List ℕ)
   pub text : List ℕ
@@ -127,7 +127,7 @@ pub record HasBadTags (tags : List (List ℕ)) : Type 0 where
   pub read : AreRules before rules
   pub bad : (rule : Expression) → ReadsTags text rule → ⊥
 
--- The source at a place, from 0, is the first that doesn't read, and this is said of its bytes.
+-- The source at a place, counted from 0, is the first that doesn't read, and Unread holds for its bytes.
 pub record IsFirstUnread (chooses : CaseValue → Bool) (sources : List SourceValue) (input : ℕ) (Unread : List ℕ → Type 0) : Type 0 where
   pub before : List ChosenValue
   pub read : AreRead chooses (take input sources) before
@@ -135,7 +135,7 @@ pub record IsFirstUnread (chooses : CaseValue → Bool) (sources : List SourceVa
   pub place : slice_get sources input ≡ Some source
   pub unread : Unread source.bytes
 
--- The same, where the texts of tags, the library and the hooks read.
+-- The same, and the texts of tags, the library and the hooks read.
 pub record StopsAtSource (r : Request) (input : ℕ) (Unread : List ℕ → Type 0) : Type 0 where
   pub rules : List Expression
   pub tags : AreRules r.tags rules
@@ -145,7 +145,7 @@ pub record StopsAtSource (r : Request) (input : ℕ) (Unread : List ℕ → Type
   pub around : AreHooks r.hooks hooks
   pub first : IsFirstUnread (is_chosen rules r.lines) r.sources input Unread
 
--- The fault of a feature file is said of these bytes.
+-- A feature file with these bytes has this fault.
 abbrev pub HasFault : ReadFault → List ℕ → Type 0
 HasFault fault bytes = FaultSays FeatureFault fault bytes
 
@@ -153,7 +153,7 @@ HasFault fault bytes = FaultSays FeatureFault fault bytes
 abbrev pub HasTooMany : List ℕ → Type 0
 HasTooMany bytes = (f : FeatureValue) × IsText bytes × Reads (lines_of bytes) (Some f) × HasTooManySteps f
 
--- What a `ReadInputs` says.
+-- The value of a `ReadInputs`.
 abbrev pub inputs_value : ReadInputs → Inputs
 inputs_value inputs = record { library = library_value inputs.library; hooks = hooks_value inputs.hooks; features = map chosen_value inputs.features.items }
 
@@ -163,13 +163,13 @@ pub record IsReading (bytes : List ℕ) (reading : Option FeatureValue) : Type 0
   pub reads : Reads (lines_of bytes) reading
   pub expandable : (f : FeatureValue) → reading ≡ Some f → IsExpandable f
 
--- What is asked for reads so before its sources: the rules of tags, the library and the hooks.
+-- The request, apart from its sources, reads as these rules of tags, this library and these hooks.
 pub record IsReadBefore (r : Request) (before : ReadBefore) : Type 0 where
   pub tags : AreRules r.tags (map tag_rule_value before.rules.items)
   pub library : IsLibrary r.library (library_value before.library)
   pub hooks : AreHooks r.hooks (hooks_value before.hooks)
 
--- A source reads, and its feature stands after the others.
+-- A source reads, and its feature, if it has one, is added after the others.
 pub record IsReadOnto (chooses : CaseValue → Bool) (source : SourceValue) (old new : List Chosen) : Type 0 where
   pub reading : Option FeatureValue
   pub text : IsText source.bytes

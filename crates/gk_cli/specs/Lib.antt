@@ -1,4 +1,4 @@
--- What a whole run may return and write, in reading order. A definition whose comment names no source is this project's profile, or a word that the others use.
+-- What a whole run can return and write, in reading order. A definition whose comment names no source belongs to this project's profile, or is a term that the others use.
 pub mod Arguments
 pub mod Counted
 pub mod Source

@@ -1,4 +1,4 @@
--- What is found of sources.
+-- The findings of sources.
 use Rattle.std.specs.Prelude.{◌≡◌, ℕ, Bool, List, [], ◌∷◌, ◌++◌, map, flat_map, Option, Some, None, option_to_list, string_bytes}
 use Rattle.gk_gherkin.specs.Lines.{Lines, lines_of, IsText}
 use Rattle.gk_gherkin.specs.Feature.{FeatureValue, feature_value}
@@ -17,20 +17,20 @@ use Rattle.gk_cli.specs.Inputs.{IsWithinLimit}
 use Rattle.gk_cli.specs.RunFault.{SaysSources}
 use Rattle.gk_cli.specs.FindingLines.{finding_lines}
 
--- The features of what sources read as.
+-- The features among the readings of sources.
 abbrev pub features_in : List (Option FeatureValue) → List FeatureValue
 features_in readings = flat_map option_to_list readings
 
--- What is found of the steps of a feature, if there is one.
+-- The findings of the steps of a feature, if there is one.
 abbrev pub step_findings : LibraryValue → Option FeatureValue → List Finding
 step_findings library None = []
 step_findings library (Some f) = found_in library (of_feature f)
 
--- The places of the entries that the steps of features find.
+-- The places of the entries that the steps of features use.
 abbrev pub used_by : LibraryValue → List FeatureValue → List ℕ
 used_by library features = flat_map (λ (f : FeatureValue). used_in library (of_feature f)) features
 
--- What is found of a source that reads so and has these lines: of its file, and of its steps.
+-- The findings of a source with this reading and these lines: those of its file, and those of its steps.
 abbrev pub source_findings : LibraryValue → Option FeatureValue → Lines → List Finding
 source_findings library reading lines = file_findings reading lines ++ step_findings library reading
 
@@ -40,14 +40,14 @@ pub record IsReadAs (bytes : List ℕ) (reading : Option FeatureValue) : Type 0 
   pub reads : Reads (lines_of bytes) reading
   pub limit : IsWithinLimit reading
 
--- A source reads so, and this is what is written of it: all that is found, in the order of lines.
+-- A source has this reading, and this is the text of all its findings, in the order of lines.
 pub record IsLintedAs (library : LibraryValue) (source : SourceValue) (reading : Option FeatureValue) (text : List ℕ) : Type 0 where
   pub read : IsReadAs source.bytes reading
   pub ordered : List Finding
   pub in_order : AreInOrder (source_findings library reading (lines_of source.bytes)) ordered
   pub whole : text ≡ finding_lines source.name ordered
 
--- Sources read so, one each, and this is what is written of them, one after the other.
+-- Sources have these readings, one each, and this is the text of their findings, one source after the other.
 abbrev pub AreLinted : LibraryValue → List SourceValue → List (Option FeatureValue) → List ℕ → Type 0
 AreLinted library [] readings text = (readings ≡ []) × (text ≡ [])
 AreLinted library (s ∷ ss) readings text =

@@ -1,4 +1,4 @@
--- What a whole lint may return and write.
+-- What a whole lint can return and write.
 use Rattle.std.specs.Prelude.{◌≡◌, ℕ, List, [], ◌∷◌, ◌++◌, map, Option, Some, None, string_bytes}
 use Rattle.gk_gherkin.specs.Feature.{FeatureValue, feature_value}
 use Rattle.gk_gherkin.specs.Hooks.{HookValue, hooks_value}
@@ -24,12 +24,12 @@ use Rattle.gk_cli.specs.LintedSources.{features_in, used_by, AreLinted}
 use Rattle.gk_cli.specs.RunFault.{IsUnread}
 use Rattle.gk_cli.specs.Suite.{Device, IsUntouched}
 
--- What is found of a library file, by the places of the entries that are used: its other entries. Where none is given, nothing is.
+-- The findings of a library file, given the places of the entries that are used: its other entries. If no file is given, there are none.
 abbrev pub library_findings : Option (List ℕ) → List ℕ → List Finding
 library_findings None used = []
 library_findings (Some bytes) used = unused_entries used (lines_of bytes)
 
--- What a lint has read: the rules of tags, the entries of the library, the hooks and the features; and what is written of the sources.
+-- The inputs that a lint has read: the rules of tags, the entries of the library, the hooks and the features; and the text of the sources' findings.
 pub record LintRead : Type 0 where
   pub rules : List Expression
   pub entries : LibraryValue
@@ -41,17 +41,17 @@ pub record LintRead : Type 0 where
 abbrev pub all_used : LintRead → List ℕ
 all_used read = used_in read.entries (of_hooks read.hooks) ++ used_by read.entries read.features
 
--- What is found of the hooks: hooks for tags that stand nowhere in the features, and what is found of the hooks' steps.
+-- The findings of the hooks: hooks for tags that occur nowhere in the features, and the findings of the hooks' steps.
 abbrev pub hook_findings : LintRead → List Finding
 hook_findings read = hooks_of_no_tag read.features read.hooks ++ found_in read.entries (of_hooks read.hooks)
 
--- What is written of what was read, with these names of the library file and of the hooks file: what is found of the library, of the hooks and of the sources, the tags of `--tags` that stand nowhere, and the lines of `--line` that choose nothing.
+-- The text about these inputs, with these names of the library file and of the hooks file. It has the findings of the library, of the hooks and of the sources, the tags of `--tags` that occur nowhere, and the lines of `--line` that choose nothing.
 abbrev pub IsTextOf : Request → List ℕ → List ℕ → LintRead → List ℕ → Type 0
 IsTextOf r library hooks read text =
     (ordered : List Finding) × AreInOrder (hook_findings read) ordered
     × (text ≡ finding_lines library (library_findings r.library (all_used read)) ++ (finding_lines hooks ordered ++ (read.of_sources ++ (tag_lines (nowhere read.features read.rules) ++ idle_lines (without_scenario read.features r.lines)))))
 
--- What is asked for reads, and this is all that is found of it, each file's findings in the order of lines.
+-- The request reads, and this is the text of all its findings, those of each file in the order of lines.
 pub record IsLinted (r : Request) (library_file hooks_file text : List ℕ) : Type 0 where
   pub read : LintRead
   pub tags : AreRules r.tags read.rules
@@ -62,30 +62,30 @@ pub record IsLinted (r : Request) (library_file hooks_file text : List ℕ) : Ty
   pub sources : AreLinted read.entries r.sources readings read.of_sources
   pub whole : IsTextOf r library_file hooks_file read text
 
--- The status of a lint that writes this text: 0 where nothing was found, and else 1.
+-- The status of a lint that writes this text: 0 if nothing was found, and 1 otherwise.
 abbrev pub lint_status : List ℕ → ℕ
 lint_status [] = 0
 lint_status (byte ∷ more) = 1
 
--- What is asked for reads, all that is found of it was written, and the status says whether anything was.
+-- The request reads, the text of all its findings was written, and the status says whether there are any.
 abbrev pub Linted : Request → List ℕ → List ℕ → Device → Device → ℕ → Type 0
 Linted r library hooks old new answer = (text : List ℕ) × IsLinted r library hooks text × IsWritten old new text × (answer ≡ lint_status text)
 
--- What is asked for reads, and a prefix of what is found of it was written.
+-- The request reads, and a prefix of the text of its findings was written.
 abbrev pub LintedInPart : Request → List ℕ → List ℕ → Device → Device → RunFault → Type 0
 LintedInPart r library hooks old new fault = (text : List ℕ) × IsLinted r library hooks text × IsStopped old new text fault
 
--- What each fault says: where the writer failed, a prefix was written; where memory was refused, nothing was. Else what is asked for doesn't read, and nothing was written.
+-- What each fault means. If the writer failed, a prefix was written. If memory ran out, nothing was. Otherwise the request doesn't read, and nothing was written.
 abbrev pub SaysLintFault : Request → List ℕ → List ℕ → Device → Device → RunFault → Type 0
 SaysLintFault r library hooks old new Write = LintedInPart r library hooks old new Write
 SaysLintFault r library hooks old new Memory = IsUntouched old new
 SaysLintFault r library hooks old new fault = IsUnread r fault × IsUntouched old new
 
--- Proof machinery: bytes that may be there are a text.
+-- Proof machinery: the bytes of an optional file are a text.
 abbrev pub AreTexts : Option (List ℕ) → Type 0
 AreTexts None = Unit {0}
 AreTexts (Some bytes) = IsText bytes
 
--- What was read before the sources, and what was found of these.
+-- The inputs read before the sources, and the results for the sources.
 abbrev pub read_of : ReadBefore → LintSoFar → LintRead
 read_of before so_far = record { rules = map tag_rule_value before.rules.items; entries = library_value before.library; hooks = hooks_value before.hooks; features = map feature_value so_far.features.items; of_sources = string_bytes so_far.text }

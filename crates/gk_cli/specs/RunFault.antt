@@ -1,4 +1,4 @@
--- What each fault of a run says.
+-- What each fault of a run means.
 use Rattle.std.specs.Prelude.{◌≡◌, ◌≢◌, ℕ, Bool, List, Option, Some, None}
 use denote.Ref.{Bor}
 use Rattle.gk_gherkin.specs.declared.read_fault.ReadFault.{ReadFault}
@@ -20,7 +20,7 @@ use Rattle.gk_cli.specs.declared.run_fault.RunFault.TheVariants.{Read, Library, 
 use Rattle.gk_cli.specs.Source.{SourceValue}
 use Rattle.gk_cli.specs.Inputs.{Request, asked_of, AreRules, IsLibrary, HasBadTags, IsFirstUnread, StopsAtSource, HasFault, HasTooMany}
 
--- A library file doesn't read, where the texts of tags do.
+-- The texts of tags read, but the library file has this fault.
 pub record StopsAtLibrary (r : Request) (fault : LibraryFault) : Type 0 where
   pub rules : List Expression
   pub tags : AreRules r.tags rules
@@ -29,7 +29,7 @@ pub record StopsAtLibrary (r : Request) (fault : LibraryFault) : Type 0 where
   pub says : LibraryFaultSays fault bytes
   pub named : fault ≢ library_faults.Memory
 
--- A hooks file doesn't read, where the texts of tags and the library do.
+-- The texts of tags and the library read, but the hooks file has this fault.
 pub record StopsAtHooks (r : Request) (fault : ReadFault) : Type 0 where
   pub rules : List Expression
   pub tags : AreRules r.tags rules
@@ -40,7 +40,7 @@ pub record StopsAtHooks (r : Request) (fault : ReadFault) : Type 0 where
   pub says : FaultSays HooksFault fault bytes
   pub named : fault ≢ read_faults.Memory
 
--- What is asked for doesn't read, and this is why; refused memory says nothing of it.
+-- The request doesn't read, for this reason. Memory says nothing about the request.
 abbrev pub IsUnread : Request → RunFault → Type 0
 IsUnread r (Read input fault) = StopsAtSource r input (HasFault fault) × (fault ≢ read_faults.Memory)
 IsUnread r (Library fault) = StopsAtLibrary r fault
@@ -57,58 +57,58 @@ status_of_fault Memory = 4
 status_of_fault (Select input select_faults.BadTagText) = 2
 status_of_fault fault = 3
 
--- Proof machinery: whatever the sources are, this is why what is asked for doesn't read.
+-- Proof machinery: with any sources, this is the reason why the request doesn't read.
 abbrev pub IsUnreadBefore : Options → Option (Bor (List ℕ)) → Option (Bor (List ℕ)) → RunFault → Type 0
 IsUnreadBefore options library hooks fault = (sources : List SourceValue) → IsUnread (asked_of options library hooks sources) fault
 
--- Proof machinery: the same of the texts of tags alone.
+-- Proof machinery: the same for the texts of tags alone.
 abbrev pub SaysTags : List (List ℕ) → SelectFault → Type 0
 SaysTags tags select_faults.BadTagText = HasBadTags tags
 SaysTags tags select_faults.TooMany = ⊥
 SaysTags tags select_faults.Memory = Unit {0}
 
--- Proof machinery: the same of the library alone.
+-- Proof machinery: the same for the library alone.
 abbrev pub SaysLibrary : Option (List ℕ) → LibraryFault → Type 0
 SaysLibrary library library_faults.Memory = Unit {0}
 SaysLibrary library fault = (bytes : List ℕ) × (library ≡ Some bytes) × LibraryFaultSays fault bytes
 
--- Proof machinery: the same of the hooks alone.
+-- Proof machinery: the same for the hooks alone.
 abbrev pub SaysHooks : Option (List ℕ) → ReadFault → Type 0
 SaysHooks hooks read_faults.Memory = Unit {0}
 SaysHooks hooks fault = (bytes : List ℕ) × (hooks ≡ Some bytes) × FaultSays HooksFault fault bytes
 
--- Proof machinery: the same of the sources alone.
+-- Proof machinery: the same for the sources alone.
 abbrev pub SaysSources : (CaseValue → Bool) → List SourceValue → RunFault → Type 0
 SaysSources chooses sources (Read input fault) = IsFirstUnread chooses sources input (HasFault fault) × (fault ≢ read_faults.Memory)
 SaysSources chooses sources (Select (Some input) select_faults.TooMany) = IsFirstUnread chooses sources input HasTooMany
 SaysSources chooses sources Memory = Unit {0}
 SaysSources chooses sources fault = ⊥
 
--- Proof machinery: the same of one source.
+-- Proof machinery: the same for one source.
 abbrev pub SaysSourceAt : ℕ → List ℕ → RunFault → Type 0
 SaysSourceAt place bytes (Read input fault) = (input ≡ place) × HasFault fault bytes × (fault ≢ read_faults.Memory)
 SaysSourceAt place bytes (Select (Some input) select_faults.TooMany) = (input ≡ place) × HasTooMany bytes
 SaysSourceAt place bytes Memory = Unit {0}
 SaysSourceAt place bytes fault = ⊥
 
--- Proof machinery: the same of one source that reads as this feature.
+-- Proof machinery: the same for one source that reads as this feature.
 abbrev pub SaysTooMany : ℕ → FeatureValue → RunFault → Type 0
 SaysTooMany place f (Select (Some input) select_faults.TooMany) = (input ≡ place) × HasTooManySteps f
 SaysTooMany place f Memory = Unit {0}
 SaysTooMany place f fault = ⊥
 
--- Proof machinery: why the cases of a feature aren't listed.
+-- Proof machinery: the reason why the cases of a feature aren't listed.
 abbrev pub SaysExpansion : FeatureValue → SelectFault → Type 0
 SaysExpansion f select_faults.TooMany = HasTooManySteps f
 SaysExpansion f select_faults.BadTagText = ⊥
 SaysExpansion f select_faults.Memory = Unit {0}
 
--- Proof machinery: the fault of a source at a place, where its bytes don't read.
+-- Proof machinery: the fault of a source at a place whose bytes don't read.
 abbrev pub read_fault_at : ℕ → ReadFault → RunFault
 read_fault_at input read_faults.Memory = Memory
 read_fault_at input fault = Read input fault
 
--- Proof machinery: the fault of a source at a place, whose cases aren't listed.
+-- Proof machinery: the fault of a source at a place whose cases aren't listed.
 abbrev pub select_fault_at : ℕ → SelectFault → RunFault
 select_fault_at input select_faults.Memory = Memory
 select_fault_at input fault = Select (Some input) fault

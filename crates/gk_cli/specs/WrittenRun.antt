@@ -1,4 +1,4 @@
--- A run whose report is written as its features end.
+-- A run whose report is written as each feature ends.
 use Rattle.std.specs.Prelude.{◌≡◌, ◌⊎◌, ◌&&◌, ℕ, Bool, true, List, [], ◌++◌}
 use Rattle.gk_gherkin.specs.declared.hooks.HookFile.{HookFile}
 use Rattle.gk_gherkin.specs.Hooks.{hooks_value}
@@ -36,15 +36,15 @@ IsPrefix run contents features style old new fault = (results : Results) × Judg
 abbrev pub dry_run_of : Library → HookFile → Bool → Run
 dry_run_of library hooks stop = record { library = library_value library; hooks = hooks_value hooks; dry_run = true; stop = stop }
 
--- The run is whole, from where its head was written.
+-- With the head of its report written before, the run is whole.
 abbrev pub Finishes : Run → Contents → List ChosenValue → Device → GrowingReport → Device → ℕ → Type 0
 Finishes run contents features old g new status = (before : Device) → IsGrown before old g [] → IsWhole run contents features (style_of g) before new status
 
--- The run ends in a prefix of its report, from where its head was written.
+-- With the head of its report written before, the run ends in a prefix of its report.
 abbrev pub Ends : Run → Contents → List ChosenValue → Device → GrowingReport → Device → RunFault → Type 0
 Ends run contents features old g new fault = (before : Device) → IsGrown before old g [] → IsPrefix run contents features (style_of g) before new fault
 
--- A feature was run in a run that is open, or isn't, and its part was written.
+-- A feature was run, in a run that is open or not, and its part was written.
 pub record IsRunNext (run : Run) (now : State) (is_open next : Bool) (f : ChosenValue) (old : Device) (g : GrowingReport) (new : Device) (grown : GrowingReport) : Type 0 where
   pub row : FeatureRow
   pub result : IsFeatureResult run now is_open f row
@@ -87,6 +87,6 @@ abbrev pub EndsRunNext : Glue → SandboxValue → Chosen → Device → RunSoFa
 EndsRunNext glue now feature old before new fault =
     EndsNext (run_of glue.library.now glue.hooks.now before.suite.stop) (state_of now.now) (opens_features before.suite) (chosen_value feature) old before.report new fault
 
--- These rows are results of these features, for some cuts, in a run that stands so, from this sandbox.
+-- These rows are results of these features, for some cuts, in a run of this suite, from this sandbox.
 abbrev pub AreRun : Glue → SandboxValue → SuiteValue → List ChosenValue → List FeatureRow → Type 0
 AreRun glue now suite = AreFeatures (run_of glue.library.now glue.hooks.now suite.stop) (state_of now.now) (opens_features suite)

@@ -11,7 +11,7 @@ use crate::source::Source;
 use crate::suite_files::{SuiteFiles, bytes_of};
 use std::alloc::{AllocError, Global};
 
-// Whether the library file reads, if there is one.
+// Checks that the library file reads, if there is one.
 fn check_library(alloc: Global, library: &Option<Source>) -> Result<(), RunFault>
     ensures { SaysOfFiles (library_files (option_map source_value library.now)) result }
 {
@@ -21,7 +21,7 @@ fn check_library(alloc: Global, library: &Option<Source>) -> Result<(), RunFault
     }
 }
 
-// Whether the hooks file reads, if there is one.
+// Checks that the hooks file reads, if there is one.
 fn check_hooks(alloc: Global, hooks: &Option<Source>) -> Result<(), RunFault>
     ensures { SaysOfFiles (hooks_files (option_map source_value hooks.now)) result }
 {
@@ -31,7 +31,7 @@ fn check_hooks(alloc: Global, hooks: &Option<Source>) -> Result<(), RunFault>
     }
 }
 
-// Whether the source at a place reads.
+// Checks that the source at a place reads.
 fn check_source(alloc: Global, place: usize, source: &Source) -> Result<(), RunFault>
     ensures { SaysOfFiles (source_at place source.now.bytes.items ∷ []) result }
 {
@@ -41,7 +41,7 @@ fn check_source(alloc: Global, place: usize, source: &Source) -> Result<(), RunF
     }
 }
 
-// Adds the fault that was found of a file, if there is one.
+// Adds the fault that was found in a file, if there is one.
 #[tactic(auto, using(crate::proofs::AllFaultsLemmas::none_found, crate::proofs::AllFaultsLemmas::one_found))]
 fn add_fault(faults: &mut Vec<RunFault>, found: Result<(), RunFault>) -> Result<(), AllocError>
     ensures { (files : List RunFile) → SaysOfFiles files found
@@ -117,7 +117,7 @@ fn add_all(
     add_after_library(faults, alloc, files)
 }
 
-// Adds the faults of the files that are read after the one that this fault is of.
+// Adds the faults of the files that are read after the one with this fault.
 fn add_after(
     faults: &mut Vec<RunFault>,
     alloc: Global,
@@ -141,9 +141,9 @@ fn add_after(
     }
 }
 
-/// The faults of the files of a run that are read after the one that its first fault is of: of each that doesn't read
-/// one, in the order in which a run reads them. A text of tags is read before all files. An error comes only where a
-/// growth was refused.
+/// Returns the faults of the files that a run reads after the one with its first fault. There is one for each file that
+/// doesn't read, in the order in which a run reads them. The texts of tags are read before all files. Fails only if
+/// memory can't be allocated.
 pub fn faults_after(
     alloc: Global,
     files: &SuiteFiles<Source>,
@@ -157,8 +157,9 @@ pub fn faults_after(
     Ok(faults)
 }
 
-/// Where what is asked for doesn't read, the first fault and those of the files after it are the faults of all files: one
-/// of each that doesn't read, and no other.
+/// Shows that, if a request doesn't read for a reason other than `Memory`, its first fault and those of the files after
+/// it are the faults of all files. There is one for each file that doesn't read, and no other. A first fault of the
+/// texts of tags isn't the fault of a file.
 pub fn all_faults_are_found()
     ensures { AllFaultsAreFound }
 {}

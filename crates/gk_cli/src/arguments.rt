@@ -1,4 +1,4 @@
-//! The arguments of the command line.
+//! The command-line arguments.
 ghost use Rattle.std.specs.Prelude.{◌≡◌, map, Some, IfOk, codes, is_some, option_map, string_bytes};
 ghost use Rattle.std.specs.List.{All};
 ghost use Rattle.clap.specs.Words.{found_of, kind_of, new_rule, rows_of};
@@ -54,41 +54,40 @@ const VERSION: &str = "unreleased";
 /// Which scenarios run, how they run, and how the report is written.
 #[derive(Debug, Drop)]
 pub struct Options {
-    /// The texts of `--tags`, in order. All of them have to hold; none chooses every scenario.
+    /// The texts of `--tags`, in order. All of them have to hold; without any, every scenario is chosen.
     pub tags: Vec<String>,
-    /// The numbers of `--line`, in order, each at least 1. One of them has to be a scenario's; none chooses
-    /// every scenario.
+    /// The numbers of `--line`, in order, each at least 1. One of them has to be a scenario's; without any, every
+    /// scenario is chosen.
     pub lines: Vec<u32>,
-    /// Steps are looked up in the library, and no step, hook or cleanup runs. (behave's documentation:
-    /// command line arguments)
+    /// Whether steps are only looked up in the library, and no step, hook or cleanup runs.
+    /// (behave's documentation: command line arguments)
     pub dry_run: bool,
-    /// After a scenario, a rule or a feature that failed or was refused memory, later scenarios are
-    /// untested, and later rules and features are not begun. (behave's documentation: command line
-    /// arguments)
+    /// Whether the run stops at the first failure. After a scenario, a rule or a feature that failed or ran out of
+    /// memory, later scenarios are untested, and later rules and features are not begun.
+    /// (behave's documentation: command line arguments)
     pub stop: bool,
-    /// The format of the report, and whether it leaves out what was skipped. (behave's documentation:
-    /// command line arguments)
+    /// The format of the report, and whether the report omits what was skipped.
+    /// (behave's documentation: command line arguments)
     pub style: Style,
 }
 
-/// What is written: the report or an explanation of a run, or what is found in its files, and then nothing runs.
+/// What is written: the report or an explanation of a run, or the findings in its files, for which nothing runs.
 #[derive(Clone, Copy, Debug, PartialEq, Eq)]
 pub enum Mode {
     /// The report.
     Report,
-    /// What happened in each scenario, and in the hooks and cleanups of each section, that failed or was
-    /// refused memory.
+    /// What happened in each scenario, and in the hooks and cleanups of each section, that failed or ran out of memory.
     Explanation,
-    /// What is found in the files; nothing runs.
+    /// The findings in the files; nothing runs.
     Findings,
 }
 
-/// What the arguments of the command line ask for.
+/// What the command-line arguments ask for.
 #[derive(Debug, Drop)]
 pub struct Words {
     pub options: Options,
     pub mode: Mode,
-    /// The library file, in place of the default library.
+    /// The library file, instead of the default library.
     pub library: Option<String>,
     /// The hooks file, if there is one.
     pub hooks: Option<String>,
@@ -98,16 +97,16 @@ pub struct Words {
     pub files: Vec<String>,
 }
 
-/// Why the arguments give nothing to run.
+/// Why the arguments don't describe a run.
 #[derive(Debug, Drop, Error)]
 pub enum WordsFault {
-    /// A mistake in the arguments, or a request for help. The text is clap's own.
+    /// A mistake in the arguments, or a request for help. The text is clap's.
     #[error("{0}")]
     Usage(clap::Error),
     /// The value of an `--env` has no `=`.
     #[error("bad --env")]
     Env,
-    /// A growth of memory was refused.
+    /// Memory couldn't be allocated.
     #[error("out of memory")]
     Memory,
 }
@@ -159,7 +158,7 @@ fn files_arg<'a>(alloc: Global) -> Arg<'a>
         .action(ArgAction::Append)
 }
 
-// An option that has a value.
+// Makes an option that has a value.
 fn value_arg<'a>(
     alloc: Global,
     name: &'a str,
@@ -177,7 +176,7 @@ fn value_arg<'a>(
         .action(action)
 }
 
-// The option `--line`, whose value is a number.
+// Makes the option `--line`, whose value is a number.
 fn line_arg<'a>(alloc: Global) -> Arg<'a>
     ensures { HasRule line_rule result }
 {
@@ -187,7 +186,7 @@ fn line_arg<'a>(alloc: Global) -> Arg<'a>
     ))
 }
 
-// A flag, which stands once at most.
+// Makes a flag, which can be given at most once.
 fn flag_arg<'a>(alloc: Global, name: &'a str, help: &'a str) -> Arg<'a>
     ensures { HasRule (flag_rule name.entry.now) result }
 {
@@ -197,7 +196,7 @@ fn flag_arg<'a>(alloc: Global, name: &'a str, help: &'a str) -> Arg<'a>
         .action(ArgAction::SetTrue)
 }
 
-// The command that reads the arguments.
+// Makes the command that reads the arguments.
 fn command_of<'a>(alloc: Global) -> Result<Command<'a>, AllocError>
     ensures { IfOk result (IsCommand command) }
 {
@@ -245,7 +244,7 @@ fn numbers(alloc: Global, texts: &[&str]) -> Result<Vec<u32>, AllocError>
     Ok(numbers)
 }
 
-// The name and the text of a variable, split at the first `=`.
+// Returns the name and the text of a variable, split at the first `=`.
 fn variable(alloc: Global, text: &str) -> Result<(String, String), WordsFault>
     ensures { SaysVariable text.now result }
 {
@@ -278,14 +277,14 @@ fn copied_text(alloc: Global, text: Option<&str>) -> Result<Option<String>, Allo
     }
 }
 
-// Whether a flag stands among the arguments.
+// Returns whether a flag is among the arguments.
 fn flag(matches: &ArgMatches, name: &str) -> bool
     ensures { result ≡ is_set name.now (rows_of (found_of matches.now)) }
 {
     matches.get_one::<bool>(name).unwrap_or(false)
 }
 
-// The format of this name, if there is one.
+// Returns the format with this name, if there is one.
 fn format_of(name: &str) -> Option<Format>
     ensures { SaysFormat name.now result }
 {
@@ -297,7 +296,7 @@ fn format_of(name: &str) -> Option<Format>
     }
 }
 
-// The mistake of a format that isn't known, in clap's words.
+// Makes the error for an unknown format, in clap's words.
 fn unknown_format(
     alloc: Global,
     command: &mut Command,
@@ -311,7 +310,7 @@ fn unknown_format(
     command.error(ErrorKind::InvalidValue, message.as_str())
 }
 
-// What is asked to be written.
+// Returns what is to be written.
 fn mode_of(matches: &ArgMatches) -> Mode
     ensures { result ≡ mode_asked (rows_of (found_of matches.now)) }
 {
@@ -324,14 +323,14 @@ fn mode_of(matches: &ArgMatches) -> Mode
     }
 }
 
-// Whether an option stands among the arguments with a value.
+// Returns whether an option is among the arguments, with a value.
 fn is_given(matches: &ArgMatches, name: &str) -> bool
     ensures { result ≡ spec.is_given name.now (rows_of (found_of matches.now)) }
 {
     matches.get_str(name).is_some()
 }
 
-// Whether a dry run, a format or leaving out what was skipped is asked for.
+// Returns whether `--dry-run`, `--format` or `--no-skipped` is given.
 fn shapes_report(matches: &ArgMatches) -> bool
     ensures { result ≡ spec.shapes_report (rows_of (found_of matches.now)) }
 {
@@ -341,7 +340,7 @@ fn shapes_report(matches: &ArgMatches) -> bool
     dry_run || (no_skipped || formatted)
 }
 
-// Whether an explanation is asked for beside what there is none of.
+// Returns whether `--explain` is given together with an option that it excludes.
 fn explanation_clashes(matches: &ArgMatches) -> bool
     ensures { result ≡ spec.explanation_clashes (rows_of (found_of matches.now)) }
 {
@@ -350,7 +349,7 @@ fn explanation_clashes(matches: &ArgMatches) -> bool
     explain && shaped
 }
 
-// Whether findings are asked for beside what only a run has.
+// Returns whether `--lint` is given together with an option that it excludes.
 fn lint_clashes(matches: &ArgMatches) -> bool
     ensures { result ≡ spec.lint_clashes (rows_of (found_of matches.now)) }
 {
@@ -362,7 +361,7 @@ fn lint_clashes(matches: &ArgMatches) -> bool
     lint && (explain || (stop || (env || shaped)))
 }
 
-// What to say where an explanation or findings are asked for beside what there is none of.
+// Returns the message to show if `--lint` or `--explain` is given together with an option that it excludes.
 fn clash_message(matches: &ArgMatches) -> Option<&'static str>
     ensures { is_some result ≡ is_clash (rows_of (found_of matches.now)) }
 {
@@ -375,7 +374,7 @@ fn clash_message(matches: &ArgMatches) -> Option<&'static str>
     }
 }
 
-// The mistake of such arguments, in clap's words.
+// Makes the error for such arguments, in clap's words.
 fn clash(command: &mut Command, message: &str) -> Result<clap::Error, AllocError>
     ensures { IfOk result (λ error. kind_of error ≡ ArgumentConflict) }
 {
@@ -419,7 +418,7 @@ fn words_of(alloc: Global, matches: &ArgMatches, format: Format) -> Result<Words
     })
 }
 
-// What the command reads the arguments as.
+// Reads the arguments with the command.
 fn words_by<'a>(
     alloc: Global,
     reader: &mut Command<'a>,
@@ -439,22 +438,25 @@ fn words_by<'a>(
     }
 }
 
-/// Reads the arguments of the command line, of which the first is the program's name. `--tags T`,
-/// `--line N` (1 to 4,294,967,295) and `--env NAME=VALUE` may stand several times. `--library FILE`,
-/// `--hooks FILE`, `--format F` (`plain`, `progress` or `json`; `plain` if it is left out), `--dry-run`,
-/// `--stop`, `--no-skipped`, `--explain` and `--lint` stand once at most. `--explain` stands beside none of
-/// `--format`, `--dry-run` and `--no-skipped`, and `--lint` beside none of these, `--explain`, `--stop` and
-/// `--env`. Every other argument that begins with no `-` or is `-` alone, and every argument after the first
-/// `--`, is a feature file; there has to be one. Options and files stand in any order, and `--opt=value` is the
-/// same as `--opt value`. `--help` and `-h` ask for help, and answer `Usage` with the exit code 0; so do
-/// `--version` and `-V`, which ask for the version. A mistake is `Usage`, and comes before `Env`; `Memory` may
-/// come in place of any answer.
+/// Reads the command-line arguments. The first is the program's name.
+///
+/// `--tags T`, `--line N` (1 to 4,294,967,295) and `--env NAME=VALUE` can be given several times. The following can be
+/// given at most once: `--library FILE`, `--hooks FILE`, `--format F` (`plain`, `progress` or `json`; `plain` by
+/// default), `--dry-run`, `--stop`, `--no-skipped`, `--explain` and `--lint`. `--explain` excludes `--format`,
+/// `--dry-run` and `--no-skipped`. `--lint` excludes these three, `--explain`, `--stop` and `--env`. Options and files
+/// can be in any order, and `--opt=value` is the same as `--opt value`.
+///
+/// Every other argument that doesn't begin with `-`, or is only `-`, is a feature file. So is every argument after the
+/// first `--`. At least one feature file is required.
+///
+/// `--help` and `-h` ask for help, `--version` and `-V` for the version; they return `Usage` with the exit code 0. A
+/// mistake also returns `Usage`, which comes before `Env`. `Memory` can come instead of any other result.
 pub fn read_words(alloc: Global, words: &[String]) -> Result<Words, WordsFault>
     ensures { SaysArguments (map string_bytes words.now) result }
 {
     let mut reader = command_of(alloc)?;
     let read = words_by(alloc, &mut reader, words);
-    // Nothing of the command was taken, so it goes as a whole.
+    // No part of the command was moved out, so it is dropped as a whole.
     drop(reader);
     read
 }

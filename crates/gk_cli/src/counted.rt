@@ -1,4 +1,4 @@
-//! A reader or a writer whose calls are counted, and writing bytes whole.
+//! Readers and writers whose calls are counted, and writing bytes whole.
 ghost use Rattle.std.specs.Prelude.{◌≡◌, ◌≤◌, ◌+◌, length, OnOk, OnErr};
 ghost use Rattle.std.specs.Io.KnownBytes.{Appends};
 ghost use Rattle.gk_cli.specs.Counted.{inner_of, calls_of, one_more, IsPrefixWritten, HasNotFailed, HasFailedOnce, IsUnflushed, IsNeverIdle, IsIdleOnce};
@@ -6,8 +6,8 @@ ghost use Rattle.gk_cli.specs.Counted.{inner_of, calls_of, one_more, IsPrefixWri
 use std::io;
 use std::io::{Read, Write};
 
-/// Passes the calls of a reader or a writer on. Counts them, the flushes apart from the others, and counts
-/// those that failed and those that moved no byte. Each count stops rising at `u64::MAX`.
+/// A reader or a writer whose calls are passed on and counted. Flushes are counted apart from the other calls. Calls
+/// that failed and calls that moved no byte are counted, too. Each count stops rising at `u64::MAX`.
 #[derive(Debug, Drop)]
 pub struct Counted<T> {
     inner: T,
@@ -17,7 +17,7 @@ pub struct Counted<T> {
     idle: u64,
 }
 
-// A count, by one more; at `u64::MAX` it stays.
+// Adds one to a count; at `u64::MAX` it stays.
 fn count_one(count: &mut u64)
     ensures { count.new ≡ one_more count.old }
 {
@@ -27,7 +27,7 @@ fn count_one(count: &mut u64)
 impl<T> Counted<T> {
     ghost use Rattle.gk_cli.specs.Counted.{inner_of, calls_of, flushes_of, failures_of, idle_of};
 
-    /// Counts the calls of `inner` from 0 on. Takes no memory.
+    /// Counts the calls of `inner` from 0. It doesn't allocate.
     pub fn new(inner: T) -> Counted<T>
         ensures inner { inner_of result ≡ inner }
         ensures calls { calls_of result ≡ 0 }
@@ -44,37 +44,37 @@ impl<T> Counted<T> {
         }
     }
 
-    /// How many calls of `read` and `write` there were. Takes no memory.
+    /// Returns the number of calls of `read` and `write`. It doesn't allocate.
     pub fn calls(&self) -> u64
         ensures { result ≡ calls_of self.now }
     {
         self.calls
     }
 
-    /// How many calls of `flush` there were. Takes no memory.
+    /// Returns the number of calls of `flush`. It doesn't allocate.
     pub fn flushes(&self) -> u64
         ensures { result ≡ flushes_of self.now }
     {
         self.flushes
     }
 
-    /// How many calls failed, among them each write that took no byte of a piece that isn't empty. Takes
-    /// no memory.
+    /// Returns the number of calls that failed, including each write that took no byte of a nonempty piece. It doesn't
+    /// allocate.
     pub fn failures(&self) -> u64
         ensures { result ≡ failures_of self.now }
     {
         self.failures
     }
 
-    /// How many calls of `read` and `write` moved no byte: those of an empty piece, those that gave or took
-    /// nothing, and those that failed. Takes no memory.
+    /// Returns the number of calls of `read` and `write` that moved no byte: those with an empty piece, those that gave
+    /// or took nothing, and those that failed. It doesn't allocate.
     pub fn idle(&self) -> u64
         ensures { result ≡ idle_of self.now }
     {
         self.idle
     }
 
-    /// The reader or writer itself. Takes no memory.
+    /// Returns the reader or writer itself. It doesn't allocate.
     pub fn inner(&self) -> &T
         ensures { result.now ≡ inner_of self.now }
     {
@@ -165,25 +165,25 @@ impl<R: Read> Read for Counted<R> {
     }
 }
 
-/// The writer failed, or took no byte of a piece: a failure was counted.
+/// The writer failed, or took no byte of a piece. A failure was counted.
 #[derive(Clone, Copy, Debug, PartialEq, Eq, Drop)]
 pub struct NotWritten;
 
-/// Writes all the bytes, and flushes nothing. Each call offers all that is left, and has at least one byte
-/// taken or is the last, with `NotWritten`; then a prefix of the bytes was written. Where no byte is left, none
-/// is made. A writer that failed isn't asked again. A count of its that has reached `u64::MAX` stays there. Takes
-/// no memory.
+/// Writes all the bytes, and flushes nothing. Each call offers all bytes that are left. The writer takes at least one
+/// of them, or the call is the last and `NotWritten` is returned; a prefix of the bytes was written then. If no byte is
+/// left, no call is made. A writer that failed isn't called again. A count of the writer that has reached `u64::MAX`
+/// stays there. It doesn't allocate.
 pub fn write_whole<W: Write>(out: &mut Counted<W>, bytes: &[u8]) -> Result<(), NotWritten>
     ensures ok { OnOk result
         (Appends (W.contents (inner_of out.old)) (W.contents (inner_of out.new)) bytes.now) }
     ensures quiet { OnOk result (HasNotFailed out.old out.new) }
     ensures cut { OnErr result (IsPrefixWritten
         (W.contents (inner_of out.old)) (W.contents (inner_of out.new)) bytes.now) }
-    // One failure ends it: no second call follows one that failed.
+    // One failure ends the writing: no second call follows one that failed.
     ensures failed { OnErr result (HasFailedOnce out.old out.new) }
-    // The writer is called no more often than there are bytes.
+    // The number of calls is at most the number of bytes.
     ensures calls { calls_of out.new ≤ calls_of out.old + length bytes.now }
-    // Each call moved at least one byte, but for the one that failed.
+    // Each call moved at least one byte, except for the one that failed.
     ensures busy { OnOk result (IsNeverIdle out.old out.new) }
     ensures idle { OnErr result (IsIdleOnce out.old out.new) }
     ensures unflushed { IsUnflushed out.old out.new }

@@ -1,4 +1,4 @@
-//! A run whose explanation is written as its features end.
+//! A run whose explanation is written as each feature ends.
 ghost use Rattle.std.specs.Prelude.{◌≡◌, map, IfOk, IfErr, OnOk};
 ghost use Rattle.std.specs.List.{AllByRecursion};
 ghost use Rattle.gk_world.specs.Sandbox.{depth, IsSame};
@@ -26,7 +26,7 @@ const PLAIN: Style = Style {
     no_skipped: false,
 };
 
-/// How a run is explained.
+/// The settings of an explained run.
 #[derive(Clone, Copy)]
 pub struct Explaining<'a> {
     pub alloc: Global,
@@ -36,14 +36,14 @@ pub struct Explaining<'a> {
     pub stop: bool,
 }
 
-/// A run that was begun, what it was told to, and the counts of its features so far.
+/// A run that has begun, its explainer, and the counts of its features so far.
 struct ExplainedSoFar<'a> {
     suite: Suite,
     explainer: Explainer<'a>,
     summary: Summary,
 }
 
-// Writes what an explainer has ready.
+// Writes the text that an explainer has ready.
 fn write_ready<W: Write>(
     explainer: &mut Explainer<'_>,
     out: &mut Counted<W>,
@@ -59,7 +59,7 @@ fn write_ready<W: Write>(
     write_piece(out, text.as_str())
 }
 
-// Runs the next feature of a run, and writes its explanation.
+// Runs the next feature of a run and writes its explanation.
 fn explain_next<W: Write>(
     glue: &Glue<'_>,
     sandbox: &mut Sandbox,
@@ -98,7 +98,7 @@ fn explain_next<W: Write>(
     }
 }
 
-// Runs the features of a run that was begun, one after another, and writes the explanation of each.
+// Runs the features of a run that has begun, one after another, and writes the explanation of each.
 fn explain_features<W: Write>(
     glue: &Glue<'_>,
     sandbox: &mut Sandbox,
@@ -124,7 +124,7 @@ fn explain_features<W: Write>(
     Ok(())
 }
 
-// Writes what an explanation ends with. Answers the status of the run.
+// Writes the end of an explanation. Returns the status of the run.
 fn write_end<W: Write>(
     alloc: Global,
     explainer: Explainer<'_>,
@@ -148,12 +148,13 @@ fn write_end<W: Write>(
     Ok(summary.status(around))
 }
 
-/// Runs what was read, and writes its explanation: when a feature has ended, what happened in its scenarios, and
-/// in the hooks and cleanups of its rules and its own, that failed or were refused memory; and when the run has,
-/// the same of its own, the list of all these and the closing lines of the plain report. Answers the status of
-/// the run.
-/// `Memory` comes where a growth was refused outside of steps, hooks and cleanups; `Write` where the writer
-/// failed. Then the run is finished, its answer is given up, and nothing more is written.
+/// Runs the inputs that were read, and writes the explanation. When a feature has ended, it says what happened in those
+/// of its scenarios that failed or ran out of memory. It does the same for the hooks and cleanups of the feature's
+/// rules and for the feature's own and, when the run has ended, for the run's own. Then come the list of all these and
+/// the closing lines of the plain report. Returns the status of the run.
+///
+/// `Memory` comes if memory ran out outside of steps, hooks and cleanups, and `Write` if the writer failed. In both
+/// cases the run is finished, its result is dropped, and nothing more is written.
 pub fn write_explanation<W: Write>(
     explaining: Explaining<'_>,
     sandbox: &mut Sandbox,

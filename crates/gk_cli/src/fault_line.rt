@@ -6,15 +6,15 @@ ghost use Rattle.gk_cli.specs.FaultLine.{fault_line, placed};
 use crate::run_fault::RunFault;
 use std::fmt;
 
-/// A fault of a run, displayed as one line without its line feed: the file has its name in place of its number.
+/// A fault of a run, displayed as one line without its line feed. The file appears with its name instead of its number.
 #[derive(Clone, Copy, Debug)]
 pub struct NamedFault<'a> {
-    /// The name of the file that the fault is of, if it is of one.
+    /// The name of the file that the fault is in, if it is in one.
     pub name: Option<&'a str>,
     pub fault: RunFault,
 }
 
-// Writes the fault of a file: its name and the line, where they are known, and the text.
+// Writes the fault of a file: its name and the line, if they are known, and the text.
 fn write_placed<W: fmt::Write, T: fmt::Display>(
     f: &mut fmt::Formatter<W>,
     name: Option<&str>,

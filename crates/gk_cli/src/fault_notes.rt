@@ -1,4 +1,4 @@
-//! What is said below a fault of a run: the line of the file, and what is to be done about it.
+//! The notes below a fault of a run: the line of the file, and a hint on how to fix it.
 ghost use Rattle.std.specs.Prelude.{◌≡◌, ◌-◌, option_map, slice_get};
 ghost use Rattle.std.specs.Str.Lines.{lines};
 ghost use Rattle.gk_report.specs.ReportTexts.{Pushes};
@@ -14,7 +14,7 @@ use crate::suite_files::SuiteFiles;
 use gk_explain::push_shown;
 use std::alloc::{AllocError, Global};
 
-// The file that a fault is of, if it is of one.
+// Returns the file that a fault is in, if it is in one.
 fn file_of<'a, S: FeatureSource>(files: &'a SuiteFiles<S>, fault: RunFault) -> Option<&'a S>
     ensures { option_map (λ file. S.value file.now) result
         ≡ spec.file_of (suite_value S.value files.now) fault }
@@ -31,7 +31,7 @@ fn file_of<'a, S: FeatureSource>(files: &'a SuiteFiles<S>, fault: RunFault) -> O
     }
 }
 
-/// Returns the name of the file that a fault of a run of these files is of, if it is of one. Takes no memory.
+/// Returns the name of the file that a fault of a run is in, if it is in one. It doesn't allocate.
 pub fn name_at_fault<'a, S: FeatureSource>(
     files: &'a SuiteFiles<S>,
     fault: RunFault,
@@ -45,7 +45,7 @@ pub fn name_at_fault<'a, S: FeatureSource>(
     }
 }
 
-// The line that a fault names, if it names one.
+// Returns the line that a fault names, if it names one.
 fn line_at_fault(fault: RunFault) -> Option<u32>
     ensures { result ≡ spec.line_at_fault fault }
 {
@@ -56,14 +56,14 @@ fn line_at_fault(fault: RunFault) -> Option<u32>
     }
 }
 
-// The line of a text with this number, counted from 1.
+// Returns the line number `line`, counted from 1, of a text.
 fn line_of(text: &str, line: u32) -> Option<&str>
     ensures { option_map (λ part. part.now) result ≡ slice_get (lines text.now) (line - 1) }
 {
     text.lines().nth(line.saturating_sub(1) as usize)
 }
 
-// Pushes a text below a fault, on a line of its own.
+// Pushes a text below a fault, on a separate line.
 #[tactic(auto, unfolding(crate::specs::FaultNotes::note))]
 fn push_note(out: &mut String, text: &str) -> Result<(), AllocError>
     ensures { Pushes out.old (spec.note text.now) result out.new }
@@ -83,7 +83,7 @@ fn push_shown_note(out: &mut String, text: &str) -> Result<(), AllocError>
     out.push_str("\n")
 }
 
-// Pushes the line of a file with this number, if it has one.
+// Pushes the line of a file with this number, if the file has it.
 fn push_line(out: &mut String, alloc: Global, bytes: &[u8], line: u32) -> Result<(), AllocError>
     ensures { Pushes out.old (spec.quote (spec.line_text bytes.now line)) result out.new }
 {
@@ -114,9 +114,9 @@ fn push_quote(
     }
 }
 
-/// Pushes what is said below a fault of a run of these files: the line that it names, where it names one, with what
-/// can't be seen shown as an escape; and what is to be done about it. Both are lines that four blanks begin. An error
-/// comes only where a growth was refused; a part of it may have been pushed then.
+/// Pushes the notes below a fault of a run. They are the line that it names, if it names one, with invisible characters
+/// as escapes, and a hint on how to fix it. Each is a line that begins with four spaces. Fails only if memory can't be
+/// allocated; a part of the notes may have been pushed then.
 pub fn push_notes(
     out: &mut String,
     alloc: Global,

@@ -1,4 +1,4 @@
-//! The lines in which findings are written.
+//! The output lines of findings.
 ghost use Rattle.std.specs.Prelude.{map};
 ghost use Rattle.gk_report.specs.ReportTexts.{Pushes};
 ghost use Rattle.gk_cli.specs.FindingLines as spec;
@@ -22,8 +22,8 @@ fn push_finding(
     out.push_str("\n")
 }
 
-/// Pushes the lines of findings in a file of this name, one after the other. An error comes only where a growth was
-/// refused; a part of it may have been pushed then.
+/// Pushes the lines of findings in a file of this name, one after the other. Fails only if memory can't be allocated; a
+/// part of the lines may have been pushed then.
 pub fn push_findings(
     out: &mut String,
     alloc: Global,
@@ -38,7 +38,7 @@ pub fn push_findings(
     Ok(())
 }
 
-// Pushes what is written of a tag of `--tags` that stands nowhere.
+// Pushes the line for a tag of `--tags` that occurs nowhere.
 fn push_tag_line(out: &mut String, tag: &str) -> Result<(), AllocError>
     ensures { Pushes out.old (spec.tag_line tag.now) result out.new }
 {
@@ -47,8 +47,8 @@ fn push_tag_line(out: &mut String, tag: &str) -> Result<(), AllocError>
     out.push_str(": stands nowhere\n")
 }
 
-/// Pushes a line for each of some tags of `--tags` that stand nowhere. An error comes only where a growth was refused; a
-/// part of it may have been pushed then.
+/// Pushes a line for each of some tags of `--tags` that occur nowhere. Fails only if memory can't be allocated; a part
+/// of the lines may have been pushed then.
 pub fn push_tag_lines(out: &mut String, tags: &[&str]) -> Result<(), AllocError>
     ensures { Pushes out.old (spec.tag_lines (map (λ t. t.now) tags.now)) result out.new }
 {
@@ -58,7 +58,7 @@ pub fn push_tag_lines(out: &mut String, tags: &[&str]) -> Result<(), AllocError>
     Ok(())
 }
 
-// Pushes what is written of a `--line` that chooses nothing.
+// Pushes the line for a `--line` that chooses nothing.
 fn push_idle_line(out: &mut String, line: u32) -> Result<(), AllocError>
     ensures { Pushes out.old (spec.idle_line line) result out.new }
 {
@@ -66,8 +66,8 @@ fn push_idle_line(out: &mut String, line: u32) -> Result<(), AllocError>
     Ok(())
 }
 
-/// Pushes a line for each of some numbers of `--line` that choose nothing. An error comes only where a growth was
-/// refused; a part of it may have been pushed then.
+/// Pushes a line for each of some numbers of `--line` that choose nothing. Fails only if memory can't be allocated; a
+/// part of the lines may have been pushed then.
 pub fn push_idle_lines(out: &mut String, lines: &[u32]) -> Result<(), AllocError>
     ensures { Pushes out.old (spec.idle_lines lines.now) result out.new }
 {

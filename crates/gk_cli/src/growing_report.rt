@@ -1,4 +1,4 @@
-//! A report that is written as it grows.
+//! A report that is written part by part.
 ghost use Rattle.std.specs.Prelude.{◌≡◌, ◌&&◌, [], OnOk, IfOk, IfErr};
 ghost use Rattle.gk_run.specs.Results.{feature_row};
 ghost use Rattle.gk_report.specs.Report.{is_empty, part, report};
@@ -13,8 +13,8 @@ use gk_run::{FeatureResult, Status};
 use std::alloc::Global;
 use std::io::Write;
 
-/// Writes a piece of a text, by no more calls than it has bytes. `Write` comes where the writer failed, and
-/// a prefix of it was written.
+/// Writes a piece of a text. The number of calls is at most the number of its bytes. `Write` comes if the writer
+/// failed; a prefix of the piece was written then.
 pub fn write_piece<W: Write>(out: &mut Counted<W>, text: &str) -> Result<(), RunFault>
     ensures ok { OnOk result
         (IsWritten (device_of W.contents out.old) (device_of W.contents out.new) text.now) }
@@ -28,8 +28,8 @@ pub fn write_piece<W: Write>(out: &mut Counted<W>, text: &str) -> Result<(), Run
     }
 }
 
-// Writes the part of a feature piece by piece, the first being the first that is printed or not. Answers
-// whether nothing is printed after it.
+// Writes the part of a feature piece by piece. `is_first` says whether the parts before it are all empty. Returns
+// whether they still are, including this one.
 fn write_part<W: Write>(
     alloc: Global,
     style: Style,
@@ -55,13 +55,13 @@ fn write_part<W: Write>(
     Ok(still_first)
 }
 
-/// A report of which the head and the parts of some features are written. What is written isn't kept.
+/// A report with its head and the parts of some features written. The written text isn't kept.
 #[derive(Debug, Drop)]
 pub struct GrowingReport {
     style: Style,
-    // Of the features whose parts are written.
+    // The counts of the features whose parts are written.
     summary: Summary,
-    // Each of these parts is empty.
+    // Whether each of these parts is empty.
     is_first: bool,
 }
 
@@ -72,8 +72,8 @@ impl GrowingReport {
     ghost use Rattle.gk_cli.specs.Suite.{Device, device_of, IsReported};
     ghost use Rattle.gk_cli.specs.GrowingReport.{so_far, IsStopped, IsGrown, Grows, Stops, style_of, results_with};
 
-    /// Writes the head. `Memory` comes where it couldn't be made, and nothing was written; `Write` where the
-    /// writer failed, and a prefix of it was.
+    /// Writes the head. `Memory` comes if the head couldn't be made; nothing was written then. `Write` comes if the
+    /// writer failed; a prefix of the head was written then.
     pub fn start<W: Write>(
         alloc: Global,
         style: Style,
@@ -94,9 +94,9 @@ impl GrowingReport {
         })
     }
 
-    /// Writes the part of a feature in pieces, and counts the feature. Each piece is made whole before it is
-    /// written. `Memory` comes where the next piece couldn't be made, `Write` where the writer failed; a prefix
-    /// of the part was written, and the feature isn't counted.
+    /// Writes the part of a feature in pieces, and counts the feature. Each piece is made whole before it is written.
+    /// `Memory` comes if the next piece couldn't be made, and `Write` if the writer failed. In both cases a prefix of
+    /// the part was written, and the feature isn't counted.
     pub fn add<W: Write>(
         &mut self,
         alloc: Global,
@@ -116,9 +116,9 @@ impl GrowingReport {
         Ok(())
     }
 
-    /// Writes the tail. Answers the status of the run, `around` being how its own hooks and cleanups ended.
-    /// `Memory` comes where the tail couldn't be made, and nothing of it was written; `Write` where the writer
-    /// failed, and a prefix of it was.
+    /// Writes the tail and returns the status of the run. `around` says how its own hooks and cleanups ended. `Memory`
+    /// comes if the tail couldn't be made; nothing of it was written then. `Write` comes if the writer failed; a prefix
+    /// of the tail was written then.
     pub fn finish<W: Write>(
         self,
         alloc: Global,

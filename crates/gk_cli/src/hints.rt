@@ -1,4 +1,4 @@
-//! What is to be done about each fault, in one line.
+//! Hints on how to fix each fault, in one line each.
 #![tactic(auto, unfolding(crate::specs::Hints::long_file_hint, crate::specs::Hints::encoding_hint, crate::specs::Hints::memory_hint, crate::specs::Hints::read_hint, crate::specs::Hints::hooks_hint, crate::specs::Hints::library_hint, crate::specs::Hints::select_hint))]
 
 ghost use Rattle.std.specs.Prelude.{◌≡◌};
@@ -27,7 +27,7 @@ fn memory_hint() -> &'static str
     "divide the files, or spread them over several runs"
 }
 
-// What is to be done about a fault of a feature file.
+// Returns the hint for a fault of a feature file.
 fn read_hint(fault: ReadFault) -> &'static str
     ensures { result.now ≡ spec.read_hint fault }
 {
@@ -52,7 +52,7 @@ fn read_hint(fault: ReadFault) -> &'static str
     }
 }
 
-// What is to be done about a fault of a hooks file.
+// Returns the hint for a fault of a hooks file.
 fn hooks_hint(fault: ReadFault) -> &'static str
     ensures { result.now ≡ spec.hooks_hint fault }
 {
@@ -64,7 +64,7 @@ fn hooks_hint(fault: ReadFault) -> &'static str
     }
 }
 
-// What is to be done about a fault of a library file.
+// Returns the hint for a fault of a library file.
 fn library_hint(fault: LibraryFault) -> &'static str
     ensures { result.now ≡ spec.library_hint fault }
 {
@@ -87,7 +87,7 @@ fn library_hint(fault: LibraryFault) -> &'static str
     }
 }
 
-// What is to be done about too many steps, and about a text of tags that spells no rule.
+// Returns the hint for too many steps, or for a text of tags that spells no rule.
 fn select_hint(fault: SelectFault) -> &'static str
     ensures { result.now ≡ spec.select_hint fault }
 {
@@ -98,7 +98,7 @@ fn select_hint(fault: SelectFault) -> &'static str
     }
 }
 
-/// What is to be done about a fault of a run, in one line without its line feed.
+/// Returns a hint on how to fix a fault of a run, in one line without its line feed.
 pub fn hint(fault: RunFault) -> &'static str
     ensures { result.now ≡ spec.hint fault }
 {

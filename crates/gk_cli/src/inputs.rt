@@ -1,5 +1,5 @@
-//! Reading what a run is asked for: the rules of tags, the step library, the hooks, and the features with
-//! their cases and the choice among them.
+//! Reading a request: the rules of tags, the step library, the hooks, and the features with their cases and the choice
+//! among them.
 ghost use Rattle.std.specs.Prelude.{◌≡◌, ◌++◌, ◌∷◌, [], map, option_map, string_bytes, IfOk, IfErr, OnOk, Some};
 ghost use Rattle.std.specs.List.{AllByRecursion};
 ghost use Rattle.gk_gherkin.specs.Feature.{feature_value, rule_value, texts};
@@ -30,7 +30,7 @@ use gk_select::{
 use gk_steps::{Library, LibraryFault, default_library, read_library};
 use std::alloc::{AllocError, Global};
 
-/// What a run is asked for, as it reads.
+/// The inputs of a run, as they were read.
 #[derive(Debug, Drop)]
 pub struct ReadInputs {
     pub library: Library,
@@ -63,7 +63,7 @@ fn tags_fault(fault: SelectFault) -> RunFault
     }
 }
 
-/// The library; without a library file, the default one. Of the file, an error says why it doesn't read.
+/// Reads the library file, or the default library if none is given. An error says why the file doesn't read.
 pub fn read_step_library(alloc: Global, library: Option<&[u8]>) -> Result<Library, LibraryFault>
     ensures read { IfOk result (λ l.
         IsLibrary (option_map (λ bytes. bytes.now) library.entry) (library_value l)) }
@@ -76,7 +76,7 @@ pub fn read_step_library(alloc: Global, library: Option<&[u8]>) -> Result<Librar
     }
 }
 
-/// The fault of a run, from that of its library. Takes no memory.
+/// Returns the fault of a run for a fault of its library. It doesn't allocate.
 pub fn library_fault(fault: LibraryFault) -> RunFault
     ensures { result ≡ faults.library_fault fault }
 {
@@ -86,7 +86,7 @@ pub fn library_fault(fault: LibraryFault) -> RunFault
     }
 }
 
-/// The hooks; without a hooks file there are none. Of the file, an error says why it doesn't read.
+/// Reads the hooks file; without it, there are no hooks. An error says why the file doesn't read.
 pub fn read_hook_file(alloc: Global, hooks: Option<&[u8]>) -> Result<HookFile, ReadFault>
     ensures read { IfOk result (λ file.
         AreHooks (option_map (λ bytes. bytes.now) hooks.entry) (hooks_value file)) }
@@ -100,7 +100,7 @@ pub fn read_hook_file(alloc: Global, hooks: Option<&[u8]>) -> Result<HookFile, R
     }
 }
 
-/// The fault of a run, from that of its hooks. Takes no memory.
+/// Returns the fault of a run for a fault of its hooks. It doesn't allocate.
 pub fn hooks_fault(fault: ReadFault) -> RunFault
     ensures { result ≡ faults.hooks_fault fault }
 {
@@ -110,7 +110,7 @@ pub fn hooks_fault(fault: ReadFault) -> RunFault
     }
 }
 
-// The choice by these rules and lines.
+// Makes the choice by these rules and lines.
 fn choice_by(alloc: Global, rules: Vec<TagRule>, lines: &[u32]) -> Result<Choice, AllocError>
     ensures { IfOk result (λ choice. chosen_by choice
         ≡ is_chosen (map tag_rule_value rules.items) lines.now) }
@@ -119,7 +119,7 @@ fn choice_by(alloc: Global, rules: Vec<TagRule>, lines: &[u32]) -> Result<Choice
     Ok(Choice::new(rules, lines))
 }
 
-// For each case whether it is chosen.
+// Returns for each case whether it is chosen.
 fn selections(alloc: Global, choice: &Choice, cases: &[Case]) -> Result<Vec<bool>, AllocError>
     ensures { IfOk result (λ selected. selected.items
         ≡ map (λ c. chosen_by choice.now (case_value c)) cases.now) }
@@ -131,7 +131,7 @@ fn selections(alloc: Global, choice: &Choice, cases: &[Case]) -> Result<Vec<bool
     Ok(selected)
 }
 
-// The headings of rules.
+// Copies the headings of rules.
 fn heads_of(alloc: Global, rules: &[Rule]) -> Result<Vec<RuleHead>, AllocError>
     ensures { IfOk result (λ heads. map head_value heads.items
         ≡ map spec.head_of (map rule_value rules.now)) }
@@ -146,7 +146,7 @@ fn heads_of(alloc: Global, rules: &[Rule]) -> Result<Vec<RuleHead>, AllocError>
     Ok(heads)
 }
 
-// What is copied of a source and of its feature.
+// Copies of parts of a source and of its feature.
 #[derive(Drop)]
 struct Copies {
     source: String,
@@ -208,7 +208,7 @@ fn chosen_of(
     })
 }
 
-// The fault of the source at a place, from that of its file. Takes no memory.
+// Returns the fault of the source at a place for a fault of its file. It doesn't allocate.
 fn read_fault_at(input: usize, fault: ReadFault) -> RunFault
     ensures { result ≡ faults.read_fault_at input fault }
 {
@@ -218,7 +218,7 @@ fn read_fault_at(input: usize, fault: ReadFault) -> RunFault
     }
 }
 
-/// The fault of the source at a place, from that of its cases. Takes no memory.
+/// Returns the fault of the source at a place for a fault of its cases. It doesn't allocate.
 pub fn select_fault_at(input: usize, fault: SelectFault) -> RunFault
     ensures { result ≡ faults.select_fault_at input fault }
 {
@@ -231,7 +231,7 @@ pub fn select_fault_at(input: usize, fault: SelectFault) -> RunFault
     }
 }
 
-/// The feature of these bytes of the source at a place, if they have one. An error says why they don't read.
+/// Reads the feature, if there is one, from the bytes of the source at a place. An error says why they don't read.
 pub fn feature_at(alloc: Global, input: usize, bytes: &[u8]) -> Result<Option<Feature>, RunFault>
     ensures read { IfOk result (λ feature. IsReading bytes.now (option_map feature_value feature)) }
     ensures fault { IfErr result (λ e. SaysSourceAt input bytes.now e) }
@@ -244,7 +244,7 @@ pub fn feature_at(alloc: Global, input: usize, bytes: &[u8]) -> Result<Option<Fe
     }
 }
 
-// Adds the feature of the source at a place, of this name, after those of other sources.
+// Adds the feature of the source with this place and name after those of other sources.
 fn add_feature(
     alloc: Global,
     choice: &Choice,
@@ -270,8 +270,8 @@ fn add_feature(
     Ok(())
 }
 
-// Reads the source at a place, and adds its feature after those of other sources, if it has one. The source gives up
-// its bytes before the cases of its feature are listed.
+// Reads the source at a place, and adds its feature, if it has one, after those of other sources. The source drops its
+// bytes before the cases of its feature are listed.
 fn read_onto<S: FeatureSource>(
     alloc: Global,
     choice: &Choice,
@@ -294,7 +294,7 @@ fn read_onto<S: FeatureSource>(
     }
 }
 
-// Reads sources, each of which gives up its bytes before the next one is read.
+// Reads sources. Each drops its bytes before the next one is read.
 fn read_sources<S: FeatureSource>(
     alloc: Global,
     choice: &Choice,
@@ -319,7 +319,7 @@ fn read_sources<S: FeatureSource>(
     Ok(features)
 }
 
-/// What is read before the sources.
+/// The inputs that are read before the sources.
 #[derive(Drop)]
 pub struct ReadBefore {
     pub rules: Vec<TagRule>,
@@ -327,8 +327,8 @@ pub struct ReadBefore {
     pub hooks: HookFile,
 }
 
-/// Reads what a run is asked for, but for the sources: first the texts of tags, then the library, then the hooks. An
-/// error names the first that doesn't read.
+/// Reads the request without its sources: first the texts of tags, then the library, then the hooks. An error names the
+/// first that doesn't read.
 pub fn read_before(
     alloc: Global,
     options: &Options,
@@ -359,8 +359,8 @@ pub fn read_before(
     })
 }
 
-/// Reads what a run is asked for: first the texts of tags, then the library, then the hooks, then each source. An error
-/// names the first that doesn't read. Each source gives up its bytes before the next one is read, and the names stay.
+/// Reads the request: first the texts of tags, then the library, then the hooks, then each source. An error names the
+/// first that doesn't read. Each source drops its bytes before the next one is read, and the names stay.
 pub fn read_inputs<S: FeatureSource>(
     alloc: Global,
     options: &Options,

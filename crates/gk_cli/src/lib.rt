@@ -1,5 +1,6 @@
-//! A whole run. Options, a step library, hooks and sources come in; the report is written, or an explanation
-//! in place of it, and the status goes out. So does what is found in these before any run. The arguments of the command line, and readers and writers whose calls are counted, stand here too.
+//! A whole run: from options, a step library, hooks and sources to a status and a written report, or an explanation
+//! instead of the report. Also the findings about these inputs before any run, the command-line arguments, and readers
+//! and writers whose calls are counted.
 #![tactic(auto)]
 
 mod all_faults;

@@ -1,4 +1,4 @@
-//! What is found of sources, each read in turn.
+//! The findings of sources, which are read one after another.
 ghost use Rattle.std.specs.Prelude.{◌≡◌, ◌≤◌, ◌++◌, map, length, option_map, option_to_list, IfOk, IfErr, OnOk, Some};
 ghost use Rattle.std.specs.Str.Lines.{lines};
 ghost use Rattle.gk_gherkin.specs.Lines.{IsText, without_mark, numbered_from};
@@ -21,8 +21,8 @@ use gk_select::{SelectFault, has_room, read_features_are_expandable};
 use gk_steps::Library;
 use std::alloc::{AllocError, Global};
 
-/// What was found of the sources so far: the text of it, the places of the entries that their steps use, and the
-/// features.
+/// The results for the sources so far: the text of their findings, the places of the entries that their steps use, and
+/// the features.
 #[derive(Drop)]
 pub struct LintSoFar {
     pub text: String,
@@ -30,7 +30,7 @@ pub struct LintSoFar {
     pub features: Vec<Feature>,
 }
 
-/// The text that some bytes are, without the byte-order mark that it may begin with. Takes no memory.
+/// Returns the text in these bytes, without the byte-order mark that it may begin with. It doesn't allocate.
 pub fn known_text(bytes: &[u8]) -> &str
     requires { IsText bytes.now }
     ensures text { result.now ≡ without_mark bytes.now }
@@ -42,7 +42,7 @@ pub fn known_text(bytes: &[u8]) -> &str
     }
 }
 
-// Checks that the cases of a feature have no more steps than the limit. Builds none of them.
+// Checks that the cases of a feature have no more steps than the limit, without building them.
 fn check_limit(feature: &Feature) -> Result<(), SelectFault>
     ensures limit { OnOk result (IsWithinLimit (Some (feature_value feature.now))) }
     ensures fault { IfErr result (λ e. SaysExpansion (feature_value feature.now) e) }
@@ -54,7 +54,7 @@ fn check_limit(feature: &Feature) -> Result<(), SelectFault>
     }
 }
 
-/// Reads the source at a place. An error says why it doesn't read; `Memory` comes only where a growth was refused.
+/// Reads the source at a place. An error says why it doesn't read; `Memory` comes only if memory can't be allocated.
 pub fn read_one(alloc: Global, input: usize, source: &Source) -> Result<Option<Feature>, RunFault>
     ensures read { IfOk result (λ feature. IsReadAs source.now.bytes.items
         (option_map feature_value feature)) }
@@ -70,7 +70,7 @@ pub fn read_one(alloc: Global, input: usize, source: &Source) -> Result<Option<F
     }
 }
 
-// What is found of the steps of a feature, if there is one.
+// Returns the findings of the steps of a feature, if there is one.
 fn step_findings(
     alloc: Global,
     library: &Library,
@@ -91,8 +91,8 @@ fn step_findings(
     }
 }
 
-/// What is found of steps, with other findings of their file, in the order of lines. An error comes only where a growth
-/// was refused.
+/// Merges the findings of steps with other findings of their file, in the order of lines. Fails only if memory can't be
+/// allocated.
 pub fn with_findings(
     findings: Vec<Finding>,
     of_steps: StepFindings,
@@ -110,7 +110,7 @@ pub fn with_findings(
     })
 }
 
-// What is found of a file of this text that reads as this feature, or none, in the order of lines.
+// Returns the findings of a file with this text and this feature, or none, in the order of lines.
 fn all_findings(
     alloc: Global,
     library: &Library,
@@ -130,7 +130,7 @@ fn all_findings(
     with_findings(findings, of_steps)
 }
 
-// Adds what is found of a source that reads as this feature, or none.
+// Adds the findings of a source that reads as this feature, or as none.
 fn add_source(
     so_far: &mut LintSoFar,
     alloc: Global,
@@ -159,7 +159,7 @@ fn add_source(
     Ok(())
 }
 
-// Reads the source at a place, and adds what is found of it.
+// Reads the source at a place and adds its findings.
 fn lint_source(
     alloc: Global,
     library: &Library,
@@ -177,9 +177,9 @@ fn lint_source(
     }
 }
 
-/// Reads each source in turn, and finds what is to be said of it: of its file and of its steps, which are looked up
-/// in a library. An error names the first source that doesn't read, as that of a run does; `Memory` comes only where a
-/// growth was refused.
+/// Reads the sources one after another and collects their findings: those of the file, and those of the steps, which
+/// are looked up in a library. An error names the first source that doesn't read, as that of a run does; `Memory` comes
+/// only if memory can't be allocated.
 pub fn lint_sources(
     alloc: Global,
     library: &Library,

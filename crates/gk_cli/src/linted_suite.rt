@@ -1,4 +1,4 @@
-//! What is found before a run, in all that it is asked for.
+//! The findings in a whole request, before any run.
 ghost use Rattle.std.specs.Prelude.{◌≡◌, ◌++◌, map, option_map, string_bytes, IfOk, IfErr, OnOk};
 ghost use Rattle.gk_gherkin.specs.Feature.{feature_value};
 ghost use Rattle.gk_gherkin.specs.Hooks.{hooks_value};
@@ -34,7 +34,7 @@ use gk_lint::{
 use std::alloc::{AllocError, Global};
 use std::io::Write;
 
-// Pushes what is found of a library file, if there is one, by the places of the entries that are used.
+// Pushes the findings of a library file, if there is one, given the places of the entries that are used.
 fn push_library_findings(
     out: &mut String,
     alloc: Global,
@@ -56,8 +56,8 @@ fn push_library_findings(
     }
 }
 
-// What is found of hooks beside these features, in the order of lines, and the places of the entries that their steps
-// use.
+// Returns the findings of hooks, given these features, in the order of lines. Also returns the places of the entries
+// that the hooks' steps use.
 fn findings_of_hooks(
     alloc: Global,
     before: &ReadBefore,
@@ -75,7 +75,7 @@ fn findings_of_hooks(
     with_findings(idle, of_steps)
 }
 
-// The text of all that is found.
+// Makes the text of all findings.
 fn whole_text(
     alloc: Global,
     options: &Options,
@@ -112,7 +112,7 @@ fn whole_text(
     Ok(text)
 }
 
-// Reads what is asked for, and answers the text of all that is found in it.
+// Reads the request and returns the text of all its findings.
 fn read_and_lint(
     alloc: Global,
     options: &Options,
@@ -137,42 +137,42 @@ fn read_and_lint(
     }
 }
 
-// The status of a lint that writes this text.
+// Returns the status of a lint that writes this text.
 fn status_of(text: &str) -> u8
     ensures { result ≡ lint_status text.now }
 {
     if text.is_empty() { 0 } else { 1 }
 }
 
-/// Reads what is asked for as `run_suite` does, runs nothing, and writes what is found in it: a line
-/// `NAME:LINE: TEXT` for each finding, of the library file first, then of the hooks file, then of each source in
-/// turn, each in the order of its lines; and then a line for each tag of `--tags` that stands nowhere, as often as it is
-/// named, and for each `--line` that chooses no scenario. It finds what of a file vanishes in silence, steps that can't
-/// work for want of an entry, a text or a table, what isn't used, and scenarios that share a name. Of the options
-/// `tags` and `lines` are looked for; the others aren't looked at.
+/// Reads the request as `run_suite` does, runs nothing, and writes the findings, each as a line `NAME:LINE: TEXT`.
+/// Those of the library file come first, then those of the hooks file, then those of each source in order, each in the
+/// order of its lines. Then there is a line for each tag of `--tags` that occurs nowhere, as often as it is named, and
+/// for each `--line` that chooses no scenario. Findings are silently ignored parts of a file, steps that can't work
+/// because an entry, a text or a table is missing, unused items, and scenarios that share a name. Of the options, only
+/// `tags` and `lines` are looked at.
 ///
-/// The answer is 0 where nothing was found, and else 1. `RunFault` says when each error comes: at `Write` a
-/// prefix was written, perhaps an empty one, at every other nothing. Nothing is flushed. A count of the writer's that
-/// has reached `u64::MAX` stays there.
+/// Returns 0 if nothing was found, and 1 otherwise. `RunFault` says when each error comes. At `Write` a prefix was
+/// written, perhaps an empty one, and at every other error nothing. Nothing is flushed. A count of the writer that has
+/// reached `u64::MAX` stays there.
 pub fn lint_suite<W: Write>(
     alloc: Global,
     options: &Options,
     files: &SuiteFiles<Source>,
     out: &mut Counted<W>,
 ) -> Result<u8, RunFault>
-    // All that is found was written, and nothing else; the status says whether anything was found.
+    // All findings were written, and nothing more; the status says whether there are any.
     ensures linted { IfOk result (Linted
         (request_of_files options.now (suite_value source_value files.now))
         (library_name (suite_value source_value files.now))
         (hooks_name (suite_value source_value files.now))
         (device_of W.contents out.old) (device_of W.contents out.new)) }
-    // Which fault it is, and what was written.
+    // The fault, and what was written.
     ensures fault { IfErr result (SaysLintFault
         (request_of_files options.now (suite_value source_value files.now))
         (library_name (suite_value source_value files.now))
         (hooks_name (suite_value source_value files.now))
         (device_of W.contents out.old) (device_of W.contents out.new)) }
-    // A status comes only where the writer didn't fail.
+    // A status is returned only if the writer didn't fail.
     ensures quiet { OnOk result (HasNotFailed out.old out.new) }
     // Each call of the writer moved at least one byte.
     ensures busy { OnOk result (IsNeverIdle out.old out.new) }

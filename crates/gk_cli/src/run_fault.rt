@@ -1,4 +1,4 @@
-//! Why a run ended without its whole report.
+//! The faults that end a run without its whole report.
 ghost use Rattle.std.specs.Prelude.{◌≡◌};
 
 use gk_gherkin::ReadFault;
@@ -7,11 +7,11 @@ use gk_steps::LibraryFault;
 use std::alloc::{AllocError, AllocFailed};
 use thiserror::Error;
 
-/// Why a run ended without its whole report. Where more than one fault could be named, the first is: the
-/// texts of tags come first, then the library, then the hooks, then each source in turn.
+/// Why a run ended without its whole report. If several faults apply, the first is returned: the texts of tags come
+/// first, then the library, then the hooks, then the sources in order.
 #[derive(Clone, Copy, Debug, PartialEq, Eq, Error)]
 pub enum RunFault {
-    /// The source at place `input`, from 0, is the first that doesn't read, for this reason. Nothing was
+    /// The source at place `input`, counted from 0, is the first that doesn't read, for this reason. Nothing was
     /// written.
     #[error("source {input}: {fault}")]
     Read {
@@ -24,20 +24,19 @@ pub enum RunFault {
     /// The hooks file doesn't read, for this reason. Nothing was written.
     #[error("hooks: {0}")]
     Hooks(ReadFault),
-    /// `BadTagText`, without an input: a text of tags spells no rule. `TooMany`: the cases of the source at
-    /// place `input`, from 0, have too many steps. Nothing was written.
+    /// `BadTagText`, without an input: a text of tags spells no rule. `TooMany`: the cases of the source at place
+    /// `input`, counted from 0, have too many steps. Nothing was written.
     #[error("{fault}")]
     Select {
         input: Option<usize>,
         fault: SelectFault,
     },
-    /// The writer failed in this call, or took no byte of a piece. A prefix of the report, of what is said in an
-    /// explanation, or of what is found before a run, was written.
+    /// The writer failed in this call, or took no byte of a piece. A prefix of the report, of the explanation or of the
+    /// findings was written.
     #[error("cannot write")]
     Write,
-    /// A growth of memory was refused outside the steps of scenarios, hooks and cleanups. A prefix of
-    /// what is written of the run was; nothing, where the inputs were still being read. Of what is found before a run
-    /// nothing was.
+    /// Memory ran out outside the steps of scenarios, hooks and cleanups. A prefix of the report or of the explanation
+    /// was written, or nothing if the inputs were still being read. Of the findings before a run, nothing was written.
     #[error("out of memory")]
     Memory,
 }
@@ -45,8 +44,8 @@ pub enum RunFault {
 impl RunFault {
     ghost use Rattle.gk_cli.specs.RunFault.{status_of_fault};
 
-    /// The status that a program ends with: 4 where memory was refused, 2 for a text of tags that spells no
-    /// rule, and else 3. Takes no memory.
+    /// Returns the exit status of a program: 4 if memory ran out, 2 for a text of tags that spells no rule, and 3
+    /// otherwise. It doesn't allocate.
     pub fn status(&self) -> u8
         ensures { result ≡ status_of_fault self.now }
     {

@@ -1,4 +1,4 @@
-//! The sources of a run, and reading one whole.
+//! The sources of a run, and reading a whole source.
 ghost use Rattle.std.specs.Prelude.{◌≡◌, ◌≢◌, ◌≤◌, ◌+◌, [], Some, IfOk, IfSome, IsErrOf, vec_len};
 ghost use Rattle.gk_gherkin.specs.Lines.{limit};
 ghost use Rattle.gk_cli.specs.Counted.{inner_of, calls_of, idle_of, HasNotFailed, HasFailedOnce};
@@ -10,14 +10,14 @@ use std::alloc::Global;
 use std::io::Read;
 use thiserror::Error;
 
-/// A source: its name, and its bytes.
+/// A source: its name and its bytes.
 #[derive(Debug, Drop)]
 pub struct Source {
     pub name: String,
     pub bytes: Vec<u8>,
 }
 
-/// A source that the caller holds: its name, and its bytes.
+/// A source that the caller holds: its name and its bytes.
 #[derive(Clone, Copy, Debug)]
 pub struct BorrowedSource<'a> {
     pub name: &'a str,
@@ -26,7 +26,7 @@ pub struct BorrowedSource<'a> {
 
 /// A feature file of a run: its name, and its bytes until its feature is read.
 pub trait FeatureSource {
-    /// Its name and its bytes.
+    /// The name and the bytes.
     ghost value: { Self → SourceValue };
 
     /// Returns the name.
@@ -42,7 +42,7 @@ pub trait FeatureSource {
         ensures { value self.new ≡ without_bytes (value self.old) };
 }
 
-/// Its memory is released with its bytes.
+/// Dropping the bytes releases their memory.
 impl FeatureSource for Source {
     ghost value = { source_value };
 
@@ -76,7 +76,7 @@ impl FeatureSource for BorrowedSource<'_> {
     }
 }
 
-/// Why a source could not be read whole.
+/// Why a source couldn't be read whole.
 #[derive(Clone, Copy, Debug, PartialEq, Eq, Error)]
 pub enum SourceFault {
     /// The reader failed in this call.
@@ -85,17 +85,17 @@ pub enum SourceFault {
     /// The reader has more bytes than `gk_gherkin::LIMIT`.
     #[error("longer than 16777216 bytes")]
     TooLong,
-    /// A growth of memory was refused.
+    /// Memory couldn't be allocated.
     #[error("out of memory")]
     Memory,
 }
 
-/// The bytes that one call of the reader is asked for.
+/// The largest number of bytes that one call asks the reader for.
 const PIECE: usize = 16_384;
 
-/// All the bytes of a reader. Each call but the last gives at least one byte, and the reader is asked for
-/// no byte after number `gk_gherkin::LIMIT` + 1, so one that never ends is `TooLong`. A reader that failed
-/// isn't asked again. A count of its that has reached `u64::MAX` stays there.
+/// Reads all bytes of a reader. Each call but the last gives at least one byte. The reader is never asked for a byte
+/// after number `gk_gherkin::LIMIT` + 1, so a reader without an end gives `TooLong`. A reader that failed isn't called
+/// again. A count of the reader that has reached `u64::MAX` stays there.
 pub fn read_source<R: Read>(alloc: Global, reader: &mut Counted<R>) -> Result<Vec<u8>, SourceFault>
     ensures whole { IfOk result (λ v.
         IfSome (R.remaining (inner_of reader.old)) (λ xs. v.items ≡ xs)) }
@@ -106,13 +106,13 @@ pub fn read_source<R: Read>(alloc: Global, reader: &mut Counted<R>) -> Result<Ve
         StopsAfter (limit + 1)
         (R.remaining (inner_of reader.old)) (R.remaining (inner_of reader.new)) }
     ensures long_quiet { IsErrOf result SourceFault.TooLong → HasNotFailed reader.old reader.new }
-    // `Device` comes of one failure, and only of that.
+    // `Device` comes from one failure, and only from that.
     ensures device { IsErrOf result SourceFault.Device → HasFailedOnce reader.old reader.new }
-    // `Memory` never comes where the reader has no byte.
+    // `Memory` never comes if the reader has no byte.
     ensures spare { IsErrOf result SourceFault.Memory → HasNotFailed reader.old reader.new }
     ensures free { IsErrOf result SourceFault.Memory → R.remaining (inner_of reader.old) ≢ Some [] }
-    // Whatever is returned, each call but the last gives a byte. Where the reader's bytes are known,
-    // it gives none after number LIMIT + 1; of another reader `given` says nothing.
+    // Whatever is returned, each call but the last gives a byte. If the reader's bytes are known, it gives none after
+    // number LIMIT + 1; for other readers `given` says nothing.
     ensures idle { idle_of reader.new ≡ idle_after result (idle_of reader.old) }
     ensures given { GivesAtMost (limit + 1)
         (R.remaining (inner_of reader.old)) (R.remaining (inner_of reader.new)) }

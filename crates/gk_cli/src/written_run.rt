@@ -1,4 +1,4 @@
-//! A run whose report is written as its features end.
+//! A run whose report is written as each feature ends.
 ghost use Rattle.std.specs.Prelude.{◌≡◌, map, IfOk, IfErr, OnOk};
 ghost use Rattle.std.specs.List.{AllByRecursion};
 ghost use Rattle.gk_world.specs.Sandbox.{depth, IsSame};
@@ -29,7 +29,7 @@ use gk_world::Sandbox;
 use std::alloc::Global;
 use std::io::Write;
 
-/// What the steps and the hooks of a run are looked up in, and where its memory comes from.
+/// The library and the hooks of a run, and its allocator.
 #[derive(Clone, Copy)]
 pub struct Glue<'a> {
     pub alloc: Global,
@@ -37,13 +37,13 @@ pub struct Glue<'a> {
     pub hooks: &'a HookFile,
 }
 
-/// A run that was begun, and its report so far.
+/// A run that has begun, and its report so far.
 struct RunSoFar {
     suite: Suite,
     report: GrowingReport,
 }
 
-// Runs the next feature of a run, and writes its part.
+// Runs the next feature of a run and writes its part.
 fn run_next<W: Write>(
     glue: &Glue<'_>,
     sandbox: &mut Sandbox,
@@ -69,7 +69,7 @@ fn run_next<W: Write>(
     }
 }
 
-// Runs the features of a run that was begun, one after another, and writes the part of each.
+// Runs the features of a run that has begun, one after another, and writes the part of each.
 fn run_features<W: Write>(
     glue: &Glue<'_>,
     sandbox: &mut Sandbox,
@@ -96,8 +96,8 @@ fn run_features<W: Write>(
     Ok(())
 }
 
-// Runs features as one run, and writes its report. Where the report can't grow, the run is finished, its
-// answer is given up, and nothing more is written.
+// Runs features as one run and writes its report. If the report can't grow, the run is finished, its result is dropped,
+// and nothing more is written.
 fn run_all<W: Write>(
     alloc: Global,
     sandbox: &mut Sandbox,
@@ -144,7 +144,7 @@ fn run_all<W: Write>(
     }
 }
 
-// Looks the steps of the next feature up, and writes its part.
+// Looks up the steps of the next feature and writes its part.
 fn dry_next<W: Write>(
     alloc: Global,
     library: &Library,
@@ -187,7 +187,7 @@ fn dry_features<W: Write>(
     Ok(())
 }
 
-// A dry run of features, and its report.
+// Makes a dry run of features and writes its report.
 fn dry_all<W: Write>(
     alloc: Global,
     options: &Options,
@@ -221,10 +221,10 @@ fn dry_all<W: Write>(
     }
 }
 
-/// Runs what was read, and writes its report: the head before the run begins, the part of each feature when
-/// it has ended, and the tail when the run has. `Memory` comes where a piece couldn't be made, or where a
-/// feature's results have no room; `Write` where the writer failed. Then the run is finished, its answer is
-/// given up, and nothing more is written.
+/// Runs the inputs that were read, and writes the report: the head before the run begins, the part of each feature when
+/// it has ended, and the tail when the run has ended. `Memory` comes if a piece couldn't be made, or if there is no
+/// room for a feature's results. `Write` comes if the writer failed. In both cases the run is finished, its result is
+/// dropped, and nothing more is written.
 pub fn write_run<W: Write>(
     alloc: Global,
     sandbox: &mut Sandbox,

@@ -1,7 +1,7 @@
 use gk_cli::{WordsFault, read_words};
 use std::test::Fail;
 
-// What is said where no file is named.
+// The message if no file is named.
 const NO_FILE: &str =
     "error: the following required arguments were not provided:\n  <FILE>...\n\nUsage: gherkin_run <FILE>...\n\nFor more information, try '--help'.\n";
 

@@ -4,7 +4,7 @@ use std::io;
 use std::io::Write as _;
 use std::test::Fail;
 
-/// A writer that counts its own calls. It takes at most `most` bytes a call, and fails in one call alone.
+/// A writer that counts its own calls. It takes at most `most` bytes in a call, and fails only in the call `fails_at`.
 #[derive(Debug, Drop)]
 struct Writer {
     most: usize,
@@ -35,7 +35,7 @@ impl io::Write for Writer {
     }
 }
 
-// A counted writer, to which nothing was written.
+// Makes a counted writer with nothing written to it.
 fn counted(alloc: Global, most: usize, fails_at: usize) -> Counted<Writer> {
     Counted::new(Writer {
         most,
@@ -46,7 +46,7 @@ fn counted(alloc: Global, most: usize, fails_at: usize) -> Counted<Writer> {
     })
 }
 
-// The calls of the writer, the most that it was offered, what was counted, and the bytes.
+// Formats the calls of the writer, the largest piece offered to it, the counts, and the bytes.
 fn shown(alloc: Global, out: &Counted<Writer>) -> Result<String, AllocError> {
     let writer = out.inner();
     format!(in alloc;
@@ -60,7 +60,7 @@ fn shown(alloc: Global, out: &Counted<Writer>) -> Result<String, AllocError> {
     )
 }
 
-// What it writes of seven bytes.
+// Writes seven bytes, and formats whether all were written and what the writer shows.
 fn written(alloc: Global, most: usize, fails_at: usize) -> Result<String, AllocError> {
     let mut out = counted(alloc, most, fails_at);
     let whole = write_whole(&mut out, b"1234567").is_ok();
@@ -68,7 +68,7 @@ fn written(alloc: Global, most: usize, fails_at: usize) -> Result<String, AllocE
     format!(in alloc; "{whole}: {shown}")
 }
 
-// How much the writer takes a call, the call that fails, and what becomes of it.
+// How many bytes the writer takes in a call, the call that fails, and the outcome.
 const WRITTEN: [(usize, usize, &str); 6] = [
     (100, 0, "true: 1 of 7, counted 1 0 0, Ok(\"1234567\")"),
     (1, 0, "true: 7 of 7, counted 7 0 0, Ok(\"1234567\")"),
@@ -97,7 +97,7 @@ fn passes_each_flush_on_once(rt: HostRuntime) -> Result<(), Fail> {
     Ok(())
 }
 
-// How many bytes are written, and how many the writer takes a call; in how many calls it takes them.
+// The number of bytes to write, how many the writer takes in a call, and the number of calls that it takes.
 const LENGTHS: [(usize, usize, usize); 8] = [
     (0, usize::MAX, 0),
     (1, usize::MAX, 1),
@@ -124,7 +124,7 @@ fn offers_all_that_is_left(rt: HostRuntime) -> Result<(), Fail> {
     Ok(())
 }
 
-// Writes two bytes so often, and flushes once.
+// Writes two bytes the given number of times, flushes once, and formats the outcome.
 fn flushed_after(alloc: Global, writes: usize, fails_at: usize) -> Result<String, AllocError> {
     let mut out = counted(alloc, usize::MAX, fails_at);
     for _ in 0..writes {
@@ -135,7 +135,7 @@ fn flushed_after(alloc: Global, writes: usize, fails_at: usize) -> Result<String
     format!(in alloc; "{flushed}: {shown}")
 }
 
-// How often two bytes are written before a flush, the call that fails, and what becomes of them.
+// How often two bytes are written before a flush, the call that fails, and the outcome.
 const FLUSHED: [(usize, usize, &str); 7] = [
     (0, 0, "true: 1 of 0, counted 0 0 1, Ok(\"\")"),
     (1, 0, "true: 2 of 2, counted 1 0 1, Ok(\"ab\")"),

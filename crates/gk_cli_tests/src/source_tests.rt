@@ -4,8 +4,8 @@ use std::alloc::{AllocError, Global};
 use std::io;
 use std::test::Fail;
 
-/// A reader that counts its own calls. It gives at most `most` bytes a call, each of them an `a`, and fails
-/// in one call alone.
+/// A reader that counts its own calls. It gives at most `most` bytes in a call, each of them an `a`, and fails only in
+/// the call `fails_at`.
 #[derive(Debug, Drop)]
 struct Reader {
     left: usize,
@@ -29,8 +29,8 @@ impl io::Read for Reader {
     }
 }
 
-// How many bytes are read or why not, the calls of the reader, the most that it was asked for, what was
-// counted, and how many bytes are left.
+// Reads a source and formats the outcome: the number of bytes read or the fault, the calls of the reader, the most
+// bytes that it was asked for, the counts, and the bytes left.
 fn read(alloc: Global, left: usize, most: usize, fails_at: usize) -> Result<String, AllocError> {
     let mut reader = Counted::new(Reader {
         left,
@@ -51,7 +51,7 @@ fn read(alloc: Global, left: usize, most: usize, fails_at: usize) -> Result<Stri
     )
 }
 
-// The bytes that the reader has, how many it gives a call, the call that fails, and what becomes of it.
+// The number of bytes that the reader has, how many it gives in a call, the call that fails, and the outcome.
 const READ: [(usize, usize, usize, &str); 10] = [
     (0, 100, 0, "Ok(0): 1 of 16384, counted 1 0, 0 left"),
     (7, 1, 0, "Ok(7): 8 of 16384, counted 8 0, 0 left"),

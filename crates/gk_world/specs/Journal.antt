@@ -1,4 +1,4 @@
--- What a list of undos, oldest first, makes of contents.
+-- The effect on contents of a list of undos, oldest first.
 use Rattle.std.specs.Prelude.{◌≡◌, ◌≤◌, ℕ, List, [], ◌∷◌, ◌++◌, length, drop}
 
 module _ {U S : Type 0} (undone : U → S → S) where
@@ -7,20 +7,20 @@ module _ {U S : Type 0} (undone : U → S → S) where
   rewound [] s = s
   rewound (u ∷ us) s = undone u (rewound us s)
 
-  -- Each undo fits where its turn comes, from the newest on.
+  -- Each undo fits after all newer ones are undone.
   abbrev pub FitAll : (U → S → Type 0) → List U → S → Type 0
   FitAll fits [] s = Unit {0}
   FitAll fits (u ∷ us) s = FitAll fits us s × fits u (rewound us s)
 
-  -- One undo more is recorded, as the newest: it fits, and gives back what was there before.
+  -- One more undo is recorded, as the newest: it fits, and restores what was there before.
   abbrev pub Records : (U → S → Type 0) → List U → S → List U → S → Type 0
   Records fits old before new after = (u : U) × (new ≡ old ++ u ∷ []) × fits u after × (undone u after ≡ before)
 
-  -- For each mark up to this one, the undos since then give the same contents from here as others did from there.
+  -- For each mark up to this one, the new undos since the mark lead from `after` to the same contents as the old ones from `before`.
   abbrev pub RewindsTheSameTo : ℕ → List U → S → List U → S → Type 0
   RewindsTheSameTo mark old before new after = (m : ℕ) → m ≤ mark → rewound (drop m new) after ≡ rewound (drop m old) before
 
-  -- For each mark up to this one, the undos since then fit here where others fitted there.
+  -- For each mark up to this one, if the old undos since the mark all fit `before`, the new ones all fit `after`.
   abbrev pub StaysFitTo : (U → S → Type 0) → ℕ → List U → S → List U → S → Type 0
   StaysFitTo fits mark old before new after = (m : ℕ) → m ≤ mark → FitAll fits (drop m old) before → FitAll fits (drop m new) after
 

@@ -1,4 +1,4 @@
--- What the world is, in reading order. A definition whose comment names no source is this project's profile, or a word that the others use. Cells, Slots, Table, Values, World and Journal are how it is kept.
+-- The world that steps change, in reading order. A definition whose comment names no source belongs to this project's profile, or is a term that the others use. Cells, Slots, Table, Values, World and Journal describe how the world is stored.
 pub mod State
 pub mod Refusals
 pub mod Reversible

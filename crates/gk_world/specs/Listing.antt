@@ -10,27 +10,27 @@ use Rattle.gk_world.specs.declared.listing.Listing.{Listing}
 use Rattle.gk_world.specs.Cells.{Slot}
 use Rattle.gk_world.specs.State.{Texts, Map, State, see}
 
--- What pairs of the program say, without where they lie in memory.
+-- The map of the program's pairs, without their places in memory.
 abbrev pub texts_of : {Y Z : Type 0} → List (String Y × String Z) → Texts
 texts_of es = finite.from_entries (map (λ entry. (string_bytes entry.0, string_bytes entry.1)) es)
 
--- The pairs have at each name what there is, and no other name, and are sorted by name, each once.
+-- The pairs have exactly the names of the map, each with its text, sorted by name, each name once.
 pub record Lists {Y Z : Type 0} (there : Map) (pairs : List (String Y × String Z)) : Type 0 where
   pub texts : (name : List ℕ) → finite.get (texts_of pairs) name ≡ there name
   pub ascending : IsStrictlySortedBy string_cmp (keys_of pairs)
 
--- The listing has the files, the variables and the values that are seen.
+-- The listing has the files, the variables and the visible values.
 pub record IsListing (s : State) (l : Listing) : Type 0 where
   pub files : Lists s.files l.files.items
   pub env : Lists s.env l.env.items
   pub values : Lists (see s) l.values.items
 
--- The pairs are a map's entries, which are sorted by name.
+-- The pairs are the entries of a map, sorted by name.
 pub record AreEntries {Y Z : Type 0} (m : BTreeMap (String Y) (String Z)) (pairs : List (String Y × String Z)) : Type 0 where
   pub same : pairs ≡ m.entries
   pub ascending : IsStrictlySortedBy string_cmp (keys_of pairs)
 
--- A name has this text, if it is one, and all else stays.
+-- A name gets this text, if there is one, and the rest stays.
 abbrev pub Notes : {Y Z : Type 0} → List ℕ → Option (List ℕ) → BTreeMap (String Y) (String Z) → BTreeMap (String Y) (String Z) → Type 0
 Notes name text old new = (other : List ℕ) → finite.get (texts_of new.entries) other ≡ cond (bytes_eq other name) (option_or text (finite.get (texts_of old.entries) other)) (finite.get (texts_of old.entries) other)
 

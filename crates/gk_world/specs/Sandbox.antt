@@ -1,4 +1,4 @@
--- A sandbox, as contracts see it.
+-- A sandbox as contracts see it.
 use Rattle.std.specs.Prelude.{◌≡◌, ℕ, zero, suc, ◌<◌, ◌≤◌, List, [], ◌∷◌, ◌++◌, length, drop, slice_index, Option, Some, None, IfSome, false, refl}
 use Rattle.std.specs.FinMap as finite
 use Rattle.std.specs.List.{AllByRecursion}
@@ -15,83 +15,83 @@ use Rattle.gk_world.specs.Journal.{rewound, FitAll}
 use Rattle.gk_world.specs.World as world
 use Rattle.gk_world.specs.World.{contents_of, Fits, IsClear}
 
--- The contents; for each open layer, the innermost first, what its end gives; the undos that are recorded, the oldest first; and how many there were when each layer began.
+-- A sandbox's value: the contents; for each open layer, the innermost first, what its end restores; the recorded undos, the oldest first; and how many there were when each layer began.
 pub record SandboxValue : Type 0 where
   pub now : Contents
   pub saved : List Contents
   pub entries : List UndoValue
   pub marks : List ℕ
 
--- A new sandbox: nothing in it, and no layer open.
+-- A new sandbox: empty, with no open layer.
 abbrev pub new_sandbox : SandboxValue
 new_sandbox = record { now = nothing_yet; saved = []; entries = []; marks = [] }
 
--- How many layers are open. (behave's documentation: context layers)
+-- The number of open layers. (behave's documentation: context layers)
 abbrev pub depth : SandboxValue → ℕ
 depth s = length s.saved
 
--- A layer begins: its end is to give the contents as they are, and it has no values yet. (behave's documentation: context layers)
+-- The sandbox after a layer begins: the layer's end is to restore the present contents, and it has no values yet. (behave's documentation: context layers)
 abbrev pub begun : SandboxValue → SandboxValue
 begun s = record { now = with_layer s.now; saved = s.now ∷ s.saved; entries = s.entries; marks = length s.entries ∷ s.marks }
 
--- A layer ends: what it had saved is there again, and what is recorded since its beginning is forgotten. (behave's documentation: context layers)
+-- The end of a layer: the contents that it saved are restored, and what was recorded since its beginning is forgotten. (behave's documentation: context layers)
 pub record Ends (old new : SandboxValue) : Type 0 where
   pub given_back : old.saved ≡ new.now ∷ new.saved
   pub forgotten : old.marks ≡ length new.entries ∷ new.marks
 
--- A layer ends: what is recorded since its beginning, undone from the newest on, gives its contents with an empty map for the layer. What was recorded before stays.
+-- The end of a layer: the undos recorded since its beginning, the newest first, give the new contents with an empty map for the layer. What was recorded before stays.
 pub record EndsByUndos (old new : SandboxValue) : Type 0 where
   pub since : List UndoValue
   pub older : old.entries ≡ new.entries ++ since
   pub given_back : rewind since old.now ≡ with_layer new.now
 
--- A change is recorded as the newest undo, which gives back the contents before it, and the older ones stay. With no layer open it isn't recorded.
+-- A change is recorded as the newest undo, which restores the contents before it, and the older ones stay. If no layer is open, nothing is recorded.
 abbrev pub Records : List Contents → SandboxValue → SandboxValue → Type 0
 Records [] old new = new.entries ≡ old.entries
 Records (c ∷ cs) old new = (u : UndoValue) × (new.entries ≡ old.entries ++ u ∷ []) × (undone u new.now ≡ old.now)
 
--- The contents have become these by one change, and what each layer's end gives stays. With no layer open the change isn't recorded, and stays.
+-- One change leads to these contents, and what each layer's end restores stays. If no layer is open, the change isn't recorded and is permanent.
 pub record Becomes (now : Contents) (old new : SandboxValue) : Type 0 where
   pub contents : new.now ≡ now
   pub layers : new.saved ≡ old.saved
   pub marks : new.marks ≡ old.marks
   pub recorded : Records old.saved old new
 
--- What each layer's end gives and the marks stay, as they do at every change. (behave's documentation: context layers)
+-- What each layer's end restores and the marks stay, as they do at every change. (behave's documentation: context layers)
 pub record KeepsLayers (old new : SandboxValue) : Type 0 where
   pub layers : new.saved ≡ old.saved
   pub marks : new.marks ≡ old.marks
 
--- What changes and inner layers, each of them ended, make of a sandbox; a refused change makes nothing of it. (behave's documentation: context layers)
+-- A sandbox before and after changes and complete inner layers. A refused change leaves it as it is. (behave's documentation: context layers)
 pub data Works : SandboxValue → SandboxValue → Type 0 where
   done : {s : SandboxValue} → Works s s
   change : {s t u : SandboxValue} → KeepsLayers s t → Works t u → Works s u
   layer : {s t u v : SandboxValue} → Works (begun s) t → Ends t u → Works u v → Works s v
 
--- The contents, what each open layer's end gives, the marks and the number of entries are what they were. (behave's documentation: context layers)
+-- The contents, what each open layer's end restores, the marks and the number of entries are the same. (behave's documentation: context layers)
 pub record IsSame (old new : SandboxValue) : Type 0 where
   pub contents : new.now ≡ old.now
   pub saved : new.saved ≡ old.saved
   pub marks : new.marks ≡ old.marks
   pub recorded : length new.entries ≡ length old.entries
 
--- Whatever is done in a layer, its end gives back what was there as it began. (behave's documentation: context layers)
+-- Whatever is done in a layer, its end restores what was there at its beginning. (behave's documentation: context layers)
 abbrev pub LayersGiveBack : Type 0
 LayersGiveBack = (s t u : SandboxValue) → Works (begun s) t → Ends t u → IsSame s u
 
--- Contents with so many further layers, which have no values. (behave's documentation: context layers)
+-- The contents with the given number of further layers, which have no values. (behave's documentation: context layers)
 abbrev pub with_layers : ℕ → Contents → Contents
 with_layers zero c = c
 with_layers (suc n) c = with_layer (with_layers n c)
 
--- For each open layer: the contents, rewound by the undos recorded since its mark, are those that its end gives, with an empty map for that layer and each inner one. The lists have the innermost layer first, and so many layers are inside the first of them.
+-- For each open layer, the undos recorded since its mark lead back to what its end restores, with an empty map for that layer and each inner one. The lists have the innermost layer first, and `inside` counts the layers inside the first of them.
 abbrev pub Rewinds : ℕ → List Contents → List ℕ → List UndoValue → Contents → Type 0
 Rewinds inside [] [] entries now = Unit {0}
 Rewinds inside (c ∷ cs) (mark ∷ marks) entries now = (rewind (drop mark entries) now ≡ with_layers (suc inside) c) × Rewinds (suc inside) cs marks entries now
 Rewinds inside [] (mark ∷ marks) entries now = ⊥
 Rewinds inside (c ∷ cs) [] entries now = ⊥
 
--- What holds of a sandbox at any moment: its undos give back what its layers have saved.
+-- An invariant of a sandbox: its undos restore what its layers saved.
 abbrev pub UndosGiveBack : SandboxValue → Type 0
 UndosGiveBack s = Rewinds 0 s.saved s.marks s.entries s.now
 
@@ -99,18 +99,18 @@ UndosGiveBack s = Rewinds 0 s.saved s.marks s.entries s.now
 abbrev pub NoneTooLong : Texts → Type 0
 NoneTooLong m = (name : List ℕ) → IfSome (finite.get m name) (λ text. is_too_long text ≡ false)
 
--- No text of contents is too long, be it of a file, a variable or a value.
+-- No text of a file, a variable or a value in contents is too long.
 pub record HasShortTexts (c : Contents) : Type 0 where
   pub files : NoneTooLong c.files
   pub env : NoneTooLong c.env
   pub values : AllByRecursion NoneTooLong c.values
 
--- What holds of a sandbox at any moment: no text is too long, now or after the end of a layer.
+-- An invariant of a sandbox: no text is too long, now or after the end of a layer.
 pub record TextsAreShort (s : SandboxValue) : Type 0 where
   pub now : HasShortTexts s.now
   pub saved : AllByRecursion HasShortTexts s.saved
 
--- A map of the contents as an option, in which a program's value keeps it.
+-- A map of the contents as an option, which is how a program's value encodes it.
 abbrev pub which_as_option : Which → Option (Option ℕ)
 which_as_option of_files = None
 which_as_option of_env = Some None
@@ -122,82 +122,82 @@ which_of_option None = of_files
 which_of_option (Some None) = of_env
 which_of_option (Some (Some number)) = of_layer number
 
--- The way there and back.
+-- Encoding a map and decoding it gives the same map.
 abbrev pub which_again : (w : Which) → which_of_option (which_as_option w) ≡ w
 which_again of_files = refl
 which_again of_env = refl
 which_again (of_layer number) = refl
 
--- How a program's value keeps an undo.
+-- How a program's value encodes an undo.
 abbrev pub undo_code : Coded UndoValue
 undo_code = code_by (Option (Option ℕ) × (List ℕ × Option (List ℕ)))
     (coded× (coded_option (coded_option coded_ℕ)) (coded× (coded_list coded_ℕ) (coded_option (coded_list coded_ℕ))))
     (λ u. (which_as_option u.which, (u.name, u.old))) (λ p. record { which = which_of_option p.0; name = p.1.0; old = p.1.1 })
     (λ u. ap (λ w. record { which = w; name = u.name; old = u.old }) (which_again u.which))
 
--- How a program's value keeps a sandbox.
+-- How a program's value encodes a sandbox.
 abbrev pub sandbox_code : Coded SandboxValue
 sandbox_code = code_by (Contents × (List Contents × (List UndoValue × List ℕ)))
     (coded× contents_code (coded× (coded_list contents_code) (coded× (coded_list undo_code) (coded_list coded_ℕ))))
     (λ s. (s.now, (s.saved, (s.entries, s.marks)))) (λ p. record { now = p.0; saved = p.1.0; entries = p.1.1.0; marks = p.1.1.1 }) (λ _. refl)
 
--- A file has a text.
+-- The contents with this text in a file.
 abbrev pub with_file : Contents → List ℕ → List ℕ → Contents
 with_file c name text = record c { files = finite.insert c.files name text }
 
--- A file's text has more at its end.
+-- The contents with more at the end of a file's text.
 abbrev pub with_more : Contents → List ℕ → List ℕ → Contents
 with_more c name more = with_file c name (joined (finite.get c.files) name more)
 
--- A file is gone.
+-- The contents without a file.
 abbrev pub without_file : Contents → List ℕ → Contents
 without_file c name = record c { files = finite.remove c.files name }
 
--- A variable has a text.
+-- The contents with this text in a variable.
 abbrev pub with_env : Contents → List ℕ → List ℕ → Contents
 with_env c name text = record c { env = finite.insert c.env name text }
 
--- A variable is gone.
+-- The contents without a variable.
 abbrev pub without_env : Contents → List ℕ → Contents
 without_env c name = record c { env = finite.remove c.env name }
 
--- A value of the innermost layer has a text. (behave's documentation: context layers)
+-- The contents with this text in a value of the innermost layer. (behave's documentation: context layers)
 abbrev pub with_value : Contents → List ℕ → List ℕ → Contents
 with_value c name text = record c { values = with_innermost (λ v. finite.insert v name text) c.values }
 
--- A value of the innermost layer is gone. (behave's documentation: context layers)
+-- The contents without a value of the innermost layer. (behave's documentation: context layers)
 abbrev pub without_value : Contents → List ℕ → Contents
 without_value c name = record c { values = with_innermost (λ v. finite.remove v name) c.values }
 
--- A file has a text by one change, and what each layer's end gives stays.
+-- One change gives a file a text, and what each layer's end restores stays.
 abbrev pub PutsFile : SandboxValue → List ℕ → List ℕ → SandboxValue → Type 0
 PutsFile old name text new = Becomes (with_file old.now name text) old new
 
--- A file has more at its end by one change, and what each layer's end gives stays.
+-- One change appends to a file, and what each layer's end restores stays.
 abbrev pub AppendsToFile : SandboxValue → List ℕ → List ℕ → SandboxValue → Type 0
 AppendsToFile old name more new = Becomes (with_more old.now name more) old new
 
--- A file is removed by one change, and what each layer's end gives stays.
+-- One change removes a file, and what each layer's end restores stays.
 abbrev pub RemovesFile : SandboxValue → List ℕ → SandboxValue → Type 0
 RemovesFile old name new = Becomes (without_file old.now name) old new
 
--- A variable is set by one change, and what each layer's end gives stays.
+-- One change sets a variable, and what each layer's end restores stays.
 abbrev pub SetsEnv : SandboxValue → List ℕ → List ℕ → SandboxValue → Type 0
 SetsEnv old name text new = Becomes (with_env old.now name text) old new
 
--- A variable is removed by one change, and what each layer's end gives stays.
+-- One change removes a variable, and what each layer's end restores stays.
 abbrev pub RemovesEnv : SandboxValue → List ℕ → SandboxValue → Type 0
 RemovesEnv old name new = Becomes (without_env old.now name) old new
 
--- A value of the innermost layer is set by one change, and what each layer's end gives stays. (behave's documentation: context layers)
+-- One change sets a value of the innermost layer, and what each layer's end restores stays. (behave's documentation: context layers)
 abbrev pub SetsValue : SandboxValue → List ℕ → List ℕ → SandboxValue → Type 0
 SetsValue old name text new = Becomes (with_value old.now name text) old new
 
--- A value of the innermost layer is deleted by one change, and what each layer's end gives stays. (behave's documentation: context layers)
+-- One change deletes a value of the innermost layer, and what each layer's end restores stays. (behave's documentation: context layers)
 abbrev pub DeletesValue : SandboxValue → List ℕ → SandboxValue → Type 0
 DeletesValue old name new = Becomes (without_value old.now name) old new
 
--- What the changes of contents are to the plain state; a value is of the innermost layer, so one has to be open. (behave's documentation: context layers)
+-- The effect of each change of contents on the plain state. A value belongs to the innermost layer, so a layer has to be open. (behave's documentation: context layers)
 pub record ChangesAreOfState : Type 0 where
   pub file : (c : Contents) (name text : List ℕ) → state_of (with_file c name text) ≡ record (state_of c) { files = with_text (state_of c).files name text }
   pub no_file : (c : Contents) (name : List ℕ) → state_of (without_file c name) ≡ record (state_of c) { files = without (state_of c).files name }
@@ -206,13 +206,13 @@ pub record ChangesAreOfState : Type 0 where
   pub value : (c : Contents) (name text : List ℕ) → 0 < length c.values → state_of (with_value c name text) ≡ record (state_of c) { own = with_text (state_of c).own name text }
   pub no_value : (c : Contents) (name : List ℕ) → 0 < length c.values → state_of (without_value c name) ≡ record (state_of c) { own = without (state_of c).own name }
 
--- An undo, as it is seen where the world is this.
+-- The value of an undo in this world.
 abbrev pub seen_undo : World → WorldUndo → UndoValue
 seen_undo w (File u) = record { which = of_files; name = name_of w.files u; old = old_of w.files u }
 seen_undo w (Env u) = record { which = of_env; name = name_of w.env u; old = old_of w.env u }
 seen_undo w (Value u) = record { which = of_layer (suc (cell_of u)); name = name_of w.values u; old = old_of w.values u }
 
--- Undos, oldest first, as they are seen: each where the newer ones are undone, and so as it was recorded.
+-- The values of undos, oldest first: each in the world with the newer ones undone, so as it was recorded.
 abbrev pub seen_undos : World → List WorldUndo → List UndoValue
 seen_undos w [] = []
 seen_undos w (u ∷ us) = seen_undo (rewound world.undone us w) u ∷ seen_undos w us
@@ -222,21 +222,21 @@ abbrev pub open_marks : ℕ → List ℕ → List ℕ
 open_marks zero marks = []
 open_marks (suc d) marks = slice_index marks d ∷ open_marks d marks
 
--- What rewinding to each mark would give.
+-- The contents that rewinding to each mark would give.
 abbrev pub saved_of : List ℕ → List WorldUndo → World → List Contents
 saved_of [] us w = []
 saved_of (m ∷ ms) us w = contents_of (length ms) (rewound world.undone (drop m us) w) ∷ saved_of ms us w
 
--- What is seen of a world, its undos and its marks.
+-- The sandbox's value that a world, its undos and its marks give.
 abbrev pub value_of : World → List WorldUndo → List ℕ → SandboxValue
 value_of w us ms = record { now = contents_of (length ms) w; saved = saved_of ms us w; entries = seen_undos w us; marks = ms }
 
--- No mark is above n or an inner mark, with no open layer there are no entries, and no layer had values before it began.
+-- No mark is above n or an inner mark. The outermost mark is 0, and so is n if no layer is open. No layer had values before it began.
 abbrev pub AreMarks : List ℕ → ℕ → List WorldUndo → World → Type 0
 AreMarks [] n us w = n ≡ 0
 AreMarks (m ∷ ms) n us w = (m ≤ n) × IsClear (length ms) (rewound world.undone (drop m us) w) × AreMarks ms m us w
 
--- What holds of a sandbox between its calls.
+-- The invariant of a sandbox between its calls.
 pub record IsSound (w : World) (us : List WorldUndo) (ms : List ℕ) : Type 0 where
   pub room : length ms ≤ layers
   pub clear : IsClear (length ms) w

@@ -1,4 +1,4 @@
--- Slots, and the finite maps that they stand for: map_at k has, for each name, the cell k of its slot.
+-- Slots, and the finite maps that they represent: map_at k has, for each name, the cell k of its slot.
 use Rattle.std.specs.Prelude.{◌≡◌, ◌≢◌, ℕ, zero, suc, ◌+◌, ◌<◌, List, [], ◌∷◌, ◌++◌, length, take, map, unwrap_or, Some, None, true, false, slice_index_or, slice_set, bytes_eq, String, string_bytes, option_map}
 use Rattle.std.specs.FinMap as finite
 use Rattle.std.specs.Global.{Global}
@@ -8,7 +8,7 @@ use Rattle.gk_world.specs.declared.slots.SlotUndo.TheVariants.{Restore, Created,
 use Rattle.gk_world.specs.State.{Texts, with_entry, Map}
 use Rattle.gk_world.specs.Cells.{Slot, Cell, cell_at}
 
--- A row as a slot, and rows as slots: names and texts, without where they lie in memory.
+-- Rows as slots: names and texts, without their places in memory.
 module _ {C : Type 0} (cells : C → List Cell) where
   -- A row as a slot.
   abbrev pub seen : String Global × C → Slot
@@ -18,30 +18,30 @@ module _ {C : Type 0} (cells : C → List Cell) where
   abbrev pub slots_of : List (String Global × C) → List Slot
   slots_of rows = map seen rows
 
--- The first slot of a name counts, and an absent cell is no text.
+-- The finite map of the cells at k. The first slot of a name counts, and an absent cell is no text.
 abbrev pub map_at : ℕ → List Slot → Texts
 map_at k [] = finite.empty
 map_at k (s ∷ ss) = with_entry (map_at k ss) s.0 (cell_at k s.1)
 
--- The text that each name has in the cell k.
+-- The text that each name has in cell k.
 abbrev pub text_at : ℕ → List Slot → Map
 text_at k s = finite.get (map_at k s)
 
--- The values of so many layers, the innermost first: the outermost has the first cells. (behave's documentation: context layers)
+-- The values of the given number of layers, the innermost first: the outermost has the first cells. (behave's documentation: context layers)
 abbrev pub layers_of : ℕ → List Slot → List Texts
 layers_of zero s = []
 layers_of (suc d) s = map_at d s ∷ layers_of d s
 
--- One cell of one name has another text, or none, and all else stays.
+-- One cell of one name gets a new text, or none, and the rest stays.
 pub record Writes (name : List ℕ) (cell : ℕ) (text : Cell) (old new : List Slot) : Type 0 where
   pub here : map_at cell new ≡ with_entry (map_at cell old) name text
   pub others : (k : ℕ) → k ≢ cell → map_at k new ≡ map_at k old
 
--- A cell of a name has this text, and all else stays.
+-- A cell of a name gets this text, and the rest stays.
 abbrev pub Puts : {Y Z : Type 0} → String Y → ℕ → String Z → List Slot → List Slot → Type 0
 Puts name cell text old new = Writes (string_bytes name) cell (Some (string_bytes text)) old new
 
--- The slots, with these cells in the slot at i.
+-- The slots with these cells in the slot at i.
 abbrev pub with_cells : List Slot → ℕ → List Cell → List Slot
 with_cells [] i c = []
 with_cells (s ∷ ss) zero c = (s.0, c) ∷ ss
@@ -55,7 +55,7 @@ name_at s i = let w : Slot = slice_index_or s i ([], []) in w.0
 abbrev pub cells_of : List Slot → ℕ → List Cell
 cells_of s i = let w : Slot = slice_index_or s i ([], []) in w.1
 
--- The slots, with this in the cell k of the slot at i.
+-- The slots with this content in cell k of the slot at i.
 abbrev pub with_cell : List Slot → ℕ → ℕ → Cell → List Slot
 with_cell s i k c = with_cells s i (slice_set (cells_of s i) k c)
 
@@ -65,23 +65,23 @@ IsPosition name [] i = ⊥
 IsPosition name (s ∷ ss) zero = bytes_eq name s.0 ≡ true
 IsPosition name (s ∷ ss) (suc i) = (bytes_eq name s.0 ≡ false) × IsPosition name ss i
 
--- In the slot at i, the first of its name, this cell has this text or none, and all else stays.
+-- If the slot at i is the first of its name, this cell of it gets this text or none, and the rest stays.
 abbrev pub WritesAt : ℕ → ℕ → Cell → List Slot → List Slot → Type 0
 WritesAt i cell text old new = (name : List ℕ) → IsPosition name old i → Writes name cell text old new
 
--- There is no slot of this name.
+-- No slot has this name.
 abbrev pub IsMissing : List ℕ → List Slot → Type 0
 IsMissing name [] = Unit {0}
 IsMissing name (s ∷ ss) = (bytes_eq name s.0 ≡ false) × IsMissing name ss
 
--- The slot at i is the first of this name, and has the name's texts.
+-- The slot at i is the first of this name, and holds the name's texts.
 pub record IsAt (name : List ℕ) (s : List Slot) (i : ℕ) : Type 0 where
   pub within : i < length s
   pub found : IsPosition name s i
   pub first : IsPosition (name_at s i) s i
   pub holds : (k : ℕ) → finite.get (map_at k s) name ≡ cell_at k (cells_of s i)
 
--- The name has no slot, and so no text.
+-- The name has no slot, and therefore no text.
 pub record IsNew (name : List ℕ) (s : List Slot) : Type 0 where
   pub missing : IsMissing name s
   pub absent : (k : ℕ) → finite.get (map_at k s) name ≡ None
@@ -91,63 +91,63 @@ abbrev pub NamesDiffer : List Slot → Type 0
 NamesDiffer [] = Unit {0}
 NamesDiffer (s ∷ ss) = IsMissing s.0 ss × NamesDiffer ss
 
--- There is a slot at this position, and it has this cell, one of so many.
+-- A slot exists at this position and has this cell, whose number is less than the width.
 pub record HasCell (width : ℕ) (s : List Slot) (position cell : ℕ) : Type 0 where
   pub there : position < length s
   pub within : cell < length (cells_of s position)
   pub allowed : cell < width
 
--- The slot at this position is the last, and has nothing but in this cell, one of so many.
+-- The slot at this position is the last, and all its cells but this one are absent. The cell's number is less than the width.
 pub record IsNewest (width : ℕ) (s : List Slot) (position cell : ℕ) : Type 0 where
   pub last : length s ≡ position + 1
   pub others : (k : ℕ) → k ≢ cell → cell_at k (cells_of s position) ≡ None
   pub allowed : cell < width
 
--- The cell at this position, one of so many, has a text, which may be cut to this length.
+-- The cell of the slot at this position has a text that can be cut to this length. The cell's number is less than the width.
 pub record HasLonger (width : ℕ) (s : List Slot) (position cell kept : ℕ) : Type 0 where
   pub has : HasCell width s position cell
   pub whole : List ℕ
   pub is : cell_at cell (cells_of s position) ≡ Some whole
   pub split : IsSplitPoint whole kept
 
--- The first bytes, so many, of a text, if it is one.
+-- The first `kept` bytes of a text, if there is a text.
 abbrev pub cut_to : ℕ → Cell → Cell
 cut_to kept = option_map (take kept)
 
--- A text, which is none where there is none, with more at its end.
+-- A text with more at its end; an absent text counts as empty.
 abbrev pub grown : Cell → List ℕ → Cell
 grown c more = Some (unwrap_or c [] ++ more)
 
--- Whether an undo fits these slots: the slot that it names is there and, for a creation, is the last, with its other cells absent; for a growth, its text begins with the old one.
+-- Whether an undo fits these slots: the slot and the cell that it names exist. For a creation, the slot is the last, and its other cells are absent. For a growth, the cell's text can be cut to its old length.
 abbrev pub Fits : ℕ → SlotUndo → List Slot → Type 0
 Fits width (Restore position cell old) s = HasCell width s position cell
 Fits width (Created position cell) s = IsNewest width s position cell
 Fits width (Cut position cell kept) s = HasLonger width s position cell kept
 
--- The slots before a change: the cell has its old text again, which for a growth is the beginning of that there is, or the new slot is gone.
+-- The slots before a change: the cell has its old text again, or the new slot is gone. After a growth, the old text is the beginning of the present one.
 abbrev pub undone : SlotUndo → List Slot → List Slot
 undone (Restore position cell old) s = with_cell s position cell (option_map string_bytes old)
 undone (Created position cell) s = take position s
 undone (Cut position cell kept) s = with_cell s position cell (cut_to kept (cell_at cell (cells_of s position)))
 
--- The name of an undo, as it is seen where it is in slots.
+-- The name of the slot that an undo changes.
 abbrev pub name_of : List Slot → SlotUndo → List ℕ
 name_of s (Restore position cell old) = name_at s position
 name_of s (Created position cell) = name_at s position
 name_of s (Cut position cell kept) = name_at s position
 
--- The cell of an undo.
+-- The cell that an undo changes.
 abbrev pub cell_of : SlotUndo → ℕ
 cell_of (Restore position cell old) = cell
 cell_of (Created position cell) = cell
 cell_of (Cut position cell kept) = cell
 
--- The old text of an undo, or none, as it is seen where it is in slots.
+-- The text, or none, that an undo restores in these slots.
 abbrev pub old_of : List Slot → SlotUndo → Cell
 old_of s (Restore position cell old) = option_map string_bytes old
 old_of s (Created position cell) = None
 old_of s (Cut position cell kept) = cut_to kept (cell_at cell (cells_of s position))
 
--- An undo, on maps: the cell of its name has the old text again, or none, and all else stays.
+-- An undo, on maps: the cell of its name has the old text again, or none, and the rest stays.
 abbrev pub Undoes : SlotUndo → List Slot → List Slot → Type 0
 Undoes u old new = Writes (name_of old u) (cell_of u) (old_of old u) old new

@@ -1,4 +1,4 @@
--- What a change of a table does to its map, and why it may be refused.
+-- What a change of a table does to its map, and why it can be refused.
 use Rattle.std.specs.Prelude.{◌≡◌, List, Option, None, string_bytes}
 use Rattle.std.specs.FinMap as finite
 use Rattle.gk_world.specs.declared.refusals.WorldFault.{WorldFault}
@@ -9,7 +9,7 @@ use Rattle.gk_world.specs.State.{Texts}
 use Rattle.gk_world.specs.Refusals.{put_refusal, append_refusal, remove_refusal, joined, IsFault}
 use Rattle.gk_world.specs.Slots.{map_at}
 
--- Why a change of a map is refused, if it is.
+-- The reason to refuse a change of a map, if there is one.
 abbrev pub refusal : TableChange → Texts → Option WorldFault
 refusal (Put name text) m = put_refusal (string_bytes name) (string_bytes text)
 refusal (Append name more) m = append_refusal (finite.get m) (string_bytes name) (string_bytes more)
@@ -21,11 +21,11 @@ changed (Put name text) m = finite.insert m (string_bytes name) (string_bytes te
 changed (Append name more) m = finite.insert m (string_bytes name) (joined (finite.get m) (string_bytes name) (string_bytes more))
 changed (Remove name) m = finite.remove m (string_bytes name)
 
--- Nothing refuses the change at slots s, and t has its outcome.
+-- Nothing refuses the change at slots s, and t is its outcome.
 pub record Steps (change : TableChange) (s t : List Slot) : Type 0 where
   pub allowed : refusal change (map_at 0 s) ≡ None
   pub done : map_at 0 t ≡ changed change (map_at 0 s)
 
--- The change may be refused at slots s by this fault.
+-- The change can be refused at slots s with this fault.
 abbrev pub Refuses : TableChange → List Slot → WorldFault → Type 0
 Refuses change s fault = IsFault (refusal change (map_at 0 s)) fault

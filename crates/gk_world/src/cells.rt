@@ -1,31 +1,31 @@
-//! A row's cells, each a text or absent.
+//! The cells of a row, each a text or absent.
 ghost use Rattle.std.specs.Prelude.{◌≡◌, ℕ, ◌<◌, List, [], ◌∷◌, length, map, Some, None, option_map, option_copied, string_bytes, slice_set, slice_index_or};
 ghost use Rattle.gk_world.specs.Cells.{Cell, cell_at, IsOnly};
 
 use std::mem::replace;
 
-/// How many layers can be open. (behave's documentation: context layers)
+/// The number of layers that can be open. (behave's documentation: context layers)
 pub const LAYERS: usize = 4;
 
 /// A fixed number of cells.
 pub trait Cells: Drop {
-    /// How many they are.
+    /// The number of cells.
     ghost width: { ℕ };
 
-    /// What is in each, in order.
+    /// The content of each cell, in order.
     ghost cells: { Self → List Cell };
 
-    /// Cells of which one alone has a text.
+    /// Returns cells in which only this one has a text.
     fn only(cell: usize, text: String) -> Self
         requires { cell < width }
         ensures { IsOnly cell (Some (string_bytes text)) (cells result) };
 
-    /// The text in a cell.
+    /// Returns the text in a cell, if it has one.
     fn text(&self, cell: usize) -> Option<&str>
         requires { cell < width }
         ensures { option_copied result ≡ cell_at cell (cells self.now) };
 
-    /// Puts a text, or none, into a cell, and returns what was there.
+    /// Puts a text, or none, into a cell, and returns its old text.
     fn replace(&mut self, cell: usize, text: Option<String>) -> Option<String>
         requires { cell < width }
         ensures within { cell < length (cells self.old) }
@@ -56,7 +56,7 @@ impl Cells for Option<String> {
     }
 }
 
-/// Puts a cell's new content in, and returns the old one.
+/// Puts new content into a cell, and returns the old content.
 fn exchange(cells: &mut [Option<String>], cell: usize, text: Option<String>) -> Option<String>
     requires { cell < length cells.old }
     ensures after { cells.new ≡ slice_set cells.old cell text }
@@ -65,7 +65,7 @@ fn exchange(cells: &mut [Option<String>], cell: usize, text: Option<String>) -> 
     replace(&mut cells[cell], text)
 }
 
-/// One cell for each layer, that of the outermost first.
+/// One cell for each layer, the outermost first.
 impl Cells for [Option<String>; LAYERS] {
     ghost use Rattle.gk_world.specs.State.{layers};
 

@@ -21,7 +21,7 @@ impl<T: Reversible> Model for Journal<T> {
 }
 
 impl<T: Reversible> Journal<T> {
-    /// A journal without entries. It takes no memory.
+    /// Returns a journal without entries. It doesn't allocate.
     pub fn new(alloc: Global) -> Self
         ensures { result ≡ [] }
     {
@@ -30,16 +30,15 @@ impl<T: Reversible> Journal<T> {
         }
     }
 
-    /// How many changes are recorded. It takes no memory.
+    /// Returns the number of recorded changes. It doesn't allocate.
     pub fn len(&self) -> usize
         ensures { result ≡ length self.now }
     {
         self.entries.len()
     }
 
-    /// Makes a change and records its undo, as the newest entry. The entry's position comes before the
-    /// change, so `Memory` may stand in place of another fault. A refusal changes nothing and keeps
-    /// every entry.
+    /// Makes a change and records its undo as the newest entry. Room for the entry is reserved before the change, so
+    /// `Memory` can be returned instead of another fault. A refusal changes nothing and keeps every entry.
     pub fn change(&mut self, on: &mut T, change: T::Change) -> Result<(), WorldFault>
         requires { T.can_apply change }
         ensures recorded { OnOk result (Records T.undone T.fits
@@ -61,7 +60,7 @@ impl<T: Reversible> Journal<T> {
         Ok(())
     }
 
-    /// Undoes the changes since the mark, the newest first. It takes no memory.
+    /// Undoes the changes since the mark, the newest first. It doesn't allocate.
     pub fn rewind(&mut self, on: &mut T, mark: usize)
         requires mark { mark ≤ length self.old }
         requires fit { FitAll T.undone T.fits (drop mark self.old) (T.slots on.old) }

@@ -1,30 +1,30 @@
-//! What the definitions of this crate say of themselves: the statements of functions that do nothing.
+//! Laws of this crate's definitions, as the contracts of functions that do nothing.
 ghost use Rattle.gk_world.specs.Sandbox.{ChangesAreOfState, LayersGiveBack};
 ghost use Rattle.gk_world.specs.State.{Enters, PutsText, TakesName};
 
-/// A finite map with a text put in has that text at the name, and what it had at each other one.
+/// Shows that inserting a text into a finite map sets it at its name and keeps the text of each other name.
 pub fn put_texts()
     ensures { PutsText }
 {}
 
-/// A finite map with a name taken out has nothing at the name, and what it had at each other one.
+/// Shows that removing a name from a finite map leaves no text at it and keeps the text of each other name.
 pub fn removed_texts()
     ensures { TakesName }
 {}
 
-/// A layer that begins keeps what is seen, and has no values of its own.
+/// Shows that a layer's beginning keeps what is visible, and that the layer has no values yet.
 pub fn layers_enter()
     ensures { Enters }
 {}
 
-/// What each change of the contents is to the plain state.
+/// Shows how each change of the contents changes the plain state.
 /// (behave's documentation: context layers)
 pub fn changes_are_of_state()
     ensures { ChangesAreOfState }
 {}
 
-/// Whatever is done in a layer, by changes, refused ones among them, and by inner layers that end, its end
-/// gives back the contents at its beginning, and leaves the layers further out as they were.
+/// Shows that the end of a layer restores the contents at its beginning, and leaves the layers further out as they
+/// were. It does so whatever was done in the layer: changes, refused changes, and inner layers that have ended.
 /// (behave's documentation: context layers)
 pub fn layers_give_back()
     ensures { LayersGiveBack }

@@ -1,6 +1,5 @@
-//! The world that steps change: files, variables and values in layers. Names and texts come in; every
-//! change is recorded with its inverse, and the end of a layer gives back exactly the contents at its
-//! beginning.
+//! The world that steps change: files, variables and values, in layers. Names and texts are its only input. Each change
+//! in a layer is recorded with its inverse, and the end of the layer restores exactly the contents at its beginning.
 #![tactic(auto)]
 
 mod cells;

@@ -5,7 +5,7 @@ ghost use Rattle.gk_world.specs.Listing.{AreEntries, Notes};
 use std::alloc::{AllocError, Global};
 use std::collections::BTreeMap;
 
-/// Files, variables and seen values with their names, each list sorted by name in byte order.
+/// Files, variables and visible values with their names, each list sorted by name in byte order.
 #[derive(Drop)]
 pub struct Listing {
     pub files: Vec<(String, String)>,
@@ -13,7 +13,7 @@ pub struct Listing {
     pub values: Vec<(String, String)>,
 }
 
-/// Notes a name with its text, if it has one.
+/// Inserts a name with its text, if it has one.
 pub fn note(
     alloc: Global,
     texts: &mut BTreeMap<String, String>,
@@ -31,7 +31,7 @@ pub fn note(
     Ok(())
 }
 
-/// The entries as a list, sorted by name.
+/// Returns the entries as a list, sorted by name.
 pub fn sorted(
     alloc: Global,
     texts: BTreeMap<String, String>,

@@ -1,22 +1,22 @@
-//! Which changes of names and texts are refused, and why.
+//! The changes of names and texts that are refused, and why.
 ghost use Rattle.std.specs.Prelude.{◌≡◌, ◌++◌, IfOk, None, string_bytes};
 ghost use Rattle.gk_world.specs.Refusals as refusals;
 
 use std::alloc::{AllocError, Global};
 
-/// Why a change is refused. A refused change changes nothing. Of several reasons the first in the order
-/// `BadName`, `Absent`, `OtherLayer`, `TextTooLong` is returned.
+/// The reason why a change is refused. A refused change changes nothing. If there are several reasons, the first in the
+/// order `BadName`, `Absent`, `OtherLayer`, `TextTooLong` is returned.
 #[derive(Clone, Copy, Debug, PartialEq, Eq)]
 pub enum WorldFault {
-    /// What is to be extended, removed or deleted isn't there.
+    /// The file, variable or value to be extended, removed or deleted doesn't exist.
     Absent,
     /// The text would have more bytes than `LONGEST_TEXT`.
     TextTooLong,
-    /// The name has no byte, or more bytes than `LONGEST_NAME`.
+    /// The name is empty, or has more bytes than `LONGEST_NAME`.
     BadName,
-    /// The value is set in an outer layer alone.
+    /// The value is set only in an outer layer.
     OtherLayer,
-    /// A growth of memory was refused.
+    /// Memory couldn't be allocated.
     Memory,
 }
 
@@ -31,27 +31,27 @@ impl From<AllocError> for WorldFault {
     }
 }
 
-/// The bytes that a name may have; it has one at least.
+/// The largest number of bytes in a name; the smallest is 1.
 pub const LONGEST_NAME: usize = 255;
 
-/// The bytes that a text may have.
+/// The largest number of bytes in a text.
 pub const LONGEST_TEXT: usize = 1_048_576;
 
-/// Whether a name has no byte, or more than `LONGEST_NAME`. It takes no memory.
+/// Returns whether a name is empty, or has more bytes than `LONGEST_NAME`. It doesn't allocate.
 pub fn is_bad_name(name: &str) -> bool
     ensures { result ≡ refusals.is_bad_name name.now }
 {
     name.is_empty() || name.len() > LONGEST_NAME
 }
 
-/// Whether a text with more at its end is too long.
+/// Returns whether `text` followed by `more` is too long.
 pub fn is_too_long(text: &str, more: &str) -> bool
     ensures { result ≡ refusals.is_too_long (text.now ++ more.now) }
 {
     text.len() > LONGEST_TEXT || more.len() > LONGEST_TEXT - text.len()
 }
 
-/// Why a name can't have a text put, if there is a reason.
+/// Returns the reason why a text can't be put under a name, if there is one.
 pub fn put_refusal(name: &str, text: &str) -> Option<WorldFault>
     ensures { refusals.IsReason (refusals.put_refusal name.now text.now) result }
 {
@@ -64,7 +64,7 @@ pub fn put_refusal(name: &str, text: &str) -> Option<WorldFault>
     None
 }
 
-/// A name and a text that may be put, copied.
+/// Copies a name and a text, unless the text can't be put under the name.
 pub fn copied_for_put(alloc: Global, name: &str, text: &str) -> Result<(String, String), WorldFault>
     ensures answer { refusals.IsAnswer (refusals.put_refusal name.now text.now) result }
     ensures copies { IfOk result (λ copies.

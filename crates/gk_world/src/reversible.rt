@@ -1,17 +1,17 @@
-//! What can be changed so that each change can be undone.
+//! Slots whose changes can each be undone.
 ghost use Rattle.std.specs.Prelude.{◌≡◌, IfOk, IfErr, OnOk, OnErr};
 ghost use Rattle.gk_world.specs.declared.refusals.WorldFault.{WorldFault};
 
 use crate::refusals::WorldFault;
 
-/// Slots whose changes can be undone, the newest first. An undo is an ordinary value: to drop it is to
-/// give its change up for good.
+/// Slots whose changes can be undone, the newest first. An undo is an ordinary value: dropping it makes its change
+/// permanent.
 pub trait Reversible {
     type Change: Drop;
 
     type Undo: Drop;
 
-    /// What contracts see of the slots: a list of them, or a few lists.
+    /// The slots as contracts see them: one list, or a few lists.
     ghost Slots: { Type 0 };
 
     ghost slots: { Self → Slots };
@@ -22,21 +22,21 @@ pub trait Reversible {
     /// The slots before the change.
     ghost undone: { Self.Undo → Slots → Slots };
 
-    /// Whether an undo leads, on the maps that slots stand for, from these to those: its name has its
-    /// old text again, or is gone, and all else stays.
+    /// Whether an undo leads from these slots to those, on the maps that they represent. Its name has its old text
+    /// again, or is gone, and the rest stays.
     ghost undoes: { Self.Undo → Slots → Slots → Type 0 };
 
     /// Whether an allowed change can lead from these slots to those.
     ghost stepped: { Self.Change → Slots → Slots → Type 0 };
 
-    /// Whether a change may be refused at these slots by this fault.
+    /// Whether a change can be refused at these slots with this fault.
     ghost refuses: { Self.Change → Slots → WorldFault → Type 0 };
 
-    /// Whether a change may be asked for.
+    /// Whether a change can be passed to `apply`.
     ghost can_apply: { Self.Change → Type 0 } = { λ _. Unit {0} };
 
-    /// Makes a change, and returns its undo, which gives back the slots before it: so each older undo
-    /// that fitted then fits again after it. A refusal changes nothing.
+    /// Makes a change, and returns its undo, which restores the slots before it. So each older undo that fitted before
+    /// the change fits again after the undo. A refusal changes nothing.
     fn apply(&mut self, change: Self::Change) -> Result<Self::Undo, WorldFault>
         requires { can_apply change }
         ensures fits { IfOk result (λ u. fits u (slots self.new)) }
@@ -45,7 +45,7 @@ pub trait Reversible {
         ensures err { OnErr result (slots self.new ≡ slots self.old) }
         ensures refused { IfErr result (refuses change (slots self.old)) };
 
-    /// Takes a change back. It takes no memory.
+    /// Undoes a change. It doesn't allocate.
     fn undo(&mut self, undo: Self::Undo)
         requires { fits undo (slots self.old) }
         ensures slots { slots self.new ≡ undone undo (slots self.old) }

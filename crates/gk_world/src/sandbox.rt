@@ -1,4 +1,4 @@
-//! The world that steps change: files, variables and values, in layers by a journal.
+//! The world that steps change: files, variables and values, in layers that a journal undoes.
 ghost use Rattle.std.specs.Prelude.{◌≡◌, ◌<◌, length, None, OnOk, OnErr, IfOk, option_copied};
 ghost use Rattle.std.specs.FinMap as finite;
 ghost use Rattle.gk_world.specs.Listing.{IsListing};
@@ -19,8 +19,8 @@ use crate::world::{World, WorldChange};
 use std::alloc::{AllocError, Global};
 use std::marker::Model;
 
-/// An open layer: its number, counted from 1 at the outermost. It has to be spent, and only
-/// `Sandbox::end` takes it. (behave's documentation: context layers)
+/// An open layer: its number, counted from 1 at the outermost. It can't be dropped, and only `Sandbox::end` consumes
+/// it. (behave's documentation: context layers)
 pub struct Layer {
     // Its position, counted from 1 at the outermost.
     number: usize,
@@ -36,14 +36,14 @@ impl Model for Layer {
     ghost invariant = { λ l. 0 < l.number };
 }
 
-/// Files, variables and values, and layers whose end gives back what was there at their beginning. Names
-/// have 1 to 255 bytes, texts at most 1,048,576. (behave's documentation: context layers)
+/// Files, variables and values, and layers whose end restores the contents at their beginning. Names have 1 to 255
+/// bytes, texts at most 1,048,576. (behave's documentation: context layers)
 #[derive(Drop)]
 pub struct Sandbox {
     alloc: Global,
     world: World,
     journal: Journal<World>,
-    // How many changes were recorded as each layer began, the outermost first.
+    // The number of recorded changes when each layer began, the outermost first.
     marks: [usize; LAYERS],
     depth: usize,
 }
@@ -61,7 +61,7 @@ impl Model for Sandbox {
 }
 
 impl Sandbox {
-    /// A sandbox with nothing in it and no layer open. It takes no memory.
+    /// Returns an empty sandbox with no open layer. It doesn't allocate.
     pub fn new(alloc: Global) -> Sandbox
         ensures { result ≡ new_sandbox }
     {
@@ -74,23 +74,22 @@ impl Sandbox {
         }
     }
 
-    /// How many layers are open. It takes no memory.
+    /// Returns the number of open layers. It doesn't allocate.
     pub fn depth(&self) -> usize
         ensures { result ≡ depth self.now }
     {
         self.depth
     }
 
-    /// How many changes are recorded in the open layers. It takes no memory.
+    /// Returns the number of changes recorded in the open layers. It doesn't allocate.
     pub fn recorded(&self) -> usize
         ensures { result ≡ length self.now.entries }
     {
         self.journal.len()
     }
 
-    /// For each open layer, the contents, rewound by the changes recorded since it began, are those
-    /// that its end gives. Each open layer has a map of values, and with no layer open nothing is
-    /// recorded.
+    /// Shows that undoing the changes recorded since an open layer began leads back to what its end restores. Each open
+    /// layer has a map of values, and nothing is recorded if no layer is open.
     pub fn undos_give_back(&self)
         ensures undos { UndosGiveBack self.now }
         ensures values { length self.now.now.values ≡ depth self.now }
@@ -99,15 +98,15 @@ impl Sandbox {
         self.world.names_differ();
     }
 
-    /// No text has more bytes than `LONGEST_TEXT`, now or after the end of an open layer.
+    /// Shows that no text has more bytes than `LONGEST_TEXT`, now or after the end of an open layer.
     pub fn texts_are_short(&self)
         ensures { TextsAreShort self.now }
     {
         let _ = &self.world;
     }
 
-    /// Begins a layer inside the open ones. Its number is then the depth, and it has no values yet. It
-    /// takes no memory. (behave's documentation: context layers)
+    /// Begins a layer inside the open ones. Its number is the new depth, and it has no values yet. It doesn't allocate.
+    /// (behave's documentation: context layers)
     pub fn begin(&mut self) -> Layer
         requires { depth self.old < layers }
         ensures ok { self.new ≡ begun self.old }
@@ -118,14 +117,14 @@ impl Sandbox {
         Layer { number: self.depth }
     }
 
-    /// Ends the innermost layer, which `layer` has to be: the contents and the number of recorded
-    /// changes are those at its beginning. It takes no memory. (behave's documentation: context layers)
+    /// Ends the innermost layer, which `layer` has to be. The contents and the number of recorded changes are again
+    /// those at its beginning. It doesn't allocate. (behave's documentation: context layers)
     pub fn end(&mut self, layer: Layer)
         requires { layer ≡ depth self.old }
         ensures ends { Ends self.old self.new }
         ensures undone { EndsByUndos self.old self.new }
     {
-        // A layer can't be dropped; taking it apart spends it.
+        // A layer can't be dropped; destructuring consumes it.
         let Layer { number } = layer;
         let outer = number - 1;
         self.world.names_differ();
@@ -133,7 +132,7 @@ impl Sandbox {
         self.depth = outer;
     }
 
-    /// Makes a change, and records it where a layer is open. A refusal changes nothing.
+    /// Makes a change, and records it if a layer is open. A refusal changes nothing.
     fn change(&mut self, change: WorldChange) -> Result<(), WorldFault>
         requires here { IsHere change (depth self.old) }
         requires allowed { refusal change self.old.now ≡ None }
@@ -155,8 +154,8 @@ impl Sandbox {
         answer
     }
 
-    /// Puts a file. Refusals come in the order `BadName`, `TextTooLong`. A refusal changes nothing; `Memory`
-    /// is returned only where nothing else refuses.
+    /// Puts a file. Refusals are checked in the order `BadName`, `TextTooLong`. A refusal changes nothing; `Memory` is
+    /// returned only if there is no other reason.
     pub fn put_file(&mut self, name: &str, text: &str) -> Result<(), WorldFault>
         ensures ok { OnOk result (PutsFile self.old name.now text.now self.new) }
         ensures answer { IsAnswer (refusals.put_refusal name.now text.now) result }
@@ -166,8 +165,8 @@ impl Sandbox {
         self.change(WorldChange::File(TableChange::Put(name, text)))
     }
 
-    /// Puts more at the end of a file. Refusals come in the order `BadName`, `Absent`, `TextTooLong`.
-    /// A refusal changes nothing; `Memory` is returned only where nothing else refuses.
+    /// Appends to a file. Refusals are checked in the order `BadName`, `Absent`, `TextTooLong`. A refusal changes
+    /// nothing; `Memory` is returned only if there is no other reason.
     pub fn append_file(&mut self, name: &str, more: &str) -> Result<(), WorldFault>
         ensures ok { OnOk result (AppendsToFile self.old name.now more.now self.new) }
         ensures answer { IsAnswer
@@ -182,8 +181,8 @@ impl Sandbox {
         self.change(WorldChange::File(TableChange::Append(name, more)))
     }
 
-    /// Sets a variable. Refusals come in the order `BadName`, `TextTooLong`. A refusal changes nothing; `Memory`
-    /// is returned only where nothing else refuses.
+    /// Sets a variable. Refusals are checked in the order `BadName`, `TextTooLong`. A refusal changes nothing; `Memory`
+    /// is returned only if there is no other reason.
     pub fn put_env(&mut self, name: &str, text: &str) -> Result<(), WorldFault>
         ensures ok { OnOk result (SetsEnv self.old name.now text.now self.new) }
         ensures answer { IsAnswer (refusals.put_refusal name.now text.now) result }
@@ -193,9 +192,9 @@ impl Sandbox {
         self.change(WorldChange::Env(TableChange::Put(name, text)))
     }
 
-    /// Sets a value of the innermost layer, which hides outer ones of its name while the layer lasts.
-    /// Refusals come in the order `BadName`, `TextTooLong`. A refusal changes nothing; `Memory`
-    /// is returned only where nothing else refuses.
+    /// Sets a value of the innermost layer, which hides outer values of the same name while the layer is open. Refusals
+    /// are checked in the order `BadName`, `TextTooLong`. A refusal changes nothing; `Memory` is returned only if there
+    /// is no other reason.
     /// (behave's documentation: context layers)
     pub fn set_value(&mut self, name: &str, text: &str) -> Result<(), WorldFault>
         requires { 0 < depth self.old }
@@ -208,8 +207,8 @@ impl Sandbox {
         self.change(WorldChange::Value(ValueChange::Set(layer, name, text)))
     }
 
-    /// Removes a file. Refusals come in the order `BadName`, `Absent`. A refusal changes nothing; `Memory`
-    /// is returned only where nothing else refuses.
+    /// Removes a file. Refusals are checked in the order `BadName`, `Absent`. A refusal changes nothing; `Memory` is
+    /// returned only if there is no other reason.
     pub fn remove_file(&mut self, name: &str) -> Result<(), WorldFault>
         ensures ok { OnOk result (RemovesFile self.old name.now self.new) }
         ensures answer { IsAnswer (remove_refusal (finite.get self.old.now.files) name.now) result }
@@ -222,8 +221,8 @@ impl Sandbox {
         self.change(WorldChange::File(TableChange::Remove(name)))
     }
 
-    /// Removes a variable. Refusals come in the order `BadName`, `Absent`. A refusal changes nothing; `Memory`
-    /// is returned only where nothing else refuses.
+    /// Removes a variable. Refusals are checked in the order `BadName`, `Absent`. A refusal changes nothing; `Memory`
+    /// is returned only if there is no other reason.
     pub fn remove_env(&mut self, name: &str) -> Result<(), WorldFault>
         ensures ok { OnOk result (RemovesEnv self.old name.now self.new) }
         ensures answer { IsAnswer (remove_refusal (finite.get self.old.now.env) name.now) result }
@@ -236,9 +235,9 @@ impl Sandbox {
         self.change(WorldChange::Env(TableChange::Remove(name)))
     }
 
-    /// Deletes a value of the innermost layer. Refusals come in the order `BadName`, `Absent` (no layer
-    /// has it), `OtherLayer` (outer layers alone have it). A refusal changes nothing; `Memory`
-    /// is returned only where nothing else refuses.
+    /// Deletes a value of the innermost layer. Refusals are checked in the order `BadName`, `Absent` (no layer has it),
+    /// `OtherLayer` (only outer layers have it). A refusal changes nothing; `Memory` is returned only if there is no
+    /// other reason.
     /// (behave's documentation: context layers)
     pub fn delete_value(&mut self, name: &str) -> Result<(), WorldFault>
         requires { 0 < depth self.old }
@@ -254,21 +253,21 @@ impl Sandbox {
         self.change(WorldChange::Value(ValueChange::Delete(layer, name)))
     }
 
-    /// The text of a file, if there is one of this name. It takes no memory.
+    /// Returns the text of a file, if it exists. It doesn't allocate.
     pub fn file(&self, name: &str) -> Option<&str>
         ensures { option_copied result ≡ finite.get self.now.now.files name.now }
     {
         self.world.files.get(name)
     }
 
-    /// The text of a variable, if there is one of this name. It takes no memory.
+    /// Returns the text of a variable, if it exists. It doesn't allocate.
     pub fn env(&self, name: &str) -> Option<&str>
         ensures { option_copied result ≡ finite.get self.now.now.env name.now }
     {
         self.world.env.get(name)
     }
 
-    /// The value that is seen under this name, if there is one. It takes no memory.
+    /// Returns the visible value of a name, if there is one. It doesn't allocate.
     /// (behave's documentation: context layers)
     pub fn value(&self, name: &str) -> Option<&str>
         ensures { option_copied result ≡ see (state_of self.now.now) name.now }
@@ -276,7 +275,7 @@ impl Sandbox {
         self.world.values.get(self.depth, name)
     }
 
-    /// Files, variables and seen values, sorted by name. An error comes only where a growth was refused.
+    /// Lists files, variables and visible values, sorted by name. Fails only if memory can't be allocated.
     pub fn listing(&self, alloc: Global) -> Result<Listing, AllocError>
         ensures { IfOk result (IsListing (state_of self.now.now)) }
     {

@@ -1,4 +1,4 @@
-//! Rows of cells by name, each a text or absent. Each change can be undone.
+//! Rows of cells by name. Each cell is a text or absent, and each change can be undone.
 ghost use Rattle.std.specs.Prelude.{◌≡◌, List, [], ◌<◌, length, MatchOption, None, Some, OnOk, OnErr, IfOk, IfErr, IfSome, IfNone, is_none, true, false, option_map, option_copied, string_bytes};
 ghost use Rattle.gk_world.specs.Refusals.{joined};
 ghost use Rattle.gk_world.specs.Slots.{HasLonger, grown, cut_to, text_at, with_cell, cells_of, name_at, Puts, Writes, WritesAt, IsPosition, IsMissing, IsAt, IsNew, slots_of, Fits, undone, Undoes, NamesDiffer};
@@ -13,7 +13,7 @@ use std::marker::Model;
 /// The inverse of one change of one row.
 #[derive(Drop)]
 pub enum SlotUndo {
-    /// The row at a position had this in a cell.
+    /// The row at a position had this text, or none, in a cell.
     Restore(usize, usize, Option<String>),
     /// The row at a position is new, and has its only text in this cell.
     Created(usize, usize),
@@ -21,8 +21,7 @@ pub enum SlotUndo {
     Cut(usize, usize, usize),
 }
 
-/// Rows in the order in which their names came, each name once. A row stays, where all of its cells are
-/// absent.
+/// Rows in the order in which their names were added, each name once. A row stays even if all of its cells are absent.
 #[derive(Drop)]
 pub struct Slots<C: Cells> {
     rows: IndexMap<String, C>,
@@ -49,14 +48,14 @@ impl<C: Cells> Slots<C> {
         }
     }
 
-    /// The position of a name's row.
+    /// Returns the position of a name's row, if it has one.
     fn position(&self, name: &str) -> Option<usize>
         ensures { MatchOption result (IsNew name.now self.now) (λ i. IsAt name.now self.now i) }
     {
         self.rows.get_index_of(name)
     }
 
-    /// What is in a cell of the row at a position.
+    /// Returns the text in a cell of the row at a position, if it has one.
     fn cell(&self, position: usize, cell: usize) -> Option<&str>
         requires position { position < length self.now }
         requires cell { cell < C.width }
@@ -65,7 +64,7 @@ impl<C: Cells> Slots<C> {
         self.rows[position].text(cell)
     }
 
-    /// Puts a text, or none, into a cell of the row at a position.
+    /// Puts a text, or none, into a cell of the row at a position, and returns the undo.
     fn write(&mut self, position: usize, cell: usize, text: Option<String>) -> SlotUndo
         requires position { position < length self.old }
         requires cell { cell < C.width }
@@ -79,7 +78,7 @@ impl<C: Cells> Slots<C> {
         SlotUndo::Restore(position, cell, old)
     }
 
-    /// Puts a text, or none, into a cell of the row at a position, and returns what was there.
+    /// Puts a text, or none, into a cell of the row at a position, and returns its old text.
     fn exchange(&mut self, position: usize, cell: usize, text: Option<String>) -> Option<String>
         requires position { position < length self.old }
         requires cell { cell < C.width }
@@ -91,7 +90,7 @@ impl<C: Cells> Slots<C> {
         cells.replace(cell, text)
     }
 
-    /// Puts more at the end of the text in a cell of the row at a position.
+    /// Appends to the text in a cell of the row at a position, which must have one.
     fn grow(&mut self, position: usize, cell: usize, more: &str) -> Result<SlotUndo, WorldFault>
         requires position { position < length self.old }
         requires cell { cell < C.width }
@@ -115,7 +114,7 @@ impl<C: Cells> Slots<C> {
         }
     }
 
-    /// Cuts the text in a cell of the row at a position. It takes no memory.
+    /// Cuts the text in a cell of the row at a position to a length. It doesn't allocate.
     fn cut(&mut self, position: usize, cell: usize, kept: usize)
         requires { HasLonger C.width self.old position cell kept }
         ensures { self.new ≡
@@ -127,7 +126,7 @@ impl<C: Cells> Slots<C> {
         }
     }
 
-    /// Adds a row, as the last, with its only text in a cell.
+    /// Adds a row at the end, with its only text in a cell.
     fn push(&mut self, name: String, cell: usize, text: String) -> Result<SlotUndo, WorldFault>
         requires missing { IsMissing (string_bytes name) self.old }
         requires cell { cell < C.width }
@@ -144,21 +143,21 @@ impl<C: Cells> Slots<C> {
         }
     }
 
-    /// No two rows have the same name. It takes no memory.
+    /// Shows that no two rows have the same name. It doesn't allocate.
     pub fn names_differ(&self)
         ensures { NamesDiffer self.now }
     {
         let _ = &self.rows;
     }
 
-    /// How many rows there are.
+    /// Returns the number of rows.
     pub fn len(&self) -> usize
         ensures { result ≡ length self.now }
     {
         self.rows.len()
     }
 
-    /// The name of the row at a position.
+    /// Returns the name of the row at a position.
     pub fn name(&self, position: usize) -> &str
         requires { position < length self.now }
         ensures { result.now ≡ name_at self.now position }
@@ -169,7 +168,7 @@ impl<C: Cells> Slots<C> {
         }
     }
 
-    /// The text in a cell of a name.
+    /// Returns the text in a cell of a name, if it has one.
     pub fn text(&self, name: &str, cell: usize) -> Option<&str>
         requires { cell < C.width }
         ensures { option_copied result ≡ text_at cell self.now name.now }
@@ -180,7 +179,7 @@ impl<C: Cells> Slots<C> {
         }
     }
 
-    /// Sets the text in a cell of a name. A name without a row gets one, which is the last.
+    /// Sets the text in a cell of a name. A name without a row gets one at the end.
     pub fn put(&mut self, name: String, cell: usize, text: String) -> Result<SlotUndo, WorldFault>
         requires { cell < C.width }
         ensures writes { OnOk result (Puts name cell text self.old self.new) }
@@ -198,7 +197,7 @@ impl<C: Cells> Slots<C> {
         answer
     }
 
-    /// Puts more at the end of the text in a cell of a name, which has one.
+    /// Appends to the text in a cell of a name, which must have one.
     pub fn extend(&mut self, name: &str, cell: usize, more: &str) -> Result<SlotUndo, WorldFault>
         requires cell { cell < C.width }
         requires there { is_none (text_at cell self.old name.now) ≡ false }
@@ -218,7 +217,7 @@ impl<C: Cells> Slots<C> {
         answer
     }
 
-    /// Takes the text out of a cell of a name, if there is one. The row stays.
+    /// Removes the text from a cell of a name, if it has one. The row stays.
     pub fn remove(&mut self, name: &str, cell: usize) -> Option<SlotUndo>
         requires { cell < C.width }
         ensures writes { IfSome result (λ _. Writes name.now cell None self.old self.new) }
@@ -239,7 +238,7 @@ impl<C: Cells> Slots<C> {
         undo
     }
 
-    /// Takes a change back. It takes no memory.
+    /// Undoes a change. It doesn't allocate.
     pub fn undo(&mut self, undo: SlotUndo)
         requires { Fits C.width undo self.old }
         ensures slots { self.new ≡ undone undo self.old }

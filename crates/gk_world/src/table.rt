@@ -1,4 +1,4 @@
-//! A table of texts by name, as of files or of variables.
+//! A table of texts by name, for files or variables.
 ghost use Rattle.std.specs.Prelude.{◌≡◌, List, [], IfOk, IfErr, OnOk, OnErr, None, Some, option_copied};
 ghost use Rattle.gk_world.specs.Slots.{map_at, text_at, Fits, undone, NamesDiffer};
 ghost use Rattle.gk_world.specs.Listing.{Lists};
@@ -17,15 +17,15 @@ use std::marker::Model;
 /// A change of a table.
 #[derive(Drop)]
 pub enum TableChange {
-    /// This name has this text.
+    /// The name gets this text.
     Put(String, String),
-    /// The text of this name has this at its end.
+    /// The name's text gets this at its end.
     Append(String, String),
-    /// This name has no text.
+    /// The name has no text any more.
     Remove(String),
 }
 
-/// Texts by name, as of files or of variables. A removed name keeps its position.
+/// Texts by name, for files or variables. A removed name keeps its position.
 #[derive(Drop)]
 pub struct Table {
     slots: Slots<Option<String>>,
@@ -41,7 +41,7 @@ impl Model for Table {
 }
 
 impl Table {
-    /// A table without names. It takes no memory.
+    /// Returns a table without names. It doesn't allocate.
     pub fn new(alloc: Global) -> Self
         ensures { result ≡ [] }
     {
@@ -50,14 +50,14 @@ impl Table {
         }
     }
 
-    /// The text of a name, if it has one. It takes no memory.
+    /// Returns the text of a name, if it has one. It doesn't allocate.
     pub fn get(&self, name: &str) -> Option<&str>
         ensures { option_copied result ≡ text_at 0 self.now name.now }
     {
         self.slots.text(name, 0)
     }
 
-    /// Why the text of a name can't have more at its end, if there is a reason.
+    /// Returns the reason why the text of a name can't be extended, if there is one.
     pub fn append_refusal(&self, name: &str, more: &str) -> Option<WorldFault>
         ensures { IsReason (refusals.append_refusal (text_at 0 self.now) name.now more.now) result }
     {
@@ -73,7 +73,7 @@ impl Table {
         None
     }
 
-    /// Why a name can't be removed, if there is a reason.
+    /// Returns the reason why a name can't be removed, if there is one.
     pub fn remove_refusal(&self, name: &str) -> Option<WorldFault>
         ensures { IsReason (refusals.remove_refusal (text_at 0 self.now) name.now) result }
     {
@@ -86,7 +86,7 @@ impl Table {
         None
     }
 
-    /// The names that have a text, with it, sorted by name.
+    /// Returns the names that have a text, each with its text, sorted by name.
     pub(crate) fn listing(&self, alloc: Global) -> Result<Vec<(String, String)>, AllocError>
         ensures { IfOk result (λ pairs. Lists (text_at 0 self.now) pairs.items) }
     {
@@ -98,14 +98,14 @@ impl Table {
         sorted(alloc, texts)
     }
 
-    /// No two slots have the same name. It takes no memory.
+    /// Shows that no two slots have the same name. It doesn't allocate.
     pub fn names_differ(&self)
         ensures { NamesDiffer self.now }
     {
         self.slots.names_differ();
     }
 
-    /// Why a change is refused, if there is a reason.
+    /// Returns the reason to refuse a change, if there is one.
     fn refusal(&self, change: &TableChange) -> Option<WorldFault>
         ensures { IsReason (refusal change.now (map_at 0 self.now)) result }
     {
@@ -150,7 +150,7 @@ impl Reversible for Table {
         ensures refused { IfErr result (Refuses change self.old) }
     {
         if let Some(fault) = self.refusal(&change) {
-            // None of it was taken, so it goes as a whole.
+            // No part of it was moved out, so it is dropped as a whole.
             drop(change);
             return Err(fault);
         }

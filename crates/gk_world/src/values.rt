@@ -17,17 +17,17 @@ use std::alloc::{AllocError, Global};
 use std::collections::BTreeMap;
 use std::marker::Model;
 
-/// A change of the values of a layer, which is counted from 1 at the outermost. Cells of inner layers
-/// aren't looked at. (behave's documentation: context layers)
+/// A change of the values of a layer, counted from 1 at the outermost. Cells of inner layers are ignored.
+/// (behave's documentation: context layers)
 #[derive(Drop)]
 pub enum ValueChange {
-    /// In this layer this name has this text.
+    /// The name gets this text in this layer.
     Set(usize, String, String),
-    /// In this layer this name has no text.
+    /// The name has no text in this layer any more.
     Delete(usize, String),
 }
 
-/// Values by name, each with a cell for each layer. A name keeps its position.
+/// Values by name, with one cell for each layer. A name keeps its position.
 #[derive(Drop)]
 pub struct Values {
     slots: Slots<[Option<String>; LAYERS]>,
@@ -43,7 +43,7 @@ impl Model for Values {
 }
 
 impl Values {
-    /// Values without names. It takes no memory.
+    /// Returns values without names. It doesn't allocate.
     pub fn new(alloc: Global) -> Self
         ensures { result ≡ [] }
     {
@@ -52,7 +52,7 @@ impl Values {
         }
     }
 
-    /// The value that is seen in the innermost of so many layers, if there is one. It takes no memory.
+    /// Returns the visible value of a name with `layers` open layers, if there is one. It doesn't allocate.
     pub fn get(&self, layers: usize, name: &str) -> Option<&str>
         requires { layers ≤ state.layers }
         ensures { option_copied result ≡ see (state_at layers self.now) name.now }
@@ -65,7 +65,7 @@ impl Values {
         None
     }
 
-    /// Why a name can't be deleted in the innermost of so many layers, if there is a reason.
+    /// Returns the reason why a name can't be deleted in the innermost of `layers` layers, if there is one.
     pub fn delete_refusal(&self, layers: usize, name: &str) -> Option<WorldFault>
         requires { IsLayer layers }
         ensures { IsReason (refusals.delete_refusal (state_at layers self.now) name.now) result }
@@ -82,7 +82,7 @@ impl Values {
         None
     }
 
-    /// The names that have a value in one of so many layers, with the value that is seen, sorted by name.
+    /// Returns the names that have a value in one of `layers` layers, each with the visible value, sorted by name.
     pub(crate) fn listing(
         &self,
         alloc: Global,
@@ -99,14 +99,14 @@ impl Values {
         sorted(alloc, texts)
     }
 
-    /// No two slots have the same name. It takes no memory.
+    /// Shows that no two slots have the same name. It doesn't allocate.
     pub fn names_differ(&self)
         ensures { NamesDiffer self.now }
     {
         self.slots.names_differ();
     }
 
-    /// Why a change is refused, if there is a reason.
+    /// Returns the reason to refuse a change, if there is one.
     fn refusal(&self, change: &ValueChange) -> Option<WorldFault>
         requires { IsLayer (layer_of change.now) }
         ensures { IsReason (refusal change.now (state_at (layer_of change.now) self.now)) result }
@@ -155,7 +155,7 @@ impl Reversible for Values {
         ensures refused { IfErr result (Refuses change self.old) }
     {
         if let Some(fault) = self.refusal(&change) {
-            // None of it was taken, so it goes as a whole.
+            // No part of it was moved out, so it is dropped as a whole.
             drop(change);
             return Err(fault);
         }

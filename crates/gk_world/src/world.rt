@@ -1,4 +1,4 @@
-//! Files, variables and values, joined.
+//! Files, variables and values together.
 ghost use Rattle.std.specs.Prelude.{◌≡◌, ◌≤◌, [], IfOk};
 ghost use Rattle.gk_world.specs.Listing.{IsListing};
 ghost use Rattle.gk_world.specs.State as state;
@@ -50,7 +50,7 @@ impl World {
         }
     }
 
-    /// No part has a name twice. It takes no memory.
+    /// Shows that no part has a name twice. It doesn't allocate.
     pub fn names_differ(&self)
         ensures { NamesDiffer self.now }
     {
@@ -59,7 +59,7 @@ impl World {
         self.values.names_differ();
     }
 
-    /// What is seen where so many layers are open.
+    /// Returns what is visible with `layers` open layers.
     pub fn listing(&self, alloc: Global, layers: usize) -> Result<Listing, AllocError>
         requires { layers ≤ state.layers }
         ensures { IfOk result (IsListing (state_of (contents_of layers self.now))) }
