@@ -180,7 +180,7 @@ pub record IsReadyWritten (old : Device) (there : Explainer) (new : Device) (her
   pub written : IsWritten old new (let e = said there in e.ready)
   pub taken : said here ≡ with_taken (said there)
 
--- The text that an explainer has ready wasn't written whole: memory ran out and nothing was written, or a prefix was.
+-- The text that an explainer has ready wasn't written whole: memory was refused and nothing was written, or a prefix was.
 abbrev pub IsReadyStopped : Device → Explainer → Device → Explainer → RunFault → Type 0
 IsReadyStopped old there new here fault =
     ((old ≡ new) × (fault ≡ Memory))
@@ -191,7 +191,7 @@ abbrev pub IsEndWritten : Explainer → Summary → Status → Device → Device
 IsEndWritten told summary around old new answer =
     (rows : List FeatureRow) → summary ≡ summary_of rows → (is_cut told ≡ false) × IsWritten old new (last_text (said told) rows around) × (answer ≡ status_of rows around)
 
--- The end of an explanation wasn't written whole: memory ran out and nothing was written, or a prefix was.
+-- The end of an explanation wasn't written whole: memory was refused and nothing was written, or a prefix was.
 abbrev pub IsEndStopped : Explainer → Summary → Status → Device → Device → RunFault → Type 0
 IsEndStopped told summary around old new fault =
     ((old ≡ new) × (fault ≡ Memory))

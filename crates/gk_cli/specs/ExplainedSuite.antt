@@ -21,7 +21,7 @@ Explained r hooks contents old new answer = (inputs : Inputs) × AreInputs r inp
 abbrev pub ExplainedInPart : Request → List ℕ → Contents → Device → Device → RunFault → Type 0
 ExplainedInPart r hooks contents old new fault = (inputs : Inputs) × AreInputs r inputs × IsExplainedUpTo (explained_run r inputs) hooks contents inputs.features old new fault
 
--- What each fault means, as for a run's report. If the writer failed, it failed once, and a prefix was written. If memory ran out, nothing or a prefix was written, and the writer didn't fail. Otherwise the request doesn't read, and nothing was written.
+-- What each fault means, as for a run's report. If the writer failed, it failed once, and a prefix was written. If memory was refused, nothing or a prefix was written, and the writer didn't fail. Otherwise the request doesn't read, and nothing was written.
 abbrev pub SaysExplanationFault : Request → List ℕ → Contents → Device → Device → RunFault → Type 0
 SaysExplanationFault r hooks contents old new Write = ExplainedInPart r hooks contents old new Write
 SaysExplanationFault r hooks contents old new Memory = IsUntouched old new ⊎ ExplainedInPart r hooks contents old new Memory

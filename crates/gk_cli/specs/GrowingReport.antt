@@ -32,7 +32,7 @@ pub record IsWritten (old new : Device) (bytes : List ℕ) : Type 0 where
   pub quiet : new.failures ≡ old.failures
   pub unflushed : new.flushes ≡ old.flushes
 
--- Why no more is written: the writer failed once, in a call that moved no byte, or memory ran out.
+-- Why no more is written: the writer failed once, in a call that moved no byte, or memory was refused.
 abbrev pub StopsBy : Device → Device → RunFault → Type 0
 StopsBy old new Write = (new.failures ≡ one_more old.failures) × (new.idle ≡ one_more old.idle)
 StopsBy old new Memory = (new.failures ≡ old.failures) × (new.idle ≡ old.idle)

@@ -17,7 +17,7 @@ long_file_hint = codes "divide the file"
 unfoldable pub encoding_hint : List ℕ
 encoding_hint = codes "save the file as UTF-8"
 
--- The hint if memory ran out.
+-- The hint if memory was refused.
 unfoldable pub memory_hint : List ℕ
 memory_hint = codes "divide the files, or spread them over several runs"
 

@@ -75,7 +75,7 @@ Linted r library hooks old new answer = (text : List ℕ) × IsLinted r library 
 abbrev pub LintedInPart : Request → List ℕ → List ℕ → Device → Device → RunFault → Type 0
 LintedInPart r library hooks old new fault = (text : List ℕ) × IsLinted r library hooks text × IsStopped old new text fault
 
--- What each fault means. If the writer failed, a prefix was written. If memory ran out, nothing was. Otherwise the request doesn't read, and nothing was written.
+-- What each fault means. If the writer failed, a prefix was written. If memory was refused, nothing was. Otherwise the request doesn't read, and nothing was written.
 abbrev pub SaysLintFault : Request → List ℕ → List ℕ → Device → Device → RunFault → Type 0
 SaysLintFault r library hooks old new Write = LintedInPart r library hooks old new Write
 SaysLintFault r library hooks old new Memory = IsUntouched old new

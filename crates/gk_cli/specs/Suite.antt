@@ -86,7 +86,7 @@ pub record IsCutShort (r : Request) (contents : Contents) (old new : Device) (re
 abbrev pub CutShort : Request → Contents → Device → Device → Type 0
 CutShort r contents old new = (results : Results) × IsCutShort r contents old new results
 
--- What each fault means. If the writer failed, it failed once, a prefix was written, and each other call moved at least one byte. If memory ran out, nothing or a prefix was written, the writer didn't fail, and each call moved at least one byte. Otherwise the request doesn't read, and nothing was written.
+-- What each fault means. If the writer failed, it failed once, a prefix was written, and each other call moved at least one byte. If memory was refused, nothing or a prefix was written, the writer didn't fail, and each call moved at least one byte. Otherwise the request doesn't read, and nothing was written.
 abbrev pub SaysFault : Request → Contents → Device → Device → RunFault → Type 0
 SaysFault r contents old new Write = CutShort r contents old new × (new.failures ≡ one_more old.failures) × (new.idle ≡ one_more old.idle)
 SaysFault r contents old new Memory = IsUntouched old new ⊎ (CutShort r contents old new × (new.failures ≡ old.failures) × (new.idle ≡ old.idle))

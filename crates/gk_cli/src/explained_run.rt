@@ -153,7 +153,7 @@ fn write_end<W: Write>(
 /// rules and for the feature's own and, when the run has ended, for the run's own. Then come the list of all these and
 /// the closing lines of the plain report. Returns the status of the run.
 ///
-/// `Memory` comes if memory ran out outside of steps, hooks and cleanups, and `Write` if the writer failed. In both
+/// `Memory` comes if memory was refused outside of steps, hooks and cleanups, and `Write` if the writer failed. In both
 /// cases the run is finished, its result is dropped, and nothing more is written.
 pub fn write_explanation<W: Write>(
     explaining: Explaining<'_>,

@@ -29,7 +29,7 @@ fn after(position: Position, c: char) -> Position
 }
 
 /// Returns the position at which two texts first differ: the one after all characters that they have in common
-/// at the start. It may be at the end of one of them. Allocates no memory.
+/// at the start. It may be at the end of one of them. Doesn't allocate.
 pub fn first_difference(expected: &str, found: &str) -> Position
     ensures { result ≡ spec.first_difference expected.now found.now }
 {

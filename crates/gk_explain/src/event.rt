@@ -33,7 +33,7 @@ pub enum Event<'a> {
     Cleanup(CleanupEvent<'a>),
 }
 
-/// Returns the level of the section that an event belongs to. Allocates no memory.
+/// Returns the level of the section that an event belongs to. Doesn't allocate.
 pub fn level_of(event: Event<'_>) -> Level
     ensures { result ≡ spec.level_of (spec.event_told event.entry) }
 {

@@ -36,7 +36,7 @@ pub struct Explainer<'a> {
 
 impl<'a> Explainer<'a> {
     /// Returns an explainer that was told nothing. `library` is the library in which the run finds its steps,
-    /// and `hooks` is the run's name for the hooks file. Allocates no memory.
+    /// and `hooks` is the run's name for the hooks file. Doesn't allocate.
     pub fn new(alloc: Global, library: &'a Library, hooks: &'a str) -> Explainer<'a>
         ensures uncut { spec.is_cut result ≡ false }
         ensures said { said result
@@ -49,7 +49,7 @@ impl<'a> Explainer<'a> {
         }
     }
 
-    /// Returns whether a growth was refused to the explainer. Allocates no memory.
+    /// Returns whether a growth was refused to the explainer. Doesn't allocate.
     pub fn is_cut(&self) -> bool
         ensures { result ≡ spec.is_cut self.now }
     {

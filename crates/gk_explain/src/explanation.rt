@@ -84,7 +84,7 @@ impl<'a> Explanation<'a> {
     ghost use Rattle.gk_explain.specs.Explanation.{explanation_value, nothing_said, with_event, with_case, with_rule, with_source, with_feature, with_run, with_taken};
 
     /// Returns an explanation that was told nothing, before any feature has begun. The run finds its steps in
-    /// `library`, and `hooks` is the name of the hooks file. Allocates no memory.
+    /// `library`, and `hooks` is the name of the hooks file. Doesn't allocate.
     pub fn new(alloc: Global, library: &'a Library, hooks: &'a str) -> Explanation<'a>
         ensures { explanation_value result
             ≡ nothing_said (library_value library.entry.now) hooks.entry.now }
@@ -178,7 +178,7 @@ impl<'a> Explanation<'a> {
             .end(source, Ended::Run(around), &mut self.run)
     }
 
-    /// Returns what is ready; after that, nothing is ready. Allocates no memory.
+    /// Returns what is ready; after that, nothing is ready. Doesn't allocate.
     pub fn take_ready(&mut self, alloc: Global) -> String
         ensures taken { let old = explanation_value self.old in string_bytes result ≡ old.ready }
         ensures left { explanation_value self.new ≡ with_taken (explanation_value self.old) }

@@ -20,7 +20,7 @@ pub enum Ended<'a> {
     Run(Status),
 }
 
-/// Returns the status with which it ended. Allocates no memory.
+/// Returns the status with which it ended. Doesn't allocate.
 pub fn ended_status(ended: Ended<'_>) -> Status
     ensures { result ≡ spec.ended_status ended.entry }
 {

@@ -30,7 +30,7 @@ impl<'a> Model for NearestLines<'a> {
 }
 
 impl<'a> NearestLines<'a> {
-    /// Returns a cache for this library that was asked for no text. Allocates no memory.
+    /// Returns a cache for this library that was asked for no text. Doesn't allocate.
     pub fn new(alloc: Global, library: &'a Library) -> NearestLines<'a>
         ensures { result ≡ library_value library.entry.now }
     {
@@ -40,7 +40,7 @@ impl<'a> NearestLines<'a> {
         }
     }
 
-    /// Returns the library. Allocates no memory.
+    /// Returns the library. Doesn't allocate.
     pub fn library(&self) -> &'a Library
         ensures { library_value result.now ≡ self.now }
     {

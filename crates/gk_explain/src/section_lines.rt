@@ -21,7 +21,7 @@ pub struct SectionLines {
 }
 
 impl SectionLines {
-    /// Returns a section that was told nothing. Allocates no memory.
+    /// Returns a section that was told nothing. Doesn't allocate.
     pub fn new(alloc: Global) -> SectionLines
         ensures { section_value result ≡ spec.untold }
     {
@@ -31,7 +31,7 @@ impl SectionLines {
         }
     }
 
-    /// Returns the lines so far. Allocates no memory.
+    /// Returns the lines so far. Doesn't allocate.
     pub fn lines(&self) -> &str
         ensures { let section = section_value self.now in result.now ≡ section.lines }
     {
@@ -57,7 +57,7 @@ impl SectionLines {
         take_up(alloc, &mut self.registered, nearest.library(), event)
     }
 
-    /// Drops everything that was told. Allocates no memory.
+    /// Drops everything that was told. Doesn't allocate.
     pub fn clear(&mut self)
         ensures { section_value self.new ≡ spec.untold }
     {

@@ -108,7 +108,7 @@ fn first_refused(rows: &[Vec<String>]) -> RowFile<'_>
 }
 
 /// Returns the file at which writing the rows of a table ends: the first that can't be written. For a table
-/// without such a row, and for any other block, it has no name and no text. Allocates no memory.
+/// without such a row, and for any other block, it has no name and no text. Doesn't allocate.
 pub fn refused_file(block: &Block) -> RowFile<'_>
     ensures { file_value result ≡ spec.refused_file (block_value block.now) }
 {

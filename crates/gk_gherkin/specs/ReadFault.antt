@@ -182,7 +182,7 @@ abbrev pub LinesFaultSays : ReadFault → List ℕ → Type 0
 LinesFaultSays Memory bytes = IsText bytes
 LinesFaultSays fault bytes = FaultSays (λ other ls. ⊥) fault bytes
 
--- The result has this value, or memory ran out.
+-- The result has this value, or memory was refused.
 abbrev pub AnswersOrLacksMemory : {X V : Type 0} → (X → V) → Result X ReadFault → V → Type 0
 AnswersOrLacksMemory value (Ok answer) said = value answer ≡ said
 AnswersOrLacksMemory value (Err fault) said = fault ≡ Memory

@@ -9,12 +9,12 @@ abbrev pub ◌>>=◌ : {A B : Type 0} → Result A ReadFault → (A → Result B
 (Ok x) >>= f = f x
 (Err e) >>= f = Err e
 
--- A fault of the code is the fault of the definitions, unless memory ran out.
+-- A fault of the code is the fault of the definitions, unless memory was refused.
 abbrev pub Fails : {Y : Type 0} → ReadFault → Result Y ReadFault → Type 0
 Fails Memory read = Unit {0}
 Fails e read = read ≡ Err e
 
--- The result of a function is that of the definitions, unless memory ran out.
+-- The result of a function is that of the definitions, unless memory was refused.
 abbrev pub Agrees : {X Y : Type 0} → (X → Y) → Result X ReadFault → Result Y ReadFault → Type 0
 Agrees value (Ok x) read = read ≡ Ok (value x)
 Agrees value (Err e) read = Fails e read

@@ -38,7 +38,7 @@ fn add_under(
 }
 
 impl HookIndex {
-    /// Returns an empty index. Takes no memory.
+    /// Returns an empty index. Doesn't allocate.
     pub fn new(alloc: Global) -> HookIndex {
         HookIndex {
             untagged: Vec::new(alloc),

@@ -50,7 +50,7 @@ impl<'a> HookTable<'a> {
         }
     }
 
-    /// Returns the table of a file's hooks without an index, for few lookups. Takes no memory.
+    /// Returns the table of a file's hooks without an index, for few lookups. Doesn't allocate.
     pub fn without_index(file: &'a HookFile) -> HookTable<'a>
         ensures { result.file.now ≡ file.now }
     {

@@ -20,7 +20,7 @@ impl HooksSoFar {
     ghost use Rattle.gk_gherkin.specs.Hooks.{hook_value, hooks_value, is_for};
     ghost use Rattle.gk_gherkin.specs.HooksSoFar.{so_far_value};
 
-    /// Returns a list without hooks. Takes no memory.
+    /// Returns a list without hooks. Doesn't allocate.
     pub fn new(alloc: Global) -> HooksSoFar
         ensures { so_far_value result ≡ [] }
     {

@@ -49,7 +49,7 @@ pub fn rising(alloc: Global, numbers: &[usize]) -> Result<Vec<usize>, AllocError
     Ok(rising)
 }
 
-/// Returns whether a number is among numbers in ascending order. Takes no memory.
+/// Returns whether a number is among numbers in ascending order. Doesn't allocate.
 pub fn has(numbers: &[usize], n: usize) -> bool
     requires { IsNonDecreasing numbers.now }
     ensures { result ≡ is_among numbers.now n }

@@ -46,7 +46,7 @@ fn add_site_faults(
 }
 
 impl Lookups {
-    /// Returns empty results. Takes no memory.
+    /// Returns empty results. Doesn't allocate.
     pub fn new(alloc: Global) -> Lookups
         ensures faults { result.faults.items ≡ [] }
         ensures used { result.used.items ≡ [] }

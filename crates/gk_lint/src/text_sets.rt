@@ -13,7 +13,7 @@ pub struct TextSet<'a> {
 }
 
 impl<'a> TextSet<'a> {
-    /// Returns the empty set. Takes no memory.
+    /// Returns the empty set. Doesn't allocate.
     pub fn new(alloc: Global) -> TextSet<'a>
         ensures { (text : List ℕ) → spec.in_set result text ≡ false }
     {
@@ -31,7 +31,7 @@ impl<'a> TextSet<'a> {
         Ok(self.texts.insert(text)?)
     }
 
-    /// Returns whether the set has a text. Takes no memory.
+    /// Returns whether the set has a text. Doesn't allocate.
     pub fn has(&self, text: &str) -> bool
         ensures { result ≡ spec.in_set self.now text.now }
     {

@@ -48,7 +48,7 @@ fn sources_of<R: Files + AllocGlobal>(rt: &R, name: &str) -> Option<Vec<Source>>
 }
 
 /// Reads a feature file, and a hooks file if one is named. Returns nothing if one can't be read or
-/// memory ran out.
+/// memory was refused.
 pub fn read_inputs<R: Files + AllocGlobal>(
     rt: &R,
     feature: &str,

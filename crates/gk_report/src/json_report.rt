@@ -355,7 +355,7 @@ impl<'a> ObjectsLeft<'a> {
     ghost use Rattle.gk_report.specs.ReportTexts.{PushesSome};
     ghost use Rattle.gk_report.specs.JsonReport.{objects_text, objects_left, objects_to_go};
 
-    /// Returns the objects of all scenarios of a feature. Takes no memory.
+    /// Returns the objects of all scenarios of a feature. Doesn't allocate.
     pub fn new(feature: &'a FeatureResult) -> ObjectsLeft<'a>
         ensures objects { (no_skipped : Bool) → objects_left no_skipped result
             ≡ objects_text no_skipped true (feature_row feature.now).cases }

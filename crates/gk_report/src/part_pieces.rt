@@ -39,7 +39,7 @@ pub struct PartPieces<'a> {
 }
 
 /// Returns the part of a feature, before any piece of it is made. `first` is true as long as each earlier part of the
-/// report was empty. Takes no memory.
+/// report was empty. Doesn't allocate.
 #[tactic(auto, unfolding(crate::specs::PartPieces::rest))]
 pub fn pieces(style: Style, first: bool, feature: &FeatureResult) -> PartPieces<'_>
     ensures { rest result ≡ spec.part style first (feature_row feature.now) }

@@ -155,7 +155,7 @@ impl<'a> LinesLeft<'a> {
     ghost use Rattle.gk_report.specs.RuleGroups.{cases_before};
     ghost use Rattle.gk_report.specs.PlainReport.{scenario_lines, lines_left, lines_to_go};
 
-    /// Returns all lines of a feature's scenarios and rules. Takes no memory.
+    /// Returns all lines of a feature's scenarios and rules. Doesn't allocate.
     pub fn new(feature: &'a FeatureResult) -> LinesLeft<'a>
         ensures lines { (no_skipped : Bool) → let f = feature_row feature.now in
             lines_left no_skipped result ≡ scenario_lines no_skipped f.rules f.cases }

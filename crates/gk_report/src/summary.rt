@@ -59,7 +59,7 @@ pub struct Summary {
 impl Summary {
     ghost use Rattle.gk_report.specs.Summary.{summary_of, CountsOneMore, one_feature_more, status_by, IsStatusOf};
 
-    /// Returns the counts over no features. Takes no memory.
+    /// Returns the counts over no features. Doesn't allocate.
     pub fn new() -> Summary
         ensures { result ≡ summary_of [] }
     {
@@ -70,7 +70,7 @@ impl Summary {
         }
     }
 
-    /// Counts one more feature, with its scenarios and their steps. Takes no memory. (behave's documentation: summary)
+    /// Counts one more feature, with its scenarios and their steps. Doesn't allocate. (behave's documentation: summary)
     pub fn add(&mut self, feature: &FeatureResult)
         ensures counts { self.new ≡ one_feature_more self.old (feature_row feature.now) }
         ensures added { CountsOneMore self.old (feature_row feature.now) self.new }

@@ -342,7 +342,7 @@ abbrev pub is_fail : Outcome → Bool
 is_fail (outcomes.Failed why) = true
 is_fail _ = false
 
--- A refused action: it fails before a part of it passed, and takes no memory.
+-- A refused action: it fails before a part of it passed, and doesn't allocate.
 abbrev pub is_refused : Done → Bool
 is_refused done = not done.part_passed && is_fail done.outcome
 

@@ -51,7 +51,7 @@ fn copy_block(block: &Block) -> Result<Block, AllocError>
 }
 
 impl Cleanups {
-    /// Returns an empty list of cleanups. Takes no memory.
+    /// Returns an empty list of cleanups. Doesn't allocate.
     pub fn new(alloc: Global) -> Cleanups
         ensures { result ≡ [] }
     {

@@ -20,7 +20,7 @@ pub struct Choice {
 impl Choice {
     ghost use Rattle.gk_select.specs.Choice.{all_hold, chosen_by, is_at_lines, is_chosen};
 
-    /// Returns the choice by these rules and lines, which may be in any order. Allocates no memory.
+    /// Returns the choice by these rules and lines, which may be in any order. Doesn't allocate.
     pub fn new(rules: Vec<TagRule>, lines: Vec<u32>) -> Choice
         ensures { chosen_by result ≡ is_chosen (map tag_rule_value rules.items) lines.items }
     {
@@ -29,7 +29,7 @@ impl Choice {
         Choice { rules, lines }
     }
 
-    /// Returns whether a case is chosen. Allocates no memory.
+    /// Returns whether a case is chosen. Doesn't allocate.
     pub fn chooses(&self, case: &Case) -> bool
         ensures { result ≡ chosen_by self.now (case_value case.now) }
     {

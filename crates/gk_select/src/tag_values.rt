@@ -109,7 +109,7 @@ impl TagRule {
         TagRule { words }
     }
 
-    /// Returns whether the rule holds for a set of tags, each with its `@`. Allocates no memory. (behave's
+    /// Returns whether the rule holds for a set of tags, each with its `@`. Doesn't allocate. (behave's
     /// documentation: tag expressions; Cucumber's tag expressions)
     pub fn selects(&self, tags: &[String]) -> bool
         ensures { result ≡ holds (tag_rule_value self.now) (texts tags.now) }

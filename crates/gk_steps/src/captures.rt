@@ -21,7 +21,7 @@ pub(crate) trait Captures<'t>: Drop {
     /// Whether this is what is kept of these fields of these pieces.
     ghost keeps: { List PieceValue → Self → List FieldValue → Type 0 };
 
-    /// Returns what is kept of no fields. Takes no memory.
+    /// Returns what is kept of no fields. Doesn't allocate.
     fn empty(alloc: Global) -> Self
         ensures { keeps [] result [] };
 

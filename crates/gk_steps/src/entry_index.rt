@@ -182,7 +182,7 @@ fn empty_buckets(alloc: Global, size: usize) -> Result<Vec<Vec<Keyed>>, AllocErr
 }
 
 impl Index {
-    /// Returns an index that lists nothing and isn't used for lookups. Takes no memory.
+    /// Returns an index that lists nothing and isn't used for lookups. Doesn't allocate.
     pub(crate) fn new(alloc: Global) -> Index
         ensures { length result.positions.items ≡ 0 }
     {

@@ -192,7 +192,7 @@ impl Library {
         Ok(hit.is_some())
     }
 
-    /// Returns the action of the entry at a position. Takes no memory.
+    /// Returns the action of the entry at a position. Doesn't allocate.
     #[inline(always)]
     pub(crate) fn action_at(&self, entry: usize) -> Action
         ensures { (fields : List FieldValue)
@@ -204,7 +204,7 @@ impl Library {
         }
     }
 
-    /// Returns the action of what was found in this library. Takes no memory.
+    /// Returns the action of what was found in this library. Doesn't allocate.
     pub fn action(&self, found: &Found) -> Action
         ensures { result ≡ spec.action_of (library_value self.now) (found_value found.now) }
     {

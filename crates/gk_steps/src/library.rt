@@ -54,7 +54,7 @@ pub(crate) struct LibraryBuilder {
 }
 
 impl LibraryBuilder {
-    /// Returns a builder without entries. Takes no memory.
+    /// Returns a builder without entries. Doesn't allocate.
     pub(crate) fn new(alloc: Global) -> LibraryBuilder
         ensures items { result.entries.items ≡ [] }
         ensures indexed { HasIndex result }

@@ -27,7 +27,7 @@ use gk_gherkin::text::{begins, split_word, trim};
 use gk_gherkin::{BorrowedLine, StepType};
 use std::alloc::Global;
 
-/// Returns whether a line of a library file is ignored: trimmed, it is empty or begins with `#`. Takes no memory.
+/// Returns whether a line of a library file is ignored: trimmed, it is empty or begins with `#`. Doesn't allocate.
 pub fn is_ignored(line: &BorrowedLine<'_>) -> bool
     ensures { result ≡ spec.is_ignored (borrowed_value line.now) }
 {

@@ -50,7 +50,7 @@ pub(crate) struct FirstFields<'a> {
     pub text: Option<Capture<'a>>,
 }
 
-/// Keeps no other fields, and takes no memory.
+/// Keeps no other fields, and doesn't allocate.
 impl<'t> Captures<'t> for FirstFields<'t> {
     ghost keeps = { KeepsFirst };
 
