@@ -42,7 +42,7 @@ pub data Many {A : Type 0} (Part : Lines → A → Lines → Type 0) : Lines →
   none : {ls : Lines} → Many Part ls [] ls
   more : {ls mid rest : Lines} {x : A} {xs : List A} → Part ls x mid → Many Part mid xs rest → Many Part ls (x ∷ xs) rest
 
--- [X]: a part, or nothing.
+-- An optional X, [X]: a part, or nothing.
 abbrev pub Perhaps : {A : Type 0} → (Lines → A → Lines → Type 0) → Lines → Option A → Lines → Type 0
 Perhaps Part ls None rest = ls ≡ rest
 Perhaps Part ls (Some x) rest = Part ls x rest

@@ -96,7 +96,8 @@ impl<C: Cells> Slots<C> {
         requires cell { cell < C.width }
         requires text { is_none (cell_at cell (cells_of self.old position)) ≡ false }
         ensures writes { OnOk result
-            (WritesAt position cell (grown (cell_at cell (cells_of self.old position)) more.now) self.old self.new) }
+            (WritesAt position cell (grown (cell_at cell (cells_of self.old position)) more.now)
+            self.old self.new) }
         ensures fits { IfOk result (λ u. Fits C.width u self.new) }
         ensures before { IfOk result (λ u. undone u self.new ≡ self.old) }
         ensures err { OnErr result (self.new ≡ self.old) }
@@ -117,8 +118,8 @@ impl<C: Cells> Slots<C> {
     /// Cuts the text in a cell of the row at a position to a length. It doesn't allocate.
     fn cut(&mut self, position: usize, cell: usize, kept: usize)
         requires { HasLonger C.width self.old position cell kept }
-        ensures { self.new ≡
-            with_cell self.old position cell (cut_to kept (cell_at cell (cells_of self.old position))) }
+        ensures { self.new ≡ with_cell self.old position cell
+            (cut_to kept (cell_at cell (cells_of self.old position))) }
     {
         if let Some(mut text) = self.exchange(position, cell, None) {
             text.truncate(kept);
@@ -202,7 +203,8 @@ impl<C: Cells> Slots<C> {
         requires cell { cell < C.width }
         requires there { is_none (text_at cell self.old name.now) ≡ false }
         ensures writes { OnOk result
-            (Writes name.now cell (Some (joined (text_at cell self.old) name.now more.now)) self.old self.new) }
+            (Writes name.now cell (Some (joined (text_at cell self.old) name.now more.now))
+            self.old self.new) }
         ensures fits { IfOk result (λ u. Fits C.width u self.new) }
         ensures before { IfOk result (λ u. undone u self.new ≡ self.old) }
         ensures names { NamesDiffer self.new }
