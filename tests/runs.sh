@@ -8,4 +8,4 @@
 set -eu
 
 . "$(dirname -- "$(readlink -f -- "$0")")/setup.sh"
-python3 "$home/tests/stored_runs.py" "$program" "$room"
+python3 "$home/tests/stored_runs.py" "$program" "$room" "${2:-}"
