@@ -19,11 +19,13 @@ Fails where
 - a page at the top or of docs/ has a word of WORDS; elsewhere such words are counted only.
 """
 
+import functools
 import os
 import re
 import subprocess
 import sys
 
+import blocks
 import prose
 
 HOME = os.path.dirname(os.path.dirname(os.path.realpath(__file__)))
@@ -58,16 +60,10 @@ DOCUMENTS = [it for it in FILES if it.endswith(".md")]
 PAGES = [it for it in DOCUMENTS if "/" not in it or it.startswith("docs/")]
 
 
-def without_blocks(text):
-    """A page without its fenced blocks; their lines are left empty."""
-    out, inside = [], False
-    for line in text.split("\n"):
-        if line.startswith("```"):
-            inside = not inside
-            out.append("")
-        else:
-            out.append("" if inside else line)
-    return "\n".join(out)
+@functools.cache
+def prose_of(page):
+    """A page without its blocks. Their lines are left empty."""
+    return blocks.without_blocks(read(page))
 
 
 # ---- names
@@ -119,8 +115,8 @@ READMES = [it for it in DOCUMENTS if it.endswith("/README.md") and it not in MAI
            and not it.startswith(("tests/runs/", "tests/side_by_side/"))]
 # The pages for users name words of features and libraries, not of the code: of them only names that can't
 # be anything else are looked up.
-USERS_PAGES = (*GUIDE, "docs/FAULTS.md", "tests/runs/README.md", "tests/side_by_side/README.md", "bench/README.md", "bench/figures.md",
-               *(it for it in DOCUMENTS if it.startswith("examples/")))
+USERS_PAGES = (*GUIDE, "docs/FAULTS.md", "bench/README.md", "bench/figures.md",
+               *(it for it in DOCUMENTS if it.startswith(("examples/", "tests/runs/", "tests/side_by_side/"))))
 
 
 def members():
@@ -161,7 +157,7 @@ def path_is_there(name, page):
 def named_wrongly(page, names, owned):
     """Names in code style that nothing of the repository has, with their lines."""
     shown = {name for other in [page, *guide_beside(page)] for _, name, _ in shown_files(other)}
-    for number, line in enumerate(without_blocks(read(page)).split("\n"), 1):
+    for number, line in enumerate(prose_of(page).split("\n"), 1):
         for text in re.findall(r"(?<!`)`([^`\n]+)`(?!`)", line):
             if re.fullmatch(r"\.?[A-Za-z0-9_./-]+", text) and ("/" in text or text.endswith(SOURCES)):
                 if text.startswith(("/", "../")) or text in shown or "NAME" in text:
@@ -186,7 +182,7 @@ def named_clauses(page):
 
     A cell `call`: `clause`, `clause` names clauses of one function."""
     clauses = clauses_by_function()
-    for number, line in enumerate(without_blocks(read(page)).split("\n"), 1):
+    for number, line in enumerate(prose_of(page).split("\n"), 1):
         for call, listed in re.findall(r"`([A-Za-z_][A-Za-z0-9_:]*)`: ((?:`[a-z_][a-z0-9_]*`(?:, | and )?)+)", line):
             function = call.split("::")[-1]
             if function not in clauses:
@@ -259,11 +255,11 @@ def anchor(heading):
 
 
 def anchors(page):
-    return {anchor(it) for it in re.findall(r"^#+ (.*)$", without_blocks(read(page)), re.MULTILINE)}
+    return {anchor(it) for it in re.findall(r"^#+ (.*)$", prose_of(page), re.MULTILINE)}
 
 
 def dead_links(page):
-    for number, line in enumerate(without_blocks(read(page)).split("\n"), 1):
+    for number, line in enumerate(prose_of(page).split("\n"), 1):
         for target in re.findall(r"\]\(([^)\s]+)\)", line):
             if re.match(r"[a-z]+:", target):
                 continue
@@ -277,41 +273,11 @@ def dead_links(page):
 
 # ---- runs that a page shows
 
-def blocks(page):
-    """The fenced blocks of a page: the line, what stands after the fence, and the text."""
-    number, start, kind, text = 0, None, None, []
-    for line in read(page).split("\n"):
-        number += 1
-        fence = re.match(r"(`{3,})(.*)$", line)
-        if start is None and fence:
-            start, kind, text, marks = number, fence.group(2).strip(), [], fence.group(1)
-        elif start is not None and line.strip() == marks:
-            yield start, kind, "".join(it + "\n" for it in text)
-            start = None
-        elif start is not None:
-            text.append(line)
-
-
-def shown_runs(text):
-    """The commands of a console block, each with what it prints."""
-    command, printed = None, ""
-    for line in text.split("\n")[:-1]:
-        if line.startswith("$ "):
-            if command is not None:
-                yield command, printed
-            command, printed = line[2:], ""
-        else:
-            printed += line + "\n"
-    if command is not None:
-        yield command, printed
-
-
 def shown_files(page):
     """The files that a page shows: the line, the name and the text."""
-    for number, kind, text in blocks(page):
-        names = kind.split()
-        if len(names) == 2 and names[0] in ("gherkin", "text"):
-            yield number, names[1], text
+    for block in blocks.blocks(read(page)):
+        if blocks.is_file(block):
+            yield block.line, block.name, block.text
 
 
 def guide_beside(page):
@@ -361,20 +327,19 @@ def run_differences(page, program, room):
     for other in guide_beside(page):
         for _, name, text in shown_files(other):
             lay(folder, name, text)
-    for number, kind, text in blocks(page):
-        names = kind.split()
-        if len(names) == 2 and names[0] in ("gherkin", "text"):
-            lay(folder, names[1], text)
-        elif kind == "console":
+    for block in blocks.blocks(read(page)):
+        if blocks.is_file(block):
+            lay(folder, block.name, block.text)
+        elif block.kind == "console":
             status = 0
-            for command, printed in shown_runs(text):
-                if command == "echo $?":
-                    got = f"{status}\n"
+            for command, wanted in blocks.commands(block):
+                if command == b"echo $?":
+                    got = b"%d\n" % status
                 else:
                     done = subprocess.run(["sh", "-c", command], cwd=folder, stdin=subprocess.DEVNULL,
                                           stdout=subprocess.PIPE, stderr=subprocess.STDOUT, timeout=60, check=False)
-                    status, got = done.returncode, done.stdout.decode("utf-8", "backslashreplace")
-                yield number, None if got == printed else f"'{command}' prints something else:\n{got}"
+                    status, got = done.returncode, done.stdout
+                yield block.line, None if got == wanted else f"'{command.decode()}' prints something else:\n{got.decode()}"
 
 
 # ---- definitions
@@ -564,8 +529,8 @@ def main():
             tests.check(f"{page}:{number}", [difference] if difference else [])
     for page in sorted({*MAIN, *READMES}):
         text = read(page)
-        tests.check(f"how {page} reads", lines_of(page, prose.hard_to_read(page, text, without_blocks(text))))
-    tests.check("words of these pages", prose.too_many_words(*([without_blocks(read(it)) for it in pages] for pages in (MAIN, READMES))))
+        tests.check(f"how {page} reads", lines_of(page, prose.hard_to_read(page, text, prose_of(page))))
+    tests.check("words of these pages", prose.too_many_words(*([prose_of(it) for it in pages] for pages in (MAIN, READMES))))
     tests.check("files of docs/guide/", shown_twice())
     tests.check("must-fail edits", edit_differences())
     for path in FILES:

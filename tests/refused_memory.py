@@ -9,6 +9,7 @@ import re
 import sys
 
 import driver
+import stored_cases
 from reports import Ample, Report, Style, style_of
 
 OUT_OF_MEMORY = b"gherkin_run: out of memory\n"
@@ -432,7 +433,7 @@ EXPLAINED = ["two files and all options", "each action", "hooks of all kinds", "
              "a run that doesn't begin", "a cleanup after a refused table", "a run that stops", "rules whose hooks fail,"]
 
 # The stored runs of what is found before a run.
-LINTED = ["each_finding", "several_files", "fault_of_each_file"]
+LINTED = ["Each finding", "Several files", "A fault in each of many files"]
 
 # The end of a layer brings back a file that was removed in it, though the next growth is refused.
 REMOVED_IN_A_SCENARIO = "a file that a scenario removes"
@@ -740,10 +741,11 @@ def cases(program, room):
         arguments, files = RUNS[name]
         folder = os.path.join(room, name.replace(" ", "_"))
         yield ExplainedRefusals(program, room, f"{name}, explained", ["--explain", *arguments], folder)
-    for name in LINTED:
-        folder = os.path.join(driver.HOME, "tests", "runs", "lint", name)
-        arguments = driver.read(os.path.join(folder, "arguments")).decode().splitlines()
-        yield LintedRefusals(program, room, f"{name}, linted", arguments, folder)
+    for case in stored_cases.cases():
+        if case.page.startswith("lint") and case.name in LINTED:
+            folder = os.path.join(room, case.name.replace(" ", "_"))
+            stored_cases.lay(case, folder)
+            yield LintedRefusals(program, room, f"{case.name}, linted", [it.decode() for it in case.arguments], folder)
 
 
 def main():
