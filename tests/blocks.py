@@ -16,7 +16,7 @@ ESCAPE = re.compile(r"\\(?:\{(?:(\d+)\.\.)?(\d+)\*([^}]*)\}|x([0-9a-f]{2})|u\{([
 # A line after `$ `, with the lines that backslashes join to it.
 COMMAND = re.compile(r"^\$ ((?:.*\\\n)*.*)\n", re.MULTILINE)
 CHARACTERS = {"\\": b"\\", "t": b"\t", "r": b"\r", "n": b"\n", "s": b" ", "\n": b""}
-FILES = ("gherkin", "text")  # the kinds of blocks that are files
+FILES = ("gherkin", "text", "python", "ini")  # the kinds of blocks that are files
 
 
 def parts(page):
@@ -40,6 +40,20 @@ def parts(page):
 def blocks(page):
     """The blocks of a page."""
     return (it for it in parts(page) if isinstance(it, Block))
+
+
+def runs(page):
+    """The console blocks of a page, each with its heading and the files below that and below the headings above it."""
+    files, names = {}, {}
+    for part in parts(page):
+        if not isinstance(part, Block):
+            level, name = part
+            files = {it: own for it, own in files.items() if it < level}
+            names = {it: own for it, own in names.items() if it < level} | {level: name}
+        elif is_file(part):
+            files.setdefault(max(names), {})[part.name] = bytes_of(part)
+        elif part.kind.startswith("console"):
+            yield names[max(names)], {name: text for level in sorted(files) for name, text in files[level].items()}, part
 
 
 def without_blocks(page):

@@ -156,7 +156,7 @@ def path_is_there(name, page):
 
 def named_wrongly(page, names, owned):
     """Names in code style that nothing of the repository has, with their lines."""
-    shown = {name for other in [page, *guide_beside(page)] for _, name, _ in shown_files(other)}
+    shown = names_shown_in(os.path.dirname(page))
     for number, line in enumerate(prose_of(page).split("\n"), 1):
         for text in re.findall(r"(?<!`)`([^`\n]+)`(?!`)", line):
             if re.fullmatch(r"\.?[A-Za-z0-9_./-]+", text) and ("/" in text or text.endswith(SOURCES)):
@@ -278,6 +278,12 @@ def shown_files(page):
     for block in blocks.blocks(read(page)):
         if blocks.is_file(block):
             yield block.line, block.name, block.text
+
+
+@functools.cache
+def names_shown_in(folder):
+    """The names of the files that the pages of a folder show."""
+    return {name for page in DOCUMENTS if os.path.dirname(page) == folder for _, name, _ in shown_files(page)}
 
 
 def guide_beside(page):

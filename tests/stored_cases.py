@@ -21,32 +21,12 @@ REDIRECTION = re.compile(r" (2?)>(&-| \S+)")
 LINK = re.compile(r"ln -s (\S+) link\.feature")
 
 
-def pages():
-    """The pages of stored runs, in order: each with its name and its text."""
-    for name in sorted(os.listdir(RUNS)):
-        if name != "README.md":
-            yield name.removesuffix(".md"), driver.read(os.path.join(RUNS, name)).decode()
-
-
 def cases():
     """The stored runs of all pages, in order."""
-    for page, text in pages():
-        yield from cases_of(page, text)
-
-
-def cases_of(page, text):
-    """The stored runs of a page. Each has the files below its heading, and those below the headings above it."""
-    files, names = {}, {}
-    for part in blocks.parts(text):
-        if not isinstance(part, blocks.Block):
-            level, name = part
-            files = {it: own for it, own in files.items() if it < level}
-            names = {it: own for it, own in names.items() if it < level} | {level: name}
-        elif blocks.is_file(part):
-            files.setdefault(max(names), {})[part.name] = blocks.bytes_of(part)
-        elif part.kind.startswith("console"):
-            own = {name: content for level in sorted(files) for name, content in files[level].items()}
-            yield case(page, names[max(names)], own, blocks.commands(part))
+    for page in sorted(os.listdir(RUNS)):
+        if page != "README.md":
+            for name, files, block in blocks.runs(driver.read(os.path.join(RUNS, page)).decode()):
+                yield case(page.removesuffix(".md"), name, files, blocks.commands(block))
 
 
 def case(page, name, files, commands):
@@ -87,8 +67,8 @@ def lay(found, folder):
     """Writes the files of a stored run to a folder."""
     os.makedirs(folder)
     for name, content in found.files.items():
-        os.makedirs(os.path.dirname(os.path.join(folder, name)), exist_ok=True)
-        driver.write(folder, {name: content})
+        place, name = os.path.split(os.path.join(folder, name))
+        driver.write(place, {name: content})
 
 
 def main():
