@@ -35,6 +35,8 @@ def parts(page):
             block = None
         elif block is not None:
             text.append(line + "\n")
+    if block:
+        raise ValueError(f"line {block.line}: a block without an end")
 
 
 def blocks(page):
@@ -54,6 +56,8 @@ def runs(page):
             files.setdefault(max(names), {})[part.name] = bytes_of(part)
         elif part.kind.startswith("console"):
             yield names[max(names)], {name: text for level in sorted(files) for name, text in files[level].items()}, part
+        else:
+            raise ValueError(f"line {part.line}: a block that is neither a file nor a run")
 
 
 def without_blocks(page):

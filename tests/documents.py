@@ -26,9 +26,10 @@ import subprocess
 import sys
 
 import blocks
+import driver
 import prose
+from driver import HOME
 
-HOME = os.path.dirname(os.path.dirname(os.path.realpath(__file__)))
 # Words that Rust's own documentation doesn't use so.
 WORDS = re.compile(r"\b(front|fronts|behind|tells|told|want of memory)\b", re.IGNORECASE)
 README_LINES = 120
@@ -39,8 +40,7 @@ SOURCES = (".rt", ".antt", ".py", ".sh", ".awk", ".c", ".feature", ".steps", ".e
 
 
 def read(path):
-    with open(os.path.join(HOME, path), encoding="utf-8") as file:
-        return file.read()
+    return driver.read(os.path.join(HOME, path)).decode()
 
 
 def repository_files():
@@ -316,8 +316,7 @@ def example_differences(page):
 def lay(folder, name, text):
     """Puts a file that a page shows where its runs find it."""
     if not is_example(name):
-        with open(os.path.join(folder, name), "w", encoding="utf-8") as file:
-            file.write(text)
+        driver.write(folder, {name: text})
 
 
 def run_differences(page, program, room):
@@ -325,10 +324,9 @@ def run_differences(page, program, room):
     folder = os.path.join(room, page.replace("/", "_"))
     os.makedirs(folder)
     # A page calls the program from the top of the repository, or from a folder below.
-    for script in (os.path.join(folder, "run"), os.path.join(room, "run")):
-        with open(script, "w", encoding="utf-8") as file:
-            file.write(f'#!/bin/sh\nexec "{program}" "$@"\n')
-        os.chmod(script, 0o755)
+    for place in (folder, room):
+        driver.write(place, {"run": f'#!/bin/sh\nexec "{program}" "$@"\n'})
+        os.chmod(os.path.join(place, "run"), 0o755)
     os.symlink(os.path.join(HOME, "examples"), os.path.join(folder, "examples"))
     for other in guide_beside(page):
         for _, name, text in shown_files(other):
@@ -342,9 +340,7 @@ def run_differences(page, program, room):
                 if command == b"echo $?":
                     got = b"%d\n" % status
                 else:
-                    done = subprocess.run(["sh", "-c", command], cwd=folder, stdin=subprocess.DEVNULL,
-                                          stdout=subprocess.PIPE, stderr=subprocess.STDOUT, timeout=60, check=False)
-                    status, got = done.returncode, done.stdout
+                    status, got, _ = driver.start("sh", ["-c", command], folder, stderr=subprocess.STDOUT)
                 yield block.line, None if got == wanted else f"'{command.decode()}' prints something else:\n{got.decode()}"
 
 
@@ -503,18 +499,10 @@ def counted_words():
 
 # ---- all of it
 
-class Tests:
-    def __init__(self):
-        self.passed = self.failed = 0
-
-    def check(self, name, found):
-        """One test: it fails where anything was found."""
-        found = list(found)
-        if found:
-            self.failed += 1
-            print(f"{name}:", *(f"  {it}" for it in found), sep="\n")
-        else:
-            self.passed += 1
+def check(tests, name, found):
+    """One test: it fails where anything was found."""
+    found = list(found)
+    tests.add("\n".join([f"{name}:", *(f"  {it}" for it in found)]) if found else "")
 
 
 def lines_of(path, pairs):
@@ -523,38 +511,37 @@ def lines_of(path, pairs):
 
 def main():
     program, room = sys.argv[1], sys.argv[2]
-    tests = Tests()
+    tests = driver.Tests()
     names, owned = code_names(), members()
     for page in DOCUMENTS:
-        tests.check(f"names in {page}", lines_of(page, named_wrongly(page, names, owned)))
-        tests.check(f"links in {page}", lines_of(page, dead_links(page)))
+        check(tests, f"names in {page}", lines_of(page, named_wrongly(page, names, owned)))
+        check(tests, f"links in {page}", lines_of(page, dead_links(page)))
     for page in PAGES:
-        tests.check(f"clauses in {page}", lines_of(page, named_clauses(page)))
-        tests.check(f"examples in {page}", lines_of(page, example_differences(page)))
+        check(tests, f"clauses in {page}", lines_of(page, named_clauses(page)))
+        check(tests, f"examples in {page}", lines_of(page, example_differences(page)))
         for number, difference in run_differences(page, program, room):
-            tests.check(f"{page}:{number}", [difference] if difference else [])
+            check(tests, f"{page}:{number}", [difference] if difference else [])
     for page in sorted({*MAIN, *READMES}):
         text = read(page)
-        tests.check(f"how {page} reads", lines_of(page, prose.hard_to_read(page, text, prose_of(page))))
-    tests.check("words of these pages", prose.too_many_words(*([prose_of(it) for it in pages] for pages in (MAIN, READMES))))
-    tests.check("files of docs/guide/", shown_twice())
-    tests.check("must-fail edits", edit_differences())
+        check(tests, f"how {page} reads", lines_of(page, prose.hard_to_read(page, text, prose_of(page))))
+    check(tests, "words of these pages", prose.too_many_words(*([prose_of(it) for it in pages] for pages in (MAIN, READMES))))
+    check(tests, "files of docs/guide/", shown_twice())
+    check(tests, "must-fail edits", edit_differences())
     for path in FILES:
         if re.match(r"crates/[^/]+/specs/", path) and path.endswith(".antt"):
-            tests.check(f"comments in {path}", lines_of(path, broken_comments(path)))
-    tests.check("modules of the same name", shared_modules())
+            check(tests, f"comments in {path}", lines_of(path, broken_comments(path)))
+    check(tests, "modules of the same name", shared_modules())
     length = read("README.md").count("\n")
-    tests.check("the length of README.md", [f"{length} lines"] if length > README_LINES else [])
-    tests.check("entries of docs/FAULTS.md", fault_differences())
-    tests.check("hints of docs/FAULTS.md", hint_differences())
-    tests.check("pictures", picture_differences(program))
-    tests.check("the built-in library", library_difference())
+    check(tests, "the length of README.md", [f"{length} lines"] if length > README_LINES else [])
+    check(tests, "entries of docs/FAULTS.md", fault_differences())
+    check(tests, "hints of docs/FAULTS.md", hint_differences())
+    check(tests, "pictures", picture_differences(program))
+    check(tests, "the built-in library", library_difference())
     faults, elsewhere = counted_words()
-    tests.check("words in pages", [f"{path}:{number}: {text}" for path, number, text in faults])
+    check(tests, "words in pages", [f"{path}:{number}: {text}" for path, number, text in faults])
     if elsewhere:
         print("such words elsewhere: " + ", ".join(f"{count} in {top}" for top, count in sorted(elsewhere.items())))
-    print(f"{tests.passed} passed, {tests.failed} failed")
-    return 1 if tests.failed else 0
+    return tests.close()
 
 
 if __name__ == "__main__":

@@ -15,10 +15,9 @@ import blocks
 import driver
 
 RUNS = os.path.join(driver.HOME, "tests", "runs")
-# A run: where it is, what it reads, what comes out, where its streams go, and the target of its link, if any.
-Case = collections.namedtuple("Case", "page name files arguments status stdout stderr output_goes_to error_goes_to link")
-REDIRECTION = re.compile(r" (2?)>(&-| \S+)")
-LINK = re.compile(r"ln -s (\S+) link\.feature")
+# A run: where it is, what it reads, what comes out, where its two streams go if they aren't kept, and what its link leads to.
+Case = collections.namedtuple("Case", "page name files arguments status stdout stderr targets link")
+REDIRECTION = re.compile(r"(.*) (2?)>(&-| \S+)")
 
 
 def cases():
@@ -31,44 +30,34 @@ def cases():
 
 def case(page, name, files, commands):
     """The stored run of a console block."""
-    words, targets, printed, status, link = None, {}, {}, 0, ""
+    arguments, targets, printed, status, link = None, {}, {}, 0, ""
     for command, below in commands:
         command = command.decode("utf-8", "surrogateescape")
         if command.startswith("gherkin_run"):
-            words, targets = redirected(command)
+            while found := REDIRECTION.fullmatch(command):
+                command, stream = found[1], found[2]
+                targets[stream] = found[3].strip()
+            arguments = [os.fsencode(it) for it in shlex.split(command)[1:]]
             printed[targets.get("", "")] = below
         elif command == "echo $?":
             status = int(below)
         elif command.startswith("cat "):
-            printed[command[4:]] = below
+            printed[command.removeprefix("cat ")] = below
         else:
-            link = LINK.fullmatch(command)[1]
-    return Case(page, name, files, [os.fsencode(it) for it in words[1:]], status,
-                printed.get(targets.get("", ""), b""), printed.get("stderr", b""),
-                kind_of(targets.get("")), kind_of(targets.get("2")), link)
-
-
-def redirected(command):
-    """The words of a command without its redirections, and the target of each stream, by the stream's number."""
-    targets = {}
-    while found := re.search(REDIRECTION.pattern + "$", command):
-        targets[found[1]] = found[2].strip()
-        command = command[:found.start()]
-    return shlex.split(command), targets
-
-
-def kind_of(target):
-    """Where a stream goes, or nothing if it is kept. The kinds are those of `stored_runs.Stream`."""
-    kinds = {None: "", "stderr": "", "&-": "closed", "/dev/full": "full", "pipe_without_reader": "pipe"}
-    return kinds[target] if target in kinds else "room " + re.fullmatch(r"room_for_(\d+)_bytes", target)[1]
+            link = re.fullmatch(r"ln -s (\S+) link\.feature", command)[1]
+    out, err = targets.get("", ""), targets.get("2", "")
+    return Case(page, name, files, arguments, status, printed.get(out, b""), printed.get("stderr", b""),
+                (out, err.replace("stderr", "")), link)
 
 
 def lay(found, folder):
-    """Writes the files of a stored run to a folder."""
+    """Writes the files of a stored run to a folder, and its link."""
     os.makedirs(folder)
     for name, content in found.files.items():
         place, name = os.path.split(os.path.join(folder, name))
         driver.write(place, {name: content})
+    if found.link:
+        os.symlink(found.link, os.path.join(folder, "link.feature"))
 
 
 def main():

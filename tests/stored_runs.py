@@ -11,87 +11,61 @@ import resource
 import signal
 import subprocess
 import sys
-import tempfile
 
 import driver
 import edge_bytes
 import large_runs
 import stored_cases
 
+ROOM = re.compile(r"room_for_(\d+)_bytes")
 
 class Stream:
-    """Standard output or standard error of a run, as `output_goes_to` or `error_goes_to` says.
+    """Standard output or standard error of a run, with the target that its page names.
 
-    If that is empty, the stream is kept, to be compared. `full` is a device without room, `pipe` a
-    pipe that nobody reads any more, `closed` a stream that isn't open, `room N` a file that takes N
-    bytes and no more, which is kept, too."""
+    It is kept, to be compared, if it has none, or if that is a file with room for only some bytes."""
 
-    def __init__(self, kind):
-        self.kind = kind
-        self.closed_in_child = kind == "closed"
-        self.number = subprocess.PIPE
-        self.file = None
-        if kind == "full":
-            self.number = os.open("/dev/full", os.O_WRONLY)
-        elif kind == "pipe":
-            reader, self.number = os.pipe()
+    def __init__(self, target, folder):
+        self.path, self.room = os.path.join(folder, target), ROOM.fullmatch(target)
+        self.is_closed, self.target = target == "&-", subprocess.PIPE
+        if target == "pipe_without_reader":
+            reader, writer = os.pipe()
             os.close(reader)
-        elif kind == "closed":
-            self.number = subprocess.DEVNULL
-        elif kind.startswith("room "):
-            self.file = tempfile.TemporaryFile()
-            self.number = self.file.fileno()
-        elif kind:
-            raise ValueError(f"no kind of stream: {kind}")
+            self.target = os.fdopen(writer, "wb")
+        elif target:
+            self.target = open(os.devnull if self.is_closed else self.path, "wb")
 
-    def limit(self):
-        """Limits the files of a process that is about to run the program."""
-        if self.file:
-            room = int(self.kind.removeprefix("room "))
+    def limit(self, number):
+        """Limits the stream of this number in the process that is about to run the program."""
+        if self.is_closed:
+            os.close(number)
+        elif self.room:
             signal.signal(signal.SIGXFSZ, signal.SIG_IGN)
-            resource.setrlimit(resource.RLIMIT_FSIZE, (room, room))
+            resource.setrlimit(resource.RLIMIT_FSIZE, 2 * (int(self.room[1]),))
 
     def kept(self, printed):
-        """What was printed there, as far as it is kept."""
-        if not self.file:
-            return printed
-        self.file.seek(0)
-        return self.file.read()
-
-    def close(self):
-        """Closes what was opened for the run."""
-        if self.file:
-            self.file.close()
-        elif self.number >= 0:
-            os.close(self.number)
+        """Closes the target. Returns what was printed there, as far as it is kept."""
+        if self.target != subprocess.PIPE:
+            self.target.close()
+        return driver.read(self.path) if self.room else printed
 
 
 def ended(program, case, folder):
     """The status of a stored run in its folder, and what was kept of its two streams."""
-    out, err = Stream(case.output_goes_to), Stream(case.error_goes_to)
+    out, err = (Stream(it, folder) for it in case.targets)
 
     def limit_streams():
-        for number, stream in ((1, out), (2, err)):
-            stream.limit()
-            if stream.closed_in_child:
-                os.close(number)
+        out.limit(1)
+        err.limit(2)
 
-    try:
-        status, printed, fault = driver.start(
-            program, case.arguments, folder, stdout=out.number, stderr=err.number,
-            before=limit_streams if out.kind or err.kind else None)
-        return status, out.kept(printed), err.kept(fault)
-    finally:
-        out.close()
-        err.close()
+    status, printed, fault = driver.start(program, case.arguments, folder, stdout=out.target, stderr=err.target,
+                                          before=limit_streams if any(case.targets) else None)
+    return status, out.kept(printed), err.kept(fault)
 
 
 def trouble(program, room, number, case):
     """What is wrong with a stored run, which gets a folder with its files, or nothing."""
     folder = os.path.join(room, f"{case.page}.{number}")
     stored_cases.lay(case, folder)
-    if case.link:
-        os.symlink(case.link, os.path.join(folder, "link.feature"))
     return driver.trouble(f"tests/runs/{case.page}.md: {case.name}", ended(program, case, folder),
                           (case.status, case.stdout, case.stderr))
 
