@@ -6,7 +6,10 @@ next one, and repeated texts: `\\{9*TEXT}`, and `\\{2..9*TEXT}` from 2 on, have 
 """
 
 import collections
+import os
 import re
+
+import driver
 
 # The line of its fence, the words before the name in its info string, that name if any, and the text as on the page.
 Block = collections.namedtuple("Block", "line kind name text")
@@ -42,6 +45,12 @@ def parts(page):
 def blocks(page):
     """The blocks of a page."""
     return (it for it in parts(page) if isinstance(it, Block))
+
+
+def texts(page, kind):
+    """The blocks of this kind without a name, on a page of docs/guide/."""
+    page = driver.read(os.path.join(driver.HOME, "docs", "guide", page)).decode()
+    return [it.text for it in blocks(page) if (it.kind, it.name) == (kind, "")]
 
 
 def runs(page):

@@ -46,7 +46,7 @@ def case(page, name, files, commands):
         else:
             link = re.fullmatch(r"ln -s (\S+) link\.feature", command)[1]
     out, err = targets.get("", ""), targets.get("2", "")
-    return Case(page, name, files, arguments, status, printed.get(out, b""), printed.get("stderr", b""),
+    return Case(page, name, files, arguments, status, printed.get(out, b""), printed.get(err, b"") if err else b"",
                 (out, err.replace("stderr", "")), link)
 
 
