@@ -8,6 +8,7 @@ Fails where
 - a run that a document shows gives something else (a `console` block over the files above it, and, on a page of
   docs/guide/, over those of the guide's other pages);
 - two pages of docs/guide/ have files of the same name;
+- a page of tests/runs/ or tests/side_by_side/ isn't listed in the README of its folder;
 - a file of examples/ that a document shows isn't that file;
 - a definition of specs/ has no comment above it, or a broken one;
 - two crates have modules of the same name;
@@ -271,6 +272,14 @@ def dead_links(page):
                 yield number, f"a link to {target}, whose heading isn't there"
 
 
+def unlisted_pages():
+    """Pages of runs and of pairs to which the README of their folder doesn't link."""
+    for page in DOCUMENTS:
+        folder, name = os.path.split(page)
+        if folder in ("tests/runs", "tests/side_by_side") and name != "README.md" and f"]({name})" not in read(f"{folder}/README.md"):
+            yield f"{folder}/README.md doesn't link to {name}"
+
+
 # ---- runs that a page shows
 
 def shown_files(page):
@@ -526,6 +535,7 @@ def main():
         check(tests, f"how {page} reads", lines_of(page, prose.hard_to_read(page, text, prose_of(page))))
     check(tests, "words of these pages", prose.too_many_words(*([prose_of(it) for it in pages] for pages in (MAIN, READMES))))
     check(tests, "files of docs/guide/", shown_twice())
+    check(tests, "lists of pages", unlisted_pages())
     check(tests, "must-fail edits", edit_differences())
     for path in FILES:
         if re.match(r"crates/[^/]+/specs/", path) and path.endswith(".antt"):
