@@ -1,8 +1,9 @@
 """Fenced blocks of pages: the files and the commands in them, and the escapes of a block that says `escaped`.
 
-An info string is a kind, the word `escaped` if the block has escapes, and the name of a file. Escapes are `\\\\`, `\\t`, `\\r`,
-`\\n`, `\\s` for a space, `\\xHH` for a byte, `\\u{HEX}` for a character, a backslash at the end of a line, which joins it with the
-next one, and repeated texts: `\\{9*TEXT}`, and `\\{2..9*TEXT}` from 2 on, have TEXT for each number, with the number for `#`.
+An info string is a kind, the word `escaped` if the block has escapes, and the name of a file. Escapes are `\\\\`,
+`\\t`, `\\r`, `\\n`, `\\s` for a space, `\\xHH` for a byte, `\\u{HEX}` for a character, a backslash at the end of a line,
+which joins it with the next one, and repeated texts: `\\{9*TEXT}`, and `\\{2..9*TEXT}` from 2 on, have TEXT for each
+number, with the number for `#`.
 """
 
 import collections
@@ -54,7 +55,7 @@ def texts(page, kind):
 
 
 def runs(page):
-    """The console blocks of a page, each with its heading and the files below that and below the headings above it."""
+    """The console blocks of a page, each with its heading, and the files below that and the headings above it."""
     files, names = {}, {}
     for part in parts(page):
         if not isinstance(part, Block):
@@ -64,7 +65,8 @@ def runs(page):
         elif is_file(part):
             files.setdefault(max(names), {})[part.name] = bytes_of(part)
         elif part.kind.startswith("console"):
-            yield names[max(names)], {name: text for level in sorted(files) for name, text in files[level].items()}, part
+            merged = {name: text for level in sorted(files) for name, text in files[level].items()}
+            yield names[max(names)], merged, part
         else:
             raise ValueError(f"line {part.line}: a block that is neither a file nor a run")
 

@@ -1,9 +1,10 @@
 #!/usr/bin/env python3
 """Runs the pairs of tests/side_by_side/ and the suites that were taken over: side_by_side.py PROGRAM ROOM [--behave].
 
-Called by tests/side_by_side.sh, and with --behave by tests/with_behave.sh. The pages of tests/side_by_side/ show the files
-of the pairs, and commands with what they say; tests/side_by_side/README.md says how. The suites are folders, each with its
-commands in a file `says`. Without --behave the commands of gherkin_run are run, with it those of behave. It also checks that
+Called by tests/side_by_side.sh, and with --behave by tests/with_behave.sh. The pages of tests/side_by_side/ show the
+files of the pairs, and commands with what they say; tests/side_by_side/README.md says how. The suites are folders, each
+with its commands in a file `says`. Without --behave the commands of gherkin_run are run, with it those of behave.
+It also checks that
 - docs/guide/behave.md and docs/guide/cucumber.md link to no pair twice;
 - examples/leaks/show.py shows what examples/leaks/result.txt has.
 """

@@ -1,8 +1,8 @@
 #!/usr/bin/env python3
 """The stored runs, as the pages of tests/runs/ show them. tests/runs/README.md describes their form.
 
-Called by tests/with_jq.sh: stored_cases.py ROOM lays out each run whose output is a JSON report, in a folder of ROOM with a
-file `arguments`.
+Called by tests/with_jq.sh: stored_cases.py ROOM lays out each run whose output is a JSON report, in a folder of ROOM
+with a file `arguments`.
 """
 
 import collections
@@ -15,7 +15,7 @@ import blocks
 import driver
 
 RUNS = os.path.join(driver.HOME, "tests", "runs")
-# A run: where it is, what it reads, what comes out, where its two streams go if they aren't kept, and what its link leads to.
+# A run: where it is, what it reads, what comes out, where its streams go if they aren't kept, and its link's target.
 Case = collections.namedtuple("Case", "page name files arguments status stdout stderr targets link")
 REDIRECTION = re.compile(r"(.*) (2?)>(&-| \S+)")
 

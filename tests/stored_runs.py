@@ -1,7 +1,8 @@
 #!/usr/bin/env python3
-"""Runs the stored runs, the large runs and those of edge_bytes.py: stored_runs.py PROGRAM ROOM [NAME]. Called by tests/runs.sh.
+"""Runs the stored runs, the large runs and those of edge_bytes.py: stored_runs.py PROGRAM ROOM [NAME].
 
-The stored runs are on the pages of tests/runs/. With NAME only those run whose page and heading have these words.
+Called by tests/runs.sh. The stored runs are on the pages of tests/runs/. With NAME only those run whose page and heading
+have these words.
 """
 
 import collections
@@ -73,7 +74,8 @@ def trouble(program, room, number, case):
 def equal_names(cases):
     """The names that two runs of a page have."""
     counts = collections.Counter((it.page, it.name) for it in cases)
-    return "\n".join(f"tests/runs/{page}.md has {count} runs {name}" for (page, name), count in counts.items() if count > 1)
+    return "\n".join(f"tests/runs/{page}.md has {count} runs {name}"
+                     for (page, name), count in counts.items() if count > 1)
 
 
 def words(text):
