@@ -37,7 +37,7 @@ def case(page, name, files, commands):
             while found := REDIRECTION.fullmatch(command):
                 command, stream = found[1], found[2]
                 targets[stream] = found[3].strip()
-            arguments = [os.fsencode(it) for it in shlex.split(command)[1:]]
+            arguments = [it.encode("utf-8", "surrogateescape") for it in shlex.split(command)[1:]]
             printed[targets.get("", "")] = below
         elif command == "echo $?":
             status = int(below)
