@@ -8,6 +8,7 @@ Fails where
 - a run that a document shows gives something else (a `console` block over the files above it, and, on a page of
   docs/guide/, over those of the guide's other pages);
 - two pages of docs/guide/ have files of the same name;
+- a page of tests/runs/ or tests/side_by_side/ isn't listed in the README of its folder;
 - a file of examples/ that a document shows isn't that file;
 - a definition of specs/ has no comment above it, or a broken one;
 - two crates have modules of the same name;
@@ -19,14 +20,17 @@ Fails where
 - a page at the top or of docs/ has a word of WORDS; elsewhere such words are counted only.
 """
 
+import functools
 import os
 import re
 import subprocess
 import sys
 
+import blocks
+import driver
 import prose
+from driver import HOME
 
-HOME = os.path.dirname(os.path.dirname(os.path.realpath(__file__)))
 # Words that Rust's own documentation doesn't use so.
 WORDS = re.compile(r"\b(front|fronts|behind|tells|told|want of memory)\b", re.IGNORECASE)
 README_LINES = 120
@@ -37,8 +41,7 @@ SOURCES = (".rt", ".antt", ".py", ".sh", ".awk", ".c", ".feature", ".steps", ".e
 
 
 def read(path):
-    with open(os.path.join(HOME, path), encoding="utf-8") as file:
-        return file.read()
+    return driver.read(os.path.join(HOME, path)).decode()
 
 
 def repository_files():
@@ -58,16 +61,10 @@ DOCUMENTS = [it for it in FILES if it.endswith(".md")]
 PAGES = [it for it in DOCUMENTS if "/" not in it or it.startswith("docs/")]
 
 
-def without_blocks(text):
-    """A page without its fenced blocks; their lines are left empty."""
-    out, inside = [], False
-    for line in text.split("\n"):
-        if line.startswith("```"):
-            inside = not inside
-            out.append("")
-        else:
-            out.append("" if inside else line)
-    return "\n".join(out)
+@functools.cache
+def prose_of(page):
+    """A page without its blocks. Their lines are left empty."""
+    return blocks.without_blocks(read(page))
 
 
 # ---- names
@@ -119,8 +116,8 @@ READMES = [it for it in DOCUMENTS if it.endswith("/README.md") and it not in MAI
            and not it.startswith(("tests/runs/", "tests/side_by_side/"))]
 # The pages for users name words of features and libraries, not of the code: of them only names that can't
 # be anything else are looked up.
-USERS_PAGES = (*GUIDE, "docs/FAULTS.md", "tests/runs/README.md", "tests/side_by_side/README.md", "bench/README.md", "bench/figures.md",
-               *(it for it in DOCUMENTS if it.startswith("examples/")))
+USERS_PAGES = (*GUIDE, "docs/FAULTS.md", "bench/README.md", "bench/figures.md",
+               *(it for it in DOCUMENTS if it.startswith(("examples/", "tests/runs/", "tests/side_by_side/"))))
 
 
 def members():
@@ -160,8 +157,8 @@ def path_is_there(name, page):
 
 def named_wrongly(page, names, owned):
     """Names in code style that nothing of the repository has, with their lines."""
-    shown = {name for other in [page, *guide_beside(page)] for _, name, _ in shown_files(other)}
-    for number, line in enumerate(without_blocks(read(page)).split("\n"), 1):
+    shown = names_shown_in(os.path.dirname(page))
+    for number, line in enumerate(prose_of(page).split("\n"), 1):
         for text in re.findall(r"(?<!`)`([^`\n]+)`(?!`)", line):
             if re.fullmatch(r"\.?[A-Za-z0-9_./-]+", text) and ("/" in text or text.endswith(SOURCES)):
                 if text.startswith(("/", "../")) or text in shown or "NAME" in text:
@@ -186,7 +183,7 @@ def named_clauses(page):
 
     A cell `call`: `clause`, `clause` names clauses of one function."""
     clauses = clauses_by_function()
-    for number, line in enumerate(without_blocks(read(page)).split("\n"), 1):
+    for number, line in enumerate(prose_of(page).split("\n"), 1):
         for call, listed in re.findall(r"`([A-Za-z_][A-Za-z0-9_:]*)`: ((?:`[a-z_][a-z0-9_]*`(?:, | and )?)+)", line):
             function = call.split("::")[-1]
             if function not in clauses:
@@ -259,11 +256,11 @@ def anchor(heading):
 
 
 def anchors(page):
-    return {anchor(it) for it in re.findall(r"^#+ (.*)$", without_blocks(read(page)), re.MULTILINE)}
+    return {anchor(it) for it in re.findall(r"^#+ (.*)$", prose_of(page), re.MULTILINE)}
 
 
 def dead_links(page):
-    for number, line in enumerate(without_blocks(read(page)).split("\n"), 1):
+    for number, line in enumerate(prose_of(page).split("\n"), 1):
         for target in re.findall(r"\]\(([^)\s]+)\)", line):
             if re.match(r"[a-z]+:", target):
                 continue
@@ -275,43 +272,27 @@ def dead_links(page):
                 yield number, f"a link to {target}, whose heading isn't there"
 
 
+def unlisted_pages():
+    """Pages of runs and of pairs to which the README of their folder doesn't link."""
+    for page in DOCUMENTS:
+        folder, name = os.path.split(page)
+        if folder in ("tests/runs", "tests/side_by_side") and name != "README.md" and f"]({name})" not in read(f"{folder}/README.md"):
+            yield f"{folder}/README.md doesn't link to {name}"
+
+
 # ---- runs that a page shows
-
-def blocks(page):
-    """The fenced blocks of a page: the line, what stands after the fence, and the text."""
-    number, start, kind, text = 0, None, None, []
-    for line in read(page).split("\n"):
-        number += 1
-        fence = re.match(r"(`{3,})(.*)$", line)
-        if start is None and fence:
-            start, kind, text, marks = number, fence.group(2).strip(), [], fence.group(1)
-        elif start is not None and line.strip() == marks:
-            yield start, kind, "".join(it + "\n" for it in text)
-            start = None
-        elif start is not None:
-            text.append(line)
-
-
-def shown_runs(text):
-    """The commands of a console block, each with what it prints."""
-    command, printed = None, ""
-    for line in text.split("\n")[:-1]:
-        if line.startswith("$ "):
-            if command is not None:
-                yield command, printed
-            command, printed = line[2:], ""
-        else:
-            printed += line + "\n"
-    if command is not None:
-        yield command, printed
-
 
 def shown_files(page):
     """The files that a page shows: the line, the name and the text."""
-    for number, kind, text in blocks(page):
-        names = kind.split()
-        if len(names) == 2 and names[0] in ("gherkin", "text"):
-            yield number, names[1], text
+    for block in blocks.blocks(read(page)):
+        if blocks.is_file(block):
+            yield block.line, block.name, block.text
+
+
+@functools.cache
+def names_shown_in(folder):
+    """The names of the files that the pages of a folder show."""
+    return {name for page in DOCUMENTS if os.path.dirname(page) == folder for _, name, _ in shown_files(page)}
 
 
 def guide_beside(page):
@@ -344,8 +325,7 @@ def example_differences(page):
 def lay(folder, name, text):
     """Puts a file that a page shows where its runs find it."""
     if not is_example(name):
-        with open(os.path.join(folder, name), "w", encoding="utf-8") as file:
-            file.write(text)
+        driver.write(folder, {name: text})
 
 
 def run_differences(page, program, room):
@@ -353,28 +333,24 @@ def run_differences(page, program, room):
     folder = os.path.join(room, page.replace("/", "_"))
     os.makedirs(folder)
     # A page calls the program from the top of the repository, or from a folder below.
-    for script in (os.path.join(folder, "run"), os.path.join(room, "run")):
-        with open(script, "w", encoding="utf-8") as file:
-            file.write(f'#!/bin/sh\nexec "{program}" "$@"\n')
-        os.chmod(script, 0o755)
+    for place in (folder, room):
+        driver.write(place, {"run": f'#!/bin/sh\nexec "{program}" "$@"\n'})
+        os.chmod(os.path.join(place, "run"), 0o755)
     os.symlink(os.path.join(HOME, "examples"), os.path.join(folder, "examples"))
     for other in guide_beside(page):
         for _, name, text in shown_files(other):
             lay(folder, name, text)
-    for number, kind, text in blocks(page):
-        names = kind.split()
-        if len(names) == 2 and names[0] in ("gherkin", "text"):
-            lay(folder, names[1], text)
-        elif kind == "console":
+    for block in blocks.blocks(read(page)):
+        if blocks.is_file(block):
+            lay(folder, block.name, block.text)
+        elif block.kind == "console":
             status = 0
-            for command, printed in shown_runs(text):
-                if command == "echo $?":
-                    got = f"{status}\n"
+            for command, wanted in blocks.commands(block):
+                if command == b"echo $?":
+                    got = b"%d\n" % status
                 else:
-                    done = subprocess.run(["sh", "-c", command], cwd=folder, stdin=subprocess.DEVNULL,
-                                          stdout=subprocess.PIPE, stderr=subprocess.STDOUT, timeout=60, check=False)
-                    status, got = done.returncode, done.stdout.decode("utf-8", "backslashreplace")
-                yield number, None if got == printed else f"'{command}' prints something else:\n{got}"
+                    status, got, _ = driver.start("sh", ["-c", command], folder, stderr=subprocess.STDOUT)
+                yield block.line, None if got == wanted else f"'{command.decode()}' prints something else:\n{got.decode()}"
 
 
 # ---- definitions
@@ -532,18 +508,10 @@ def counted_words():
 
 # ---- all of it
 
-class Tests:
-    def __init__(self):
-        self.passed = self.failed = 0
-
-    def check(self, name, found):
-        """One test: it fails where anything was found."""
-        found = list(found)
-        if found:
-            self.failed += 1
-            print(f"{name}:", *(f"  {it}" for it in found), sep="\n")
-        else:
-            self.passed += 1
+def check(tests, name, found):
+    """One test: it fails where anything was found."""
+    found = list(found)
+    tests.add("\n".join([f"{name}:", *(f"  {it}" for it in found)]) if found else "")
 
 
 def lines_of(path, pairs):
@@ -552,38 +520,38 @@ def lines_of(path, pairs):
 
 def main():
     program, room = sys.argv[1], sys.argv[2]
-    tests = Tests()
+    tests = driver.Tests()
     names, owned = code_names(), members()
     for page in DOCUMENTS:
-        tests.check(f"names in {page}", lines_of(page, named_wrongly(page, names, owned)))
-        tests.check(f"links in {page}", lines_of(page, dead_links(page)))
+        check(tests, f"names in {page}", lines_of(page, named_wrongly(page, names, owned)))
+        check(tests, f"links in {page}", lines_of(page, dead_links(page)))
     for page in PAGES:
-        tests.check(f"clauses in {page}", lines_of(page, named_clauses(page)))
-        tests.check(f"examples in {page}", lines_of(page, example_differences(page)))
+        check(tests, f"clauses in {page}", lines_of(page, named_clauses(page)))
+        check(tests, f"examples in {page}", lines_of(page, example_differences(page)))
         for number, difference in run_differences(page, program, room):
-            tests.check(f"{page}:{number}", [difference] if difference else [])
+            check(tests, f"{page}:{number}", [difference] if difference else [])
     for page in sorted({*MAIN, *READMES}):
         text = read(page)
-        tests.check(f"how {page} reads", lines_of(page, prose.hard_to_read(page, text, without_blocks(text))))
-    tests.check("words of these pages", prose.too_many_words(*([without_blocks(read(it)) for it in pages] for pages in (MAIN, READMES))))
-    tests.check("files of docs/guide/", shown_twice())
-    tests.check("must-fail edits", edit_differences())
+        check(tests, f"how {page} reads", lines_of(page, prose.hard_to_read(page, text, prose_of(page))))
+    check(tests, "words of these pages", prose.too_many_words(*([prose_of(it) for it in pages] for pages in (MAIN, READMES))))
+    check(tests, "files of docs/guide/", shown_twice())
+    check(tests, "lists of pages", unlisted_pages())
+    check(tests, "must-fail edits", edit_differences())
     for path in FILES:
         if re.match(r"crates/[^/]+/specs/", path) and path.endswith(".antt"):
-            tests.check(f"comments in {path}", lines_of(path, broken_comments(path)))
-    tests.check("modules of the same name", shared_modules())
+            check(tests, f"comments in {path}", lines_of(path, broken_comments(path)))
+    check(tests, "modules of the same name", shared_modules())
     length = read("README.md").count("\n")
-    tests.check("the length of README.md", [f"{length} lines"] if length > README_LINES else [])
-    tests.check("entries of docs/FAULTS.md", fault_differences())
-    tests.check("hints of docs/FAULTS.md", hint_differences())
-    tests.check("pictures", picture_differences(program))
-    tests.check("the built-in library", library_difference())
+    check(tests, "the length of README.md", [f"{length} lines"] if length > README_LINES else [])
+    check(tests, "entries of docs/FAULTS.md", fault_differences())
+    check(tests, "hints of docs/FAULTS.md", hint_differences())
+    check(tests, "pictures", picture_differences(program))
+    check(tests, "the built-in library", library_difference())
     faults, elsewhere = counted_words()
-    tests.check("words in pages", [f"{path}:{number}: {text}" for path, number, text in faults])
+    check(tests, "words in pages", [f"{path}:{number}: {text}" for path, number, text in faults])
     if elsewhere:
         print("such words elsewhere: " + ", ".join(f"{count} in {top}" for top, count in sorted(elsewhere.items())))
-    print(f"{tests.passed} passed, {tests.failed} failed")
-    return 1 if tests.failed else 0
+    return tests.close()
 
 
 if __name__ == "__main__":

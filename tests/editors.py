@@ -8,6 +8,7 @@ import shutil
 import subprocess
 import sys
 
+import blocks
 import driver
 
 EDITORS = os.path.join(driver.HOME, "examples", "editors")
@@ -119,19 +120,13 @@ def in_vim(text, arguments, folder):
         return [tuple(json.loads(it)) for it in file]
 
 
-def blocks(page, kind):
-    """The fenced blocks of a page that have these words after their fence."""
-    with open(os.path.join(driver.HOME, page), encoding="utf-8") as file:
-        return re.findall(rf"^```{kind}\n(.*?)^```$", file.read(), re.MULTILINE | re.DOTALL)
-
-
 def as_the_page_says(program, folder):
     """The places in vim's quickfix list after each block for Vim of docs/guide/editors.md."""
     os.makedirs(os.path.join(folder, "home/bin"))
     os.symlink(program, os.path.join(folder, "home/bin/gherkin_run"))
     settings = {**os.environ, "HOME": os.path.join(folder, "home"), "PATH": f"{folder}/home/bin:{os.environ['PATH']}"}
-    subprocess.run(["sh", "-eu", "-c", *blocks("docs/guide/editors.md", "sh")], cwd=driver.HOME, env=settings, check=True)
-    for block in blocks("docs/guide/editors.md", "vim"):
+    subprocess.run(["sh", "-eu", "-c", *blocks.texts("editors.md", "sh")], cwd=driver.HOME, env=settings, check=True)
+    for block in blocks.texts("editors.md", "vim"):
         script = [block.replace("login.feature", "a.feature"), "call writefile(map(filter(getqflist(), 'v:val.valid'),"
                   " 'json_encode([bufname(v:val.bufnr), v:val.lnum])'), 'places')", "qall!"]
         driver.write(folder, {"script.vim": "\n".join(script) + "\n"})

@@ -9,10 +9,10 @@ import re
 import subprocess
 import sys
 
+import blocks
 import driver
 
 PAGES = ("from_python.md", "pytest.md")
-BLOCK = re.compile(r"^```(\w+) ?(\S*)\n(.*?)^```$", re.MULTILINE | re.DOTALL)
 TIME = re.compile(r"\bin \d\.\d\ds\b")
 # Lets a page write `pytest`, as if the package were installed.
 PYTEST = '#!/bin/sh\nPYTHONPATH={home}/python COLUMNS=80 exec {python} -m pytest -p gherkin_run.pytest_plugin -p no:cacheprovider --ignore=examples "$@"\n'
@@ -20,17 +20,16 @@ PYTEST = '#!/bin/sh\nPYTHONPATH={home}/python COLUMNS=80 exec {python} -m pytest
 
 def shown_runs(page, folder):
     """Yields each run that a page shows: its name, its command, and what it prints. Writes the files above it first."""
-    blocks = BLOCK.findall(driver.read(page).decode())
-    for (kind, name, text), (below, _, output) in zip(blocks, [*blocks[1:], ("", "", "")]):
-        if name:
-            driver.write(folder, {name: text})
-        elif kind == "python":
-            is_output = below == "text" and not output.startswith("$ ")
-            yield text, [sys.executable, "-c", text], output if is_output else ""
-        elif kind == "text":
-            for run in re.split(r"^\$ ", text, flags=re.MULTILINE)[1:]:
-                command, _, shown = run.partition("\n")
-                yield command, ["sh", "-c", command], shown
+    found = list(blocks.blocks(driver.read(page).decode()))
+    for block, below in zip(found, [*found[1:], None]):
+        if block.name:
+            driver.write(folder, {block.name: block.text})
+        elif block.kind == "python":
+            is_output = below and below.kind == "text" and not below.text.startswith("$ ")
+            yield block.text, [sys.executable, "-c", block.text], below.text if is_output else ""
+        elif block.kind == "text":
+            for command, shown in blocks.commands(block):
+                yield command.decode(), ["sh", "-c", command], shown.decode()
 
 
 def printed(command, folder):

@@ -16,6 +16,7 @@ import sys
 import time
 import xml.etree.ElementTree
 
+import blocks
 import driver
 
 EXAMPLES = (sys.argv[3:] or [os.path.join(driver.HOME, "examples")])[0]
@@ -95,12 +96,6 @@ a_b, 5%.feature:9: unknown
 </testsuites>
 """,
 }
-
-
-def blocks(page):
-    """The commands of a page of the guide, block by block."""
-    text = driver.read(os.path.join(driver.HOME, "docs", "guide", page)).decode()
-    return re.findall(r"^```sh\n(.*?)^```$", text, re.MULTILINE | re.DOTALL)
 
 
 def folder_of(program, room, name):
@@ -303,7 +298,7 @@ def worst_troubles(folder):
 def page_troubles(program, room):
     """The commands of the page on recipes, one block after another, in one folder."""
     folder = folder_of(program, room, "page")
-    junit, readers, again_command = blocks("recipes.md")
+    junit, readers, again_command = blocks.texts("recipes.md", "sh")
     plain, whole = one_run(program, folder), one_run(program, folder, "--format", "json")
 
     ended = shell(folder, junit)
@@ -329,7 +324,7 @@ def page_troubles(program, room):
 def machine_troubles(program, room):
     """The commands of the page on machines, each compared with one run."""
     folder = folder_of(program, room, "machines")
-    spread, spread_part, long, part, add = blocks("machines.md")
+    spread, spread_part, long, part, add = blocks.texts("machines.md", "sh")
     whole = one_run(program, folder, "--format", "json")
     yield from sum_troubles(folder, "long.sh", long, whole)
     yield from sum_troubles(folder, "long.sh in small parts", long.replace("long.sh ./run", "long.sh --files 2 ./run"), whole)

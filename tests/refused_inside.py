@@ -10,22 +10,22 @@ import re
 import sys
 
 import driver
-from refused_memory import RULES, RUNS, SEEN, THREE_SCENARIOS, Refusals
+from refused_memory import RUNS, Refusals, missed
 from reports import MEMORY
 
 FEATURE, HOOKS = "a.feature", "h.hooks"
-# Runs of tests/refused_memory.py, of one feature file and at most a hooks file.
-HOOKS_OF_TAGS = "hooks of tags"
+# Runs of tests/refused_memory.md and tests/refused_rules.md, of one feature file and at most a hooks file.
+HOOKS_OF_TAGS = "Hooks of tags"
 # No step and no hook of a tag is run in it, so nothing has to be marked.
-NOT_BEGUN_FEATURE = "hooks of tags of a feature that isn't begun"
+NOT_BEGUN_FEATURE = "Hooks of tags of a feature that isn't begun"
 NAMES = (
-    "files of a feature that a scenario takes away",
-    "a cleanup after a refused table",
-    "a number of a feature",
-    "cleanups, the last first",
+    "Files of a feature that a scenario takes away",
+    "A cleanup after a refused table",
+    "A number of a feature",
+    "Cleanups, the last first",
     HOOKS_OF_TAGS,
-    THREE_SCENARIOS,
-    RULES,
+    "Three scenarios that do the same",
+    "A layer for each rule",
 )
 NOT_BEGUN = 4, b"", b"not begun\n"
 # What the program writes of a sandbox with nothing in it and no layer open.
@@ -72,7 +72,7 @@ def cases(program, room):
     """The cases, the one with hooks of tags also where a hook before its feature fails."""
     named = {name: RUNS[name][1] for name in NAMES}
     fails = {**named[HOOKS_OF_TAGS]}
-    fails[HOOKS] = "before_feature:\nGiven it fails\n" + fails[HOOKS]
+    fails[HOOKS] = b"before_feature:\nGiven it fails\n" + fails[HOOKS]
     named[NOT_BEGUN_FEATURE] = fails
     for name, files in named.items():
         folder = os.path.join(room, re.sub(r"\W+", "_", name))
@@ -99,9 +99,7 @@ def add_case(tests, counts, case):
             marked.add(printed.decode())
     if case.name != NOT_BEGUN_FEATURE:
         tests.add("" if marked else f"{case.name}: no run ended with a mark of memory")
-    if case.name in SEEN:
-        is_seen = SEEN[case.name] in marked
-        tests.add("" if is_seen else f"{case.name}: no run ended with\n{SEEN[case.name]}")
+    tests.add_all(missed(case, marked))
 
 
 def removed_answers(program, room, tests):

@@ -2,7 +2,7 @@
 # Refuses each growth of memory inside of the libraries: tests/refused_inside.sh [PROGRAM]
 #
 # PROGRAM is the test program of crates/gk_refusals; without it, the one that was built there. Each of
-# some runs of tests/refused_memory.py goes through `run_suite`, and growth 1, 2, 3, .. of it is refused, until a
+# some runs of tests/refused_memory.md goes through `run_suite`, and growth 1, 2, 3, .. of it is refused, until a
 # run meets no refusal. Each run ends in one of the three ways that tests/refused_memory.sh names, and the
 # last as with ample memory; afterwards no layer of the sandbox is open, no change is recorded, and its
 # listing is empty. Where the growth is refused before the run begins, nothing is run. Of three scenarios that

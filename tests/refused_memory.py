@@ -6,555 +6,35 @@ Called by tests/refused_memory.sh, which says how a run may end.
 
 import os
 import re
+import shlex
 import sys
 
+import blocks
 import driver
+import stored_cases
 from reports import Ample, Report, Style, style_of
 
 OUT_OF_MEMORY = b"gherkin_run: out of memory\n"
-# One feature, twice.
-ONE = "Feature: one\n  Scenario: first\n    Given it passes\n"
-TWO_FILES = {"a.feature": ONE, "b.feature": ONE}
-THREE = ["a.feature", "b.feature", "c.feature"]
-# Scenarios and a feature that aren't chosen.
-CHOSEN_RUN = ["--tags", "@a", *THREE]
-THREE_FILES = {
-    "a.feature": """Feature: a
-Scenario: left out
-Given it fails
-@a
-Scenario: chosen
-Given a file named "f" containing "x"
-And it fails
-""",
-    "b.feature": "Feature: b\nScenario: left out, too\nGiven it fails\n",
-    "c.feature": """@a
-Feature: c "in\\out" \u00e9
-Scenario: first
-Given the number "n" is set to 1
-Scenario: second
-Given nothing knows this
-""",
-}
-# A file whose scenarios and whose hooks fail.
-FAILING_HOOKS = {
-    "h.hooks": "before_tag @broken:\nGiven it fails\nafter_all:\nGiven at cleanup it fails\n",
-    "a.feature": "@broken\nFeature: a\nScenario: s\nGiven it passes\n",
-    "b.feature": """Feature: b
-@broken
-Scenario: s
-Given it passes
-And nobody knows
-Scenario: t
-Given at cleanup it fails
-""",
-}
-FAILING_RUN = ["--hooks", "h.hooks", "a.feature", "b.feature"]
-# A run that may end early, with hooks after its sections.
-STOPPING = {
-    "h.hooks": """before_feature:
-Given a file named "f" containing "x"
-after_feature:
-Then the file "f" should be "x"
-after_all:
-Then the file "f" should not exist
-""",
-    "a.feature": """Feature: a
-Scenario: s
-Given the value "v" is set to "1"
-Scenario: t
-Given it passes
-And it passes
-""",
-    "b.feature": """Feature: b
-Scenario: s
-Given the file "f" is extended with "y"
-Scenario: t
-Given it fails
-Scenario: u
-Given it passes
-""",
-    "c.feature": "Feature: c\nScenario: s\nGiven it passes\n",
-}
-STOPPING_RUN = ["--hooks", "h.hooks", *THREE]
+PAGES = ("refused_memory.md", "refused_hooks.md", "refused_rules.md")
+# The runs that are explained, too.
+EXPLAINED = ["Two files and all options", "Each action", "Hooks of all kinds", "A scenario that skips itself",
+             "A run that doesn't begin", "A cleanup after a refused table", "A run that stops", "Rules whose hooks fail"]
+# The stored runs of what is found before a run.
+LINTED = ["Each finding", "Several files", "A fault in each of many files"]
 
-# A layer for each rule: what its hook makes of the feature's number is there in each of its scenarios.
-RULED = {
-    "h.hooks": """before_feature:
-Given the number "n" is set to 1
-before_rule:
-Given the number "n" grows by 10
-after_rule:
-Then the number "n" should be 11
-after_feature:
-Then the number "n" should be 1
-""",
-    "a.feature": """Feature: f
-  Scenario: A
-    Then the number "n" should be 1
-  @x
-  Rule: r1
-    Scenario: B
-      When the number "n" grows by 100
-      Then the number "n" should be 111
-    Scenario: C
-      Then the number "n" should be 11
-  Rule: r2
-    Scenario: D
-      Then the number "n" should be 11
-""",
-}
-# Rules whose hooks and cleanups fail, some of which aren't chosen, and one that has no scenario.
-FAILING_RULES = {
-    "h.hooks": """before_feature:
-Given a file named "log" containing "f"
-before_tag @bad:
-Given at cleanup the file "log" should be "f"
-before_rule:
-Given the file "log" is extended with "r"
-And at cleanup the file "log" is extended with "c"
-after_rule:
-Then the file "log" should be "fr"
-after_tag @worse:
-Given it fails
-before_tag @worst:
-Given it fails
-after_feature:
-Then the file "log" should be "f"
-""",
-    "a.feature": """Feature: f
-Scenario: A
-Given it passes
-@no
-Scenario: left out
-Given it fails
-@bad
-Rule: first
-Scenario: B
-Given the file "log" should be "fr"
-@no
-Scenario: left out, too
-Given it fails
-Rule: empty
-@no
-Rule: left out
-Scenario: of a rule that is left out
-Given it fails
-@worse
-Rule: third
-Scenario: C
-Given the file "log" is extended with "x"
-Scenario: D
-When it fails
-@worst
-Rule: last
-Scenario: E
-Given it passes
-Scenario: F
-Given it passes
-""",
-    "b.feature": "Feature: g\nRule: r\nScenario: G\nGiven it passes\n",
-}
-RULED_RUN = ["--hooks", "h.hooks", "a.feature"]
-FAILING_RULES_RUN = ["--tags", "~@no", "--hooks", "h.hooks", "a.feature", "b.feature"]
 
-# Runs beside the examples, so that each kind of input and of step meets refusals: arguments, and
-# files.
-RUNS = {
-    "two files and all options": (
-        ["--tags", "@a,~@b", "--line", "3", "--line", "7", "--env", "V=x",
-         "--library", "l.steps", "a.feature", "b.feature"],
-        {
-            "l.steps": """given {name} is {text} => set_env
-when {n:d} {name} => set_number
-then {name} holds {text} => env_is
-""",
-            "a.feature": """@a
-Feature: a
-Scenario: s
-Given V is y
-Then V holds y
+def shown_runs():
+    """The runs of PAGES by their names: the arguments, the files, and a report with which some run has to end, or nothing."""
+    for page in PAGES:
+        for name, files, block in blocks.runs(driver.read(os.path.join(driver.HOME, "tests", page)).decode()):
+            (command, seen), = blocks.commands(block)
+            yield name, (shlex.split(command.decode())[1:], files, seen.decode())
 
-Scenario: t
-Given V is z
-Then V holds x
-And nobody knows
-And V is z
-""",
-            "b.feature": "Feature: b\n\nScenario: s\nWhen 5 n\nWhen 7 n\n",
-        },
-    ),
-    "each action": (
-        ["a.feature"],
-        {
-            "a.feature": '''Feature: a
-Scenario: files
-Given a file named "f" containing "x"
-And a file named "g" with:
-"""
-y
-"""
-And the file "f" is extended with "z"
-And the file "f" is renamed to "h"
-And the file "g" is removed
-And these files:
-| name | text |
-| i | 1 |
-| | 2 |
-And it passes
-Scenario: the rest
-Given the variable "V" is set to "x"
-And the variable "V" is unset
-And the value "v" is set to "1"
-And the number "v" grows by 2
-And the number "w" is set to 3
-And the value "v" is deleted
-Then the file "f" should not exist
-And the file "f" should be "x"
-''',
-        },
-    ),
-    "hooks of all kinds": (
-        ["--hooks", "h.hooks", "a.feature", "b.feature"],
-        {
-            "h.hooks": """before_all:
-Given the value "run" is set to "r"
-And at cleanup the value "run" should be "r"
-after_all:
-Then the value "run" should be "r"
-before_feature:
-Given a file named "a" containing "1"
-And at cleanup the file "a" should be "1"
-before_tag @f:
-Given a file named "tag" containing "f"
-after_tag @f:
-Then the file "tag" should be "f"
-after_feature:
-Then the file "a" should be "1"
-before_scenario:
-Given the file "a" is extended with "2"
-after_scenario:
-Given the file "a" is extended with "4"
-after_tag @a:
-Then the file "a" should be "1234"
-""",
-            "a.feature": """@f
-Feature: f
-@a
-Scenario: one
-Given at cleanup the file "a" is extended with "5"
-And at cleanup it fails
-And at cleanup the file "a" should be "1234"
-When the file "a" is extended with "3"
-Then the file "a" should be "123"
-Scenario: two
-Given these files:
-| name | text |
-| b | 1 |
-| | 2 |
-And nothing knows this
-Scenario: three
-Given it passes
-And the scenario is skipped
-And nothing knows this
-""",
-            "b.feature": "Feature: g\nScenario: four\nThen the file \"a\" should be \"12\"\n",
-        },
-    ),
-    "files of a feature that a scenario takes away": (
-        ["--hooks", "h.hooks", "a.feature"],
-        {
-            "h.hooks": """before_feature:
-Given a file named "a" containing "1"
-And a file named "b" containing "2"
-""",
-            "a.feature": """Feature: f
-Scenario: A
-When the file "a" is removed
-And a file named "a" containing "3"
-And the file "a" is renamed to "b"
-And a file named "a" containing "4"
-And it fails
-Scenario: B
-Then the file "a" should be "1"
-And the file "b" should be "2"
-""",
-        },
-    ),
-    "a cleanup after a refused table": (
-        ["a.feature"],
-        {
-            "a.feature": """Feature: f
-Scenario: S
-Given at cleanup the file "two" should exist
-When these files:
-| name | text |
-| one | 1 |
-| two | 2 |
-| | 3 |
-Scenario: T
-Then the file "one" should not exist
-""",
-        },
-    ),
-    "a number of a feature": (
-        ["--hooks", "h.hooks", "a.feature"],
-        {
-            "h.hooks": 'before_feature:\nGiven the number "n" is set to 5\n',
-            "a.feature": """Feature: f
-Scenario: s
-When the number "n" grows by 2
-Then the number "n" should be 7
-When the value "n" is deleted
-Then the number "n" should be 5
-When the value "n" is deleted
-""",
-        },
-    ),
-    "cleanups, the last first": (
-        ["a.feature"],
-        {
-            "a.feature": """Feature: f
-Scenario: s
-Given at cleanup the file "log" should be "rp"
-And at cleanup the file "log" is extended with "p"
-And at cleanup it fails
-And at cleanup a file named "log" containing "r"
-""",
-        },
-    ),
-    "a scenario that skips itself": (
-        ["a.feature"],
-        {"a.feature": driver.feature(
-            "Given it passes", "And the scenario is skipped", "And nothing knows this")},
-    ),
-    "hooks of tags": (
-        ["--hooks", "h.hooks", "a.feature"],
-        {
-            "h.hooks": """before_tag @a:
-Given a file named "log" containing "a"
-before_tag @b:
-Given the file "log" is extended with "b"
-before_scenario:
-Given the file "log" is extended with "s"
-after_scenario:
-Given the file "log" is extended with "S"
-after_tag @a:
-Then the file "log" should be "absS"
-after_tag @b:
-Given the file "log" is extended with "B"
-""",
-            "a.feature": """Feature: f
-@a @b
-Scenario: s
-Given at cleanup the file "log" should be "absSB"
-Then the file "log" should be "abs"
-""",
-        },
-    ),
-    "hooks that fail": (
-        ["--hooks", "h.hooks", "a.feature"],
-        {
-            "h.hooks": """before_feature:
-Given the value "v" is set to "1"
-And it fails
-after_feature:
-Then the value "v" should be "1"
-""",
-            "a.feature": driver.feature("Given it passes"),
-        },
-    ),
-    "a run that doesn't begin": (
-        ["--hooks", "h.hooks", "a.feature"],
-        {
-            "h.hooks": "before_all:\nGiven nothing knows this\n",
-            "a.feature": driver.feature("Given it passes"),
-        },
-    ),
-    "two files, as progress": (["--format", "progress", "a.feature", "b.feature"], TWO_FILES),
-    "two files, as JSON": (["--format", "json", "a.feature", "b.feature"], TWO_FILES),
-    "two files": (["a.feature", "b.feature"], TWO_FILES),
-    "nothing, as JSON": (["--format", "json", "a.feature"], {"a.feature": "# nothing\n"}),
-    "three files without what is skipped": (["--no-skipped", *CHOSEN_RUN], THREE_FILES),
-    "three files without what is skipped, as progress": (
-        ["--no-skipped", "--format", "progress", *CHOSEN_RUN], THREE_FILES),
-    "three files without what is skipped, as JSON": (
-        ["--no-skipped", "--format", "json", *CHOSEN_RUN], THREE_FILES),
-    "hooks that fail, as JSON": (["--format", "json", *FAILING_RUN], FAILING_HOOKS),
-    "hooks that fail, as progress": (["--format", "progress", *FAILING_RUN], FAILING_HOOKS),
-    "a run that stops": (["--stop", *STOPPING_RUN], STOPPING),
-    "a run that stops, as JSON": (["--stop", "--format", "json", *STOPPING_RUN], STOPPING),
-    "a dry run": (["--dry-run", "--stop", *STOPPING_RUN], STOPPING),
-    "a dry run, as progress": (["--dry-run", "--format", "progress", *THREE], STOPPING),
-    "a dry run, as JSON, without what is skipped": (
-        ["--dry-run", "--no-skipped", "--format", "json", *CHOSEN_RUN], THREE_FILES),
-    "a faulty hooks file": (
-        ["--hooks", "h.hooks", "a.feature"], {"h.hooks": "before_tag @:\n", "a.feature": ""}),
-    "faults": (
-        ["--library", "l.steps", "a.feature"],
-        {"l.steps": "step a {x} => pass\nstep a b => fail\n", "a.feature": "stray\n"},
-    ),
-    "bad tags": (["--tags", "@a,,", "a.feature"], {"a.feature": ""}),
-    "a faulty file": (
-        ["a.feature"], {"a.feature": "@a\n" + driver.feature("Given x", "| a | b |", "| c |")}),
-}
-# Rules in each format, with what is skipped and without, in a run that stops, and in a dry run.
-RULES = "a layer for each rule"
-AFTER_RULES = "hooks after rules"
-RUNS[RULES] = (RULED_RUN, RULED)
-RUNS[AFTER_RULES] = (
-    RULED_RUN,
-    {
-        "h.hooks": 'after_rule:\nGiven the number "n" is set to 1\nAnd at cleanup it passes\n',
-        "a.feature": """Feature: f
-Rule: first
-Scenario: A
-Given it passes
-Rule: second
-Scenario: B
-Given it passes
-""",
-    },
-)
-for _options in (["--format", "json"], ["--format", "progress"], ["--stop", "--format", "json"],
-                 ["--dry-run", "--format", "json"]):
-    RUNS[" ".join([f"{RULES},", *_options])] = ([*_options, *RULED_RUN], RULED)
-for _options in ([], ["--format", "json"], ["--format", "progress"], ["--no-skipped"],
-                 ["--no-skipped", "--format", "json"], ["--stop"], ["--stop", "--format", "json"]):
-    RUNS[" ".join(["rules whose hooks fail,", *_options])] = ([*_options, *FAILING_RULES_RUN], FAILING_RULES)
 
+RUNS = dict(shown_runs())
 # A part that has several pieces.
 for _options in ([], ["--format", "json"], ["--format", "progress"]):
-    RUNS[" ".join(["a part of several pieces,", *_options])] = ([*_options, *driver.LONG_RUN], driver.long_files())
-
-# The runs that are explained, too.
-EXPLAINED = ["two files and all options", "each action", "hooks of all kinds", "a scenario that skips itself",
-             "a run that doesn't begin", "a cleanup after a refused table", "a run that stops", "rules whose hooks fail,"]
-
-# The stored runs of what is found before a run.
-LINTED = ["each_finding", "several_files", "fault_of_each_file"]
-
-# The end of a layer brings back a file that was removed in it, though the next growth is refused.
-REMOVED_IN_A_SCENARIO = "a file that a scenario removes"
-REMOVED_BEFORE_A_FEATURE = "a file that a hook before a feature removes"
-THREE_SCENARIOS = "three scenarios that do the same"
-RUNS[REMOVED_IN_A_SCENARIO] = (
-    ["--hooks", "h.hooks", "a.feature"],
-    {
-        "h.hooks": 'before_feature:\nGiven a file named "a" containing "1"\n',
-        "a.feature": """Feature: f
-Scenario: A
-When the file "a" is removed
-And a file named "b" containing "2"
-Scenario: B
-Then the file "a" should be "1"
-And the file "b" should not exist
-""",
-    },
-)
-RUNS[REMOVED_BEFORE_A_FEATURE] = (
-    ["--hooks", "h.hooks", "a.feature", "b.feature"],
-    {
-        "h.hooks": """before_all:
-Given a file named "a" containing "1"
-before_tag @x:
-When the file "a" is removed
-And a file named "b" containing "2"
-""",
-        "a.feature": '@x\nFeature: A\nScenario: s\nThen the file "a" should not exist\n',
-        "b.feature": """Feature: B
-Scenario: s
-Then the file "a" should be "1"
-And the file "b" should not exist
-""",
-    },
-)
-RUNS[THREE_SCENARIOS] = (
-    ["a.feature"],
-    {"a.feature": "Feature: f\n" + "".join(f"""Scenario: {name}
-Given the file "f" should not exist
-When a file named "f" containing "x"
-Then the file "f" should be "x"
-And it passes
-""" for name in ("first", "second", "third"))},
-)
-# Reports with which some run has to end.
-SEEN = {
-    RULES: """Feature: f ... memory
-  Scenario: A ... passed
-    Then the number "n" should be 1 ... passed
-  Scenario: B ... untested
-    When the number "n" grows by 100 ... untested
-    Then the number "n" should be 111 ... untested
-  Scenario: C ... untested
-    Then the number "n" should be 11 ... untested
-  (rule, line 5: hooks and cleanups) ... memory
-  Scenario: D ... passed
-    Then the number "n" should be 11 ... passed
-
-0 features passed, 0 failed, 0 skipped, 1 memory
-2 scenarios passed, 0 failed, 0 skipped, 2 untested
-2 steps passed, 0 failed, 0 skipped, 0 undefined, 3 untested
-""",
-    AFTER_RULES: """Feature: f ... memory
-  Scenario: A ... passed
-    Given it passes ... passed
-  (rule, line 2: hooks and cleanups) ... memory
-  Scenario: B ... passed
-    Given it passes ... passed
-
-0 features passed, 0 failed, 0 skipped, 1 memory
-2 scenarios passed, 0 failed, 0 skipped
-2 steps passed, 0 failed, 0 skipped, 0 undefined
-""",
-    REMOVED_IN_A_SCENARIO: """Feature: f ... memory
-  Scenario: A ... memory
-    When the file "a" is removed ... passed
-    And a file named "b" containing "2" ... memory
-  Scenario: B ... passed
-    Then the file "a" should be "1" ... passed
-    And the file "b" should not exist ... passed
-
-0 features passed, 0 failed, 0 skipped, 1 memory
-1 scenario passed, 0 failed, 0 skipped, 1 memory
-3 steps passed, 0 failed, 0 skipped, 0 undefined, 1 memory
-""",
-    REMOVED_BEFORE_A_FEATURE: """Feature: A ... memory
-  Scenario: s ... untested
-    Then the file "a" should not exist ... untested
-  (hooks and cleanups) ... memory
-
-Feature: B ... passed
-  Scenario: s ... passed
-    Then the file "a" should be "1" ... passed
-    And the file "b" should not exist ... passed
-
-1 feature passed, 0 failed, 0 skipped, 1 memory
-1 scenario passed, 0 failed, 0 skipped, 1 untested
-2 steps passed, 0 failed, 0 skipped, 0 undefined, 1 untested
-""",
-    THREE_SCENARIOS: """Feature: f ... memory
-  Scenario: first ... passed
-    Given the file "f" should not exist ... passed
-    When a file named "f" containing "x" ... passed
-    Then the file "f" should be "x" ... passed
-    And it passes ... passed
-  Scenario: second ... memory
-    Given the file "f" should not exist ... passed
-    When a file named "f" containing "x" ... memory
-    Then the file "f" should be "x" ... untested
-    And it passes ... untested
-  Scenario: third ... passed
-    Given the file "f" should not exist ... passed
-    When a file named "f" containing "x" ... passed
-    Then the file "f" should be "x" ... passed
-    And it passes ... passed
-
-0 features passed, 0 failed, 0 skipped, 1 memory
-2 scenarios passed, 0 failed, 0 skipped, 1 memory
-9 steps passed, 0 failed, 0 skipped, 0 undefined, 2 untested, 1 memory
-""",
-}
+    RUNS[" ".join(["A part of several pieces,", *_options])] = ([*_options, *driver.LONG_RUN], driver.long_files(), "")
 
 
 class Refusals:
@@ -680,6 +160,13 @@ class LintedRefusals(Refusals):
 ENDINGS = ("stopped", "marked", "unharmed", "unmet")
 
 
+def missed(case, marked):
+    """The trouble of a case whose page shows a report, if no run ended with it."""
+    seen = RUNS[case.name][2] if case.name in RUNS else ""
+    if seen:
+        yield "" if seen in marked else f"{case.name}: no run ended with\n{seen}"
+
+
 class Counts:
     """How many runs ended how, and how many tests passed and failed."""
 
@@ -705,9 +192,7 @@ class Counts:
                 marked.add(printed.decode())
         if case.ample.report is not None:
             self.add_pieces(case, written)
-        if case.name in SEEN:
-            is_seen = SEEN[case.name] in marked
-            self.tests.add("" if is_seen else f"{case.name}: no run ended with\n{SEEN[case.name]}")
+        self.tests.add_all(missed(case, marked))
 
     def add_pieces(self, case, written):
         """Each piece is made when those before it are written, so some run ends at each of them."""
@@ -732,18 +217,19 @@ def cases(program, room):
     """The runs of the examples, and those of RUNS."""
     for arguments in driver.examples():
         yield Refusals(program, room, arguments[-1], arguments, driver.HOME)
-    for name, (arguments, files) in RUNS.items():
+    for name, (arguments, files, _) in RUNS.items():
         folder = os.path.join(room, name.replace(" ", "_"))
         driver.write(folder, files)
         yield Refusals(program, room, name, arguments, folder)
     for name in EXPLAINED:
-        arguments, files = RUNS[name]
+        arguments = RUNS[name][0]
         folder = os.path.join(room, name.replace(" ", "_"))
         yield ExplainedRefusals(program, room, f"{name}, explained", ["--explain", *arguments], folder)
-    for name in LINTED:
-        folder = os.path.join(driver.HOME, "tests", "runs", "lint", name)
-        arguments = driver.read(os.path.join(folder, "arguments")).decode().splitlines()
-        yield LintedRefusals(program, room, f"{name}, linted", arguments, folder)
+    for case in stored_cases.cases():
+        if case.page.startswith("lint") and case.name in LINTED:
+            folder = os.path.join(room, case.name.replace(" ", "_"))
+            stored_cases.lay(case, folder)
+            yield LintedRefusals(program, room, f"{case.name}, linted", [it.decode() for it in case.arguments], folder)
 
 
 def main():

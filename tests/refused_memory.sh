@@ -1,8 +1,8 @@
 #!/bin/sh
 # Refuses each growth of memory in turn: tests/refused_memory.sh [PROGRAM]
 #
-# Each example, and each of the runs of tests/refused_memory.py, is run with its growth 1, 2, 3, ..
-# refused, until a run meets no refusal. Each run has to end by itself, in one of three ways:
+# Each example, and each run of tests/refused_memory.md, refused_hooks.md and refused_rules.md, is run
+# with its growth 1, 2, 3, .. refused, until a run meets no refusal. Each run has to end by itself, in one of three ways:
 #
 # - with status 4, 'gherkin_run: out of memory' on standard error, and on standard output the
 #   beginning of the report with ample memory, up to the end of a feature's part;

@@ -1,14 +1,15 @@
 #!/usr/bin/env python3
 """Runs the pairs of tests/side_by_side/ and the suites that were taken over: side_by_side.py PROGRAM ROOM [--behave].
 
-Called by tests/side_by_side.sh, and with --behave by tests/with_behave.sh. A pair is a folder with a file `says`,
-which has commands and what they say; tests/side_by_side/README.md says how. Without --behave the commands of
-gherkin_run are run, with it those of behave. Besides:
-- each pair is named once, by a link on docs/guide/behave.md or docs/guide/cucumber.md or among the other pairs of
-  tests/side_by_side/README.md, and these name no pair that is missing;
+Called by tests/side_by_side.sh, and with --behave by tests/with_behave.sh. The pages of tests/side_by_side/ show the
+files of the pairs, and commands with what they say; tests/side_by_side/README.md says how. The suites are folders, each
+with its commands in a file `says`. Without --behave the commands of gherkin_run are run, with it those of behave.
+It also checks that
+- docs/guide/behave.md and docs/guide/cucumber.md link to no pair twice;
 - examples/leaks/show.py shows what examples/leaks/result.txt has.
 """
 
+import collections
 import os
 import re
 import shlex
@@ -16,6 +17,7 @@ import shutil
 import subprocess
 import sys
 
+import blocks
 import driver
 
 PAIRS = os.path.join(driver.HOME, "tests", "side_by_side")
@@ -23,35 +25,40 @@ SUITES = [os.path.join(driver.HOME, "examples", it) for it in ("from_behave", "f
 LEAKS = os.path.join(driver.HOME, "examples", "leaks")
 STEPS = os.path.join(PAIRS, "steps.py")
 COUNTS = re.compile(r"\d+ (features?|scenarios?|steps?) passed, ")
-# The pages that name pairs, each with how it does: by a link, or by the name alone.
-LINKED = re.compile(r"\]\((?:\.\./)+tests/side_by_side/([a-z_]+/[a-z0-9_]+)\)")
-PAGES = {"docs/guide/behave.md": LINKED, "docs/guide/cucumber.md": LINKED,
-         "tests/side_by_side/README.md": re.compile(r"`((?:behave|cucumber)/[a-z0-9_]+)`")}
+# The pages that link to pairs.
+LINKED = re.compile(r"\]\((?:\.\./)+tests/side_by_side/([a-z_]+\.md#[a-z0-9-]+)\)")
+PAGES = ("docs/guide/behave.md", "docs/guide/cucumber.md")
 # behave's own settings: nothing of the machine changes what is said.
 QUIET = ["--no-capture", "--no-color", "--no-timings", "--format=plain"]
 
 
-def pairs():
-    """The folders with a file `says`, in order."""
-    for top in (PAIRS, *SUITES):
-        for folder, folders, names in os.walk(top):
-            folders.sort()
+def pairs(room):
+    """The folders in which the pairs and the suites are laid out, each with its name and its commands."""
+    for page in sorted(os.listdir(PAIRS)):
+        if page.endswith(".md"):
+            for heading, files, block in blocks.runs(driver.read(os.path.join(PAIRS, page)).decode()):
+                name = f"{page.removesuffix('.md')}.{heading.replace(' ', '_')}"
+                yield lay(os.path.join(room, name), files), f"tests/side_by_side/{page}: {heading}", said(block)
+    for top in SUITES:
+        for folder, _, names in os.walk(top):
             if "says" in names:
-                yield folder
+                name = os.path.relpath(folder, driver.HOME)
+                text = driver.read(os.path.join(folder, "says")).decode()
+                yield shutil.copytree(folder, os.path.join(room, name.replace(os.sep, "."))), name, \
+                    said(blocks.Block(0, "console", "", text))
 
 
-def commands(folder):
-    """The commands of a file `says`, each as its words and the text below it."""
-    words, said = None, []
-    for line in driver.read(os.path.join(folder, "says")).decode().splitlines():
-        if line.startswith("$ "):
-            if words:
-                yield words, said
-            words, said = shlex.split(line[2:]), []
-        else:
-            said.append(line)
-    if words:
-        yield words, said
+def lay(folder, files):
+    """Writes the files of a pair to a folder as behave wants them: the steps in a folder of theirs. Returns the folder."""
+    own = {"own.py": files.pop("steps.py")} if "steps.py" in files else {}
+    driver.write(folder, files)
+    driver.write(os.path.join(folder, "steps"), {"steps.py": driver.read(STEPS), **own})
+    return folder
+
+
+def said(block):
+    """The commands of a block, each as its words and the lines below it."""
+    return [(shlex.split(command.decode()), below.decode().splitlines()) for command, below in blocks.commands(block)]
 
 
 def said_of(status, printed):
@@ -59,20 +66,6 @@ def said_of(status, printed):
     lines = [it for it in printed.decode("utf-8", "backslashreplace").splitlines() if it.strip()]
     counts = [it for it in lines if COUNTS.match(it)]
     return (counts or lines[-1:]) + [f"status {status}"]
-
-
-def laid_out(folder, room):
-    """A copy of a pair's folder as behave wants it: the steps in a folder of theirs."""
-    copy = os.path.join(room, os.path.relpath(folder, driver.HOME).replace(os.sep, "."))
-    if not os.path.exists(copy):
-        shutil.copytree(folder, copy)
-        if folder.startswith(PAIRS):
-            os.makedirs(os.path.join(copy, "steps"))
-            shutil.copy(STEPS, os.path.join(copy, "steps"))
-            own = os.path.join(copy, "steps.py")
-            if os.path.exists(own):
-                shutil.move(own, os.path.join(copy, "steps", "own.py"))
-    return copy
 
 
 def run_behave(folder, words):
@@ -87,31 +80,22 @@ def run_here(program, folder, words):
     return said_of(status, printed + fault)
 
 
-def trouble_of(folder, words, wanted, said):
-    if said == wanted:
+def pair_trouble(program, job):
+    """What is wrong with one command of a pair."""
+    folder, name, words, wanted = job
+    found = run_behave(folder, words[1:]) if words[0] == "behave" else run_here(program, folder, words[1:])
+    if found == wanted:
         return ""
-    name = os.path.relpath(folder, driver.HOME)
-    return "\n".join([f"{name}: {shlex.join(words)}", "  says", *(f"    {it}" for it in said), "  and not",
+    return "\n".join([f"{name}: {shlex.join(words)}", "  says", *(f"    {it}" for it in found), "  and not",
                       *(f"    {it}" for it in wanted)])
 
 
-def pair_trouble(program, room, job):
-    """What is wrong with one command of a pair."""
-    folder, words, wanted = job
-    copy = laid_out(folder, room)
-    said = run_behave(copy, words[1:]) if words[0] == "behave" else run_here(program, copy, words[1:])
-    return trouble_of(folder, words, wanted, said)
-
-
-def naming_trouble():
-    """Pairs that the pages don't name, or name more than once, and named pairs that are missing."""
-    named = [it for page, name in PAGES.items() for it in name.findall(driver.read(os.path.join(driver.HOME, page)).decode())]
-    there = [os.path.relpath(it, PAIRS) for it in pairs() if it.startswith(PAIRS)]
-    for pair in sorted(set(named) | set(there)):
-        if pair not in there:
-            yield f"a page names the pair {pair}, which is missing"
-        elif named.count(pair) != 1:
-            yield f"the pages name the pair {pair} {named.count(pair)} times"
+def linked_twice():
+    """The pairs to which the pages link more than once. tests/documents.sh finds links to pairs that are missing."""
+    linked = [it for page in PAGES for it in LINKED.findall(driver.read(os.path.join(driver.HOME, page)).decode())]
+    for pair, count in collections.Counter(linked).items():
+        if count > 1:
+            yield f"the pages link {count} times to {pair}"
 
 
 def leaks_trouble(program, with_behave):
@@ -127,11 +111,10 @@ def main():
     program, room, with_behave = sys.argv[1], sys.argv[2], "--behave" in sys.argv[3:]
     who = "behave" if with_behave else "gherkin_run"
     tests = driver.Tests()
-    jobs = [(folder, words, said) for folder in pairs() for words, said in commands(folder) if words[0] == who]
-    for folder in pairs():
-        laid_out(folder, room)
-    tests.add_all(driver.on_all_processors(lambda job: pair_trouble(program, room, job), jobs))
-    tests.add("\n".join(naming_trouble()))
+    jobs = [(folder, name, words, wanted) for folder, name, commands in pairs(room) for words, wanted in commands
+            if words[0] == who]
+    tests.add_all(driver.on_all_processors(lambda job: pair_trouble(program, job), jobs))
+    tests.add("\n".join(linked_twice()))
     tests.add(leaks_trouble(program, with_behave))
     return tests.close()
 

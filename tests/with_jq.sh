@@ -115,15 +115,12 @@ for feature in examples/*.feature; do
     echo "$feature" >> "$room/list"
     with_arguments "$room/list" compare "$feature"
 done
-for folder in tests/runs/*/*json*; do
-    case $(head -c 1 "$folder/stdout" 2> /dev/null) in
-    "{")
-        cd "$folder"
-        with_arguments arguments compare "$folder"
-        cd "$home"
-        ;;
-    esac
+python3 "$home/tests/stored_cases.py" "$room/cases"
+for folder in "$room"/cases/*; do
+    cd "$folder"
+    with_arguments arguments compare "${folder##*/}"
 done
+cd "$home"
 features="examples/first.feature examples/failing.feature examples/tags.feature
     examples/undefined.feature examples/sums.feature examples/isolation.feature"
 add_up "all that pass" -- examples/first.feature examples/sums.feature examples/settings.feature

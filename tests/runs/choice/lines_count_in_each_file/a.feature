@@ -1,4 +1,0 @@
-Feature: a
-  Scenario: s
-  Scenario: t
-    Given it fails

@@ -1,4 +1,0 @@
-Feature: b
-
-  Scenario: s
-    Given nothing knows this

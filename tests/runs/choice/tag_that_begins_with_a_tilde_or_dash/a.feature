@@ -1,9 +1,0 @@
-Feature: a
-  @~x
-  Scenario: s
-  @-x
-  Scenario: t
-  @@x
-  Scenario: u
-  @x
-  Scenario: v

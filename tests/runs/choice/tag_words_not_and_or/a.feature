@@ -1,5 +1,0 @@
-Feature: a
-  @and
-  Scenario: s
-  @not
-  Scenario: t

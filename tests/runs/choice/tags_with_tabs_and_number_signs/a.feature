@@ -1,5 +1,0 @@
-Feature: a
-  @a	@b#c 	#@d
-  Scenario: s
-  @d
-  Scenario: t

@@ -1,3 +1,0 @@
-Feature: e
-  Scenario: s
-    When the variable "A" is set to "9"

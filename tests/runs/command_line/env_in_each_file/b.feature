@@ -1,3 +1,0 @@
-Feature: f
-  Scenario: s
-    Then the variable "A" should be "1"

@@ -1,5 +1,0 @@
-Feature: e
-  Scenario: s
-    Then A is empty
-      """
-      """

@@ -1,3 +1,0 @@
-Feature: e
-  Scenario: s
-    Then the variable " é " should be " ü "

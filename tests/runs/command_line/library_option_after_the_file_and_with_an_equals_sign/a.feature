@@ -1,3 +1,0 @@
-Feature: l
-  Scenario: s
-    Given x

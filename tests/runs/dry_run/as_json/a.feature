@@ -1,4 +1,0 @@
-Feature: f
-  Scenario: s
-    Given it fails
-    And nothing knows this

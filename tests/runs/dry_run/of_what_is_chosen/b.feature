@@ -1,3 +1,0 @@
-Feature: b
-  Scenario: left out
-    Given it fails

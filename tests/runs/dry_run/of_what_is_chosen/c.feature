@@ -1,2 +1,0 @@
-@a
-Feature: c

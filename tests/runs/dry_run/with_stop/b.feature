@@ -1,5 +1,0 @@
-Feature: after it
-  Scenario: s
-    Given nothing knows this
-  Scenario: t
-    Given it passes

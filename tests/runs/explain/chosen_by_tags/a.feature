@@ -1,7 +1,0 @@
-Feature: F
-  @a
-  Scenario: S
-    Given it fails
-  @b
-  Scenario: T
-    Given it fails

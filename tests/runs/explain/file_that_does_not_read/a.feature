@@ -1,3 +1,0 @@
-Feature: F
-  Scenario: S
-    Given it fails

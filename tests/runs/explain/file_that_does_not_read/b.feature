@@ -1,2 +1,0 @@
-Feature: F
-Feature: G

@@ -1,4 +1,0 @@
-@bad
-Feature: Never begun
-  Scenario: Untested
-    Given it passes

@@ -1,6 +1,0 @@
-@late
-Feature: Cleaned up
-  Scenario: Passes
-    Given it passes
-  Scenario: Fails
-    Given it fails

@@ -1,3 +1,0 @@
-Feature: F
-  Scenario: S
-    Given the variable "V" is set to "w"

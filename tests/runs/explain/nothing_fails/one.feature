@@ -1,3 +1,0 @@
-Feature: One
-  Scenario: S
-    Given it passes

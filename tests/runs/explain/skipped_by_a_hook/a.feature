@@ -1,6 +1,0 @@
-Feature: F
-  Scenario: S
-    Given it fails
-  @a
-  Scenario: T
-    Given it fails

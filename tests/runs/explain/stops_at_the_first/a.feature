@@ -1,5 +1,0 @@
-Feature: F
-  Scenario: S
-    Given it fails
-  Scenario: T
-    Given it fails

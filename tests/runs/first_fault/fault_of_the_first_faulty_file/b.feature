@@ -1,3 +1,0 @@
-Feature: b
-stray
-@x

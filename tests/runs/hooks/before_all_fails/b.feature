@@ -1,5 +1,0 @@
-Feature: two
-  @slow
-  Scenario: A
-    Given it fails
-  Scenario: B

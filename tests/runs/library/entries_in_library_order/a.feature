@@ -1,4 +1,0 @@
-Feature: l
-  Scenario: s
-    Given a b
-    Given a c

@@ -1,3 +1,0 @@
-Feature: p
-  Scenario: s
-    Given 5 apples and pears

@@ -1,4 +1,0 @@
-Feature: p
-  Scenario: s
-    Given a b
-    When a b

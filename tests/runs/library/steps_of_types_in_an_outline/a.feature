@@ -1,7 +1,0 @@
-Feature: o
-  Scenario Outline: o
-    When <a>
-    And is
-    Examples:
-      | a    |
-      | both |

@@ -1,4 +1,0 @@
-Feature: p
-  Scenario: s
-    Given {a}
-    Given 5

@@ -1,8 +1,0 @@
-Feature: a
-  Background:
-    When both
-  Scenario: begins as given
-    And is
-  Scenario: when again
-    When is
-    And is

@@ -1,3 +1,0 @@
-Feature: Good
-  Scenario: One
-    Given it passes

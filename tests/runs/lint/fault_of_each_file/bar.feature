@@ -1,4 +1,0 @@
-Feature: A bar
-  Scenario: One
-    Given it passes
-      | a | b

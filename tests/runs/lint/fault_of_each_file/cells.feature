@@ -1,5 +1,0 @@
-Feature: Cells
-  Scenario: One
-    Given it passes
-      | a | b |
-      | a|b | c |

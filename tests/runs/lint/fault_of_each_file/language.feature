@@ -1,2 +1,0 @@
-# language: de
-Feature: A language

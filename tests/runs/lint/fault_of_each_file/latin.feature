@@ -1,3 +1,0 @@
-Feature: Latin
-  Scenario: At a café in summer
-    Given it passes

@@ -1,2 +1,0 @@
-@slow database
-Feature: A tag

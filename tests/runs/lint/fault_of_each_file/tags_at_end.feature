@@ -1,6 +1,0 @@
-Feature: Tags at the end
-  Scenario: One
-    Given it passes
-
-  @slow
-# the end

@@ -1,5 +1,0 @@
-Feature: A text
-  Scenario: One
-    Given it passes
-      """
-      a \ text

@@ -1,4 +1,0 @@
-Feature: Unexpected
-  Scenario: One
-    Given it passes
-	Given it passes

@@ -1,5 +1,0 @@
-Feature: Broken
-  Scenario: One
-    Given a text
-      """
-      not closed

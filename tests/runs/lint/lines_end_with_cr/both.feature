@@ -1,3 +1,0 @@
-Feature: Both
-  Scenario: S
-    Given it passes

@@ -1,1 +1,0 @@
-Feature: F  Scenario: S    Given it passes

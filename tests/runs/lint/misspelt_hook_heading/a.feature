@@ -1,3 +1,0 @@
-Feature: a
-  Scenario: s
-    Given it passes

@@ -1,2 +1,0 @@
-Feature: Bad
-Feature: Again

@@ -1,4 +1,0 @@
-
-@a
-Feature: None
-  Rule: Empty

@@ -1,3 +1,0 @@
-Feature: Second
-  Scenario: One
-    Given it pases

@@ -1,6 +1,0 @@
-Feature: Tagged
-  @a
-  Scenario: One
-    Given it passes
-  @b
-  Scenario: Two

@@ -1,4 +1,0 @@
-Feature: Other
-  @ui
-  Scenario: One
-    Given it passes

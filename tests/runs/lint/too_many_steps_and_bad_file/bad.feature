@@ -1,4 +1,0 @@
-Feature: Bad
-  Scenario: One
-    Given it passes
-    it passes

@@ -1,2 +1,0 @@
-@x @
-Feature: a

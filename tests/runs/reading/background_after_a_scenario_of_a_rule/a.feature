@@ -1,5 +1,0 @@
-Feature: a
-Background:
-Rule: r
-Scenario: s
-Background:

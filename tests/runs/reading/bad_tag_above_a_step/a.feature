@@ -1,4 +1,0 @@
-Feature: a
-Scenario: s
-@a b
-Given it passes

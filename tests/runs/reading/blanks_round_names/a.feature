@@ -1,3 +1,0 @@
-	 Feature: 	 a  b 	
-	Scenario:s
-		Given 	 it passes 	

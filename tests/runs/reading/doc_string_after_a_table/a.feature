@@ -1,5 +1,0 @@
-Feature: a
-Scenario: s
-Given it passes
-| x |
-"""

@@ -1,5 +1,0 @@
-Feature: a
-Scenario Outline: s
-Examples:
-| x | y |
-| 1 |

@@ -1,4 +1,0 @@
-Feature: a
-Background:
-Given it passes
-Examples:

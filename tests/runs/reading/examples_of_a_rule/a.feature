@@ -1,4 +1,0 @@
-Feature: a
-Scenario: s
-Rule: r
-Scenarios:

@@ -1,5 +1,0 @@
-Feature: a
-  Scenario: s
-    Given
-    And-so on
-    Given it passes

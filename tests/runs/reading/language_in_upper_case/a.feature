@@ -1,2 +1,0 @@
-#language:EN
-Feature: a

@@ -1,3 +1,0 @@
-
-  #	language :  en-lol  
-Feature: a

@@ -1,7 +1,0 @@
-Feature: a
-Scenario: s
-@x
-
-@y @z
-# end
-

@@ -1,3 +1,0 @@
-stray
-Feature: a
-ÿ

@@ -1,4 +1,0 @@
-Feature: a
-Scenario: s
-Given it passes
-| x | # c

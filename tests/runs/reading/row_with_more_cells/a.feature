@@ -1,7 +1,0 @@
-Feature: a
-Scenario: s
-Given it passes
-| x |
-
-# between
-| x | y |

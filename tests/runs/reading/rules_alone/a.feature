@@ -1,4 +1,0 @@
-Feature: a
-  Rule: r
-    Scenario: s
-      Given it passes

@@ -1,2 +1,0 @@
-Feature: f
-  Scenario: s

@@ -1,5 +1,0 @@
-Feature: a
-Rule: r
-Background:
-Given it passes
-Background:

@@ -1,1 +1,0 @@
-Given it passes

@@ -1,3 +1,0 @@
-Feature: a
-@x
-Background:

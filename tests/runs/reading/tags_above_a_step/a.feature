@@ -1,4 +1,0 @@
-Feature: a
-Scenario: s
-@x
-Given it passes

@@ -1,6 +1,0 @@
-Feature: a
-Scenario: s
-Examples:
-| x |
-@t
-Background:

@@ -1,6 +1,0 @@
-Feature: a
-Scenario Outline: s
-Examples:
-| x |
-| 1 |
-text

@@ -1,3 +1,0 @@
-Feature: two
-  Scenario: second
-    Given it fails

@@ -1,2 +1,0 @@
-Feature: four
-  Scenario: fourth

@@ -1,3 +1,0 @@
-Feature: b
-  Scenario:
-  Scenario: firstsecond

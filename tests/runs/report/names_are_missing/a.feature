@@ -1,7 +1,0 @@
-Feature:
-  Scenario:
-    Given it passes
-  Scenario Outline:
-    Examples:
-      | x |
-      | 1 |

@@ -1,3 +1,0 @@
-Feature: a ... failed
-  Scenario: s ... memory
-    Given a file named "x ... failed: absent" containing "y"

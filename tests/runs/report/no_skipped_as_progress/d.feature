@@ -1,4 +1,0 @@
-@ui
-Feature: all of this one
-  Scenario: three
-    Given it fails

@@ -1,3 +1,0 @@
-Feature: f
-  Scenario: s
-    Given the scenario is skipped

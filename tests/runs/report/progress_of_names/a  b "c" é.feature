@@ -1,3 +1,0 @@
-Feature: f
-  Scenario: s
-    Given it passes

@@ -1,2 +1,0 @@
-Feature: y
-  Scenario: s

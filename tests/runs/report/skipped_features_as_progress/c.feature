@@ -1,2 +1,0 @@
-@ui
-Feature: without scenarios

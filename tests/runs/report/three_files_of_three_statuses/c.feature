@@ -1,3 +1,0 @@
-Feature: three
-  Scenario: third
-    Given nothing knows this

@@ -1,4 +1,0 @@
-Feature: two
-  Rule: third
-    Scenario: D
-      Given it passes

@@ -1,2 +1,0 @@
-Feature: two
-  Rule: nothing

@@ -1,5 +1,0 @@
-Feature: f
-  Scenario: s
-    Given nothing knows this
-  Scenario: t
-    Given nothing knows this

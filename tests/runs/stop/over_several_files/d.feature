@@ -1,4 +1,0 @@
-@no
-Feature: nothing of this one is chosen
-  Scenario: s
-    Given it fails

@@ -1,4 +1,0 @@
-@broken
-Feature: b
-  Scenario: s
-    Given it passes

@@ -1,4 +1,0 @@
-@broken
-Feature: a
-  Scenario: s
-    Given it passes

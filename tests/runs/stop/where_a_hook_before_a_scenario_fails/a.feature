@@ -1,6 +1,0 @@
-Feature: a
-  @broken
-  Scenario: s
-    Given it passes
-  Scenario: t
-    Given it passes

@@ -1,5 +1,0 @@
-Feature: skips
-  Scenario: s
-    Given the scenario is skipped
-  Scenario: t
-    Given it passes

@@ -1,5 +1,0 @@
-Feature: And
-  Background:
-    Then it passes
-  Scenario: Begins with And
-    And x

@@ -1,5 +1,0 @@
-Feature: Star
-  Scenario: One
-    Then it holds
-    * it passes
-    And it holds

@@ -1,3 +1,0 @@
-Feature: And
-  Scenario: Begins with And
-    And x

@@ -1,3 +1,0 @@
-﻿Feature: A mark
-  Scenario: The only one
-    Given it passes

@@ -1,3 +1,0 @@
-Feature: Cleanups
-  Scenario: The only one
-    Given it passes

@@ -1,6 +1,0 @@
-Feature: Texts
-  Scenario: A colon before a doc string
-    Given a letter to Ada:
-      """
-      Dear Ada
-      """

@@ -1,3 +1,0 @@
-Feature: Types
-  Scenario: The only one
-    Given a lamp

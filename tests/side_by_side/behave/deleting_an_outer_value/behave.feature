@@ -1,3 +1,0 @@
-Feature: Layers
-  Scenario: Deletes the feature's number
-    When the value "n" is deleted

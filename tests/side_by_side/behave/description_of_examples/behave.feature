@@ -1,7 +1,0 @@
-Feature: Descriptions
-  Scenario Outline: It <ends>
-    Given it <ends>
-    Examples:
-      How it may end.
-      | ends   |
-      | passes |

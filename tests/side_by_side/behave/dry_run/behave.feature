@@ -1,4 +1,0 @@
-Feature: Dry runs
-  Scenario: Nothing is carried out
-    Given it fails
-    Then it passes

@@ -1,3 +1,0 @@
-Feature: Headings
-  Example: A scenario by its other name
-    Given it fails

@@ -1,6 +1,0 @@
-Feature: Choosing again
-  Scenario: plain
-    Given it passes
-  @slow
-  Scenario: slow
-    Given it passes

@@ -1,2 +1,0 @@
-def after_scenario(context, scenario):
-    assert False

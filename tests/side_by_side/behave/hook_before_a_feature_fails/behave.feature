@@ -1,7 +1,0 @@
-Feature: Hooks
-  @a
-  Scenario: With a tag
-    Given it passes
-    And nobody has written this step
-  Scenario: Without
-    Given it passes

@@ -1,2 +1,0 @@
-def before_feature(context, feature):
-    assert False

@@ -1,2 +1,0 @@
-def before_all(context):
-    assert False

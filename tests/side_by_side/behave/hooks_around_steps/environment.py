@@ -1,2 +1,0 @@
-def before_step(context, step):
-    assert False

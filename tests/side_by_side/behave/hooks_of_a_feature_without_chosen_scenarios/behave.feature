@@ -1,4 +1,0 @@
-Feature: Not chosen
-  @slow
-  Scenario: Slow
-    Given it passes

@@ -1,4 +1,0 @@
-# language: de
-Funktionalität: Sprachen
-  Szenario: Auf Deutsch
-    Gegeben sei it passes

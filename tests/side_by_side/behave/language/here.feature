@@ -1,3 +1,0 @@
-Feature: Sprachen
-  Scenario: Auf Deutsch
-    Given it passes

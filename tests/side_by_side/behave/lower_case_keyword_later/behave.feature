@@ -1,4 +1,0 @@
-Feature: Keywords
-  Scenario: A later step begins with a small letter
-    Given it passes
-    then it fails

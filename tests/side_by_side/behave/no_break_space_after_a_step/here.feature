@@ -1,3 +1,0 @@
-Feature: Blanks
-  Scenario: None
-    Given it passes

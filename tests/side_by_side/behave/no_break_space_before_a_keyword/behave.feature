@@ -1,5 +1,0 @@
-Feature: Blanks
-   Scenario: A no-break space before the keyword
-    Given it fails
-  Scenario: A space
-    Given it passes

@@ -1,4 +1,0 @@
-Feature: Tags
-  @a @b
-  Scenario: A no-break space
-    Given it passes

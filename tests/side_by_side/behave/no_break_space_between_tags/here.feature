@@ -1,4 +1,0 @@
-Feature: Tags
-  @a @b
-  Scenario: A space
-    Given it passes

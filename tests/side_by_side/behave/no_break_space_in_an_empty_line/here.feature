@@ -1,5 +1,0 @@
-Feature: Blanks
-  Scenario: An empty line
-    Given it passes
-
-    And it passes

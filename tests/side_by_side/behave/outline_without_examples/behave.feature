@@ -1,3 +1,0 @@
-Feature: Examples
-  Scenario Outline: None at all
-    Given it passes

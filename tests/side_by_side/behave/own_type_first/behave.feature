@@ -1,3 +1,0 @@
-Feature: Types
-  Scenario: A Given of its own comes before a step of any type
-    Given a lamp

@@ -1,3 +1,0 @@
-Feature: Types
-  Scenario: A word
-    Given a lamp

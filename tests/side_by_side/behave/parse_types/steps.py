@@ -1,6 +1,0 @@
-from behave import given
-
-
-@given("a {thing:w}")
-def given_thing(context, thing):
-    pass

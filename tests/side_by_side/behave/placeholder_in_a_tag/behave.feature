@@ -1,8 +1,0 @@
-Feature: Tags
-  @<mode>
-  Scenario Outline: Filled in
-    Given it passes
-    Examples:
-      | mode |
-      | on   |
-      | off  |

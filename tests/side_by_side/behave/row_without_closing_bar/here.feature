@@ -1,6 +1,0 @@
-Feature: Cells
-  Scenario: The whole cell
-    Given these files:
-      | name | text |
-      | note | yes  |
-    Then the file "note" should be "yes"

@@ -1,7 +1,0 @@
-Feature: Headings
-  Scenario: A plain scenario with examples
-    Given it <ends>
-    Examples:
-      | ends   |
-      | passes |
-      | fails  |

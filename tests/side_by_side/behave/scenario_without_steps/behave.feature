@@ -1,2 +1,0 @@
-Feature: Steps
-  Scenario: None

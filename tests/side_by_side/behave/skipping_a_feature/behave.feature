@@ -1,4 +1,0 @@
-@later
-Feature: Skipping
-  Scenario: The only one
-    Given it passes

@@ -1,4 +1,0 @@
-Feature: A star
-  Scenario: After a Then
-    Then it passes
-    Given x

@@ -1,2 +1,0 @@
-def before_tag(context, tag):
-    assert tag != "a"

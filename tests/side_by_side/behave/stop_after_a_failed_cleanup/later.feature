@@ -1,3 +1,0 @@
-Feature: Later
-  Scenario: Isn't to be reached
-    Given it passes

@@ -1,4 +1,0 @@
-Feature: Keywords
-  Scenario: A tab after the keyword of the second step
-    Given it passes
-    Then	it fails

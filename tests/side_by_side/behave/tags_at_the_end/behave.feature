@@ -1,4 +1,0 @@
-Feature: Tags
-  Scenario: The only one
-    Given it passes
-@lost

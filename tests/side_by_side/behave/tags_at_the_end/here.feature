@@ -1,4 +1,0 @@
-Feature: Tags
-  @found
-  Scenario: The only one
-    Given it passes

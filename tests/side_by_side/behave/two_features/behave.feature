@@ -1,4 +1,0 @@
-Feature: One
-Feature: Two
-  Scenario: Of which?
-    Given it passes

@@ -1,3 +1,0 @@
-Feature: One
-  Scenario: Of the only one
-    Given it passes

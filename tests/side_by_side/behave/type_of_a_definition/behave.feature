@@ -1,3 +1,0 @@
-Feature: Types
-  Scenario: A Given isn't found by a When
-    When x

@@ -1,3 +1,0 @@
-Feature: Texts
-  Scenario: In capital letters
-    Given IT PASSES

@@ -1,3 +1,0 @@
-Feature: Texts
-  Scenario: As the library has it
-    Given it passes

@@ -1,3 +1,0 @@
-Feature: Expressions
-  Scenario: Two definitions fit
-    Given a lamp

@@ -1,3 +1,0 @@
-Feature: Parameters
-  Scenario: Anything
-    Given a lamp

@@ -1,3 +1,0 @@
-Business Need: Lamps
-  Scenario: One
-    Given it passes

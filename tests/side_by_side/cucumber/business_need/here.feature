@@ -1,3 +1,0 @@
-Feature: Lamps
-  Scenario: One
-    Given it passes

@@ -1,5 +1,0 @@
-Feature: Choosing
-  Scenario: one
-    Given it passes
-  Scenario: two
-    Given it passes

@@ -1,3 +1,0 @@
-Feature: Hooks
-  Scenario: The only one
-    Given it passes

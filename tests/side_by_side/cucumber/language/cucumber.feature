@@ -1,4 +1,0 @@
-# language: fr
-Fonctionnalité: Langues
-  Scénario: En français
-    Soit it passes

@@ -1,3 +1,0 @@
-Feature: Langues
-  Scenario: En français
-    Given it passes

@@ -1,3 +1,0 @@
-Feature: Outlines
-  Scenario Outline: Without examples
-    Given it fails

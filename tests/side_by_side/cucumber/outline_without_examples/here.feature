@@ -1,3 +1,0 @@
-Feature: Outlines
-  Scenario: Without examples
-    Given it fails

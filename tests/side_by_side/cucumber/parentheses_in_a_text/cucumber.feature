@@ -1,3 +1,0 @@
-Feature: Expressions
-  Scenario: Parentheses that are text
-    Given a lamp (red)

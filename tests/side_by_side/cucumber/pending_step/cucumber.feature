@@ -1,4 +1,0 @@
-Feature: Steps
-  Scenario: Not written yet
-    Given a lamp
-    Then it shines

@@ -1,3 +1,0 @@
-Feature: Expressions
-  Scenario: One of two
-    Given the red lamp is on

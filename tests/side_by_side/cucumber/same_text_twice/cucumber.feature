@@ -1,4 +1,0 @@
-Feature: Keywords
-  Scenario: The keyword decides
-    Given the lamp is on
-    Then the lamp is on

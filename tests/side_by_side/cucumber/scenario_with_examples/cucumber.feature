@@ -1,6 +1,0 @@
-Feature: Outlines
-  Scenario: A plain scenario with examples
-    Given it <ends>
-    Examples:
-      | ends   |
-      | passes |

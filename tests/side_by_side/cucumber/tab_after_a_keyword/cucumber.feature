@@ -1,3 +1,0 @@
-Feature: Keywords
-  Scenario: A tab after the keyword
-    Given	it fails

@@ -1,3 +1,0 @@
-Feature: Keywords
-  Scenario: In a comment
-    # Given it fails
