@@ -150,7 +150,7 @@ def is_meant(function, module, name):
     return function.is_public and (name == function.owner or not function.owner and (module, name) == (function.module, function.name))
 
 
-def told(function):
+def described(function):
     """A function as an item of a list, with its clauses below it."""
     name = f"{function.owner}::{function.name}" if function.owner else function.name
     found = [item(f"`{name}`: " + (first_sentence(function.doc) or f"The function of `{function.of}`."))]
@@ -163,7 +163,7 @@ def told(function):
 def claims(crate, _):
     left = [it for path in files(f"crates/{crate}/src/*.rt", f"crates/{crate}/src/*/*.rt") for it in functions(path)]
     for module, name in exported(crate):
-        yield from (told(it) for it in left if is_meant(it, module, name))
+        yield from (described(it) for it in left if is_meant(it, module, name))
         left = [it for it in left if not is_meant(it, module, name)]
 
 
