@@ -103,10 +103,10 @@ def code_names():
     return names
 
 
-# What stands in code style on these pages and is declared nowhere: words of Rust, of Gherkin, of the
-# shell and of the pages' own tables.
+# What stands in code style on these pages and is declared nowhere: words of definitions, of Rust, of Gherkin,
+# of the shell and of the pages' own tables.
 PLAIN_WORDS = set("""
-    Global Memory Option None Result Err Some String Vec Display Serialize write_all read_to_end ensures requires refl clap indexmap serde serde_json thiserror std rt cc jq malloc
+    abbrev unfoldable Global Memory Option None Result Err Some String Vec Display Serialize write_all read_to_end ensures requires refl clap indexmap serde serde_json thiserror std rt cc jq malloc
     NAME TEXT TO N E R EXAMPLES LINE FILE KEYWORD VERDICT STATUS REASON TYPE PATTERN ACTION h x n main run test given when then step
     all Andorra EU EN en json name text to absent present differs passed failed skipped undefined untested memory
 """.split())
