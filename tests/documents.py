@@ -3,7 +3,8 @@
 
 Fails where
 - a document names a clause, file, crate, function, definition or must-fail edit that isn't there;
-- a must-fail edit isn't listed in docs/TRIALS.md, or is listed twice;
+- a must-fail edit doesn't say what it breaks and which clause refuses it, or names a clause or a function that isn't there;
+- tools/read.py leaves out an edit, a file of definitions or a public function, or prints it twice;
 - a relative link leads nowhere, or to a heading that isn't there;
 - a run that a document shows gives something else (a `console` block over the files above it, and, on a page of
   docs/guide/, over those of the guide's other pages);
@@ -102,10 +103,10 @@ def code_names():
     return names
 
 
-# What stands in code style on these pages and is declared nowhere: words of Rust, of Gherkin, of the
-# shell and of the pages' own tables.
+# What stands in code style on these pages and is declared nowhere: words of definitions, of Rust, of Gherkin,
+# of the shell and of the pages' own tables.
 PLAIN_WORDS = set("""
-    Global Memory Option None Result Err Some String Vec Display Serialize write_all read_to_end ensures requires refl clap indexmap serde serde_json thiserror std rt cc jq malloc
+    abbrev unfoldable Global Memory Option None Result Err Some String Vec Display Serialize write_all read_to_end ensures requires refl clap indexmap serde serde_json thiserror std rt cc jq malloc
     NAME TEXT TO N E R EXAMPLES LINE FILE KEYWORD VERDICT STATUS REASON TYPE PATTERN ACTION h x n main run test given when then step
     all Andorra EU EN en json name text to absent present differs passed failed skipped undefined untested memory
 """.split())
@@ -178,20 +179,22 @@ def named_wrongly(page, names, owned):
             yield number, "something is left to do"
 
 
-def named_clauses(page):
-    """Each pair 'public call, clause' of a table of a page whose clause isn't there.
+def named_clauses(line, clauses):
+    """What a line says of clauses that aren't there: `call`: `clause`, `clause` names clauses of one function."""
+    for call, listed in re.findall(r"`([A-Za-z_][A-Za-z0-9_:]*)`: ((?:`[a-z_][a-z0-9_]*`(?:, | and )?)+)", line):
+        function = call.split("::")[-1]
+        if function not in clauses:
+            yield f"no function {call}"
+            continue
+        for clause in re.findall(r"`([a-z_][a-z0-9_]*)`", listed):
+            if clause not in clauses[function]:
+                yield f"no clause {clause} of {call}"
 
-    A cell `call`: `clause`, `clause` names clauses of one function."""
+
+def named_clauses_of(page):
     clauses = clauses_by_function()
     for number, line in enumerate(prose_of(page).split("\n"), 1):
-        for call, listed in re.findall(r"`([A-Za-z_][A-Za-z0-9_:]*)`: ((?:`[a-z_][a-z0-9_]*`(?:, | and )?)+)", line):
-            function = call.split("::")[-1]
-            if function not in clauses:
-                yield number, f"no function {call}"
-                continue
-            for clause in re.findall(r"`([a-z_][a-z0-9_]*)`", listed):
-                if clause not in clauses[function]:
-                    yield number, f"no clause {clause} of {call}"
+        yield from ((number, it) for it in named_clauses(line, clauses))
 
 
 def clauses_by_function():
@@ -214,37 +217,48 @@ def clauses_by_function():
 
 # ---- must-fail edits
 
-def edits():
-    """The must-fail edits of each crate: those that the gate tries, and those of tests/edits/."""
-    return {crate: sorted(os.path.basename(it)[:-5] for it in FILES
-                          if it.startswith((f"crates/{crate}/must-fail/", f"tests/edits/{crate}/"))
-                          and it.endswith(".edit")) for crate in CRATES}
+EDITS = [it for it in FILES if it.startswith(("crates/", "tests/edits/")) and it.endswith(".edit")]
 
 
-def listed_edits():
-    """The edits that docs/TRIALS.md lists, by crate: the first cells of the table below the heading
-    `## Edits of CRATE`."""
-    found, crate = {}, None
-    for line in read("docs/TRIALS.md").split("\n"):
-        heading = re.match(r"#+ (.*)", line)
-        if heading:
-            named = re.fullmatch(r"Edits of `?([a-z_]+)`?", heading.group(1))
-            crate = named.group(1) if named else None
-        elif crate and line.startswith("| `"):
-            found.setdefault(crate, []).extend(re.findall(r"`([a-z0-9_]+)`", line.split("|")[1]))
+def edit_differences(names, owned):
+    """Edits that don't say what they break and what refuses them, and names in them that nothing has."""
+    clauses = clauses_by_function()
+    for path in EDITS:
+        why, by = read(path).split("\n")[:2]
+        if not (re.match(r"why: \S", why) and re.match(r"by: \S", by)):
+            yield f"{path} doesn't begin with its lines why: and by:"
+        for name in re.findall(r"`([A-Za-z0-9_:]+)`", by):
+            owner, _, member = name.rpartition("::")
+            if not set(name.split("::")) <= names or owner in owned and member not in owned[owner]:
+                yield f"{path} names {name}, which isn't there"
+        yield from (f"{path}: {it}" for it in named_clauses(by, clauses))
+
+
+# ---- pages that tools/read.py prints
+
+def public_functions(crate):
+    """The functions that lib.rt of a crate has or exports, and those of the types that it exports."""
+    library = read(f"crates/{crate}/src/lib.rt")
+    exported = set(re.findall(r"\w+", " ".join(re.findall(r"^pub use \w+::([^;]+);", library, re.MULTILINE))))
+    code = "\n".join(read(it) for it in FILES if re.fullmatch(f"crates/{crate}/src/.*[.]rt", it))
+    found = set(re.findall(r'^pub extern "C" fn (\w+)', library, re.MULTILINE))
+    found |= exported & set(re.findall(r"^pub fn (\w+)", code, re.MULTILINE))
+    for owner, body in re.findall(r"^impl(?:<\S*>)? (\w+)(?:<\S*>)? \{$(.*?)^\}", code, re.MULTILINE | re.DOTALL):
+        found |= {f"{owner}::{it}" for it in re.findall(r"^    pub fn (\w+)", body, re.MULTILINE) if owner in exported}
     return found
 
 
-def edit_differences():
-    there, listed = edits(), listed_edits()
-    for crate in sorted(set(there) | set(listed)):
-        for name in there.get(crate, []):
-            count = listed.get(crate, []).count(name)
-            if count != 1:
-                yield f"docs/TRIALS.md lists the edit {name} of {crate} {count} times"
-        for name in listed.get(crate, []):
-            if name not in there.get(crate, []):
-                yield f"docs/TRIALS.md lists {name}, which is no edit of {crate}"
+def reading_differences():
+    """What tools/read.py doesn't print exactly once."""
+    libraries = [it for it in CRATES if f"crates/{it}/specs/Lib.antt" in FILES and f"crates/{it}/src/lib.rt" in FILES]
+    wanted = {"edits": [f"\n- `{os.path.basename(it)[:-5]}`:" for it in EDITS],
+              "definitions": [f"({it[7:]})\n" for it in FILES if re.fullmatch(r"crates/[^/]+/specs/(?!Lib).*[.]antt", it)],
+              "claims": [f"\n- `{it}`:" for crate in libraries for it in public_functions(crate)]}
+    for command, texts in wanted.items():
+        done = subprocess.run([sys.executable, os.path.join(HOME, "tools/read.py"), command], stdout=subprocess.PIPE, text=True)
+        if done.returncode != 0:
+            yield f"tools/read.py {command} ends with {done.returncode}"
+        yield from (f"tools/read.py {command} prints {it.strip()} {done.stdout.count(it)} times" for it in texts if done.stdout.count(it) != 1)
 
 
 # ---- links
@@ -526,7 +540,7 @@ def main():
         check(tests, f"names in {page}", lines_of(page, named_wrongly(page, names, owned)))
         check(tests, f"links in {page}", lines_of(page, dead_links(page)))
     for page in PAGES:
-        check(tests, f"clauses in {page}", lines_of(page, named_clauses(page)))
+        check(tests, f"clauses in {page}", lines_of(page, named_clauses_of(page)))
         check(tests, f"examples in {page}", lines_of(page, example_differences(page)))
         for number, difference in run_differences(page, program, room):
             check(tests, f"{page}:{number}", [difference] if difference else [])
@@ -536,7 +550,8 @@ def main():
     check(tests, "words of these pages", prose.too_many_words(*([prose_of(it) for it in pages] for pages in (MAIN, READMES))))
     check(tests, "files of docs/guide/", shown_twice())
     check(tests, "lists of pages", unlisted_pages())
-    check(tests, "must-fail edits", edit_differences())
+    check(tests, "must-fail edits", edit_differences(names, owned))
+    check(tests, "pages of tools/read.py", reading_differences())
     for path in FILES:
         if re.match(r"crates/[^/]+/specs/", path) and path.endswith(".antt"):
             check(tests, f"comments in {path}", lines_of(path, broken_comments(path)))
