@@ -8,3 +8,5 @@ mod arguments_tests;
 mod counted_tests;
 #[cfg(test)]
 mod source_tests;
+#[cfg(test)]
+mod suite_tests;

@@ -7,11 +7,19 @@
 #[cfg(test)]
 mod act_tests;
 #[cfg(test)]
+mod entry_tests;
+#[cfg(test)]
+mod explain_tests;
+#[cfg(test)]
+mod filling_tests;
+#[cfg(test)]
 mod gherkin_tests;
 #[cfg(test)]
 mod library_tests;
 #[cfg(test)]
 mod lint_tests;
+#[cfg(test)]
+mod report_tests;
 #[cfg(test)]
 mod run_tests;
 #[cfg(test)]
@@ -19,6 +27,10 @@ mod select_tests;
 #[cfg(test)]
 mod steps_tests;
 #[cfg(test)]
+mod suite_tests;
+#[cfg(test)]
 mod table_tests;
+#[cfg(test)]
+mod text_tests;
 #[cfg(test)]
 mod world_tests;
