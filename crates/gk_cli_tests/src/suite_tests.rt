@@ -190,6 +190,8 @@ fn all_faults_are_named(rt: HostRuntime) -> Result<(), Fail> {
     assert_eq!(rt; said(rt.alloc(), &files, *second)?.as_str(), IN_FEATURE);
     assert!(rt; faults_after(rt.alloc(), &files, *second)?.is_empty());
     assert_eq!(rt; name_at_fault(&files, RunFault::Write), None);
+    assert_eq!(rt; RunFault::status(&first), 3);
+    assert_eq!(rt; RunFault::status(&RunFault::Memory), 4);
     assert_eq!(rt; name_at_fault(&files, RunFault::Hooks(ReadFault::TooLong)), None);
     Ok(())
 }

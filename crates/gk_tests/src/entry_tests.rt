@@ -102,22 +102,23 @@ fn made_libraries_are_asked(rt: HostRuntime) -> Result<(), Fail> {
     Ok(())
 }
 
-// Faults, and the lines that they name.
-const LINES: [(LibraryFault, Option<u32>); 9] = [
-    (LibraryFault::NotUtf8 { line: 1 }, Some(1)),
-    (LibraryFault::BadType { line: 2 }, Some(2)),
-    (LibraryFault::BadPattern { line: 3 }, Some(3)),
-    (LibraryFault::UnknownAction { line: 4 }, Some(4)),
-    (LibraryFault::MissingField { line: 5 }, Some(5)),
-    (LibraryFault::FieldKind { line: 6 }, Some(6)),
-    (LibraryFault::Ambiguous { line: 7 }, Some(7)),
-    (LibraryFault::TooLong, None),
-    (LibraryFault::Memory, None),
+// Faults, the line that each names, and its text.
+const FAULTS: [(LibraryFault, Option<u32>, &str); 9] = [
+    (LibraryFault::NotUtf8 { line: 1 }, Some(1), "not UTF-8"),
+    (LibraryFault::BadType { line: 2 }, Some(2), "bad step type"),
+    (LibraryFault::BadPattern { line: 3 }, Some(3), "bad pattern"),
+    (LibraryFault::UnknownAction { line: 4 }, Some(4), "unknown action"),
+    (LibraryFault::MissingField { line: 5 }, Some(5), "missing field"),
+    (LibraryFault::FieldKind { line: 6 }, Some(6), "wrong kind of field"),
+    (LibraryFault::Ambiguous { line: 7 }, Some(7), "ambiguous with an earlier line"),
+    (LibraryFault::TooLong, None, "longer than 16777216 bytes"),
+    (LibraryFault::Memory, None, "out of memory"),
 ];
 
 #[test]
-fn faults_of_libraries_name_their_lines(rt: HostRuntime) {
-    for (fault, line) in LINES {
-        assert_eq!(rt; fault.line(), line);
+fn faults_of_libraries_have_lines_and_texts(rt: HostRuntime) {
+    for (fault, line, text) in FAULTS {
+        assert_eq!(rt; LibraryFault::line(&fault), line);
+        assert_eq!(rt; LibraryFault::text(&fault), text);
     }
 }

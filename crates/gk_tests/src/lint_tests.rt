@@ -1,7 +1,7 @@
 use crate::run_tests::feature_of;
 use gk_gherkin::{Feature, ReadFault, read_feature, read_hooks, text_of};
 use gk_lint::{
-    Finding, FindingKind, Keyword, StepFindings, in_order, lines_without_scenario, lint_feature,
+    Finding, FindingKind, Keyword, StepFault, StepFindings, in_order, lines_without_scenario, lint_feature,
     lint_feature_file, lint_hook_tags, lint_hooks, lint_library, lint_steps,
     tags_that_stand_nowhere,
 };
@@ -14,7 +14,7 @@ use std::test::Fail;
 fn shown(alloc: Global, findings: &[Finding]) -> Result<String, AllocError> {
     let mut shown = String::new(alloc);
     for finding in findings {
-        let text = finding.kind.text(alloc)?;
+        let text = FindingKind::text(finding.kind, alloc)?;
         write!(shown, "{}: {text}\n", finding.line)?;
     }
     Ok(shown)
@@ -59,29 +59,49 @@ fn what_vanishes_is_found(rt: HostRuntime) -> Result<(), ReadFault> {
     Ok(())
 }
 
-// Keywords, and how each has to be spelt.
-const SPELLINGS: [(Keyword, &str); 15] = [
-    (Keyword::Feature, "Feature:"),
-    (Keyword::Rule, "Rule:"),
-    (Keyword::Background, "Background:"),
-    (Keyword::ScenarioOutline, "Scenario Outline:"),
-    (Keyword::ScenarioTemplate, "Scenario Template:"),
-    (Keyword::Scenarios, "Scenarios:"),
-    (Keyword::Scenario, "Scenario:"),
-    (Keyword::Examples, "Examples:"),
-    (Keyword::Example, "Example:"),
-    (Keyword::Given, "Given"),
-    (Keyword::When, "When"),
-    (Keyword::Then, "Then"),
-    (Keyword::And, "And"),
-    (Keyword::But, "But"),
-    (Keyword::Star, "*"),
+// Keywords, as each is written, and as it has to be spelt.
+const KEYWORDS: [(Keyword, &str, &str); 15] = [
+    (Keyword::Feature, "Feature", "Feature:"),
+    (Keyword::Rule, "Rule", "Rule:"),
+    (Keyword::Background, "Background", "Background:"),
+    (Keyword::ScenarioOutline, "Scenario Outline", "Scenario Outline:"),
+    (Keyword::ScenarioTemplate, "Scenario Template", "Scenario Template:"),
+    (Keyword::Scenarios, "Scenarios", "Scenarios:"),
+    (Keyword::Scenario, "Scenario", "Scenario:"),
+    (Keyword::Examples, "Examples", "Examples:"),
+    (Keyword::Example, "Example", "Example:"),
+    (Keyword::Given, "Given", "Given"),
+    (Keyword::When, "When", "When"),
+    (Keyword::Then, "Then", "Then"),
+    (Keyword::And, "And", "And"),
+    (Keyword::But, "But", "But"),
+    (Keyword::Star, "*", "*"),
 ];
 
 #[test]
 fn keywords_are_spelt(rt: HostRuntime) {
-    for (keyword, wanted) in SPELLINGS {
-        assert_eq!(rt; keyword.spelling(), wanted);
+    for (keyword, text, spelling) in KEYWORDS {
+        assert_eq!(rt; Keyword::text(keyword), text);
+        assert_eq!(rt; keyword.spelling(), spelling);
+    }
+}
+
+// What is wrong with steps, and how each is called.
+const STEP_FAULTS: [(StepFault, &str); 8] = [
+    (StepFault::Undefined, "undefined step"),
+    (StepFault::CleanupWithoutStep, "cleanup without step"),
+    (StepFault::NotAllowed, "action that isn't allowed here"),
+    (StepFault::NoText, "step without the text that its action needs"),
+    (StepFault::NoTable, "step without the table that its action needs"),
+    (StepFault::BadTable, "table that isn't one of name and text"),
+    (StepFault::IgnoredText, "doc string that is ignored"),
+    (StepFault::IgnoredTable, "table that is ignored"),
+];
+
+#[test]
+fn faults_of_steps_have_texts(rt: HostRuntime) {
+    for (fault, text) in STEP_FAULTS {
+        assert_eq!(rt; StepFault::text(fault), text);
     }
 }
 

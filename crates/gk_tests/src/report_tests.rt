@@ -2,7 +2,7 @@ use crate::run_tests::result_of;
 use crate::steps_tests::repeated;
 use crate::suite_tests::ran;
 use gk_report::{
-    Counts, Format, Style, Summary, head, pieces, push_ending, push_one_line, tail,
+    Counts, Format, PartPieces, Style, Summary, head, pieces, push_ending, push_one_line, tail,
 };
 use gk_run::{FeatureResult, Reason, Status};
 use std::alloc::{AllocError, Global};
@@ -86,6 +86,9 @@ fn features_are_counted(rt: HostRuntime) -> Result<(), Fail> {
         steps: NONE,
     };
     assert_eq!(rt; summary, nothing);
+    assert_eq!(rt; Summary::status(&summary, Status::Passed), 0);
+    assert_eq!(rt; Summary::status(&summary, Status::Failed), 1);
+    assert_eq!(rt; Summary::status(&summary, Status::Memory), 4);
     let feature = result_of(rt.alloc(), "~@out", true)?;
     summary.add(&feature);
     summary.add(&feature);
@@ -107,6 +110,7 @@ fn features_are_counted(rt: HostRuntime) -> Result<(), Fail> {
         },
     };
     assert_eq!(rt; summary, counted);
+    assert_eq!(rt; Summary::status(&summary, Status::Passed), 1);
     Ok(())
 }
 
@@ -117,9 +121,9 @@ fn first_pieces(
     feature: &FeatureResult,
 ) -> Result<(Option<String>, Option<String>, bool), AllocError> {
     let mut left = pieces(style, true, feature);
-    let first = left.next(alloc)?;
-    let second = left.next(alloc)?;
-    Ok((first, second, left.next(alloc)?.is_some()))
+    let first = PartPieces::next(&mut left, alloc)?;
+    let second = PartPieces::next(&mut left, alloc)?;
+    Ok((first, second, PartPieces::next(&mut left, alloc)?.is_some()))
 }
 
 #[test]

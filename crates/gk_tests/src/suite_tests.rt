@@ -6,7 +6,7 @@ use gk_gherkin::{Block, HookFile, Step, read_hooks};
 use gk_report::{Format, Style, part};
 use gk_run::{
     CaseResult, Chosen, FeatureResult, Level, Mark, NoRoom, Observer, Outcome, Reason, RuleResult,
-    Stage, Status, Suite, dry_feature, is_bad, reason_of, run_case_watched, run_feature,
+    Stage, Status, Suite, dry_feature, is_bad, reason_of, run_case_watched, run_feature, status_of,
 };
 use gk_steps::{Found, Library, default_library};
 use gk_world::Sandbox;
@@ -18,14 +18,29 @@ fn failures_are_told_from_the_rest(rt: HostRuntime) {
     assert!(rt; is_bad(Status::Failed) && is_bad(Status::Memory));
     assert!(rt; !is_bad(Status::Passed) && !is_bad(Status::Skipped));
     assert!(rt; !is_bad(Status::Undefined) && !is_bad(Status::Untested));
-    let failed = Mark::Acted(Outcome::Failed(Reason::Absent));
-    assert_eq!(rt; reason_of(failed), Some(Reason::Absent));
-    assert_eq!(rt; reason_of(Mark::Acted(Outcome::Passed)), None);
-    assert_eq!(rt; reason_of(Mark::Acted(Outcome::Skip)), None);
-    assert_eq!(rt; reason_of(Mark::Acted(Outcome::Memory)), None);
-    assert_eq!(rt; reason_of(Mark::Undefined), None);
-    assert_eq!(rt; reason_of(Mark::Skipped), None);
-    assert_eq!(rt; reason_of(Mark::Untested), None);
+}
+
+// What became of steps, the status of each, and why it failed.
+const MARKS: [(Mark, Status, Option<Reason>); 7] = [
+    (Mark::Acted(Outcome::Passed), Status::Passed, None),
+    (
+        Mark::Acted(Outcome::Failed(Reason::Absent)),
+        Status::Failed,
+        Some(Reason::Absent),
+    ),
+    (Mark::Acted(Outcome::Skip), Status::Skipped, None),
+    (Mark::Acted(Outcome::Memory), Status::Memory, None),
+    (Mark::Undefined, Status::Undefined, None),
+    (Mark::Skipped, Status::Skipped, None),
+    (Mark::Untested, Status::Untested, None),
+];
+
+#[test]
+fn steps_have_statuses_and_reasons(rt: HostRuntime) {
+    for (mark, status, reason) in MARKS {
+        assert_eq!(rt; status_of(mark), status);
+        assert_eq!(rt; reason_of(mark), reason);
+    }
 }
 
 // All scenarios of a feature but those with the tag `@out`.

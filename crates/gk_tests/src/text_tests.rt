@@ -79,6 +79,6 @@ const LINES: [(ReadFault, Option<u32>); 11] = [
 #[test]
 fn faults_name_their_lines(rt: HostRuntime) {
     for (fault, line) in LINES {
-        assert_eq!(rt; fault.line(), line);
+        assert_eq!(rt; ReadFault::line(&fault), line);
     }
 }
