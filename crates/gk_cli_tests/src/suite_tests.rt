@@ -76,7 +76,10 @@ fn suites_are_reported(rt: HostRuntime) -> Result<(), Fail> {
     assert_eq!(rt; status, 1);
     assert_eq!(rt; text_of(&out)?, REPORT);
     let left = format!(in rt.alloc(); "{:?}", files.sources)?;
-    assert_eq!(rt; left.as_str(), "[Source { name: \"counter.feature\", bytes: [] }]");
+    assert_eq!(rt;
+        left.as_str(),
+        "[Source { name: \"counter.feature\", bytes: [] }]"
+    );
     Ok(())
 }
 
@@ -192,6 +195,9 @@ fn all_faults_are_named(rt: HostRuntime) -> Result<(), Fail> {
     assert_eq!(rt; name_at_fault(&files, RunFault::Write), None);
     assert_eq!(rt; RunFault::status(&first), 3);
     assert_eq!(rt; RunFault::status(&RunFault::Memory), 4);
-    assert_eq!(rt; name_at_fault(&files, RunFault::Hooks(ReadFault::TooLong)), None);
+    assert_eq!(rt;
+        name_at_fault(&files, RunFault::Hooks(ReadFault::TooLong)),
+        None
+    );
     Ok(())
 }

@@ -49,7 +49,12 @@ fn library(alloc: Global) -> Result<Library, Fail> {
     )?)?;
     entries.push(entry(alloc, None, "{step} at {to} with {text}", Action::Pass)?)?;
     entries.push(entry(alloc, None, "{other} {name}", Action::Fail)?)?;
-    entries.push(entry(alloc, Some(StepType::Then), "{n} {name:d}", Action::NumberIs)?)?;
+    entries.push(entry(
+        alloc,
+        Some(StepType::Then),
+        "{n} {name:d}",
+        Action::NumberIs,
+    )?)?;
     Ok(Library::new(entries))
 }
 
@@ -107,10 +112,26 @@ const FAULTS: [(LibraryFault, Option<u32>, &str); 9] = [
     (LibraryFault::NotUtf8 { line: 1 }, Some(1), "not UTF-8"),
     (LibraryFault::BadType { line: 2 }, Some(2), "bad step type"),
     (LibraryFault::BadPattern { line: 3 }, Some(3), "bad pattern"),
-    (LibraryFault::UnknownAction { line: 4 }, Some(4), "unknown action"),
-    (LibraryFault::MissingField { line: 5 }, Some(5), "missing field"),
-    (LibraryFault::FieldKind { line: 6 }, Some(6), "wrong kind of field"),
-    (LibraryFault::Ambiguous { line: 7 }, Some(7), "ambiguous with an earlier line"),
+    (
+        LibraryFault::UnknownAction { line: 4 },
+        Some(4),
+        "unknown action",
+    ),
+    (
+        LibraryFault::MissingField { line: 5 },
+        Some(5),
+        "missing field",
+    ),
+    (
+        LibraryFault::FieldKind { line: 6 },
+        Some(6),
+        "wrong kind of field",
+    ),
+    (
+        LibraryFault::Ambiguous { line: 7 },
+        Some(7),
+        "ambiguous with an earlier line",
+    ),
     (LibraryFault::TooLong, None, "longer than 16777216 bytes"),
     (LibraryFault::Memory, None, "out of memory"),
 ];

@@ -48,11 +48,23 @@ fn explained(alloc: Global) -> Result<(String, String, String), Fail> {
     let chosen = chosen_of(alloc, feature, "~@out")?;
     let mut sandbox = Sandbox::new(alloc);
     let mut explainer = Explainer::new(alloc, &library, "h.hooks");
-    let mut suite =
-        Suite::start_watched(alloc, &mut sandbox, &library, &hooks, false, &mut explainer);
+    let mut suite = Suite::start_watched(
+        alloc,
+        &mut sandbox,
+        &library,
+        &hooks,
+        false,
+        &mut explainer,
+    );
     explainer.begin_feature("boxes.feature");
-    let result =
-        suite.feature_watched(alloc, &mut sandbox, &library, &hooks, chosen, &mut explainer);
+    let result = suite.feature_watched(
+        alloc,
+        &mut sandbox,
+        &library,
+        &hooks,
+        chosen,
+        &mut explainer,
+    );
     if let Ok(result) = &result {
         explainer.end_feature(result);
     }

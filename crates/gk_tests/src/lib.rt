@@ -1,7 +1,6 @@
-//! Tests of the public functions of the libraries, with ample memory: at the limits that no clause can forbid to
-//! give up at, and of `gk_run` over a case and a feature alone, with a feature's part by `gk_report`. What the built program
-//! shows, the stored runs of `tests/` compare. The tests stand apart since a crate with tests is proved twice; those of `gk_cli`
-//! are in `gk_cli_tests`, and the stored runs alone try the rest.
+//! Tests of the public functions of the libraries below `gk_cli`, with ample memory. Each function is called once at least,
+//! and returns what was worked out by hand. What the built program shows, the stored runs of `tests/` compare. The tests
+//! stand apart since a crate with tests is proved twice; those of `gk_cli` are in `gk_cli_tests`.
 #![tactic(auto)]
 
 #[cfg(test)]

@@ -1,8 +1,8 @@
 use crate::run_tests::feature_of;
 use gk_gherkin::{Feature, ReadFault, read_feature, read_hooks, text_of};
 use gk_lint::{
-    Finding, FindingKind, Keyword, StepFault, StepFindings, in_order, lines_without_scenario, lint_feature,
-    lint_feature_file, lint_hook_tags, lint_hooks, lint_library, lint_steps,
+    Finding, FindingKind, Keyword, StepFault, StepFindings, in_order, lines_without_scenario,
+    lint_feature, lint_feature_file, lint_hook_tags, lint_hooks, lint_library, lint_steps,
     tags_that_stand_nowhere,
 };
 use gk_select::read_tags;
@@ -64,8 +64,16 @@ const KEYWORDS: [(Keyword, &str, &str); 15] = [
     (Keyword::Feature, "Feature", "Feature:"),
     (Keyword::Rule, "Rule", "Rule:"),
     (Keyword::Background, "Background", "Background:"),
-    (Keyword::ScenarioOutline, "Scenario Outline", "Scenario Outline:"),
-    (Keyword::ScenarioTemplate, "Scenario Template", "Scenario Template:"),
+    (
+        Keyword::ScenarioOutline,
+        "Scenario Outline",
+        "Scenario Outline:",
+    ),
+    (
+        Keyword::ScenarioTemplate,
+        "Scenario Template",
+        "Scenario Template:",
+    ),
     (Keyword::Scenarios, "Scenarios", "Scenarios:"),
     (Keyword::Scenario, "Scenario", "Scenario:"),
     (Keyword::Examples, "Examples", "Examples:"),
@@ -91,8 +99,14 @@ const STEP_FAULTS: [(StepFault, &str); 8] = [
     (StepFault::Undefined, "undefined step"),
     (StepFault::CleanupWithoutStep, "cleanup without step"),
     (StepFault::NotAllowed, "action that isn't allowed here"),
-    (StepFault::NoText, "step without the text that its action needs"),
-    (StepFault::NoTable, "step without the table that its action needs"),
+    (
+        StepFault::NoText,
+        "step without the text that its action needs",
+    ),
+    (
+        StepFault::NoTable,
+        "step without the table that its action needs",
+    ),
     (StepFault::BadTable, "table that isn't one of name and text"),
     (StepFault::IgnoredText, "doc string that is ignored"),
     (StepFault::IgnoredTable, "table that is ignored"),

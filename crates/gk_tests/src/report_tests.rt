@@ -128,7 +128,10 @@ fn first_pieces(
 
 #[test]
 fn parts_come_in_pieces(rt: HostRuntime) -> Result<(), Fail> {
-    let small = ran(rt.alloc(), "Feature: f\n  Scenario: a\n    Given it passes\n")?;
+    let small = ran(
+        rt.alloc(),
+        "Feature: f\n  Scenario: a\n    Given it passes\n",
+    )?;
     let shown = format!(in rt.alloc(); "{:?}", first_pieces(rt.alloc(), PLAIN, &small)?)?;
     assert_eq!(rt;
         shown.as_str(),
@@ -138,11 +141,15 @@ fn parts_come_in_pieces(rt: HostRuntime) -> Result<(), Fail> {
     let text = format!(in rt.alloc(); "Feature: f\n  Scenario: {name}\n  Scenario: b\n")?;
     let large = ran(rt.alloc(), text.as_str())?;
     let (first, second, more) = first_pieces(rt.alloc(), PLAIN, &large)?;
-    let first_wanted =
-        format!(in rt.alloc(); "Feature: f ... passed\n  Scenario: {name} ... passed\n")?;
+    let first_wanted = format!(in rt.alloc();
+        "Feature: f ... passed\n  Scenario: {name} ... passed\n"
+    )?;
     assert!(rt; first == Some(first_wanted));
     let rest = format!(in rt.alloc(); "{second:?} {more}")?;
-    assert_eq!(rt; rest.as_str(), "Some(\"  Scenario: b ... passed\\n\\n\") false");
+    assert_eq!(rt;
+        rest.as_str(),
+        "Some(\"  Scenario: b ... passed\\n\\n\") false"
+    );
     let hidden = ran(rt.alloc(), "Feature: f\n  @out\n  Scenario: a\n")?;
     let shown = format!(in rt.alloc(); "{:?}", first_pieces(rt.alloc(), PROGRESS, &hidden)?)?;
     assert_eq!(rt; shown.as_str(), "(None, None, false)");

@@ -96,7 +96,11 @@ impl Observer for Teller {
     fn step(&mut self, stage: Stage, step: &Step, mark: Mark, sandbox: &Sandbox) {
         let value = sandbox.value("n");
         let Stage { level, part } = stage;
-        let _ = write!(self.told, "{level:?} {part:?} {} {mark:?} {value:?}\n", step.line);
+        let _ = write!(
+            self.told,
+            "{level:?} {part:?} {} {mark:?} {value:?}\n",
+            step.line
+        );
     }
 
     fn cleanup(
@@ -108,7 +112,11 @@ impl Observer for Teller {
         sandbox: &Sandbox,
     ) {
         let value = sandbox.value("n");
-        let _ = write!(self.told, "{level:?} cleanup {} {outcome:?} {value:?}\n", found.entry);
+        let _ = write!(
+            self.told,
+            "{level:?} cleanup {} {outcome:?} {value:?}\n",
+            found.entry
+        );
     }
 
     fn case_ended(&mut self, row: &CaseResult) {
@@ -172,10 +180,8 @@ fn run_told(
     let mut teller = Teller {
         told: String::new(alloc),
     };
-    let mut suite =
-        Suite::start_watched(alloc, &mut sandbox, library, hooks, false, &mut teller);
-    let result =
-        suite.feature_watched(alloc, &mut sandbox, library, hooks, chosen, &mut teller);
+    let mut suite = Suite::start_watched(alloc, &mut sandbox, library, hooks, false, &mut teller);
+    let result = suite.feature_watched(alloc, &mut sandbox, library, hooks, chosen, &mut teller);
     let around = suite.finish_watched(alloc, &mut sandbox, library, hooks, &mut teller);
     (result, around, teller.told)
 }
@@ -187,7 +193,10 @@ fn events_of_a_run_are_told(rt: HostRuntime) -> Result<(), Fail> {
     let chosen = chosen(rt.alloc(), FEATURE)?;
     let (result, around, told) = run_told(rt.alloc(), &library, &hooks, chosen);
     let result = result?;
-    assert_eq!(rt; (result.status, result.around), (Status::Failed, Status::Passed));
+    assert_eq!(rt;
+        (result.status, result.around),
+        (Status::Failed, Status::Passed)
+    );
     assert_eq!(rt; around, Status::Passed);
     assert_eq!(rt; told.as_str(), RUN_TOLD);
     Ok(())
@@ -200,7 +209,11 @@ fn stopping_run(
     hooks: &HookFile,
     first: Chosen,
     second: Chosen,
-) -> (Result<FeatureResult, NoRoom>, Result<FeatureResult, NoRoom>, Status)
+) -> (
+    Result<FeatureResult, NoRoom>,
+    Result<FeatureResult, NoRoom>,
+    Status,
+)
     requires formed_first { IsFormed first }
     requires formed_second { IsFormed second }
 {
@@ -232,9 +245,11 @@ fn runs_stop_after_a_feature_that_failed(rt: HostRuntime) -> Result<(), Fail> {
     let hooks = read_hooks(rt.alloc(), b"after_all:\n  Then it fails\n")?;
     for (text, wanted, after) in STOPPING {
         let first = chosen(rt.alloc(), text)?;
-        let second = chosen(rt.alloc(), "Feature: g\n  Scenario: t\n    Given it passes\n")?;
-        let (first, second, around) =
-            stopping_run(rt.alloc(), &library, &hooks, first, second);
+        let second = chosen(
+            rt.alloc(),
+            "Feature: g\n  Scenario: t\n    Given it passes\n",
+        )?;
+        let (first, second, around) = stopping_run(rt.alloc(), &library, &hooks, first, second);
         assert_eq!(rt; (first?.status, second?.status), (wanted, after));
         assert_eq!(rt; around, Status::Failed);
     }

@@ -49,8 +49,14 @@ fn tables_say_why_a_change_is_refused(rt: HostRuntime) -> Result<(), WorldFault>
     let longest = repeated(rt.alloc(), 't', LONGEST_TEXT - 1, 't')?;
     assert_eq!(rt; table.append_refusal("a", "y"), None);
     assert_eq!(rt; table.append_refusal("", "y"), Some(WorldFault::BadName));
-    assert_eq!(rt; table.append_refusal("b", longest.as_str()), Some(WorldFault::Absent));
-    assert_eq!(rt; table.append_refusal("a", longest.as_str()), Some(WorldFault::TextTooLong));
+    assert_eq!(rt;
+        table.append_refusal("b", longest.as_str()),
+        Some(WorldFault::Absent)
+    );
+    assert_eq!(rt;
+        table.append_refusal("a", longest.as_str()),
+        Some(WorldFault::TextTooLong)
+    );
     assert_eq!(rt; table.remove_refusal("a"), None);
     assert_eq!(rt; table.remove_refusal(""), Some(WorldFault::BadName));
     assert_eq!(rt; table.remove_refusal("b"), Some(WorldFault::Absent));
