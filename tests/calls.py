@@ -1,13 +1,13 @@
 #!/usr/bin/env python3
 """Looks for a call of each public function of the libraries in the crates of tests: tests/calls.py
 
-The proofs can't see whether a call returns its value or gives up, so a test calls each public function once, with ample
-memory. This script reads the sources only. A public function is one that the root of a library crate exports, or a public
-method of a type that it exports. Each is one test, which fails with the function's name if no crate of tests calls it.
+No proof says that a call succeeds if memory is ample. So a test calls each public function: one
+that the root of a library crate exports, or a public method of a type that it exports. This script
+only reads the sources. A function is one test, which fails if no crate of tests calls it.
 
-A law isn't looked for: a function that returns nothing and changes nothing. A method is called by its name after a dot, or
-by its type. If several types have a method of that name, or the standard library does, only a call by the type counts.
-Closes with one line 'N passed, M failed'.
+Laws aren't looked for: functions that return nothing and change nothing. A method is called by its
+name after a dot, or by its type. Only a call by the type counts if several types have a method of
+that name, or the standard library has one. Closes with one line 'N passed, M failed'.
 """
 import collections
 import os
@@ -15,7 +15,8 @@ import re
 import sys
 
 HOME = os.path.dirname(os.path.dirname(os.path.abspath(__file__)))
-LIBRARIES = """gk_gherkin gk_select gk_steps gk_lint gk_world gk_run gk_report gk_explain gk_cli""".split()
+LIBRARIES = ("gk_gherkin gk_select gk_steps gk_lint gk_world gk_run gk_report gk_explain "
+             "gk_cli").split()
 TESTS = "gk_tests gk_cli_tests gk_refusals".split()
 # Methods of the standard library, too.
 COMMON = {"get", "len", "new", "next"}
@@ -31,8 +32,8 @@ MODULE = re.compile(r"^pub mod (\w+);", re.MULTILINE)
 
 
 def without_literals(text):
-    """A text of code without its comments and what stands in its strings."""
-    return re.sub(r'//[^\n]*|"(?:\\.|[^"\\])*"', '""', text)
+    """A text of code without its comments, and what is in its strings and characters."""
+    return re.sub(r"""//[^\n]*|"(?:\\.|[^"\\])*"|'(?:\\[^']+|\\'|[^'\\])'""", '""', text)
 
 
 def sources(crate):
@@ -91,6 +92,7 @@ def is_called(function, tests, shared):
 def main():
     """Prints each function that no test calls, and how many are called."""
     found = [it for crate in LIBRARIES for it in functions(crate)]
+    assert {it.crate for it in found} == set(LIBRARIES), "a library without public functions"
     counts = collections.Counter(it.name for it in found if it.type)
     shared = COMMON | {name for name, count in counts.items() if count > 1}
     tests = [text for crate in TESTS for text in sources(crate).values()]

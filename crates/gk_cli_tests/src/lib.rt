@@ -1,5 +1,5 @@
-//! Tests, with ample memory, of what the program can't be given: of `gk_cli` over readers and writers that fail and without
-//! arguments. They stand apart from `gk_tests`, so that the tests there are proved while `gk_cli` is.
+//! Tests of the public functions of `gk_cli`, with ample memory, and over readers and writers that fail. They stand apart
+//! from `gk_tests`, so that the tests there are proved while `gk_cli` is.
 #![tactic(auto)]
 
 #[cfg(test)]
