@@ -83,68 +83,71 @@ fn suites_are_reported(rt: HostRuntime) -> Result<(), Fail> {
     Ok(())
 }
 
-// The suite of the guide's page on explanations, with hooks.
-const HALL_HOOKS: &str =
-    "before_scenario:\n  Given a file named \"lamp\" containing \"off\"\n  And at cleanup the file \"lamp\" should be \"off\"\n";
-
-const HALL: &str =
-    "Feature: A hall\n  Scenario: The lamp is left on\n    When the file \"lamp\" is extended with \", then on\"\n";
-
-const EXPLANATION: &str =
-    "hall.feature:2: Scenario: The lamp is left on ... failed\n  hall.hooks:2: before: Given a file named \"lamp\" containing \"off\" ... passed\n  hall.hooks:3: before: And at cleanup the file \"lamp\" should be \"off\" ... passed\n  hall.feature:3: When the file \"lamp\" is extended with \", then on\" ... passed\n  hall.hooks:3: cleanup ... failed: differs\n      expected \"off\"\n      found    \"off, then on\"\n      first difference: line 1, column 4\n\nhall.feature:2: Scenario: The lamp is left on\n\n0 features passed, 1 failed, 0 skipped\n0 scenarios passed, 1 failed, 0 skipped\n1 step passed, 0 failed, 0 skipped, 0 undefined\n";
+// The hooks and the feature of the guide's page on explanations, and what is explained.
+const HALL: [&str; 3] = [
+    "before_scenario:\n  Given a file named \"lamp\" containing \"off\"\n  And at cleanup the file \"lamp\" should be \"off\"\n",
+    "Feature: A hall\n  Scenario: The lamp is left on\n    When the file \"lamp\" is extended with \", then on\"\n",
+    "hall.feature:2: Scenario: The lamp is left on ... failed\n  hall.hooks:2: before: Given a file named \"lamp\" containing \"off\" ... passed\n  hall.hooks:3: before: And at cleanup the file \"lamp\" should be \"off\" ... passed\n  hall.feature:3: When the file \"lamp\" is extended with \", then on\" ... passed\n  hall.hooks:3: cleanup ... failed: differs\n      expected \"off\"\n      found    \"off, then on\"\n      first difference: line 1, column 4\n\nhall.feature:2: Scenario: The lamp is left on\n\n0 features passed, 1 failed, 0 skipped\n0 scenarios passed, 1 failed, 0 skipped\n1 step passed, 0 failed, 0 skipped, 0 undefined\n",
+];
 
 #[test]
 fn suites_are_explained(rt: HostRuntime) -> Result<(), Fail> {
-    let hooks = source(rt.alloc(), "hall.hooks", HALL_HOOKS)?;
-    let feature = source(rt.alloc(), "hall.feature", HALL)?;
-    let mut files = files_with(rt.alloc(), None, Some(hooks), feature)?;
+    let [hooks, feature, wanted] = HALL;
+    let mut files = files_with(
+        rt.alloc(),
+        None,
+        Some(source(rt.alloc(), "hall.hooks", hooks)?),
+        source(rt.alloc(), "hall.feature", feature)?,
+    )?;
     let mut out = counted(rt.alloc(), usize::MAX, 0);
     let mut sandbox = Sandbox::new(rt.alloc());
     let options = plain(rt.alloc());
     let status = explain_suite(rt.alloc(), &mut sandbox, &options, &mut files, &mut out)?;
     assert_eq!(rt; status, 1);
-    assert_eq!(rt; text_of(&out)?, EXPLANATION);
+    assert_eq!(rt; text_of(&out)?, wanted);
     Ok(())
 }
 
-// The suite of the guide's page on linting, and what is found in it.
-const WICK_STEPS: &str =
-    "step the wick \"{name}\" is trimmed => write_file\nstep the wick \"{name}\" is put out => remove_file\nstep the night is over => skip_scenario\nthen the wick \"{name}\" should be gone => file_absent\n";
+// The library, the hooks and the feature of the guide's page on linting, and what is found in them.
+const WICK: [&str; 4] = [
+    "step the wick \"{name}\" is trimmed => write_file\nstep the wick \"{name}\" is put out => remove_file\nstep the night is over => skip_scenario\nthen the wick \"{name}\" should be gone => file_absent\n",
+    "before_tag @quick:\n  Given the wick \"night\" is put out\n\nafter_scenario:\n  Then the night is over\n",
+    "Feature: A wick\n  Scenario: It is trimmed\n    Given the wick \"hall\" is trimmed\n    When the wick \"hall\" is lit\n\n  Scenario Outline: It smokes <often>\n    Given the wick \"hall\" is put out\n",
+    "wick.steps:4: entry that no step finds\nwick.hooks:1: hook for a tag that stands nowhere\nwick.hooks:5: action that isn't allowed here\nwick.feature:3: step without the text that its action needs\nwick.feature:4: undefined step\nwick.feature:6: outline without rows\n--tags @quik: stands nowhere\n--line 6: chooses no scenario\n1",
+];
 
-const WICK_HOOKS: &str =
-    "before_tag @quick:\n  Given the wick \"night\" is put out\n\nafter_scenario:\n  Then the night is over\n";
-
-const WICK: &str =
-    "Feature: A wick\n  Scenario: It is trimmed\n    Given the wick \"hall\" is trimmed\n    When the wick \"hall\" is lit\n\n  Scenario Outline: It smokes <often>\n    Given the wick \"hall\" is put out\n";
-
-const FINDINGS: &str =
-    "wick.steps:4: entry that no step finds\nwick.hooks:1: hook for a tag that stands nowhere\nwick.hooks:5: action that isn't allowed here\nwick.feature:3: step without the text that its action needs\nwick.feature:4: undefined step\nwick.feature:6: outline without rows\n--tags @quik: stands nowhere\n--line 6: chooses no scenario\n";
+// What is found in files, and the status.
+fn found(alloc: Global, options: &Options, files: &SuiteFiles<Source>) -> Result<String, Fail> {
+    let mut out = counted(alloc, usize::MAX, 0);
+    let status = lint_suite(alloc, options, files, &mut out)?;
+    Ok(format!(in alloc; "{}{status}", text_of(&out)?)?)
+}
 
 #[test]
 fn suites_are_linted(rt: HostRuntime) -> Result<(), Fail> {
-    let library = source(rt.alloc(), "wick.steps", WICK_STEPS)?;
-    let hooks = source(rt.alloc(), "wick.hooks", WICK_HOOKS)?;
-    let feature = source(rt.alloc(), "wick.feature", WICK)?;
-    let files = files_with(rt.alloc(), Some(library), Some(hooks), feature)?;
-    let mut out = counted(rt.alloc(), usize::MAX, 0);
+    let [library, hooks, feature, wanted] = WICK;
+    let files = files_with(
+        rt.alloc(),
+        Some(source(rt.alloc(), "wick.steps", library)?),
+        Some(source(rt.alloc(), "wick.hooks", hooks)?),
+        source(rt.alloc(), "wick.feature", feature)?,
+    )?;
     let mut options = plain(rt.alloc());
     options.tags.push(String::from_str(rt.alloc(), "@quik")?)?;
     options.lines.push(6)?;
-    let status = lint_suite(rt.alloc(), &options, &files, &mut out)?;
-    assert_eq!(rt; status, 1);
-    assert_eq!(rt; text_of(&out)?, FINDINGS);
+    assert_eq!(rt; found(rt.alloc(), &options, &files)?.as_str(), wanted);
     Ok(())
 }
 
 #[test]
 fn nothing_is_found_in_a_suite(rt: HostRuntime) -> Result<(), Fail> {
-    let feature = source(rt.alloc(), "hall.feature", HALL)?;
-    let files = files_with(rt.alloc(), None, None, feature)?;
-    let mut out = counted(rt.alloc(), usize::MAX, 0);
-    let options = plain(rt.alloc());
-    let status = lint_suite(rt.alloc(), &options, &files, &mut out)?;
-    assert_eq!(rt; status, 0);
-    assert_eq!(rt; text_of(&out)?, "");
+    let [_, feature, _] = HALL;
+    let hall = source(rt.alloc(), "hall.feature", feature)?;
+    let files = files_with(rt.alloc(), None, None, hall)?;
+    assert_eq!(rt;
+        found(rt.alloc(), &plain(rt.alloc()), &files)?.as_str(),
+        "0"
+    );
     Ok(())
 }
 
