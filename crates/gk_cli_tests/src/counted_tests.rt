@@ -6,12 +6,12 @@ use std::test::Fail;
 
 /// A writer that counts its own calls. It takes at most `most` bytes in a call, and fails only in the call `fails_at`.
 #[derive(Debug, Drop)]
-struct Writer {
+pub struct Writer {
     most: usize,
     fails_at: usize,
     calls: usize,
     offered: usize,
-    bytes: Vec<u8>,
+    pub bytes: Vec<u8>,
 }
 
 impl io::Write for Writer {
@@ -36,7 +36,7 @@ impl io::Write for Writer {
 }
 
 // Makes a counted writer with nothing written to it.
-fn counted(alloc: Global, most: usize, fails_at: usize) -> Counted<Writer> {
+pub fn counted(alloc: Global, most: usize, fails_at: usize) -> Counted<Writer> {
     Counted::new(Writer {
         most,
         fails_at,

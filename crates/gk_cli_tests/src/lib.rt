@@ -1,5 +1,5 @@
-//! Tests of `gk_cli`, with ample memory, for inputs that the program can't be given: readers and writers that fail, and
-//! no arguments. They are separate from `gk_tests`, so that the tests there are proved while `gk_cli` is.
+//! Tests of the public functions of `gk_cli`, with ample memory, and over readers and writers that fail. They are separate
+//! from `gk_tests`, so that the tests there are proved while `gk_cli` is.
 #![tactic(auto)]
 
 #[cfg(test)]
@@ -8,3 +8,5 @@ mod arguments_tests;
 mod counted_tests;
 #[cfg(test)]
 mod source_tests;
+#[cfg(test)]
+mod suite_tests;

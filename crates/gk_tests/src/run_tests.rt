@@ -15,7 +15,7 @@ use std::alloc::{AllocError, Global};
 use std::test::Fail;
 
 // Reads the feature of a text.
-fn feature_of(alloc: Global, text: &str) -> Result<Feature, Fail>
+pub fn feature_of(alloc: Global, text: &str) -> Result<Feature, Fail>
     ensures { IfOk result (λ feature. IsExpandable (feature_value feature)) }
 {
     // No code runs here: the law says that what was read can be expanded.
@@ -57,7 +57,7 @@ fn choice_by(alloc: Global, tags: &str) -> Result<Choice, Fail> {
 }
 
 // Returns a feature with its cases. Those whose tags fit are chosen.
-fn chosen_of(alloc: Global, feature: Feature, tags: &str) -> Result<Chosen, Fail>
+pub fn chosen_of(alloc: Global, feature: Feature, tags: &str) -> Result<Chosen, Fail>
     requires { IsExpandable (feature_value feature) }
     ensures { IfOk result (λ chosen. IsFormed chosen) }
 {
@@ -149,7 +149,7 @@ const LIBRARY: &str =
     "given it passes => pass\ngiven it fails => fail\ngiven the number \"{name}\" is set to {n:d} => set_number\ngiven the number \"{name}\" grows by {n:d} => add_number\nthen the number \"{name}\" should be {n:d} => number_is\n";
 
 // Returns the result of the feature. The cases whose tags fit are chosen.
-fn result_of(alloc: Global, tags: &str, stop: bool) -> Result<FeatureResult, Fail> {
+pub fn result_of(alloc: Global, tags: &str, stop: bool) -> Result<FeatureResult, Fail> {
     let library = read_library(alloc, LIBRARY.as_bytes())?;
     let hooks = read_hooks(alloc, FEATURE_HOOKS.as_bytes())?;
     let feature = feature_of(alloc, FEATURE)?;

@@ -68,7 +68,12 @@ fn matched(alloc: Global, parts: &[Part], text: &str) -> Result<String, AllocErr
 }
 
 // Returns a letter repeated `count` times, with another letter after it.
-fn repeated(alloc: Global, letter: char, count: usize, last: char) -> Result<String, AllocError> {
+pub fn repeated(
+    alloc: Global,
+    letter: char,
+    count: usize,
+    last: char,
+) -> Result<String, AllocError> {
     let mut text = String::new(alloc);
     for _ in 0..count {
         text.push(letter)?;

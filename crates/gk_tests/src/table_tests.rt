@@ -1,4 +1,8 @@
-use gk_world::{Reversible, Table, TableChange, WorldFault};
+use crate::steps_tests::repeated;
+use gk_world::{
+    Journal, LONGEST_NAME, LONGEST_TEXT, Reversible, Table, TableChange, ValueChange, Values,
+    WorldFault, is_bad_name,
+};
 use std::alloc::{AllocError, Global};
 
 // Returns the change that appends a text to that of a name.
@@ -26,5 +30,64 @@ fn appends_are_applied_and_undone(rt: HostRuntime) -> Result<(), WorldFault> {
     assert_eq!(rt; table.get("a"), Some("one"));
     let refused = table.apply(append(rt.alloc(), "b", "two")?);
     assert!(rt; matches!(refused, Err(WorldFault::Absent)));
+    Ok(())
+}
+
+#[test]
+fn names_have_a_byte_at_least_and_a_greatest_length(rt: HostRuntime) -> Result<(), AllocError> {
+    assert!(rt; is_bad_name("") && !is_bad_name("n"));
+    let longest = repeated(rt.alloc(), 'n', LONGEST_NAME - 1, 'n')?;
+    assert!(rt; !is_bad_name(longest.as_str()));
+    let longer = repeated(rt.alloc(), 'n', LONGEST_NAME, 'n')?;
+    assert!(rt; is_bad_name(longer.as_str()));
+    Ok(())
+}
+
+#[test]
+fn tables_say_why_a_change_is_refused(rt: HostRuntime) -> Result<(), WorldFault> {
+    let table = table_of(rt.alloc(), "x")?;
+    let longest = repeated(rt.alloc(), 't', LONGEST_TEXT - 1, 't')?;
+    assert_eq!(rt; table.append_refusal("a", "y"), None);
+    assert_eq!(rt; table.append_refusal("", "y"), Some(WorldFault::BadName));
+    assert_eq!(rt;
+        table.append_refusal("b", longest.as_str()),
+        Some(WorldFault::Absent)
+    );
+    assert_eq!(rt;
+        table.append_refusal("a", longest.as_str()),
+        Some(WorldFault::TextTooLong)
+    );
+    assert_eq!(rt; table.remove_refusal("a"), None);
+    assert_eq!(rt; table.remove_refusal(""), Some(WorldFault::BadName));
+    assert_eq!(rt; table.remove_refusal("b"), Some(WorldFault::Absent));
+    Ok(())
+}
+
+#[test]
+fn values_say_why_one_is_not_deleted(rt: HostRuntime) -> Result<(), WorldFault> {
+    let mut values = Values::new(rt.alloc());
+    let name = String::from_str(rt.alloc(), "n")?;
+    let text = String::from_str(rt.alloc(), "5")?;
+    values.apply(ValueChange::Set(1, name, text))?;
+    assert_eq!(rt; Values::get(&values, 2, "n"), Some("5"));
+    assert_eq!(rt; Values::get(&values, 0, "n"), None);
+    assert_eq!(rt; values.delete_refusal(1, "n"), None);
+    assert_eq!(rt; values.delete_refusal(2, "n"), Some(WorldFault::OtherLayer));
+    assert_eq!(rt; values.delete_refusal(2, "m"), Some(WorldFault::Absent));
+    assert_eq!(rt; values.delete_refusal(1, ""), Some(WorldFault::BadName));
+    Ok(())
+}
+
+#[test]
+fn journals_rewind(rt: HostRuntime) -> Result<(), WorldFault> {
+    let mut table = table_of(rt.alloc(), "one")?;
+    let mut journal = Journal::new(rt.alloc());
+    let more = append(rt.alloc(), "a", "two")?;
+    journal.change(&mut table, more)?;
+    assert_eq!(rt; Table::get(&table, "a"), Some("onetwo"));
+    assert_eq!(rt; Journal::len(&journal), 1);
+    journal.rewind(&mut table, 0);
+    assert_eq!(rt; Table::get(&table, "a"), Some("one"));
+    assert_eq!(rt; Journal::len(&journal), 0);
     Ok(())
 }

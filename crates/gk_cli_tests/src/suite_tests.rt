@@ -1,0 +1,206 @@
+use crate::counted_tests::{Writer, counted};
+use gk_cli::{
+    Counted, Options, RunFault, Source, SuiteFiles, explain_suite, faults_after, lint_suite,
+    name_at_fault, push_notes, report_suite,
+};
+use gk_gherkin::ReadFault;
+use gk_report::{Format, Style};
+use gk_world::Sandbox;
+use std::alloc::{AllocError, Global};
+use std::str;
+use std::test::Fail;
+
+// A file of this name.
+fn source(alloc: Global, name: &str, text: &str) -> Result<Source, AllocError> {
+    let mut bytes = Vec::new(alloc);
+    bytes.extend_from_slice(text.as_bytes())?;
+    Ok(Source {
+        name: String::from_str(alloc, name)?,
+        bytes,
+    })
+}
+
+// The files of a run of one feature.
+fn files_with(
+    alloc: Global,
+    library: Option<Source>,
+    hooks: Option<Source>,
+    feature: Source,
+) -> Result<SuiteFiles<Source>, AllocError> {
+    let mut sources = Vec::new(alloc);
+    sources.push(feature)?;
+    Ok(SuiteFiles {
+        library,
+        hooks,
+        sources,
+    })
+}
+
+// Each scenario is run, and the report is plain.
+fn plain(alloc: Global) -> Options {
+    Options {
+        tags: Vec::new(alloc),
+        lines: Vec::new(alloc),
+        dry_run: false,
+        stop: false,
+        style: Style {
+            format: Format::Plain,
+            no_skipped: false,
+        },
+    }
+}
+
+// What was written.
+fn text_of(out: &Counted<Writer>) -> Result<&str, Fail> {
+    match str::from_utf8(out.inner().bytes.as_slice()) {
+        Ok(text) => Ok(text),
+        Err(_) => Err("not UTF-8".into()),
+    }
+}
+
+// The feature of the guide's page on reports, and the report of its run.
+const COUNTER: &str =
+    "Feature: A counter\n  Scenario: It counts up\n    Given the number \"visits\" is set to 1\n    When the number \"visits\" grows by 1\n    Then the number \"visits\" should be 2\n\n  Scenario: It counts down\n    Given the number \"visits\" is set to 1\n    When the number \"visits\" grows by -1\n    Then the number \"visits\" should be 1\n    And the value \"visits\" is deleted\n\n  Scenario: It forgets\n    When the counter forgets\n";
+
+const REPORT: &str =
+    "Feature: A counter ... failed\n  Scenario: It counts up ... passed\n    Given the number \"visits\" is set to 1 ... passed\n    When the number \"visits\" grows by 1 ... passed\n    Then the number \"visits\" should be 2 ... passed\n  Scenario: It counts down ... failed\n    Given the number \"visits\" is set to 1 ... passed\n    When the number \"visits\" grows by -1 ... passed\n    Then the number \"visits\" should be 1 ... failed: differs\n    And the value \"visits\" is deleted ... skipped\n  Scenario: It forgets ... failed\n    When the counter forgets ... undefined\n\n0 features passed, 1 failed, 0 skipped\n1 scenario passed, 2 failed, 0 skipped\n5 steps passed, 1 failed, 1 skipped, 1 undefined\n";
+
+#[test]
+fn suites_are_reported(rt: HostRuntime) -> Result<(), Fail> {
+    let feature = source(rt.alloc(), "counter.feature", COUNTER)?;
+    let mut files = files_with(rt.alloc(), None, None, feature)?;
+    let mut out = counted(rt.alloc(), usize::MAX, 0);
+    let mut sandbox = Sandbox::new(rt.alloc());
+    let options = plain(rt.alloc());
+    let status = report_suite(rt.alloc(), &mut sandbox, &options, &mut files, &mut out)?;
+    assert_eq!(rt; status, 1);
+    assert_eq!(rt; text_of(&out)?, REPORT);
+    let left = format!(in rt.alloc(); "{:?}", files.sources)?;
+    assert_eq!(rt;
+        left.as_str(),
+        "[Source { name: \"counter.feature\", bytes: [] }]"
+    );
+    Ok(())
+}
+
+// The hooks and the feature of the guide's page on explanations, and what is explained.
+const HALL: [&str; 3] = [
+    "before_scenario:\n  Given a file named \"lamp\" containing \"off\"\n  And at cleanup the file \"lamp\" should be \"off\"\n",
+    "Feature: A hall\n  Scenario: The lamp is left on\n    When the file \"lamp\" is extended with \", then on\"\n",
+    "hall.feature:2: Scenario: The lamp is left on ... failed\n  hall.hooks:2: before: Given a file named \"lamp\" containing \"off\" ... passed\n  hall.hooks:3: before: And at cleanup the file \"lamp\" should be \"off\" ... passed\n  hall.feature:3: When the file \"lamp\" is extended with \", then on\" ... passed\n  hall.hooks:3: cleanup ... failed: differs\n      expected \"off\"\n      found    \"off, then on\"\n      first difference: line 1, column 4\n\nhall.feature:2: Scenario: The lamp is left on\n\n0 features passed, 1 failed, 0 skipped\n0 scenarios passed, 1 failed, 0 skipped\n1 step passed, 0 failed, 0 skipped, 0 undefined\n",
+];
+
+#[test]
+fn suites_are_explained(rt: HostRuntime) -> Result<(), Fail> {
+    let [hooks, feature, wanted] = HALL;
+    let mut files = files_with(
+        rt.alloc(),
+        None,
+        Some(source(rt.alloc(), "hall.hooks", hooks)?),
+        source(rt.alloc(), "hall.feature", feature)?,
+    )?;
+    let mut out = counted(rt.alloc(), usize::MAX, 0);
+    let mut sandbox = Sandbox::new(rt.alloc());
+    let options = plain(rt.alloc());
+    let status = explain_suite(rt.alloc(), &mut sandbox, &options, &mut files, &mut out)?;
+    assert_eq!(rt; status, 1);
+    assert_eq!(rt; text_of(&out)?, wanted);
+    Ok(())
+}
+
+// The library, the hooks and the feature of the guide's page on linting, and what is found in them.
+const WICK: [&str; 4] = [
+    "step the wick \"{name}\" is trimmed => write_file\nstep the wick \"{name}\" is put out => remove_file\nstep the night is over => skip_scenario\nthen the wick \"{name}\" should be gone => file_absent\n",
+    "before_tag @quick:\n  Given the wick \"night\" is put out\n\nafter_scenario:\n  Then the night is over\n",
+    "Feature: A wick\n  Scenario: It is trimmed\n    Given the wick \"hall\" is trimmed\n    When the wick \"hall\" is lit\n\n  Scenario Outline: It smokes <often>\n    Given the wick \"hall\" is put out\n",
+    "wick.steps:4: entry that no step finds\nwick.hooks:1: hook for a tag that stands nowhere\nwick.hooks:5: action that isn't allowed here\nwick.feature:3: step without the text that its action needs\nwick.feature:4: undefined step\nwick.feature:6: outline without rows\n--tags @quik: stands nowhere\n--line 6: chooses no scenario\n1",
+];
+
+// What is found in files, and the status.
+fn found(alloc: Global, options: &Options, files: &SuiteFiles<Source>) -> Result<String, Fail> {
+    let mut out = counted(alloc, usize::MAX, 0);
+    let status = lint_suite(alloc, options, files, &mut out)?;
+    Ok(format!(in alloc; "{}{status}", text_of(&out)?)?)
+}
+
+#[test]
+fn suites_are_linted(rt: HostRuntime) -> Result<(), Fail> {
+    let [library, hooks, feature, wanted] = WICK;
+    let files = files_with(
+        rt.alloc(),
+        Some(source(rt.alloc(), "wick.steps", library)?),
+        Some(source(rt.alloc(), "wick.hooks", hooks)?),
+        source(rt.alloc(), "wick.feature", feature)?,
+    )?;
+    let mut options = plain(rt.alloc());
+    options.tags.push(String::from_str(rt.alloc(), "@quik")?)?;
+    options.lines.push(6)?;
+    assert_eq!(rt; found(rt.alloc(), &options, &files)?.as_str(), wanted);
+    Ok(())
+}
+
+#[test]
+fn nothing_is_found_in_a_suite(rt: HostRuntime) -> Result<(), Fail> {
+    let [_, feature, _] = HALL;
+    let hall = source(rt.alloc(), "hall.feature", feature)?;
+    let files = files_with(rt.alloc(), None, None, hall)?;
+    assert_eq!(rt;
+        found(rt.alloc(), &plain(rt.alloc()), &files)?.as_str(),
+        "0"
+    );
+    Ok(())
+}
+
+// The files with faults of the guide's page on linting.
+const OIL_STEPS: &str = "step the oil is filled up => pass\nstep the oil burns => shine\n";
+
+const OIL: &str = "@lamp oil\nFeature: Oil\n  Scenario: It burns\n    Given the oil burns\n";
+
+fn oil(alloc: Global) -> Result<SuiteFiles<Source>, AllocError> {
+    let library = source(alloc, "oil.steps", OIL_STEPS)?;
+    let feature = source(alloc, "oil.feature", OIL)?;
+    files_with(alloc, Some(library), None, feature)
+}
+
+// The first fault of some files.
+fn first_fault(alloc: Global, files: &SuiteFiles<Source>) -> Result<RunFault, Fail> {
+    let mut out = counted(alloc, usize::MAX, 0);
+    match lint_suite(alloc, &plain(alloc), files, &mut out) {
+        Ok(_) => Err("no fault".into()),
+        Err(fault) => Ok(fault),
+    }
+}
+
+// What is said of a fault: the name of its file, the fault, and what is said below it.
+fn said(alloc: Global, files: &SuiteFiles<Source>, fault: RunFault) -> Result<String, AllocError> {
+    let mut notes = String::new(alloc);
+    push_notes(&mut notes, alloc, files, fault)?;
+    format!(in alloc; "{:?} {fault:?}\n{notes}", name_at_fault(files, fault))
+}
+
+const IN_LIBRARY: &str =
+    "Some(\"oil.steps\") Library(UnknownAction { line: 2 })\n    step the oil burns => shine\n    take a name of the table of actions, in lower case\n";
+
+const IN_FEATURE: &str =
+    "Some(\"oil.feature\") Read { input: 0, fault: BadTag { line: 1 } }\n    @lamp oil\n    write an @ before each tag, and a # before remarks\n";
+
+#[test]
+fn all_faults_are_named(rt: HostRuntime) -> Result<(), Fail> {
+    let files = oil(rt.alloc())?;
+    let first = first_fault(rt.alloc(), &files)?;
+    assert_eq!(rt; said(rt.alloc(), &files, first)?.as_str(), IN_LIBRARY);
+    let others = faults_after(rt.alloc(), &files, first)?;
+    let [second] = others.as_slice() else {
+        return Err("other faults".into());
+    };
+    assert_eq!(rt; said(rt.alloc(), &files, *second)?.as_str(), IN_FEATURE);
+    assert!(rt; faults_after(rt.alloc(), &files, *second)?.is_empty());
+    assert_eq!(rt; name_at_fault(&files, RunFault::Write), None);
+    assert_eq!(rt; RunFault::status(&first), 3);
+    assert_eq!(rt; RunFault::status(&RunFault::Memory), 4);
+    assert_eq!(rt;
+        name_at_fault(&files, RunFault::Hooks(ReadFault::TooLong)),
+        None
+    );
+    Ok(())
+}

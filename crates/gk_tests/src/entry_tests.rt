@@ -1,0 +1,145 @@
+use gk_gherkin::{StepType, borrowed_line};
+use gk_steps::{
+    Action, Entry, Library, LibraryFault, PatternFault, is_ignored, number_of, read_pattern,
+};
+use std::alloc::Global;
+use std::test::Fail;
+
+#[test]
+fn lines_are_ignored(rt: HostRuntime) {
+    assert!(rt; is_ignored(&borrowed_line(1, "")) && is_ignored(&borrowed_line(2, " \t")));
+    assert!(rt; is_ignored(&borrowed_line(3, "# given")) && is_ignored(&borrowed_line(4, "\t#")));
+    assert!(rt; !is_ignored(&borrowed_line(5, "given a => pass # b")));
+}
+
+#[test]
+fn numbers_are_read(rt: HostRuntime) {
+    assert_eq!(rt; number_of("007"), Some(7));
+    assert_eq!(rt; number_of("+7"), Some(7));
+    assert_eq!(rt; number_of("-9223372036854775808"), Some(i64::MIN));
+    assert_eq!(rt; number_of("9223372036854775808"), None);
+    assert_eq!(rt; number_of(""), None);
+    assert_eq!(rt; number_of("-"), None);
+    assert_eq!(rt; number_of(" 7"), None);
+    assert_eq!(rt; number_of("٣"), None);
+}
+
+// An entry with the pattern that a text spells.
+fn entry(
+    alloc: Global,
+    step_type: Option<StepType>,
+    spelled: &str,
+    action: Action,
+) -> Result<Entry, PatternFault> {
+    Ok(Entry {
+        step_type,
+        pattern: read_pattern(alloc, spelled)?,
+        action,
+    })
+}
+
+// A library that was not read from a text.
+fn library(alloc: Global) -> Result<Library, Fail> {
+    let mut entries = Vec::new(alloc);
+    entries.push(entry(
+        alloc,
+        Some(StepType::Given),
+        "the number {name} grows by {n:d}",
+        Action::AddNumber,
+    )?)?;
+    entries.push(entry(alloc, None, "{step} at {to} with {text}", Action::Pass)?)?;
+    entries.push(entry(alloc, None, "{other} {name}", Action::Fail)?)?;
+    entries.push(entry(
+        alloc,
+        Some(StepType::Then),
+        "{n} {name:d}",
+        Action::NumberIs,
+    )?)?;
+    Ok(Library::new(entries))
+}
+
+// What a step finds: the entry, its action, and the fields that actions use.
+fn found(
+    alloc: Global,
+    library: &Library,
+    step_type: StepType,
+    text: &str,
+) -> Result<String, Fail> {
+    let Some(found) = library.find(alloc, step_type, text)? else {
+        return Err("no entry".into());
+    };
+    let action = library.action(&found);
+    let fields = library.used_fields(&found);
+    Ok(format!(in alloc; "{} {action:?} {fields:?}", found.entry)?)
+}
+
+// Steps, and what each finds.
+const FOUND: [(StepType, &str, &str); 4] = [
+    (
+        StepType::Given,
+        "the number a grows by 5",
+        "0 AddNumber UsedFields { name: Some(\"a\"), to: None, step: None, number: Some(5), text: None }",
+    ),
+    (
+        StepType::When,
+        "x at y with z",
+        "1 Pass UsedFields { name: None, to: Some(\"y\"), step: Some(\"x\"), number: None, text: Some(\"z\") }",
+    ),
+    (
+        StepType::When,
+        "a b",
+        "2 Fail UsedFields { name: Some(\"b\"), to: None, step: None, number: None, text: None }",
+    ),
+    (
+        StepType::Then,
+        "a 5",
+        "3 NumberIs UsedFields { name: None, to: None, step: None, number: None, text: None }",
+    ),
+];
+
+#[test]
+fn made_libraries_are_asked(rt: HostRuntime) -> Result<(), Fail> {
+    let library = library(rt.alloc())?;
+    for (step_type, text, wanted) in FOUND {
+        let found = found(rt.alloc(), &library, step_type, text)?;
+        assert_eq!(rt; found.as_str(), wanted);
+    }
+    Ok(())
+}
+
+// Faults, the line that each names, and its text.
+const FAULTS: [(LibraryFault, Option<u32>, &str); 9] = [
+    (LibraryFault::NotUtf8 { line: 1 }, Some(1), "not UTF-8"),
+    (LibraryFault::BadType { line: 2 }, Some(2), "bad step type"),
+    (LibraryFault::BadPattern { line: 3 }, Some(3), "bad pattern"),
+    (
+        LibraryFault::UnknownAction { line: 4 },
+        Some(4),
+        "unknown action",
+    ),
+    (
+        LibraryFault::MissingField { line: 5 },
+        Some(5),
+        "missing field",
+    ),
+    (
+        LibraryFault::FieldKind { line: 6 },
+        Some(6),
+        "wrong kind of field",
+    ),
+    (
+        LibraryFault::Ambiguous { line: 7 },
+        Some(7),
+        "ambiguous with an earlier line",
+    ),
+    (LibraryFault::TooLong, None, "longer than 16777216 bytes"),
+    (LibraryFault::Memory, None, "out of memory"),
+];
+
+#[test]
+fn faults_of_libraries_have_lines_and_texts(rt: HostRuntime) {
+    for (fault, line, text) in FAULTS {
+        assert_eq!(rt; LibraryFault::line(&fault), line);
+        assert_eq!(rt; LibraryFault::text(&fault), text);
+    }
+}
