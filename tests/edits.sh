@@ -34,7 +34,7 @@ gk_c 4 4
 '
 crates=$(echo "$numbers" | awk 'NF { print $1 }')
 
-# The crate and the crates below it.
+# The crate and the crates below it, each with the line of crates.txt that it has.
 with_lower() {
     awk -v crate="$1" '
         function add(name, words, count, i) {
@@ -43,9 +43,9 @@ with_lower() {
             count = split(uses[name], words, " ")
             for (i = 1; i <= count; i++) add(words[i])
         }
-        { name = $1; sub(/:.*/, "", name); uses[name] = substr($0, index($0, ":") + 1) }
-        END { add(crate); for (name in seen) print "crates/" name }
-    ' "$home/crates.txt"
+        { name = $1; sub(/:.*/, "", name); uses[name] = substr($0, index($0, ":") + 1); line[name] = $0 }
+        END { add(crate); for (name in seen) print line[name] }
+    ' "$home/crates.txt" | LC_ALL=C sort
 }
 
 # The line that notes that the edits of a crate were refused, as all that it depends on is now.
@@ -54,10 +54,11 @@ note() {
         cd "$home"
         {
             rt version
+            with_lower "$1"
             {
-                printf '%s\0' crates.txt HANDLES tests/edits.sh
+                printf '%s\0' HANDLES tests/edits.sh
                 find "tests/edits/$1" -type f -name '*.edit' -print0
-                find $(with_lower "$1") -name out -prune -o -name must-fail -prune -o \
+                find $(with_lower "$1" | sed 's/[ :].*//; s|^|crates/|') -name out -prune -o -name must-fail -prune -o \
                     -type f \( -name '*.rt' -o -name '*.antt' \) -print0
             } | LC_ALL=C sort -z | xargs -0 sha256sum
         } | sha256sum | sed "s/ .*/ $1/"
