@@ -11,16 +11,22 @@ file less, and other contents. Ends with 0 if every claim holds; otherwise it sa
   sources   the repository has what Python left there, or no program
   lists     the list names what no ./install put there
   links     a folder is a link to another one
+  waits     another ./install works in the same folder
 """
 
+import fcntl
 import os
 import shutil
+import signal
 import stat
 import subprocess
 import sys
 import tempfile
+import time
 from collections import namedtuple
 from concurrent.futures import ThreadPoolExecutor
+
+from ready import as_from_a_terminal
 
 HOME = os.path.dirname(os.path.dirname(os.path.realpath(__file__)))
 LIST = "share/gherkin_run/installed"
@@ -177,7 +183,7 @@ class Trial:
                     "TMPDIR": os.path.join(room, "empty")}
         process = subprocess.Popen(["sh", "-c", 'PID=$$ exec "$0" "$@"', os.path.join(repository, "install"), *words],
                                    env=settings, stdin=subprocess.DEVNULL, stdout=subprocess.PIPE,
-                                   stderr=subprocess.PIPE, text=True, umask=umask)
+                                   stderr=subprocess.PIPE, text=True, umask=umask, preexec_fn=as_from_a_terminal)
         process.room = room
         return process
 
@@ -247,7 +253,9 @@ def removes_later(trial, how, at):
     """Whether a removal that was stopped at a step can be completed by another one."""
     folder, ended = trial.stopped(how, at, trial.earlier, "--remove")
     if os.path.exists(os.path.join(folder, LIST)):
-        return ended.status != 0 and trial.run(trial.second, "--remove", folder).status == 0 and not os.path.exists(folder)
+        # Until files are gone, another message may say why.
+        is_said = how != "fails" or files_in(folder) == trial.old[0] or "call ./install --remove again" in ended.said
+        return ended.status != 0 and is_said and trial.run(trial.second, "--remove", folder).status == 0 and not os.path.exists(folder)
     return not files_in(folder)
 
 
@@ -304,6 +312,8 @@ def modes(trial):
         trial.run(repository, folder, umask=umask)
         if everything_in(folder) != trial.alone or stat.S_IMODE(os.stat(folder).st_mode) != 0o755:
             wrong.append(f"under umask {umask:03o} something has other permissions than under 022")
+        if any(os.stat(os.path.join(folder, it)).st_nlink > 1 for it in files_in(folder)):
+            wrong.append("an installed file is the repository's own")
     found = files_in(trial.earlier)
     programs = [it for it in found if found[it][0] == "-rwxr-xr-x"]
     if programs != ["bin/gherkin_run"] or {found[it][0] for it in set(found) - set(programs)} != {"-rw-r--r--"}:
@@ -351,6 +361,14 @@ def lists(trial):
             file.write(line + "\n")
         if not refuses(trial, folder, f"'{folder}/{LIST}' names what no ./install put there"):
             wrong.append(f"a list with the line '{line}' is refused")
+    repository, folder = os.path.join(trial.room, "shorter"), trial.place("shorter", trial.earlier)
+    shutil.copytree(trial.second, repository)
+    for it in (repository, os.path.join(folder, "share/doc/gherkin_run")):
+        write(it, "examples/less/old", f"mine in {it}\n")
+    before = everything_in(folder)
+    ended = trial.run(repository, folder)
+    if ended.status != 1 or "is in the way" not in ended.said or everything_in(folder) != before:
+        wrong.append("a file is in the way if the list only has a longer path")
     folder = trial.place("a line without its end", trial.earlier)
     victim = make_victim(folder)
     with open(os.path.join(folder, LIST), "a", encoding="utf-8") as file:
@@ -404,8 +422,56 @@ def links(trial):
     return wrong
 
 
+def ends_while_it_waits(trial, number):
+    """Whether ./install, ended by a signal while another one works in its folder, ends soon and leaves nothing."""
+    folder = trial.place(f"waiting for {number.name}")
+    os.makedirs(folder)
+    lock = os.open(folder, os.O_RDONLY)
+    fcntl.flock(lock, fcntl.LOCK_EX)
+    process = trial.start(trial.second, folder)
+    # It waits in the command flock.
+    while process.poll() is None and b"flock" not in children_of(process.pid):
+        time.sleep(0.02)
+    process.send_signal(number)
+    for child in children_of(process.pid, "pid="):
+        os.kill(int(child), number)
+    try:
+        status = process.wait(10)
+    except subprocess.TimeoutExpired:
+        status = None
+    os.close(lock)
+    process.communicate()
+    return status == 1 and not os.listdir(folder) and not os.listdir(os.path.join(process.room, "empty"))
+
+
+def children_of(process, what="comm="):
+    """The names of the processes that a process began, or what else ps shows of them."""
+    done = subprocess.run(["ps", "-o", what, "--ppid", str(process)], stdout=subprocess.PIPE, check=False)
+    return done.stdout.split()
+
+
+def waits(trial):
+    """The claims that don't hold of an ./install that waits for another one, or is waited for."""
+    wrong = [f"a signal {it.name} ends what waits" for it in (signal.SIGINT, signal.SIGTERM, signal.SIGHUP) if not ends_while_it_waits(trial, it)]
+    repository, folder = os.path.join(trial.room, "goes on"), trial.place("goes on")
+    shutil.copytree(trial.second, repository)
+    write(repository, "run", '#!/bin/sh\nsleep 60 > /dev/null 2>&1 &\necho $! > "$TMPDIR/../sleeps"\necho "${0%/*}/program"\n', 0o755)
+    process = trial.start(repository, folder)
+    process.communicate(timeout=60)
+    with open(os.path.join(process.room, "sleeps"), encoding="utf-8") as file:
+        sleeps = int(file.read())
+    lock = os.open(folder, os.O_RDONLY)
+    try:
+        fcntl.flock(lock, fcntl.LOCK_EX | fcntl.LOCK_NB)
+    except BlockingIOError:
+        wrong.append("what ./run began doesn't keep the folder locked")
+    os.close(lock)
+    os.kill(sleeps, signal.SIGTERM)
+    return wrong
+
+
 # The tests that stop ./install have their names in STEPS.
-TESTS = {"together": together, "modes": modes, "sources": sources, "lists": lists, "links": links}
+TESTS = {"together": together, "modes": modes, "sources": sources, "lists": lists, "links": links, "waits": waits}
 
 
 def main():

@@ -133,7 +133,7 @@ from_a_folder_that_is_gone() (
 
 # The folder for temporary files may be a relative one, and nothing is left there.
 with_a_relative_tmpdir() (
-    mkdir -- "$room/-t" && cd "$room" && export TMPDIR=-t &&
+    mkdir -- "$room/-t" && cd "$room" && export TMPDIR=-t CDPATH="$room" &&
         "$home/install" "$room/place" && "$home/install" --remove "$room/place" && [ -z "$(ls -A -- -t)" ]
 )
 
@@ -177,6 +177,23 @@ without_home() (
     unset HOME
     refuses "HOME isn't set"
 )
+
+with_an_empty_home() (
+    export HOME=
+    status=0
+    as_somebody "$home/install" > "$room/said" 2>&1 || status=$?
+    [ "$status" -eq 1 ] && grep -F "HOME isn't set" "$room/said"
+)
+
+# Characters that a pattern or an escape has stay as they are.
+with_odd_characters() {
+    mkdir "$room/place/xy" && odd="$room/place/x*" && escape="$room/place/\\n\\033" &&
+        printf "gherkin_run is installed in '%s'\nAdd '%s/bin' to PATH, or call the program by its path.\n" "$odd" "$odd" "$escape" "$escape" > "$room/wanted" &&
+        PATH=$room/place/xy/bin:$PATH "$home/install" "$odd" > "$room/log1" && "$home/install" "$escape" >> "$room/log1" && diff "$room/wanted" "$room/log1" &&
+        printf "gherkin_run is removed from '%s'\n" "$odd" "$escape" > "$room/wanted" &&
+        "$home/install" --remove "$odd" > "$room/log1" && "$home/install" --remove "$escape" >> "$room/log1" && diff "$room/wanted" "$room/log1" &&
+        refuses 'there is no option -\n\033x; ' '-\n\033x'
+}
 
 # A file that can't be written whole, as on a full disk.
 fails_midway() (
@@ -371,6 +388,17 @@ formats() {
         LC_ALL=C sort | tr '\n' ' '
 }
 
+# What is behind the cursor doesn't count.
+bash_completes_before_hyphens() {
+    [ "$(bash -c '. "$0"; compopt() { :; }; COMP_WORDS=(gherkin_run --form -- a.feature); COMP_CWORD=1; _gherkin_run
+        echo "${COMPREPLY[@]}"' "$home/share/gherkin_run.bash")" = --format ]
+}
+
+bash_keeps_variables() {
+    [ "$(bash -c '. "$0"; compopt() { :; }; word=1 before=2 earlier=3 COMP_WORDS=(gherkin_run --tags = "") COMP_CWORD=3
+        _gherkin_run; echo "$word $before $earlier"' "$home/share/gherkin_run.bash")" = "1 2 3" ]
+}
+
 # Every argument after -- is a file.
 bash_completes_files_after_hyphens() {
     [ -z "$(bash_completes -- -)" ] && [ -z "$(bash_completes a.feature -- --)" ] &&
@@ -404,6 +432,11 @@ values_are_completed() {
         options_of_help | sed -n 's/^--\(.*\) FILE$/\1/p' > "$room/wanted" && [ -s "$room/wanted" ] &&
         sed -n 's/^.* -l \([a-z-]*\) -r -F .*$/\1/p' "$home/share/gherkin_run.fish" | LC_ALL=C sort | diff "$room/wanted" - &&
         sed -n "s/^.*'\*\{0,1\}--\([a-z-]*\)=.*:_files'.*$/\1/p" "$home/share/_gherkin_run" | LC_ALL=C sort | diff "$room/wanted" -
+}
+
+# zsh takes any number of feature files, and fish doesn't leave files out.
+files_are_offered() {
+    grep -qE "^ *'\*:feature file:_files'\$" "$home/share/_gherkin_run" && ! grep -qE -- '-c gherkin_run (.* )?(-f|--no-files)( |\$)' "$home/share/gherkin_run.fish"
 }
 
 # Whether bash completes files where its completions name nothing: the words so far are the arguments.
@@ -519,6 +552,7 @@ chmod a+rx "$room"
 if as_somebody "$home/run" --which > /dev/null 2>&1; then
     holds "a folder that can't be written is refused" unwritable "$room/place"
     holds "a folder below one that can't be written is refused" unwritable "$room/place/below/it"
+    holds "no folder is refused with an empty HOME" with_an_empty_home
 else
     left_out="$left_out a user other than root who can read $home,"
 fi
@@ -526,7 +560,7 @@ holds "a failure midway leaves nothing" fails_midway
 holds "a failure midway leaves the earlier installation" fails_midway_again
 for test in "fails: a failure at any step" "ends: the signal TERM at any step" "dies: the signal KILL at any step" \
     "together: more than one at the same time" "modes: another umask" "sources: leavings of Python, and no program" "lists: a list that ./install didn't write" \
-    "links: a link in place of a folder"; do
+    "links: a link in place of a folder" "waits: another ./install at work"; do
     holds "${test#*: }" python3 "$home/tests/install.py" "${test%%: *}"
 done
 clear
@@ -534,6 +568,8 @@ holds "an option that isn't known is refused" refuses "there is no option" --pre
 holds "two folders are refused" refuses "too many arguments" "$room/place" "$room/place"
 holds "two folders are refused with --remove" refuses "too many arguments" "$room/place" --remove "$room/place"
 holds "--remove twice is refused" refuses "there is no option" --remove --remove
+holds "characters of a pattern or an escape stay in a name" with_odd_characters
+clear
 holds "an empty name is refused" refuses "is empty" ""
 holds "no folder is refused without HOME" without_home
 holds "a folder with a line feed is refused" refuses "line feed" "$room/place/a
@@ -555,12 +591,15 @@ holds "the man page is in the section that it is installed in" grep -qx '.TH GHE
 holds "the completions for fish list the options of the help" lists_as spellings_of_fish spellings
 holds "the completions for zsh and fish say which options take a value" values_are_named
 holds "the completions for zsh and fish complete formats and files" values_are_completed
+holds "the completions for zsh and fish complete feature files" files_are_offered
 if command -v bash > /dev/null; then
     holds "bash reads its completions" bash -n share/gherkin_run.bash
     holds "the completions for bash list the options of the help" bash_lists_options
     holds "bash completes the formats" bash_completes_formats
     holds "bash completes files only in place of files" bash_offers_files_only_for_files
     holds "bash completes files after --" bash_completes_files_after_hyphens
+    holds "bash completes options before --" bash_completes_before_hyphens
+    holds "completing changes no variables of bash" bash_keeps_variables
 else
     left_out="$left_out bash"
 fi

@@ -238,9 +238,10 @@ def node_cases(program, room):
 
 def faulty_cases(program, room):
     """The same with a fault in the second source, in the library and in the hooks."""
-    files = {"good": SMALL, "bad": f"{SMALL}\nFeature: g\n", "own.steps": "step a => pass\nstep b => none\n", "own.hooks": "\n\n@never\n"}
+    files = {"good": SMALL, "bad": f"{SMALL}\nFeature: g\n", "own.steps": "step a => pass\nstep b => none\n", "own.hooks": "\n\n@never\n",
+             "far": "\n" * 70000 + "Feature: f\nFeature: g\n"}
     driver.write(room, files)
-    for words, sources in ((["good", "bad"], ["good", "bad"]), (["--library", "own.steps", "good"], ["good"]), (["--hooks", "own.hooks", "good"], ["good"])):
+    for words, sources in ((["good", "bad"], ["good", "bad"]), (["far"], ["far"]), (["--library", "own.steps", "good"], ["good"]), (["--hooks", "own.hooks", "good"], ["good"])):
         request = {"sources": [[encoded(it), encoded(files[it])] for it in sources]}
         if words[0].startswith("--"):
             request[words[0][2:]] = [encoded(words[1]), encoded(files[words[1]])]
@@ -474,6 +475,9 @@ def link(page):
     page.browser.wait("inputs().format === 'plain'", 5)
     yield same("a link to a file alone after one to all", page.inputs(), {**wanted, "files": [["b.feature", ""]]})
     yield same("the parts that it leaves open", page.value("document.querySelectorAll('details[open]').length"), 0)
+    unnamed = {**FULL, "libraryName": "", "hooksName": ""}
+    page.load(link_to(unnamed))
+    yield same("the inputs of a link with empty names", page.inputs(), unnamed)
 
 
 def copied(page):
@@ -662,6 +666,7 @@ def wrong_field(page):
     line = '"{}" is not a line number: lines are whole numbers from 1 to 4294967295.'
     variable = '"{}" is not a variable: it needs a name, "=" and a text.'
     cases = (("lines", "1 4x 2", line.format("4x"), "2 3", ["--line=2", "--line=3"]),
+             ("lines", "\u0007\"", line.format("\\u0007\\\""), "", []),
              ("lines", "0", line.format("0"), "+2,\t4294967295", ["--line=2", "--line=4294967295"]),
              ("lines", "4294967296", line.format("4294967296"), "", []),
              ("variables", "A=1\nB\u0007", variable.format("B\\u0007"), "A=1\nB=C=", ["--env=A=1", "--env=B=C="]))

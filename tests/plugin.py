@@ -130,6 +130,15 @@ def run(source, *files, dry_run, **options):
 
 pytest_plugin.run = run
 """
+# The same while the scenarios are collected.
+SHORT_COLLECTION = """\
+from gherkin_run import pytest_plugin
+
+def run(*words, **options):
+    raise MemoryError
+
+pytest_plugin.run = run
+"""
 SHORT_FAILURE = """
 Feature: bad ... memory
   Scenario: fails ... memory
@@ -139,6 +148,16 @@ Feature: bad ... memory
   (hooks and cleanups) ... failed
 
 bad.feature:5: memory
+"""
+# Two sessions in one process, with another library file in the second one.
+SESSIONS = """\
+import pathlib
+import pytest
+
+words = ["-q", "-p", "gherkin_run.pytest_plugin", "good.feature"]
+first = pytest.main(words)
+pathlib.Path("own.steps").write_text("step it passes => fail\\nstep own step => fail\\n")
+print("ended with", int(first), int(pytest.main(words)))
 """
 CONTROLS = "\0\a\b\v\f\x1b\x7f\x85\x9b\u061c\u200e\u200f\u2028\u2029\u202a\u202e\u2066\u2069"
 SHOWN = r"\u{0}\u{7}\u{8}\u{b}\u{c}\u{1b}\u{7f}\u{85}\u{9b}\u{61c}\u{200e}\u{200f}\u{2028}\u{2029}\u{202a}\u{202e}\u{2066}\u{2069}"
@@ -216,6 +235,12 @@ def suite(python, room):
     yield differs("another --rootdir", pytest.results("--rootdir=below", "good.feature"), dict(list(RESULTS.items())[3:]))
     yield from lacks("a failure in a folder below", pytest("below")[1], "\nbelow/low.feature:4: failed: fail step\n")
     yield from lacks("a failure of a run there", pytest(below="below")[1], "\nlow.feature:4: failed: fail step\n")
+    driver.write(pytest.folder, {"two.feature": "Feature: f\n  Scenario: two\n    Given it fails\n    Given nobody knows this\n"})
+    yield from lacks("a failure before an undefined step", pytest("two.feature")[1], "\ntwo.feature:3: failed: fail step\n")
+    os.remove(os.path.join(pytest.folder, "two.feature"))
+    moved = Pytest(python, os.path.join(room, "moved"), {**SUITE, "conftest.py": "import os\nos.chdir('below')\n"})
+    yield from lacks("a failure after another folder is entered", moved("bad.feature", "below")[1], "\nbad.feature:5: failed: fail step\n",
+                     "\nbelow/low.feature:4: failed: fail step\n")
     pytest()
     yield differs("tests with --lf", pytest.results("--lf"), {"fails": "failure", "is misspelt": "failure", "low": "failure"})
     if driver.start(python, ["-c", "import xdist"])[0] == 0:
@@ -268,6 +293,15 @@ def memory(python, room):
     pytest = Pytest(python, os.path.join(room, "short"), {**SUITE, "conftest.py": SHORT})
     yield from lacks("a step without memory", pytest("bad.feature")[1], SHORT_FAILURE)
     yield from lacks("a run without memory", pytest("good.feature")[1], "\nconftest.py:9: MemoryError\n", "\nFAILED good.feature::one - MemoryError\n")
+    pytest = Pytest(python, os.path.join(room, "none"), {**SUITE, "conftest.py": SHORT_COLLECTION})
+    yield from lacks("a collection without memory", pytest("good.feature")[1], "\nE   MemoryError\n", "\nERROR good.feature - MemoryError\n")
+
+
+def sessions(python, room):
+    """A session reads its library file anew, also in a process that had another session."""
+    pytest = Pytest(python, os.path.join(room, "sessions"), SUITE)
+    _, stdout, stderr = driver.start(python, ["-c", SESSIONS], pytest.folder)
+    yield from lacks(f"two sessions, with {stderr.decode()}", stdout.decode(), "\nended with 0 1\n")
 
 
 def settings(python, room):
@@ -292,6 +326,7 @@ def costs(python, room):
     files = {**SUITE, "own.hooks": "", "pytest.ini": f"{SUITE['pytest.ini']}gherkin_hooks = own.hooks\n", "conftest.py": COUNTING}
     pytest = Pytest(python, os.path.join(room, "counted"), files)
     for words, wanted in [([], "calls ['dry', 'dry', 'dry', 3, 3, 1] opened 5"), (["-k", "one or row"], "calls ['dry', 'dry', 'dry', 3] opened 5"),
+                          (["-k", "one"], "calls ['dry', 'dry', 'dry', 1] opened 5"),
                           (["good.feature::one"], "calls ['dry', 1] opened 3"), (["--collect-only"], "calls ['dry', 'dry', 'dry'] opened 5")]:
         yield from lacks(f"pytest {words}", pytest(*words)[1], wanted)
 
@@ -402,7 +437,7 @@ def tests(room):
         print("the pytest plugin isn't tested: there is no python3 with pytest")
         return
     folder = os.path.join(room, "pytest")
-    for part in (suite, faults, hooks, memory, settings, costs, late, controls, installed):
+    for part in (suite, faults, hooks, memory, sessions, settings, costs, late, controls, installed):
         yield from part(python, folder)
     yield from together(python)
 

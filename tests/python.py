@@ -89,6 +89,12 @@ except RunFailedError as error:
 except (Fault, FaultError) as fault:
     print(fault.file or "", fault.line or 0, fault.reason.upper(), fault.status + 1)
 """
+# A program whose texts have letters that aren't ASCII.
+UMLAUTS = r"""
+import gherkin_run
+source = gherkin_run.Source("\xfc", "@\xfc\nFeature: \xfc\nScenario: \xfc\nThen the variable \"\xfc\" should be \"\xfc\"\n")
+gherkin_run.run(source, env={"\xfc": "\xfc"}, tags="@\xfc").check()
+"""
 # Options and files in any order.
 ORDERS = [
     [PAINT, "--tags", "@slow", PAINT, "--format", "progress"], ["--stop", PAINT, "--no-skipped", PAINT], [PAINT, "--line", "007", "--", PAINT],
@@ -128,6 +134,22 @@ def command_lines(program):
         yield "" if same else f"{words} ends with {status}, and not {wanted[0]}: {stderr.decode()}"
 
 
+def no_words():
+    """Calls `main` without words: the words of the process aren't taken in their place."""
+    status, stdout, _ = driver.start(sys.executable, ["-c", "from gherkin_run.__main__ import main\nmain([])", PAINT])
+    yield "" if (status, stdout) == (2, b"") else f"without words `main` ends with {status}, and prints {stdout!r}"
+
+
+def other_encoding(program, room):
+    """Runs where the encoding of the locale isn't UTF-8: the texts stay UTF-8."""
+    environment = {**os.environ, "LC_ALL": "C", "PYTHONUTF8": "0", "PYTHONCOERCECLOCALE": "0"}
+    driver.write(room, {"umlaut.feature": driver.feature('Then the variable "ü" should be "ü"')})
+    made = driver.start(sys.executable, ["-m", "gherkin_run", "umlaut.feature"], room, environment)
+    yield driver.trouble("a feature with an umlaut in another locale", made, driver.start(program, ["umlaut.feature"], room))
+    made = driver.start(sys.executable, ["-c", UMLAUTS], room, environment)
+    yield driver.trouble("a source with umlauts in another locale", made, (0, b"", b""))
+
+
 def options_alone(program):
     """Compares the package with the program for each option of a run alone."""
     hooks = os.path.join(driver.EXAMPLES, "hooks.hooks")
@@ -143,7 +165,7 @@ def long_files(program, room):
     """Compares which fault is named if a file is too long or can't be read. A file may have as many bytes as the program takes."""
     driver.write(room, {"long.feature": b"#" * ((1 << 24) + 1), "most.feature": b"#" * ((1 << 24) - 1) + b"\n",
                         "equals.feature": driver.feature('Then the variable "A" should be "b=c"')})
-    for words in (["most.feature"], ["--env", "A=b=c", "equals.feature"], ["/proc/self/mem"], ["long.feature"], ["--tags", "@a @b", "long.feature"], ["--library", "long.feature", "none"], ["long.feature", "none"], ["none", "long.feature"],
+    for words in (["most.feature"], ["--env", "A=b=c", "equals.feature"], ["--env", "A=x", "--env", "A=b=c", "equals.feature"], ["/proc/self/mem"], ["long.feature"], ["--tags", "@a @b", "long.feature"], ["--library", "long.feature", "none"], ["long.feature", "none"], ["none", "long.feature"],
                   ["--hooks", "no.hooks", "--library", "no.steps", "none"], ["--hooks", "no.hooks", "none"], ["/dev/zero"], ["--library", "/dev/zero", "none"]):
         wanted = driver.start(program, words, room)
         made = driver.start(sys.executable, ["-m", "gherkin_run", *words], room, before=with_little_memory)
@@ -264,6 +286,9 @@ def values():
     """Tries arguments that a run takes, and arguments that it refuses."""
     yield "" if gherkin_run.run(os.fsencode(PAINT)).text == gherkin_run.run(PAINT).text else "a path of bytes isn't taken"
     yield "" if gherkin_run.run(pathlib.Path(PAINT)).text == gherkin_run.run(PAINT).text else "a Path alone isn't taken"
+    with os.scandir(driver.EXAMPLES) as entries:
+        found = next(it for it in entries if it.path == PAINT)
+    yield "" if gherkin_run.run(found).text == gherkin_run.run(PAINT).text else "an entry of a folder isn't taken"
     yield "" if gherkin_run.run([]).passed else "no feature, and not passed"
     for line in (0, -1, 1 << 32, (1 << 32) + 1):
         yield raises(ValueError, features=PAINT, lines=[line])
@@ -308,14 +333,14 @@ def reports():
     yield "" if {report: 1}[gherkin_run.run(PAINT, format="json")] and again == report != plain else "reports aren't compared by their texts"
     yield "" if gherkin_run.run([]).check() is None else "a run that passed is no good"
     yield from (raises(gherkin_run.RunFailedError, gherkin_run.Report(status, "").check) for status in (1, 4))
-    escape = gherkin_run.run(gherkin_run.Source("e", "Feature: \x1b[1m\nScenario: s\nGiven it fails\n"))
+    escape = gherkin_run.run(gherkin_run.Source("e", "Feature: \x1b[1m\x0b\x85\u2028x\nScenario: s\nGiven it fails\n"))
     for failed in (plain, report, escape):
         try:
             failed.check()
             yield "a failed run is good"
         except gherkin_run.RunFailedError as error:
             again = pickle.loads(pickle.dumps(error))
-            shown = failed.text.rstrip("\n").replace("\x1b", r"\u{1b}")
+            shown = re.sub("[\x0b\x1b\x85\u2028]", lambda it: rf"\u{{{ord(it[0]):x}}}", failed.text.rstrip("\n"))
             yield "" if str(again) == f"the run ended with status 1\n{shown}" and again.report == failed else f"the error is {again}"
     yield "" if gherkin_run.Fault is gherkin_run.FaultError else "two kinds of faults"
     found = re.search(r'^__version__ = "([0-9.]+)"$', driver.read(os.path.join(PACKAGE, "gherkin_run", "__init__.py")).decode(), re.MULTILINE)
@@ -387,8 +412,14 @@ def threads():
         report = gherkin_run.run(gherkin_run.Source("t", "Feature: t\n" + "Scenario: s\nGiven it passes\n" * count), format="json")
         return "" if report.data["summary"]["scenarios"]["passed"] == count else f"run {number} in a thread gives another report"
 
+    def alike(number):
+        name = str(number % 8)
+        text = gherkin_run.run(gherkin_run.Source("t", f"Feature: {name}\n" + "Scenario: s\nGiven it passes\n" * 100)).text
+        return "" if text.startswith(f"Feature: {name} ... passed\n") else f"run {number} in a thread gives the report of another one"
+
     with concurrent.futures.ThreadPoolExecutor(8) as pool:
         yield from pool.map(one, range(RUNS))
+        yield from pool.map(alike, range(5 * RUNS))
 
 
 def refused_here(path):
@@ -534,7 +565,7 @@ def main():
     tests = driver.Tests(20)
     if said:
         tests.add(said if "isn't" in said else "")
-    parts = [example_runs(program), command_lines(program), options_alone(program), long_files(program, room), failing_outputs(program), lacking_memory(room), sparing(), changed_runs(program, room),
+    parts = [example_runs(program), command_lines(program), no_words(), other_encoding(program, room), options_alone(program), long_files(program, room), failing_outputs(program), lacking_memory(room), sparing(), changed_runs(program, room),
              faults(), values(), reports(), fitting(), checked_types(room), same_version(program), threads(), nuls(), loaded(), unloaded(room),
              waiting(room), refused(room), plugin.tests(room), python_pages.tests(room, plugin.interpreter()),
              left_over(temporary)]

@@ -7,6 +7,8 @@ is found, which proves nothing: it takes a moment for each crate, and 'builds' a
 
 import fcntl
 import glob
+import importlib.machinery
+import importlib.util
 import os
 import re
 import shutil
@@ -44,9 +46,21 @@ sleep "${SLOW:-0}"
 mkdir -p out
 echo kept > out/work
 [ "$1" = lib ] || printf '#!/bin/sh\\necho built here\\n' > out/gherkin_run
+[ -z "${BROKEN:-}" ] || printf '#!/bin/sh\nexit 1\n' > out/gherkin_run
 [ "$1" = lib ] || chmod +x out/gherkin_run
 [ -z "${KILLED:-}" ] || kill -9 "$$"
 exit "${REFUSED:-0}"
+"""
+# A script of tests/, and a package manager that lacks one package.
+PART = """#!/bin/sh
+echo "a part"
+echo "2 passed, 0 failed"
+[ "${0##*/}" != "${BAD_PART:-}" ]
+"""
+PACKAGES = """#!/bin/sh
+echo "$*" >> "$CALLS"
+for package do :; done
+[ "$package" != fish ]
 """
 
 
@@ -171,6 +185,14 @@ def it_runs_through_a_link(clone):
     return all(is_right(clone.run(clone.path(EXAMPLE), folder=folder, script=script)) for folder, script in ways)
 
 
+def a_backslash_in_the_name_of_the_folder_stays(clone):
+    folder = os.path.join(clone.room, "a\\nb\\033")
+    os.rename(clone.folder, folder)
+    clone.folder = folder
+    path = os.path.join(os.path.realpath(folder), "dist/gherkin_run\n").encode()
+    return clone.run("--which") == (0, path, b"") and is_right(clone.run())
+
+
 def it_runs_where_nothing_can_be_written(clone):
     subprocess.run(["chmod", "-R", "a-w", clone.folder], check=True)
     answers = [clone.run(user=as_nobody()), clone.run(user=as_nobody())]
@@ -188,6 +210,20 @@ def arguments_and_settings_reach_the_program(clone):
         if clone.run(*words, **settings) != (7, "".join(f"{it}|" for it in [wanted, *words]).encode(), b""):
             return False
     return True
+
+
+def a_signal_reaches_the_program(clone):
+    with open(clone.path("dist/gherkin_run"), "w", encoding="utf-8") as file:
+        file.write('#!/bin/sh\n[ "$*" != --help ] || exit 0\necho "$$"\nexec sleep 60\n')
+    clone.renew_sums()
+    process = clone.start(EXAMPLE)
+    program = process.stdout.readline().decode().strip()
+    process.send_signal(signal.SIGTERM)
+    process.communicate(timeout=60)
+    is_ended = not is_running(program)
+    if not is_ended:
+        os.kill(int(program), signal.SIGTERM)
+    return is_ended and process.returncode == -signal.SIGTERM
 
 
 def two_users_run_it_at_once(clone):
@@ -211,6 +247,15 @@ def what_was_built_runs_at_once(clone):
     clone.run(with_rt=True)
     answer = clone.run()
     return answer == (0, b"built here\n", b"") and clone.run("--which")[1].endswith(b"/out/gherkin_run\n")
+
+
+def dist_comes_before_what_was_built(clone):
+    return clone.run("--build", with_rt=True)[0] == 0 and is_right(clone.run()) and is_right(clone.run())
+
+
+def a_built_program_that_does_not_run_is_named(clone):
+    clone.change()
+    return says(clone.run(with_rt=True, BROKEN="yes"), 70, b"doesn't run here\n")
 
 
 def a_source_that_is_changed_back_runs_dist(clone):
@@ -265,8 +310,12 @@ def building_where_nothing_can_be_written_says_so(clone):
     clone.change()
     subprocess.run(["chmod", "-R", "a-w", clone.folder], check=True)
     answer = clone.run(with_rt=True, user=as_nobody())
+    # Not even if only crates/ can't be written.
+    os.makedirs(clone.path("out"), exist_ok=True)
+    subprocess.run(["chmod", "777", clone.path("out")], check=True)
+    other = clone.run(with_rt=True, user=as_nobody())
     subprocess.run(["chmod", "-R", "u+w", clone.folder], check=True)
-    return says(answer, 70, b"can't be written")
+    return all(says(it, 70, b"can't be written") for it in (answer, other))
 
 
 def another_processor_is_named(clone):
@@ -295,8 +344,8 @@ def two_builds_at_once_are_one(clone):
     return ended == [(b"built here\n", 0)] * 2 and clone.called().count("run gherkin_run") == 1
 
 
-def ends_at_once(clone, **more):
-    """Whether a build that is interrupted ends soon, with all that it began."""
+def ends_at_once(clone, by=signal.SIGINT, **more):
+    """Whether a build that is ended by a signal ends soon, with all that it began."""
     if os.path.exists(clone.calls + ".pids"):
         os.remove(clone.calls + ".pids")
     process = clone.start(EXAMPLE, with_rt=True, SLOW="30", **more)
@@ -304,7 +353,7 @@ def ends_at_once(clone, **more):
         time.sleep(0.05)
     time.sleep(0.3)
     began = time.monotonic()
-    os.killpg(process.pid, signal.SIGINT)
+    os.killpg(process.pid, by)
     out, _ = process.communicate(timeout=60)
     with open(clone.calls + ".pids", encoding="utf-8") as file:
         left = [pid for pid in file.read().split() if is_running(pid)]
@@ -315,6 +364,7 @@ def ends_at_once(clone, **more):
 def an_interrupt_leaves_nothing_half_built(clone):
     clone.change()
     ended = [ends_at_once(clone, STUBBORN=it) for it in ("", "yes")]
+    ended += [ends_at_once(clone, by=it) for it in (signal.SIGTERM, signal.SIGHUP)]
     return all(ended) and clone.run(with_rt=True)[1] == b"built here\n"
 
 
@@ -386,15 +436,62 @@ def a_program_that_is_kept_in_part_has_no_sources(clone):
 def cleaning_leaves_the_program(clone):
     clone.change()
     clone.run(with_rt=True)
+    done = subprocess.run("du -shc crates/*/out | tail -n 1 | cut -f 1", shell=True, cwd=clone.folder, check=True, stdout=subprocess.PIPE)
     status, out, err = clone.run("--clean")
     left = [name for name in os.listdir(clone.path("crates")) if os.path.exists(clone.path(f"crates/{name}/out"))]
-    said = re.fullmatch(rb"run: removed [1-9][0-9.]*[KMG] below crates/\n", err)
-    return (status, out, left) == (0, b"", []) and bool(said) and clone.run() == (0, b"built here\n", b"")
+    said = b"run: removed %s below crates/\n" % done.stdout.strip()
+    return (status, out, left, err) == (0, b"", [], said) and clone.run() == (0, b"built here\n", b"")
 
 
 def a_word_of_the_script_stands_alone(clone):
     answers = [clone.run(word, EXAMPLE) for word in ("--which", "--build", "--clean")]
     return all(says(answer, 2, b"takes no other argument") for answer in answers) and is_right(clone.run())
+
+
+def times_are_said_in_words(clone):
+    loader = importlib.machinery.SourceFileLoader("build", clone.path("tools/build.py"))
+    build = importlib.util.module_from_spec(importlib.util.spec_from_loader("build", loader))
+    loader.exec_module(build)
+    return [build.clock(it) for it in (0, 59.9, 60, 125.5)] == ["0 s", "59 s", "1 min 0 s", "2 min 5 s"]
+
+
+def the_gate_counts_each_part(clone):
+    """Runs ./test with a stand-in for each of its parts, of which one may end badly after it has counted."""
+    for name in [*glob.glob(clone.path("tests/*.sh")), clone.path("web/build/capture_module.sh")]:
+        write_program(name, PART)
+    # The stand-in for the toolchain builds it elsewhere.
+    os.makedirs(clone.path("crates/gherkin_run/out"))
+    write_program(clone.path("crates/gherkin_run/out/gherkin_run"), "#!/bin/sh\n")
+    commands = clone.commands(True)
+    for name in ("setsid", "tee", "sed", "grep"):
+        os.symlink(shutil.which(name), os.path.join(commands, name))
+    ended = [clone.run(script="./test", PATH=commands, BAD_PART=it) for it in ("", "install.sh", "sizes.sh")]
+    last = [out.splitlines()[-1:] for _, out, _ in ended]
+    with open(clone.path("test"), encoding="utf-8") as file:
+        # Three parts run beside the others. The stand-in counts nothing, so it is a failure each time.
+        count = len(re.findall(r"^ *part \w+ tests/", file.read(), re.MULTILINE)) + 3
+    shutil.rmtree(clone.path("out"))
+    return [it[0] for it in ended] == [1, 1, 1] and last == [[b"%d passed, %d failed" % (2 * count, it)] for it in (1, 2, 2)]
+
+
+def packages_that_are_missing_do_not_end_the_gate(clone):
+    write_program(clone.path("test"), "#!/bin/sh\necho tested\nexit 5\n")
+    commands = clone.commands(False)
+    write_program(os.path.join(commands, "apt-get"), PACKAGES)
+    write_program(os.path.join(commands, "id"), "#!/bin/sh\necho 0\n")
+    alone = clone.run(script=".ci/run", PATH=commands)
+    is_quiet = not clone.called()
+    with_packages = clone.run(script=".ci/run", PATH=commands, CI="true")
+    installed = {it.split()[-1] for it in clone.called()}
+    return alone == (5, b"tested\n", b"") and is_quiet and {"update", "jq", "fish", "man-db"} <= installed and (
+        with_packages == (5, b"ci: fish couldn't be installed\ntested\n", b""))
+
+
+def write_program(path, text):
+    """Writes a script that can be run."""
+    with open(path, "w", encoding="utf-8") as file:
+        file.write(text)
+    os.chmod(path, 0o755)
 
 
 def is_running(pid):
@@ -407,8 +504,9 @@ def is_running(pid):
 
 
 def as_from_a_terminal():
-    """Lets a process that is begun be interrupted, also where these tests run in the background."""
-    signal.signal(signal.SIGINT, signal.SIG_DFL)
+    """Lets signals end a process that is begun, also where these tests run in the background."""
+    for number in (signal.SIGINT, signal.SIGTERM, signal.SIGHUP):
+        signal.signal(number, signal.SIG_DFL)
 
 
 def as_nobody():
@@ -418,14 +516,16 @@ def as_nobody():
 
 TESTS = [
     first_run_takes_less_than_five_seconds, later_runs_say_nothing_too, the_program_of_dist_is_named,
-    it_runs_from_any_folder, it_runs_through_a_link, it_runs_where_nothing_can_be_written,
-    arguments_and_settings_reach_the_program, two_users_run_it_at_once,
+    it_runs_from_any_folder, it_runs_through_a_link, a_backslash_in_the_name_of_the_folder_stays, it_runs_where_nothing_can_be_written,
+    arguments_and_settings_reach_the_program, a_signal_reaches_the_program, two_users_run_it_at_once,
+    dist_comes_before_what_was_built, a_built_program_that_does_not_run_is_named,
     a_changed_source_is_built, what_was_built_runs_at_once, a_source_that_is_changed_back_runs_dist,
     a_source_more_or_less_is_a_change, another_list_of_crates_is_a_change, a_change_that_is_not_proved_runs_nothing, a_changed_byte_in_dist_is_refused,
     building_without_the_toolchain_says_so, building_where_nothing_can_be_written_says_so, another_processor_is_named,
     an_older_library_is_named, two_builds_at_once_are_one, an_interrupt_leaves_nothing_half_built,
     what_is_shown_on_a_terminal_fits_into_it, a_change_while_it_looks_for_a_program_is_seen, an_end_while_it_looks_for_a_program_leaves_nothing, an_end_while_a_program_is_kept_leaves_nothing,
     a_program_that_is_kept_in_part_has_no_sources, cleaning_leaves_the_program, a_word_of_the_script_stands_alone,
+    times_are_said_in_words, the_gate_counts_each_part, packages_that_are_missing_do_not_end_the_gate,
 ]
 
 

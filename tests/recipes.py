@@ -277,6 +277,27 @@ def whole_troubles(program, room):
     yield from worst_troubles(folder)
 
 
+    driver.write(folder, {"bad.feature": "Feature: f\n  Scenario: s\n    Given it fails\n    Given nobody knows ##[this] ##[that]\n"})
+    driver.write(folder, {"report.json": driver.start(program, ["--format", "json", "bad.feature"], folder)[1]})
+    message = xml.etree.ElementTree.fromstring(made(folder, "junit")[1]).find(".//failure").get("message")
+    yield unless("junit.jq: another message of a case with two bad steps", message == "Given it fails ... failed: fail step", message)
+    yield from no_room_troubles(folder)
+    for script, command in (("check.sh", "./run defined.feature"), ("long.sh", "./run < names")):
+        os.symlink(os.path.join(RECIPES, script), os.path.join(folder, script))
+        driver.write(folder, {"names": "defined.feature\n"})
+        wanted = shell(folder, f"examples/recipes/{script} {command}")
+        yield driver.trouble(f"a link to {script}", shell(folder, f"./{script} {command}"), wanted)
+
+
+def no_room_troubles(folder):
+    """Without a folder for temporary files the scripts run nothing."""
+    driver.write(folder, {"runs": "#!/bin/sh\necho it runs\n"})
+    os.chmod(os.path.join(folder, "runs"), 0o755)
+    for command in ("examples/recipes/check.sh ./runs defined.feature", "echo defined.feature | examples/recipes/long.sh ./runs"):
+        status, printed, fault = shell(folder, f"TMPDIR=$PWD/none; {command}")
+        yield unless(f"{command} without a temporary folder", (status, printed, fault.count(b"\n")) == (3, b"", 1), status, printed, fault)
+
+
 def worst_troubles(folder):
     """again.sh runs no scenario of a rule that passed, and exits with the greatest status, not the last."""
     driver.write(folder, {"two.feature": "Feature: f\n  @untidy\n  Rule: untidy\n    Scenario: one\n      Given it passes\n  Rule: tidy\n"
@@ -505,6 +526,8 @@ def escaped_troubles(program, room):
     ended = shell(folder, "examples/recipes/visible.sh < text")
     line = readable(ODD).replace("\ufffd\ufffd", "\ufffe\uffff").replace("\t", "\\x09").replace("\r", "\\x0d")
     yield driver.trouble("visible.sh with lines", ended, (0, f"{line}\n\n{line}\nend".encode(), b""))
+    ended = shell(folder, "examples/recipes/visible.sh < text", LC_ALL="C.UTF-8")
+    yield driver.trouble("visible.sh in a locale with UTF-8", ended, (0, f"{line}\n\n{line}\nend".encode(), b""))
 
 
 def name_troubles(program, room):

@@ -106,7 +106,7 @@ class Released:
             shutil.rmtree(self.clone.path(name), ignore_errors=True)
             shutil.copytree(os.path.join(self.kept, name), self.clone.path(name))
 
-    def run(self, at=0, how="fails", umask=0o022, **more):
+    def run(self, at=0, how="fails", umask=0o022, script="./release", **more):
         """Runs ./release: its status, what it says on standard error, and how many steps it took."""
         write(self.clone.room, "steps taken", "0\n")
         calls = os.path.join(self.clone.room, "steps taken")
@@ -115,7 +115,7 @@ class Released:
         # The stand-in notes its calls in the same variable.
         settings = {"PATH": f"{self.steps}:{self.commands}", "CALLS": calls, "AT": str(at), "HOW": how,
                     "TMPDIR": self.clone.temporary, **more}
-        done = subprocess.run(["sh", "-c", 'PID=$$ exec ./release'], cwd=self.clone.folder, env=settings, check=False,
+        done = subprocess.run(["sh", "-c", 'PID=$$ exec "$0"', script], cwd=self.clone.folder, env=settings, check=False,
                               stdin=subprocess.DEVNULL, stdout=subprocess.PIPE, stderr=subprocess.PIPE, timeout=120,
                               umask=umask)
         self.printed = done.stdout.decode(errors="replace")
@@ -138,6 +138,15 @@ def a_release_renews_everything(released):
     return (status, said, sums) == (0, "", [0, 0]) and set(released.after) == set(released.before) and changed == {
         "dist/gherkin_run", "dist/gherkin_run.sha256", "dist/gherkin_run.kit", "dist/gherkin_run.sources",
         "python/gherkin_run/libgherkin_run.so", "web/try.html", "web/made.sha256"}
+
+
+def a_link_releases_the_same(released):
+    link = os.path.join(released.clone.room, "link")
+    os.symlink(released.clone.path("release"), link)
+    status, said, _ = released.run(script=link)
+    is_right = (status, said) == (0, "") and released.state() == released.after
+    released.put_back()
+    return is_right
 
 
 def what_is_released_is_new(released):
@@ -263,11 +272,25 @@ def what_was_missing_stays_missing(released):
     return not wrong
 
 
+def files_that_are_put_back_keep_their_times(released):
+    """A release that fails while files are renamed leaves each file's time as it was."""
+    def times():
+        return {it: os.stat(released.clone.path(it)).st_mtime_ns for it in released.before}
+
+    before, wrong = times(), []
+    for at in range(released.first[2] - 12, released.first[2] - 4):
+        status = released.run(at=at)[0]
+        if status and times() != before:
+            wrong.append(at)
+        released.put_back()
+    return not wrong
+
+
 TESTS = [
-    a_release_renews_everything, what_is_released_is_new, it_names_the_sum_and_the_kit, with_wasm_opt_the_module_is_renewed, anybody_may_read_it, a_library_that_is_not_proved_changes_nothing,
+    a_release_renews_everything, a_link_releases_the_same, what_is_released_is_new, it_names_the_sum_and_the_kit, with_wasm_opt_the_module_is_renewed, anybody_may_read_it, a_library_that_is_not_proved_changes_nothing,
     a_linker_that_fails_changes_nothing, a_page_that_cannot_be_made_changes_nothing, other_sources_change_nothing,
     another_program_changes_nothing, no_program_changes_nothing, a_failure_at_any_step_changes_nothing,
-    an_end_at_any_step_changes_nothing, what_was_missing_stays_missing,
+    an_end_at_any_step_changes_nothing, files_that_are_put_back_keep_their_times, what_was_missing_stays_missing,
 ]
 
 

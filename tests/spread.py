@@ -80,10 +80,16 @@ cd / || exit
 setsid sh -c "$*" &
 wait "$!"
 """
+# Has a fault in its first run only.
+ONCE = """#!/bin/sh
+mkdir "$PLACE/was here" 2> /dev/null || exec "$PROGRAM" "$@"
+echo "gherkin_run: a: cannot read" >&2
+exit 3
+"""
 # Notes its words, and runs the program without those that are no files.
 RECORD = """#!/bin/sh
 printf '%s\\0' "$@" > "$PLACE/words"
-printf '%s\\0' "${TMPDIR-unset}" >> "$PLACE/words"
+printf '%s\\0' "${TMPDIR-unset}${USERS_TMPDIR+, another one}${PARALLEL_HOME+, a home}${PARALLEL_SHELL+, a shell}" >> "$PLACE/words"
 while [ "$1" != --format ]; do shift; done
 exec "$PROGRAM" "$@"
 """
@@ -206,6 +212,36 @@ def of_standard_input():
     driver.write(place, {"names": "".join(it + "\n" for it in FILES)})
     ended = start("sh", ["-c", f'exec "$0" "$@" < "{names}"', SPREAD, "--files", "2", PROGRAM, "--"], suite(), environment_of(place))
     return driver.trouble("names from standard input", ended, driver.start(PROGRAM, ["--format", "json", "--", *FILES], suite()))
+
+
+def of_spaces(_):
+    """Names from standard input keep the spaces around them, and the last one may have no line feed."""
+    place, names = place_of("spaces"), ["  first.feature", "last.feature\t "]
+    driver.write(place, {**dict.fromkeys(names, PASSES), "names": "\n".join(names)})
+    ended = start("sh", ["-c", 'exec "$0" "$1" -- < names', SPREAD, PROGRAM], place, environment_of(place))
+    return driver.trouble("spaces around names", ended, driver.start(PROGRAM, ["--format", "json", "--", *names], place))
+
+
+def of_short_fault(_):
+    """A fault that the run over all files doesn't have leaves the report of that run."""
+    place = place_of("a short fault", once=ONCE)
+    return compared("a short fault", ["--files", "99"], [], FILES, os.path.join(place, "once"))
+
+
+def of_no_room(_):
+    """Without a folder for temporary files it runs nothing."""
+    place = place_of("no room", record=RECORD)
+    status, printed, fault = spread(place, os.path.join(place, "record"), "--", *FILES, TMPDIR=os.path.join(place, "none"))
+    return unless("no folder for temporary files", (status, printed, words_in(place)) == (3, b"", []) and fault.count(b"\n") == 1, status, fault)
+
+
+def of_link(_):
+    """A link to the script runs it."""
+    place = place_of("a link")
+    link = os.path.join(place, "linked")
+    os.symlink(SPREAD, link)
+    ended = start(link, [PROGRAM, "--", *FILES], suite(), environment_of(place))
+    return driver.trouble("a link to the script", ended, driver.start(PROGRAM, ["--format", "json", "--", *FILES], suite()))
 
 
 def of_one_job(_):
@@ -503,7 +539,7 @@ def works():
     yield from ((of_settings, (number, machine)) for number in range(len(SETTINGS)) for machine in ("", "one"))
     yield from ((of_refused, it) for it in REFUSED)
     yield from ((of_missing, it) for it in ("jq", "parallel"))
-    yield from ((it, None) for it in (of_one_job, of_many_files, of_two_lists, of_relative_folder, of_no_home, of_another_parallel, of_no_program, of_fault, of_bytes, of_full_output, of_lost_words, of_long_option))
+    yield from ((it, None) for it in (of_one_job, of_link, of_spaces, of_short_fault, of_no_room, of_many_files, of_two_lists, of_relative_folder, of_no_home, of_another_parallel, of_no_program, of_fault, of_bytes, of_full_output, of_lost_words, of_long_option))
 
 
 def main():

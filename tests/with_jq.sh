@@ -121,6 +121,8 @@ for folder in "$room"/cases/*; do
     with_arguments arguments compare "${folder##*/}"
 done
 cd "$home"
+printf 'Feature: f\n  Scenario Outline: <n>\n    Given <n>\n    Examples:\n      | n |\n      | a\\nb\\nc |\n' > "$room/lines.feature"
+compare "names with line feeds" "$room/lines.feature"
 features="examples/first.feature examples/failing.feature examples/tags.feature
     examples/undefined.feature examples/sums.feature examples/isolation.feature"
 add_up "all that pass" -- examples/first.feature examples/sums.feature examples/settings.feature
@@ -157,7 +159,8 @@ jq --compact-output '{features, status, run, summary}' "$room/json" > "$room/in_
 sed 's/^/ /' "$room/json" > "$room/indented"
 sed 's/$/ /' "$room/json" > "$room/with_a_space"
 sed 's/"status":0,"summary"/"status":0.0,"summary"/' "$room/json" > "$room/with_another_number"
-for broken in empty cut two two_in_a_line other in_lines in_another_order indented with_a_space with_another_number; do
+{ cat "$room/json" && echo; } > "$room/with_an_empty_line"
+for broken in empty cut two two_in_a_line other in_lines in_another_order indented with_a_space with_another_number with_an_empty_line; do
     status=0
     examples/add_reports.sh "$room/json" "$room/$broken" > "$room/sum" 2> "$room/fault" || status=$?
     check "a report that is $broken: another status" [ "$status" -eq 3 ]
