@@ -81,8 +81,8 @@ Suite = collections.namedtuple("Suite", "features hooks library options texts ch
 # The bytes that take the place of others: no text, line ends, blanks, the marks of Gherkin and of patterns, and the
 # beginnings and middles of longer characters.
 BYTES = b'\x00\xff\n\r\t :#@*|"`\\<>{}=~,\xc3\xa9\xef\x80'
-# Lines of each kind of file, with spaces between some of them.
-LINES = {
+# Lines of each kind of file.
+LINES = {kind: text.replace(";\n", ";").split(";") for kind, text in {
     ".feature": r'''Feature: a;Feature:;Rule: r;Background:;Scenario: s;Example:;Scenario Outline: o <a>;
 Scenario Template: t;Examples: e;Scenarios:;Given it passes;When it fails;Then the number "n" should be 1;
 And a file named "<a>" with:;* x;But;@t;@a @b #c;@a b;@;# c;# language: en;# language: de;;| a |;| a | b |;
@@ -96,7 +96,7 @@ after_tag @a:;before_tag @a:b:;before_tag @:;before_all :;before_rule:;after_rul
 And it fails;When the scenario is skipped;* nothing knows this;Given at cleanup it passes;
 And at cleanup at cleanup it passes;Given a file named "f" with:;""";text;Given these files:;| name | text |;| f | x |;
 # c;@a;Feature: f;stray''',
-}
+}.items()}
 
 
 def step_text(table, action, **words):
@@ -297,9 +297,8 @@ class Generator:
 
     def lines(self, ending, most):
         """Random lines of a kind of file. Their line ends differ."""
-        lines = LINES[ending].replace(";\n", ";").split(";")
-        return [it.encode() + (b"\r\n" if self.chance.random() < 0.1 else b"\n")
-                for it in self.chance.choices(lines, k=self.chance.randrange(most))]
+        lines = self.chance.choices(LINES[ending], k=self.chance.randrange(most))
+        return b"".join(it.encode() + (b"\r\n" if self.chance.random() < 0.1 else b"\n") for it in lines)
 
     def bytes(self, most):
         """Random bytes."""

@@ -29,9 +29,10 @@ ACTIONS = ["write_file", "set_env", "set_value", *PUTS, *TAKES, "append_file", "
 
 # A change: what is done, the name, and the text, the other name, the number or the rows that it takes.
 Change = collections.namedtuple("Change", "action name more")
-# Cases: the changes of each scenario of a feature; those of the run's, a feature's and a rule's layer, and of three scenarios.
-Flat = collections.namedtuple("Flat", "seed scenarios")
-Layers = collections.namedtuple("Layers", "seed all feature rule scenarios")
+# Cases, with the names that are checked: the changes of each scenario of a feature; those of the run's, a feature's and a rule's
+# layer, and of four scenarios.
+Flat = collections.namedtuple("Flat", "seed names scenarios")
+Layers = collections.namedtuple("Layers", "seed names all feature rule scenarios")
 
 
 class World:
@@ -185,9 +186,9 @@ class Lines:
         return Scenario(self.heading, "failed" if self.reason else "passed", self.rows)
 
 
-def flat_scenario(number, changes):
+def flat_scenario(names, number, changes):
     """A scenario of changes, each checked. It begins with nothing, whatever the others did."""
-    world, lines = World(NAMES), Lines(f"Scenario: s{number}")
+    world, lines = World(names), Lines(f"Scenario: s{number}")
     lines.add("Given", world.checks())
     for change in changes:
         if lines.reason:
@@ -214,7 +215,7 @@ def report_of(features):
 
 def flat_run(case):
     """The arguments, the files and the plain report of a run of scenarios."""
-    scenarios = [flat_scenario(number, changes) for number, changes in enumerate(case.scenarios)]
+    scenarios = [flat_scenario(case.names, number, changes) for number, changes in enumerate(case.scenarios)]
     text = text_of([Lines("Feature: f"), *scenarios])
     return ["a.feature"], {"a.feature": text}, report_of([("f", [it.scenario() for it in scenarios])])
 
@@ -260,12 +261,12 @@ def layered_run(case):
     The layers of the run, of the features and of the rules are changed by hooks, and the hooks after them check that
     all is there again. What the scenarios of the first feature and of its first rule did changes nothing in those
     after them. A scenario of no rule finds what the feature's hook left."""
-    world, none = World(MANY_NAMES, OUTSIDE), ()
+    world = World(case.names, OUTSIDE)
     hooks = hooks_around(world, "all", case.all) + hooks_around(world, "feature", case.feature)
     outside = [last_layer(world, 8, case.scenarios[0]), last_layer(world, 9)]
     hooks += hooks_around(world, "rule", case.rule)
     files, features = {"h.hooks": text_of(hooks)}, []
-    for name, before, changes in (("a", outside, case.scenarios[1:]), ("b", outside[1:], [none] * 3)):
+    for name, before, changes in (("a", outside, case.scenarios[1:]), ("b", outside[1:], [()] * 3)):
         rules = [[last_layer(world, number, own) for number, own in enumerate(changes)],
                  [last_layer(world, number) for number in (3, 4)]]
         parts = [Lines(f"Feature: {name}"), *before, Lines("Rule: one"), *rules[0], Lines("Rule: two"), *rules[1]]
@@ -292,7 +293,7 @@ def layers(seed, chance):
     for _ in range(3):
         scenarios.append(changes_of_layer(chance, world, of_scenario))
         world.end()
-    return Layers(seed, outer, inner, rule, scenarios)
+    return Layers(seed, MANY_NAMES, outer, inner, rule, scenarios)
 
 
 def case(seed):
@@ -300,7 +301,7 @@ def case(seed):
     chance = random.Random(seed)
     if seed % LAYERED == 0:
         return layers(seed, chance)
-    return Flat(seed, [changes_to_failure(chance, chance.randrange(CHANGES)) for _ in range(SCENARIOS)])
+    return Flat(seed, NAMES, [changes_to_failure(chance, chance.randrange(CHANGES)) for _ in range(SCENARIOS)])
 
 
 def troubles(case, runs):

@@ -5,6 +5,7 @@ A case that fails is made smaller as long as it still fails, and printed as comm
 
 import argparse
 import collections
+import concurrent.futures
 import itertools
 import os
 import shlex
@@ -14,6 +15,7 @@ import time
 import driver
 
 CHUNK = 240  # cases between two looks at the time
+BATCH = 12  # of which a process gets so many at once
 SHRINKING = 60  # seconds for the case of one failure
 SHRUNK = 3  # failures; of others only the keys are printed
 
@@ -67,7 +69,8 @@ def shrunk(value, fails):
         for place, item in enumerate(value):
             value[place] = shrunk(item, lambda less: fails([*value[:place], less, *value[place + 1:]]))
     elif isinstance(value, bytes):
-        value = without(value, fails)
+        lines = without(value.splitlines(keepends=True), lambda lines: fails(b"".join(lines)))
+        value = without(b"".join(lines), fails)
     elif hasattr(value, "_fields"):
         for name in value._fields:
             less = shrunk(getattr(value, name), lambda less: fails(value._replace(**{name: less})))
@@ -87,20 +90,35 @@ def smallest(case, fails):
 
 # ---- a case as commands of a shell
 
+def is_shown(text):
+    """Whether bytes are a text whose lines a terminal shows."""
+    shown = text.decode("utf-8", "replace").replace("\n", "")
+    return shown.isprintable() and "\ufffd" not in shown
+
+
+def octal(text):
+    """Bytes between single quotes, for printf and for $''."""
+    return "'" + "".join(chr(it) if 32 <= it < 127 and it not in b"'\\%" else f"\\{it:03o}" for it in text) + "'"
+
+
 def written(name, text):
     """The command that writes a file."""
-    shown = text.decode("utf-8", "replace")
-    if text.endswith(b"\n") and all(it.isprintable() or it == "\n" for it in shown.replace("\ufffd", "\0")):
-        return f"cat > {shlex.quote(name)} << 'END'\n{shown}END\n"
-    octal = "".join(chr(it) if chr(it).isalnum() and it < 128 else f"\\{it:03o}" for it in text)
-    return f"printf '{octal}' > {shlex.quote(name)}\n"
+    if is_shown(text) and text.endswith(b"\n"):
+        return f"cat > {name} << 'END'\n{text.decode()}END\n"
+    return f"printf {octal(text)} > {name}\n"
+
+
+def word(argument):
+    """An argument of a command."""
+    text = os.fsencode(argument)
+    return shlex.quote(argument) if is_shown(text) and b"\n" not in text else "$" + octal(text)
 
 
 def as_shell(folder, commands):
     """The first and the last command that ran in a folder, and the files that they name."""
     kept = [commands[0], *commands[-1:]]
     names = [it for it in sorted(os.listdir(folder)) if any(it in argument for _, own in kept for argument in own)]
-    lines = [before + shlex.join(["gherkin_run", *own]) + "\n" for before, own in kept]
+    lines = [before + " ".join(["gherkin_run", *map(word, own)]) + "\n" for before, own in kept]
     return "".join([*(written(it, driver.read(os.path.join(folder, it))) for it in names), *dict.fromkeys(lines)])
 
 
@@ -114,13 +132,21 @@ class Search:
         """Runs in a new folder."""
         return Runs(self.program, self.room, os.path.join(self.room, name))
 
-    def tried(self, key):
-        """What is wrong with each test of the case of a key, and how many runs it took."""
-        runs = self.runs(f"case{os.getpid()}")
-        try:
-            return list(self.tester.troubles(self.tester.case(key), runs)), len(runs.commands)
-        finally:
-            shutil.rmtree(runs.folder, ignore_errors=True)
+    def tried(self, keys):
+        """For each of these keys what is wrong with each test of its case, and how many runs it took."""
+        found = []
+        for key in keys:
+            runs = self.runs(f"of_process{os.getpid()}")
+            found.append((key, list(self.tester.troubles(self.tester.case(key), runs)), len(runs.commands)))
+        return found
+
+    def all_tried(self, keys, end):
+        """The same for many keys, until a time. Python itself takes time for a case, so several processes share them."""
+        with concurrent.futures.ProcessPoolExecutor(driver.processors()) as pool:
+            while time.monotonic() < end and (chunk := list(itertools.islice(keys, CHUNK))):
+                batches = [chunk[at:at + BATCH] for at in range(0, len(chunk), BATCH)]
+                for found in pool.map(self.tried, batches):
+                    yield from found
 
     def first_trouble(self, case):
         """The first thing that is wrong with a case, or nothing, and its folder and its commands as they are then."""
@@ -158,14 +184,12 @@ def main(tester, words):
     options = options_of(words)
     search, tests, runs, failed = Search(tester, options.program, options.room), driver.Tests(most_shown=0), 0, []
     end = time.monotonic() + (options.seconds or float("inf"))
-    keys = iter(tester.keys(options))
     print(f"seed {options.seed}", flush=True)
-    while time.monotonic() < end and (chunk := list(itertools.islice(keys, CHUNK))):
-        for key, (troubles, count) in zip(chunk, driver.in_processes(search.tried, chunk)):
-            tests.add_all(troubles)
-            runs += count
-            if any(troubles):
-                failed.append(key)
-                print(search.smallest_failure(key) if len(failed) <= SHRUNK else f"case {key} fails, too", flush=True)
+    for key, troubles, count in search.all_tried(iter(tester.keys(options)), end):
+        tests.add_all(troubles)
+        runs += count
+        if any(troubles):
+            failed.append(key)
+            print(search.smallest_failure(key) if len(failed) <= SHRUNK else f"case {key} fails, too", flush=True)
     print(f"{runs} runs")
     return tests.close()
