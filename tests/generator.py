@@ -124,7 +124,7 @@ def scenario_lines(scenario):
     return lines if examples is None else [*lines, *examples.tags, "Examples: e", "| name | row |", *examples.rows]
 
 
-def feature_text(parts):
+def text_of(parts):
     """The text of a feature file with these parts."""
     lines = []
     for tags, heading, background, scenarios in parts:
@@ -133,12 +133,12 @@ def feature_text(parts):
     return "\n".join(lines) + "\n"
 
 
-def hooks_text(hooks):
+def text_of_hooks(hooks):
     """The text of a hooks file with these hooks."""
     return "".join("\n".join([f"{name}:", *lines_of(steps), ""]) for name, steps in hooks.items())
 
 
-class Generator:
+class Maker:
     """Makes the parts of suites by chance. With an odd seed they have the steps of their own library."""
 
     def __init__(self, seed):

@@ -23,7 +23,7 @@ import sys
 
 import driver
 import search
-from generator import BYTES, Generator
+from generator import BYTES, Maker
 from reports import FORMATS, Report, style_of
 
 COUNT = 2400  # random cases
@@ -179,7 +179,7 @@ def case(key):
     """A case. It has options for the report and the run in turn, unless these are hostile, or an example has some."""
     number = key.number if isinstance(key, Change) else key
     # Kinds of cases take turns, so the options change more slowly.
-    made = changed(key) if isinstance(key, Change) else KINDS[key % len(KINDS)](Generator(key // len(KINDS)))
+    made = changed(key) if isinstance(key, Change) else KINDS[key % len(KINDS)](Maker(key // len(KINDS)))
     turn = number if isinstance(key, Change) else number // len(KINDS)
     if made.may_be_refused or OWN_STYLE & {it for option in made.options for it in option}:
         return made

@@ -10,10 +10,10 @@ import re
 import sys
 
 import search
-from generator import TAGS, Generator, Part, Scenario, feature_text, first_given, hooks_text
+from generator import LIBRARY, TAGS, Maker, Part, Scenario, first_given, text_of, text_of_hooks  # LIBRARY for plugin.py
 from reports import AROUND, Feature, Report, Rule, Scenario as Row, Style, one_line, verdict
 
-COUNT = 1200  # suites
+COUNT = 1215  # suites
 # The lines of an explanation that have a cleanup, and a step that registered one, each with its place.
 CLEANUP = re.compile(r"  (\S+:\d+): cleanup \.\.\. ")
 REGISTERED = re.compile(r"  (\S+:\d+): (?:before: |after: )?\S+ (?:at cleanup|later) .* \.\.\. passed$")
@@ -57,8 +57,8 @@ class Comparison:
     def __init__(self, suite, runs):
         self.suite, self.runs = suite, runs
         self.choices = flat(suite.choices)
-        features = {name: feature_text(parts) for name, parts in suite.features.items()}
-        runs.write({**features, "l.steps": "\n".join(suite.library), "h.hooks": hooks_text(suite.hooks)})
+        features = {name: text_of(parts) for name, parts in suite.features.items()}
+        runs.write({**features, "l.steps": "\n".join(suite.library), "h.hooks": text_of_hooks(suite.hooks)})
 
     def run(self, options, files=None, hooks="h.hooks"):
         """What a run prints, and its status. It has the hooks of the suite, or those of another file."""
@@ -134,7 +134,7 @@ class Comparison:
     def turned_round(self, whole):
         """The scenarios of a file in another order have the same results."""
         for name, parts in self.suite.features.items():
-            self.runs.write({"turned.feature": feature_text(turned(parts))})
+            self.runs.write({"turned.feature": text_of(turned(parts))})
             other = self.json([], ["turned.feature"])["features"][0]
             own = next(it for it in whole["features"] if it["source"] == name)
             is_same = all(other[key] == own[key] for key in ("around", "status"))
@@ -221,15 +221,15 @@ class Comparison:
         section. The hooks of the run, which have no section further out, are left out, and so are scenarios of no rule.
         Each rule has scenarios more, of which those pass that find what its hooks made."""
         hooks = {name: steps for name, steps in self.suite.hooks.items() if not name.endswith("_all")}
-        checks = [Scenario([], f"Scenario: {it}", [(f"Then {it}",)], None) for it in Generator(bool(self.suite.library)).checks()]
+        checks = [Scenario([], f"Scenario: {it}", [(f"Then {it}",)], None) for it in Maker(bool(self.suite.library)).checks()]
         for name, (feature, *rules) in self.suite.features.items():
             if not rules:
                 continue
             rules = [it._replace(scenarios=[*it.scenarios, *checks]) for it in rules]
             tags = [tag for line in feature.tags for tag in line.split()]
-            files = {f"rule{number}.feature": feature_text(moved_rule(feature, it)) for number, it in enumerate(rules)}
-            inner = {"inner.hooks": hooks_text(hooks), "outer.hooks": hooks_text(moved_out(hooks, tags)),
-                     "inner.feature": feature_text([feature._replace(scenarios=[]), *rules])}
+            files = {f"rule{number}.feature": text_of(moved_rule(feature, it)) for number, it in enumerate(rules)}
+            inner = {"inner.hooks": text_of_hooks(hooks), "outer.hooks": text_of_hooks(moved_out(hooks, tags)),
+                     "inner.feature": text_of([feature._replace(scenarios=[]), *rules])}
             self.runs.write({**inner, **files})
             for options in ([], ["--stop"]):
                 inside = by_rules(self.json(options, ["inner.feature"], "inner.hooks")["features"][0])
@@ -416,7 +416,7 @@ def keys(options):
 
 def case(seed):
     """A suite."""
-    return Generator(seed).suite()
+    return Maker(seed).suite()
 
 
 def troubles(suite, runs):

@@ -19,7 +19,7 @@
 # OPTIONS are --seed N of the first suite, --count N of suites, and --seconds N. PROGRAM is the built
 # program; without it, or if it is empty, the one that ./run runs. Prints the seed, and the smallest
 # suite that is found for a failure. Closes with one line 'N passed, M failed'; a suite is one test,
-# of some 40 runs. Without options it makes 1,200 suites, in about a minute.
+# of some 40 runs. Without options it makes 1,215 suites, in about a minute.
 set -eu
 
 . "$(dirname -- "$(readlink -f -- "$0")")/setup.sh"
