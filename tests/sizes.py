@@ -74,12 +74,9 @@ def group(make):
     return make
 
 
-def growing(size):
-    """Marks a function that makes a growing run, which is made of this size and TIMES as large."""
-    def marked(make):
-        GROWING.append((make, size))
-        return make
-    return marked
+def growing(size, table):
+    """Adds the growing runs of a table, which are made of this size and TIMES as large."""
+    GROWING.extend((name, make, size) for name, make in table.items())
 
 
 # ---- texts
@@ -99,6 +96,11 @@ def other(text):
 def blanks(count):
     """So many blanks, of both kinds."""
     return (" \t\t" * (count // 3 + 1))[:count]
+
+
+def one(*steps, **more):
+    """A feature file with one scenario."""
+    return FeatureFile().scenario(*steps, **more)
 
 
 def each(text, numbers):
@@ -136,19 +138,19 @@ def feature_of_bytes(size):
 
 def library_of_bytes(size):
     text = padded("step x => pass", size)
-    made = FeatureFile().scenario(Step("x", "passed" if text.endswith("pass") else "undefined"))
+    made = one(Step("x", "passed" if text.endswith("pass") else "undefined"))
     return with_library(made, text, fault=too_long("l.steps", size))
 
 
 def hooks_of_bytes(size):
     """Without its last byte a hook would fail."""
-    made = FeatureFile().scenario("it passes")
+    made = one("it passes")
     return with_hooks(made, padded("before_feature:\n* it passes", size), fault=too_long("h.hooks", size))
 
 
 rows({"bytes of a feature file": feature_of_bytes, "bytes of a library": library_of_bytes,
       "bytes of a hooks file": hooks_of_bytes}, also=(FILE_LIMIT, FILE_LIMIT + 1))
-rows({"bytes of a comment": lambda size: FeatureFile().scenario("it passes").add(("#" + letters(size))[:size])},
+rows({"bytes of a comment": lambda size: one("it passes").add(("#" + letters(size))[:size])},
      also=(FILE_LIMIT - len(PASSING) - 1,))
 
 
@@ -175,28 +177,26 @@ rows({
     # A step is description there.
     "lines of descriptions": lambda size: FeatureFile().add(*["Given it fails"] * size).scenario("it passes"),
 })
-rows({"lines before a fault": lambda size: Run(FeatureFile().scenario("it passes").add(*["# c"] * size, "stray"),
+rows({"lines before a fault": lambda size: Run(one("it passes").add(*["# c"] * size, "stray"),
                                                fault=f"a.feature:{size + 4}: unexpected line")}, also=(70_000,))
 rows({"lines before the scenario of --line": lambda size: Run(
-    FeatureFile().scenario(Step("it fails", "skipped"), name="no").add(*[""] * size).scenario("it passes", name="yes"),
+    one(Step("it fails", "skipped"), name="no").add(*[""] * size).scenario("it passes", name="yes"),
     options=["--line", str(size + 4)])}, only=(65_531, 65_532, 999_996))
 
 
 @row()
 def blanks_around_lines(size):
     """They are trimmed, and each line has its column."""
-    made = FeatureFile().scenario("it passes", Step("these files:", block=("| name | text |", "| f | x |")))
+    made = one("it passes", Step("these files:", block=("| name | text |", "| f | x |")))
     made.lines = [f"{blanks(size)}{line}{blanks(size)}" for line in made.lines]
     return made
 
 
-@row()
-def blanks_before_a_doc_string(size):
-    """As many are dropped from each line of it, or as there are."""
-    lines = [blanks(size) + '"""', blanks(size) + "  a", blanks(size), blanks(size) + "b",
-             blanks(max(0, size - 1)) + "c", '"""']
-    return FeatureFile().scenario(Step('a file named "f" with:', block=lines),
-                                  Step('the file "f" should be:', block=quoted("  a\n\nb\nc")))
+# As many are dropped from each line of it, or as there are.
+rows({"blanks before a doc string": lambda size: one(
+    Step('a file named "f" with:', block=[blanks(size) + it for it in ('"""', "  a", "", "b")] + [
+        blanks(max(0, size - 1)) + "c", '"""']),
+    Step('the file "f" should be:', block=quoted("  a\n\nb\nc")))})
 
 
 # ---- lengths of texts
@@ -209,7 +209,7 @@ def kept(size, reason="text too long", limit=TEXT_LIMIT):
 def kept_text(noun, letter, size):
     """A text is kept as it is: the same again is equal, and one with another last letter is not."""
     text = letters(size, letter)
-    made = FeatureFile().scenario(Step("put n", kept(size), quoted(text)), Step("see n", block=quoted(text)),
+    made = one(Step("put n", kept(size), quoted(text)), Step("see n", block=quoted(text)),
                                   Step("see n", "failed: differs", quoted(other(text))))
     return with_library(made, OWN_ENTRIES[noun])
 
@@ -223,7 +223,7 @@ rows({"bytes of a text of longer characters": functools.partial(kept_text, "file
 @row(also=(TEXT_LIMIT, TEXT_LIMIT + 1))
 def bytes_of_the_text_of_a_cell(size):
     text = letters(size)
-    return FeatureFile().scenario(
+    return one(
         Step("these files:", kept(size), ("| name | text |", f"| f | {text} |")),
         Step('the file "f" should contain:', block=quoted(text)), Step('the file "f" should be:', block=quoted(text)),
         Step('the file "f" should be:', "failed: differs", quoted(other(text))))
@@ -233,7 +233,7 @@ def bytes_of_the_text_of_a_cell(size):
 def bytes_of_a_text_in_two_halves(size):
     """And the same text with one byte more."""
     text, half = letters(size), size // 2
-    return FeatureFile().scenario(
+    return one(
         Step('a file named "f" with:', block=quoted(text[:half])),
         Step('the file "f" is extended with:', kept(size), quoted(text[half:])),
         Step('the file "f" should be:', block=quoted(text)),
@@ -259,7 +259,7 @@ def bytes_of_a_text_in_a_step(size):
 def texts_beyond_the_limit():
     """How many bytes a text has that is too long, of a file, of one that is extended, and of a row of a table."""
     text, fault = "x" * TEXT_LIMIT, "failed: text too long"
-    made = FeatureFile().scenario(Step('a file named "f" with:', block=quoted(text + "x")), name="of a file")
+    made = one(Step('a file named "f" with:', block=quoted(text + "x")), name="of a file")
     made.scenario(Step('a file named "f" with:', block=quoted(text)), 'the file "f" is extended with "xyz"', name="at the end")
     made.scenario(Step("these files:", block=("| name | text |", "| f | |", f"| g | {text}xy |")), name="in a table")
     note = "      the text has {} bytes; at most 1048576 are allowed\n\n"
@@ -274,26 +274,18 @@ def texts_beyond_the_limit():
     yield "explained", Run(made, options=["--explain"], printed=explained + counts((0, 1), (0, 3), (1, 3)), status=1)
 
 
-@row()
-def escapes_in_a_cell(size):
-    return FeatureFile().scenario(
+rows({
+    "escapes in a cell": lambda size: one(
         Step("these files:", block=("| name | text |", "| f | " + "\\|" * size + "a |")),
-        Step('the file "f" should be:', block=quoted("|" * size + "a")))
-
-
-@row()
-def escapes_in_a_doc_string(size):
-    written, as_kept = r"\"\"\"" * size + "a", '"""' * size + "a"
-    return FeatureFile().scenario(Step('a file named "f" with:', block=quoted(written)),
-                                  Step('the file "f" should be:', block=quoted(as_kept, "```")))
-
-
-@row()
-def digits_of_a_number(size):
-    """Leading zeros change nothing. Without a digit the step is undefined."""
-    number = "0" * (size - 1) + "7" if size else "+"
-    return FeatureFile().scenario(Step(f'the number "n" is set to {number}', "passed" if size else "undefined"),
-                                  'the value "n" should be "7"')
+        Step('the file "f" should be:', block=quoted("|" * size + "a"))),
+    "escapes in a doc string": lambda size: one(
+        Step('a file named "f" with:', block=quoted(r"\"\"\"" * size + "a")),
+        Step('the file "f" should be:', block=quoted('"""' * size + "a", "```"))),
+    # Leading zeros change nothing. Without a digit the step is undefined.
+    "digits of a number": lambda size: one(
+        Step(f'the number "n" is set to {"0" * (size - 1) + "7" if size else "+"}', "passed" if size else "undefined"),
+        'the value "n" should be "7"'),
+})
 
 
 # ---- texts that could cost more than their length
@@ -306,7 +298,7 @@ rows({
 }, only=(TEXT_LIMIT,))
 rows({
     # No line of a doc string may cost the whole text.
-    "lines of a doc string with escapes": lambda size: FeatureFile().scenario(
+    "lines of a doc string with escapes": lambda size: one(
         Step("it passes", block=["```", *["x"] * size, "\\`\\`\\`" * (size // 10), "```"])),
 }, only=(1_000_000,))
 
@@ -316,7 +308,7 @@ rows({
 def kept_name(noun, letter, size):
     """A name of at most 255 bytes is kept. One that differs in its last byte is another."""
     name, is_kept = letters(size, letter), size <= NAME_LIMIT
-    made = FeatureFile().scenario(
+    made = one(
         Step(f"put {name}", kept(size, "bad name", NAME_LIMIT), quoted("x")), Step(f"see {name}", block=quoted("x")),
         Step(f"see {name[:-1]}y", "failed: absent" if is_kept else "skipped", quoted("x")))
     made.scenario(Step(f"see {name}", "failed: absent", quoted("x")))
@@ -327,24 +319,15 @@ rows({f"bytes of the name of a {noun}, of {letter or 'letters'}": functools.part
       for noun in OWN_ENTRIES for letter in ("", "\u00e9")}, least=1)
 
 
-@row()
-def bytes_of_a_name_in_a_table(size):
-    status = kept(size or NAME_LIMIT + 1, "bad name", NAME_LIMIT)
-    return FeatureFile().scenario(Step("these files:", status, ("| name | text |", f"| {letters(size)} | x |")))
-
-
-@row(least=1)
-def bytes_of_the_new_name_of_a_file(size):
-    name = letters(size)
-    return FeatureFile().scenario(
-        'a file named "f" containing "x"',
-        Step(f'the file "f" is renamed to "{name}"', kept(size, "bad name", NAME_LIMIT)),
-        f'the file "{name}" should be "x"', Step('the file "f" should exist', "failed: absent"))
-
-
+rows({"bytes of a name in a table": lambda size: one(Step(
+    "these files:", kept(size or NAME_LIMIT + 1, "bad name", NAME_LIMIT), ("| name | text |", f"| {letters(size)} | x |")))})
+rows({"bytes of the new name of a file": lambda size: one(
+    'a file named "f" containing "x"',
+    Step(f'the file "f" is renamed to "{letters(size)}"', kept(size, "bad name", NAME_LIMIT)),
+    f'the file "{letters(size)}" should be "x"', Step('the file "f" should exist', "failed: absent"))}, least=1)
 rows({
     "bytes of the name of a feature": lambda size: FeatureFile(name=letters(size)).scenario("it passes"),
-    "bytes of the name of a scenario": lambda size: FeatureFile().scenario("it passes", name=letters(size)),
+    "bytes of the name of a scenario": lambda size: one("it passes", name=letters(size)),
     "bytes of the names of a rule and a background": lambda size: FeatureFile().rule(letters(size)).background(
         "it passes", name=letters(size)).scenario("it passes"),
     "bytes of the names of an outline and of examples": lambda size: FeatureFile().outline(
@@ -368,7 +351,7 @@ rows({"names": lambda size: named("n" * size)}, only=(1_000_000,))
 @row(least=1)
 def bytes_of_a_tag(size):
     tag = f"@{letters(size - 1)}"
-    made = FeatureFile().scenario("it passes", tags=tag)
+    made = one("it passes", tags=tag)
     if size == 1:
         return Run(made, fault="a.feature:2: bad tag")
     return Run(made.scenario(SKIPPED, tags=f"{other(tag)} {tag}z"), options=["--tags", tag])
@@ -386,46 +369,35 @@ def bytes_of_a_path(size):
 
 # ---- libraries and their steps
 
-@row()
-def bytes_of_a_step(size):
-    """A keyword alone is no step, and nothing else may follow below one."""
-    made = FeatureFile().scenario("it passes", Step(letters(size), "undefined"))
-    return Run(made, fault="" if size else "a.feature:4: unexpected line")
-
-
-@row()
-def bytes_of_a_pattern(size):
-    text = letters(size)
-    made = FeatureFile().scenario(text, Step(other(text), "undefined"))
-    return with_library(made, f"step {text} => pass\n", fault="" if size else "l.steps:1: bad pattern")
-
-
-@row()
-def bytes_of_the_text_of_a_field(size):
-    made = FeatureFile().scenario(Step(f"a {letters(size)}z", "passed" if size else "undefined"))
-    made.scenario(Step(f"a {letters(size)}", "passed" if size > 1 else "undefined"))
-    return with_library(made, "step a {x}z => pass\n")
-
-
-@row()
-def bytes_of_the_name_of_a_field(size):
-    """Names that differ in their last letter are two."""
-    pattern = f"step a {{{letters(size)}}},{{{other(letters(size))}}} => pass\n"
-    return with_library(FeatureFile().scenario("a b,c"), pattern, fault="" if size else "l.steps:1: bad pattern")
+rows({
+    # A keyword alone is no step, and nothing else may follow below one.
+    "bytes of a step": lambda size: Run(one("it passes", Step(letters(size), "undefined")),
+                                        fault="" if size else "a.feature:4: unexpected line"),
+    "bytes of a pattern": lambda size: with_library(
+        one(letters(size), Step(other(letters(size)), "undefined")), f"step {letters(size)} => pass\n",
+        fault="" if size else "l.steps:1: bad pattern"),
+    "bytes of the text of a field": lambda size: with_library(
+        one(Step(f"a {letters(size)}z", "passed" if size else "undefined")).scenario(
+            Step(f"a {letters(size)}", "passed" if size > 1 else "undefined")), "step a {x}z => pass\n"),
+    # Names that differ in their last letter are two.
+    "bytes of the name of a field": lambda size: with_library(
+        one("a b,c"), f"step a {{{letters(size)}}},{{{other(letters(size))}}} => pass\n",
+        fault="" if size else "l.steps:1: bad pattern"),
+})
 
 
 @row(most=4097)
 def fields_of_a_pattern(size):
     fields = ",".join(f"{{f{number}}}" for number in range(size))
     texts = ",".join(f"t{number}" for number in range(size))
-    made = FeatureFile().scenario(f"a {texts}." if size else "a .", Step(f"a {texts}", "undefined"))
+    made = one(f"a {texts}." if size else "a .", Step(f"a {texts}", "undefined"))
     return with_library(made, f"step a {fields}. => pass\n")
 
 
 @row(most=4097)
 def entries_of_a_library(size):
     steps = [f"w{number}" for number in (0, size // 2, size - 1)] if size else []
-    return with_library(FeatureFile().scenario(*steps, Step(f"w{size}", "undefined")), each("step w{} => pass\n", size))
+    return with_library(one(*steps, Step(f"w{size}", "undefined")), each("step w{} => pass\n", size))
 
 
 ALIKE = "the user opens the order of the"
@@ -437,23 +409,23 @@ def entries_of_libraries():
     different = each("step w{} {{name}} is {{text}} => set_env\n", 1000)
     alike = f"step {ALIKE} {{{{name}}}} at {{}} => pass\n"
     steps = ["w0 A is 1", "w999 B is 2", "A = 1", "B = 2"]
-    yield "many", with_library(FeatureFile().scenario(*steps), different + "step {name} = {text} => env_is\n")
+    yield "many", with_library(one(*steps), different + "step {name} = {text} => env_is\n")
     yield "many, and a fault", with_library(FeatureFile(), different + "step w7 {x} is {y} => pass\n",
                                             fault="l.steps:1001: ambiguous with an earlier line")
     steps = [f"{ALIKE} x at {number}" for number in (0, 17, 29_999)]
-    yield "alike", with_library(FeatureFile().scenario(*steps), each(alike, 30_000))
+    yield "alike", with_library(one(*steps), each(alike, 30_000))
     yield "alike, and a fault", with_library(FeatureFile(), each(alike, 3000) + f"step {ALIKE} {{other}} at 17 => pass\n",
                                              fault="l.steps:3001: ambiguous with an earlier line")
     steps = [f"{ALIKE} {number}" for number in (0, 17, 29_999)]
-    yield "literals alike", with_library(FeatureFile().scenario(*steps), each(f"step {ALIKE} {{}} => pass\n", 30_000))
+    yield "literals alike", with_library(one(*steps), each(f"step {ALIKE} {{}} => pass\n", 30_000))
 
 
 @group
 def hopeless_patterns():
     """Taking the fields' lengths one after another would not end."""
-    yield "texts", with_library(FeatureFile().scenario(Step("a" * 400 + "x", "undefined")),
+    yield "texts", with_library(one(Step("a" * 400 + "x", "undefined")),
                                 "step {a}{b}{c}{d}{e}{f}{g}{h}z{i}x => pass\n")
-    yield "numbers", with_library(FeatureFile().scenario(Step("1" * 400, "undefined")),
+    yield "numbers", with_library(one(Step("1" * 400, "undefined")),
                                   f"step {each('{{n{}:d}}', 12)} => pass\n")
 
 
@@ -471,11 +443,11 @@ rows({
     "scenarios of a rule": lambda size: FeatureFile().rule("r").scenarios(size, *KINDS),
     "scenarios that pass": lambda size: FeatureFile().scenarios(size, ["it passes"]),
     "scenarios after one that stops the run": lambda size: Run(
-        FeatureFile().scenario(FAILING).scenarios(size, [UNTESTED]), options=["--stop"]),
+        one(FAILING).scenarios(size, [UNTESTED]), options=["--stop"]),
     "scenarios before the one that is chosen": lambda size: Run(
         FeatureFile().scenarios(size, [Step("it fails", "skipped")]).scenario("it passes"),
         options=["--line", str(2 + 2 * size)]),
-    "steps of a scenario": lambda size: FeatureFile().scenario(*["it passes"] * size, FAILING, "it passes"),
+    "steps of a scenario": lambda size: one(*["it passes"] * size, FAILING, "it passes"),
     "steps of a background": lambda size: FeatureFile().background(*["it passes"] * size).scenario(
         "it passes").scenario(FAILING),
 })
@@ -493,7 +465,7 @@ rows({
 
 @row()
 def steps_of_a_dry_run(size):
-    made = FeatureFile().scenario(*[UNTESTED] * size, Step("nothing knows this", "undefined"))
+    made = one(*[UNTESTED] * size, Step("nothing knows this", "undefined"))
     made.cases = [it._replace(status="untested") for it in made.cases]
     return Run(made, options=["--dry-run"])
 
@@ -563,7 +535,7 @@ def scenarios_of_a_part_of_many_pieces(size):
 def rows_of_a_table(size):
     table = ["| name | text |", *(f"| f{number} | {number} |" for number in range(size))]
     seen = [f'the file "f{number}" should be "{number}"' for number in (0, size // 2, size - 1)]
-    return FeatureFile().scenario(Step("these files:", block=table), *(seen if size else []),
+    return one(Step("these files:", block=table), *(seen if size else []),
                                   Step(f'the file "f{size}" should exist', "failed: absent"))
 
 
@@ -577,14 +549,12 @@ def cells_of_a_row(size):
 
 
 rows({"cells of a row with one more": lambda size: Run(
-    FeatureFile().scenario(Step("it passes", block=[*["|" + "a|" * size] * 2, "|" + "a|" * (size + 1)])),
+    one(Step("it passes", block=[*["|" + "a|" * size] * 2, "|" + "a|" * (size + 1)])),
     fault="a.feature:6: row with another number of cells")}, least=1, also=(100_000,))
 
 
-@row()
-def rows_of_examples(size):
-    made = FeatureFile().outline("o", "it passes")
-    return made.examples(*([str(number)] for number in range(size))) if size else made
+rows({"rows of examples": lambda size: FeatureFile().outline("o", "it passes").examples(
+    *([str(number)] for number in range(size)))})
 
 
 @row()
@@ -613,7 +583,7 @@ rows({"tags of a line": lambda size: chosen_by_the_last([each("@t{} ", size)], s
 def lines_of_a_doc_string(size):
     lines = [f"line {number}" for number in range(size)]
     contained = [f'the file "f" should contain "{lines[-1]}"'] if lines else []
-    made = FeatureFile().scenario(Step('a file named "f" with:', block=['"""', *lines, '"""']), *contained,
+    made = one(Step('a file named "f" with:', block=['"""', *lines, '"""']), *contained,
                                   Step('the file "f" should be:', block=['"""', *lines, '"""']),
                                   Step('the file "f" should be:', "failed: differs", ['"""', *lines[:-1], "line", '"""']))
     return made.scenario(Step('a file named "f" with:', block=['"""', *lines, '"""']),
@@ -635,10 +605,8 @@ def many_files():
     yield "a fault of the last", Run(*made, fault="299.feature:2: unexpected line")
 
 
-@row(least=1)
-def files_of_a_run(size):
-    """The same file again and again."""
-    return Run(*[FeatureFile(source="a").scenario("it passes")] * size)
+# The same file again and again.
+rows({"files of a run": lambda size: Run(*[FeatureFile(source="a").scenario("it passes")] * size)}, least=1)
 
 
 def from_a_pipe(program, folder):
@@ -698,11 +666,11 @@ def changes_of_each_kind(size):
     changes = [*['the number "n" grows by 1'] * size,
                *['the variable "V" is set to "x"', 'the variable "V" is unset'] * (size // 2),
                *['a file named "f" containing "x"', 'the file "f" is removed'] * (size // 2)]
-    made = FeatureFile().scenario('the number "n" is set to 0', *changes, f'the number "n" should be {size}', *gone)
+    made = one('the number "n" is set to 0', *changes, f'the number "n" should be {size}', *gone)
     return made.scenario('the value "n" should be absent', *gone)
 
 
-rows({"changes of a layer": lambda size: FeatureFile().scenario(
+rows({"changes of a layer": lambda size: one(
     'the number "n" is set to 0', *['the number "n" grows by 1'] * size, f'the number "n" should be {size}').scenario(
         'the value "n" should be absent')})
 rows({"changes of each kind": changes_of_each_kind}, only=(100_000,))
@@ -715,23 +683,21 @@ def names_of_a_layer(size):
            for number in range(size // 2) for noun in ("variable", "value")]
     last = size // 2 - 1
     seen = [f'the {noun} "n{last}" should be "{last}"' for noun in ("variable", "value")]
-    return FeatureFile().scenario(*put, *(seen if put else [])).scenario(
+    return one(*put, *(seen if put else [])).scenario(
         f'the variable "n{last}" should be unset', f'the value "n{last}" should be absent')
 
 
-@row()
-def cleanups_of_a_scenario(size):
-    """They run last in, first out."""
-    return FeatureFile().scenario(
-        f'at cleanup the number "n" should be {size}', *['at cleanup the number "n" grows by 1'] * size,
-        'at cleanup the number "n" is set to 0').scenario('the value "n" should be absent')
+# Cleanups run last in, first out.
+rows({"cleanups of a scenario": lambda size: one(
+    f'at cleanup the number "n" should be {size}', *['at cleanup the number "n" grows by 1'] * size,
+    'at cleanup the number "n" is set to 0').scenario('the value "n" should be absent')})
 
 
 @row(only=(100_000,))
 def cleanups_with_a_table(size):
     table = ["| name | text |", *(f"| f{number} | {number} |" for number in range(size // 10))]
     last = size // 10 - 1
-    return FeatureFile().scenario(
+    return one(
         f'at cleanup the number "n" should be {size}', f'at cleanup the file "f{last}" should be "{last}"',
         *['at cleanup the number "n" grows by 1'] * size, 'at cleanup the number "n" is set to 0',
         Step("at cleanup these files:", block=table))
@@ -768,14 +734,14 @@ def hooks_of_a_rule(size):
 @row(most=4097)
 def hooks_of_a_scenario(size):
     hooks, tags, seen = counting_hooks(size)
-    return with_hooks(FeatureFile().scenario(seen, tags=tags), hooks)
+    return with_hooks(one(seen, tags=tags), hooks)
 
 
 @row(most=4097, also=(1000,))
 def hooks_of_a_file(size):
     tags = f"@t0 @t{size - 1}" if size else "@t"
     seen = VARIABLE_SEEN.format(size - 1) if size else 'the variable "V" should be unset'
-    made = FeatureFile().scenario(seen, tags=tags)
+    made = one(seen, tags=tags)
     if size:
         made.scenario(VARIABLE_SEEN.format(size // 2), tags=f"@t{size // 2}")
     return with_hooks(made, each(SETTING, size))
@@ -785,24 +751,20 @@ def hooks_of_a_file(size):
 def steps_of_a_hook(size):
     hooks = ["before_scenario:", '* the number "n" is set to 0', *['* the number "n" grows by 1'] * size,
              "after_scenario:", f'* the number "n" should be {size + 1}', ""]
-    made = FeatureFile().scenario(f'the number "n" should be {size}', 'the number "n" grows by 1')
+    made = one(f'the number "n" should be {size}', 'the number "n" grows by 1')
     return with_hooks(made, "\n".join(hooks))
 
 
-@growing(3000)
-def headings_of_hooks(count):
-    """Each heading is looked for among those before it."""
-    hooks = each("before_tag @t{}:\n", count) + 'after_tag @last:\nbefore_scenario:\n* the variable "V" is set to "x"\n'
-    return with_hooks(FeatureFile().scenario(VARIABLE_SEEN.format("x")), hooks)
+growing(3000, {
+    # Each heading is looked for among those before it.
+    "headings of hooks": lambda count: with_hooks(
+        one(VARIABLE_SEEN.format("x")), each("before_tag @t{}:\n", count)
+        + 'after_tag @last:\nbefore_scenario:\n* the variable "V" is set to "x"\n'),
+    "headings of hooks before a fault": lambda count: with_hooks(
+        FeatureFile(), each(EMPTY_HOOKS, count // 2) + "after_tag @t7:\n", fault=f"h.hooks:{count + 1}: bad hook heading"),
+})
 
 
-@growing(3000)
-def headings_of_hooks_before_a_fault(count):
-    return with_hooks(FeatureFile(), each(EMPTY_HOOKS, count // 2) + "after_tag @t7:\n",
-                      fault=f"h.hooks:{count + 1}: bad hook heading")
-
-
-@growing(300)
 def tags_with_hooks(count):
     """Each tag of each of 20 scenarios has a hook before it and one after it."""
     made, tags = FeatureFile(), each("@t{} ", count) + "@last"
@@ -811,7 +773,6 @@ def tags_with_hooks(count):
     return with_hooks(made, each(EMPTY_HOOKS, count) + 'before_tag @last:\n* the variable "V" is set to "x"\n')
 
 
-@growing(3000)
 def scenarios_with_hooks(count):
     """Each scenario has a tag of its own, and each tag a hook."""
     made = FeatureFile()
@@ -820,11 +781,14 @@ def scenarios_with_hooks(count):
     return with_hooks(made, each(SETTING, count))
 
 
+growing(300, {"tags with hooks": tags_with_hooks})
+growing(3000, {"scenarios with hooks": scenarios_with_hooks})
+
 # ---- counts and lengths of arguments
 
 def chosen(*options, no="@c", **more):
     """A run that chooses the first of two scenarios by its tags."""
-    made = FeatureFile().scenario("it passes", tags="@a @b").scenario(SKIPPED, tags=no)
+    made = one("it passes", tags="@a @b").scenario(SKIPPED, tags=no)
     return Run(made, options=options, **more)
 
 
@@ -853,7 +817,7 @@ def bytes_of_a_text_of_tags(size):
     tag = letters(size)
     if not size:
         return chosen("--tags=", fault="bad tag expression", status=2)
-    return Run(FeatureFile().scenario("it passes", tags=f"@{tag}").scenario(SKIPPED, tags=f"@{other(tag)}"),
+    return Run(one("it passes", tags=f"@{tag}").scenario(SKIPPED, tags=f"@{other(tag)}"),
                options=[f"--tags={tag}"])
 
 
@@ -875,24 +839,21 @@ def long_texts_of_tags():
         yield name, chosen("--tags", "@a or @b", "--tags", text, fault="bad tag expression", status=2)
 
 
-@row()
-def options_of_variables(size):
-    """The last of equal names counts."""
-    options = ["--env=V=0", *[f"--env=V={number % 10}" for number in range(size)]]
-    return Run(FeatureFile().scenario(VARIABLE_SEEN.format((size - 1) % 10 if size else 0)), options=options)
-
-
-@row()
-def bytes_of_the_name_of_an_option(size):
-    name, fault = letters(size), "" if 0 < size <= NAME_LIMIT else "bad --env"
-    return Run(FeatureFile().scenario(f'the variable "{name}" should be "x"'), options=[f"--env={name}=x"],
-               fault=fault, status=2)
+rows({
+    # The last of equal names counts.
+    "options of variables": lambda size: Run(
+        one(VARIABLE_SEEN.format((size - 1) % 10 if size else 0)),
+        options=["--env=V=0", *(f"--env=V={number % 10}" for number in range(size))]),
+    "bytes of the name of an option": lambda size: Run(
+        one(f'the variable "{letters(size)}" should be "x"'), options=[f"--env={letters(size)}=x"],
+        fault="" if 0 < size <= NAME_LIMIT else "bad --env", status=2),
+})
 
 
 @row(also=(100_000,))
 def bytes_of_the_text_of_an_option(size):
     text = letters(size)
-    made = FeatureFile().scenario(Step("see V", block=quoted(text)), Step("see V", "failed: differs", quoted(other(text))))
+    made = one(Step("see V", block=quoted(text)), Step("see V", "failed: differs", quoted(other(text))))
     run = with_library(made, OWN_ENTRIES["variable"])
     run.options += [f"--env=V={text}", f"--tags=~@{text}t"]
     return run
@@ -908,33 +869,23 @@ def many_options():
     steps = [f'the variable "V{number}" should be "{number}"' for number in (0, 999)]
     options = given("--tags", (f"~@t{number}" for number in range(1000))) + given("--line", range(1000, 0, -1))
     options += given("--env", (f"V{number}={number}" for number in range(1000)))
-    yield "of each kind", Run(FeatureFile().scenario(*steps), options=options)
+    yield "of each kind", Run(one(*steps), options=options)
 
 
-@growing(1000)
-def lines_of_which_the_last_chooses(count):
-    return chosen(*given("--line", [*range(count + 6, 7, -1), 3]))
-
-
-@growing(1000)
-def tags_of_which_the_last_chooses(count):
-    """Each of them is looked up for each scenario, so the scenarios are few."""
-    return chosen(*given("--tags", [*(f"~@t{number}" for number in range(count - 1)), "~@c"]))
-
-
-@growing(1000)
-def tags_that_stand_nowhere(count):
-    """Each tag that is named is looked for among as many in the feature."""
-    made = FeatureFile(each("@t{} ", count)).scenario("it passes")
-    return Run(made, options=["--lint", *given("--tags", [f"@t{number}" for number in range(1, count + 1)])],
-               printed=f"--tags @t{count}: stands nowhere\n", status=1)
-
-
-@growing(1000)
-def variables_of_the_run(count):
-    seen = [f'the variable "V{number}" should be "{number}"' for number in (0, count - 1)]
-    return Run(FeatureFile().scenario(*seen, f'the variable "V{count}" should be unset'),
-               options=given("--env", (f"V{number}={number}" for number in range(count))))
+growing(1000, {
+    "lines of which the last chooses": lambda count: chosen(*given("--line", [*range(count + 6, 7, -1), 3])),
+    # Each of them is looked up for each scenario, so the scenarios are few.
+    "tags of which the last chooses": lambda count: chosen(
+        *given("--tags", [*(f"~@t{number}" for number in range(count - 1)), "~@c"])),
+    # Each tag that is named is looked for among as many in the feature.
+    "tags that are nowhere": lambda count: Run(
+        FeatureFile(each("@t{} ", count)).scenario("it passes"), printed=f"--tags @t{count}: stands nowhere\n", status=1,
+        options=["--lint", *given("--tags", [f"@t{number}" for number in range(1, count + 1)])]),
+    "variables of the run": lambda count: Run(
+        one(*(VARIABLE_SEEN.replace("V", f"V{number}").format(number) for number in (0, count - 1)),
+            f'the variable "V{count}" should be unset'),
+        options=given("--env", (f"V{number}={number}" for number in range(count)))),
+})
 
 
 # ---- what is found before a run
@@ -965,7 +916,6 @@ def listed(name, line, fault, text):
     return f"gherkin_run: {name}:{line}: {fault}\n    {quoted_line}\n    {ADVICE[fault]}\n"
 
 
-@growing(700)
 def faults_of_many_files(count):
     """The listing, on standard error, has more bytes than a pipe holds. It has nothing of the files that read."""
     files, listing = {}, ""
@@ -990,11 +940,11 @@ rows({"letters of a line with a fault": long_line},
      only=(1_000_000, PIPE - AROUND_THE_LINE, PIPE + 1 - AROUND_THE_LINE))
 
 
-@growing(2000)
-def findings_of_a_file(count):
-    """What is found goes to standard output."""
-    return Run(FeatureFile().scenarios(count, []), options=["--lint"], status=1,
-               printed=each("a.feature:{}: scenario without steps\n", range(2, count + 2)))
+growing(700, {"faults of many files": faults_of_many_files})
+# What is found goes to standard output.
+growing(2000, {"findings of a file": lambda count: Run(
+    FeatureFile().scenarios(count, []), options=["--lint"], status=1,
+    printed=each("a.feature:{}: scenario without steps\n", range(2, count + 2)))})
 
 
 # ---- running them
@@ -1045,7 +995,7 @@ class Table:
             yield trouble(self.program, folder, name, run, style)
         shutil.rmtree(folder)
 
-    def of_growing(self, make, size, folder):
+    def of_growing(self, name, make, size, folder):
         """The same of a growing run. Of three times the least counts."""
         least = []
         for own in (size, size * TIMES):
@@ -1053,7 +1003,7 @@ class Table:
             driver.write(folder, run.files)
             for _ in range(3):
                 before = processor_time()
-                found = trouble(self.program, folder, f"{make.__name__}: {own}", run, None)
+                found = trouble(self.program, folder, f"{name}: {own}", run, None)
                 times.append(processor_time() - before)
                 if found:
                     return found
@@ -1061,7 +1011,7 @@ class Table:
             least.append(min(times))
         if least[1] <= MOST_TIMES * least[0]:
             return ""
-        return f"{make.__name__}: {least[0]:.3f} s, and {TIMES} times as large {least[1]:.3f} s"
+        return f"{name}: {least[0]:.3f} s, and {TIMES} times as large {least[1]:.3f} s"
 
 
 def main():
