@@ -14,12 +14,12 @@ import time
 
 import driver
 
-CHUNK = 240  # cases between two looks at the time
-BATCH = 12  # of which a process gets so many at once
+CHUNK = 240  # cases that are given to the processes
+BATCH = 12  # and how many of them to one at once
 SHRINKING = 60  # seconds for the case of one failure
 SHRUNK = 3  # failures; of others only the keys are printed
 
-# What tells one random tester from another: a function that has the keys of its cases by the options; one that makes the case
+# What differs between random testers: a function that has the keys of its cases by the options; one that makes the case
 # of a key; and one that runs a case and yields, for each test of it, what is wrong, or nothing.
 Tester = collections.namedtuple("Tester", "keys case troubles")
 
@@ -123,10 +123,10 @@ def as_shell(folder, commands):
 
 
 class Search:
-    """Tries cases of a tester."""
+    """Tries cases of a tester, until a time."""
 
-    def __init__(self, tester, program, room):
-        self.tester, self.program, self.room = tester, program, room
+    def __init__(self, tester, program, room, end):
+        self.tester, self.program, self.room, self.end = tester, program, room, end
 
     def runs(self, name):
         """Runs in a new folder."""
@@ -136,14 +136,16 @@ class Search:
         """For each of these keys what is wrong with each test of its case, and how many runs it took."""
         found = []
         for key in keys:
+            if time.monotonic() > self.end:
+                break
             runs = self.runs(f"of_process{os.getpid()}")
             found.append((key, list(self.tester.troubles(self.tester.case(key), runs)), len(runs.commands)))
         return found
 
-    def all_tried(self, keys, end):
-        """The same for many keys, until a time. Python itself takes time for a case, so several processes share them."""
+    def all_tried(self, keys):
+        """The same for many keys. Python itself takes time for a case, so several processes share them."""
         with concurrent.futures.ProcessPoolExecutor(driver.processors()) as pool:
-            while time.monotonic() < end and (chunk := list(itertools.islice(keys, CHUNK))):
+            while time.monotonic() < self.end and (chunk := list(itertools.islice(keys, CHUNK))):
                 batches = [chunk[at:at + BATCH] for at in range(0, len(chunk), BATCH)]
                 for found in pool.map(self.tried, batches):
                     yield from found
@@ -182,10 +184,11 @@ def seeds(options, count):
 def main(tester, words):
     """Tries the cases of a tester, and prints the failures and the counts."""
     options = options_of(words)
-    search, tests, runs, failed = Search(tester, options.program, options.room), driver.Tests(most_shown=0), 0, []
     end = time.monotonic() + (options.seconds or float("inf"))
+    search, tests = Search(tester, options.program, options.room, end), driver.Tests(most_shown=0)
+    runs, failed = 0, []
     print(f"seed {options.seed}", flush=True)
-    for key, troubles, count in search.all_tried(iter(tester.keys(options)), end):
+    for key, troubles, count in search.all_tried(iter(tester.keys(options))):
         tests.add_all(troubles)
         runs += count
         if any(troubles):
