@@ -11,7 +11,8 @@ import sys
 
 import search
 from generator import LIBRARY, TAGS, Maker, Part, Scenario, first_given, text_of, text_of_hooks  # LIBRARY for plugin.py
-from reports import AROUND, Feature, Report, Rule, Scenario as Row, Style, one_line, verdict
+from reports import (AROUND, Feature, Report, Scenario as Row, Style, one_line, read_json_feature, read_json_scenario,
+                     verdict)
 
 COUNT = 1215  # suites
 # The lines of an explanation that have a cleanup, and a step that registered one, each with its place.
@@ -346,23 +347,16 @@ def without_skipped(features):
 
 def converted_scenario(row):
     """A scenario of a JSON report, as the other reports have it."""
-    steps = []
-    for step in row["steps"]:
-        reason = f": {step['reason']}" if "reason" in step else ""
-        head = f"{step['keyword']} {one_line(step['text'])}"
-        steps.append((head, step["status"] + reason))
-    head = f"{row['keyword']}: {one_line(row['name'])}"
-    return Row(head, row["status"], steps, row["around"])
+    found = read_json_scenario(row)
+    keyword, name, _ = found.head
+    steps = [(f"{own} {one_line(text)}", status) for (own, text, _), status in found.steps]
+    return Row(f"{keyword}: {one_line(name)}", found.status, steps, found.around)
 
 
 def converted_rules(feature):
-    """The rules of a JSON report that a plain one has a line for, each below the last scenario of its own, or above the
-    next rule's first."""
-    rules = feature.get("rules", [])
-    lines = [it["line"] for it in feature["scenarios"]]
-    ends = [*(it["line"] for it in rules[1:]), float("inf")]
-    return [Rule(it["line"], it["around"], sum(line < end for line in lines))
-            for it, end in zip(rules, ends) if it["around"] != "passed"]
+    """The rules of a JSON report that a plain one has a line for, with the place of that line."""
+    found = read_json_feature(feature)
+    return [it._replace(place=found.span(it)[1]) for it in found.rules if it.around != "passed"]
 
 
 def converted(document, style):

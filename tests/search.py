@@ -132,6 +132,13 @@ class Search:
         """Runs in a new folder."""
         return Runs(self.program, self.room, os.path.join(self.room, name))
 
+    def troubles(self, case, runs):
+        """What is wrong with each test of a case, or nothing. A report that can't be read is one trouble, too."""
+        try:
+            yield from self.tester.troubles(case, runs)
+        except ValueError as trouble:
+            yield f"a report can't be read: {trouble}"
+
     def tried(self, keys):
         """For each of these keys what is wrong with each test of its case, and how many runs it took."""
         found = []
@@ -139,7 +146,7 @@ class Search:
             if time.monotonic() > self.end:
                 break
             runs = self.runs(f"of_process{os.getpid()}")
-            found.append((key, list(self.tester.troubles(self.tester.case(key), runs)), len(runs.commands)))
+            found.append((key, list(self.troubles(self.tester.case(key), runs)), len(runs.commands)))
         return found
 
     def all_tried(self, keys):
@@ -154,7 +161,7 @@ class Search:
         """The first thing that is wrong with a case, or nothing, and its folder and its commands as they are then."""
         runs = self.runs("smallest")
         shutil.rmtree(runs.folder, ignore_errors=True)
-        return next(filter(None, self.tester.troubles(case, runs)), ""), runs
+        return next(filter(None, self.troubles(case, runs)), ""), runs
 
     def smallest_failure(self, key):
         """What is wrong with the smallest case that fails and is a part of that of a key, with its files and commands."""
