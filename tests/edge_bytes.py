@@ -5,24 +5,24 @@ come out is worked out here, by these rules, and not taken from the program: a f
 given; progress has a line feed of it as `\\n`; an explanation and a finding have each control character of it
 escaped; JSON has it with JSON's escapes.
 
-In each folder stands a file `a`, too. A name without its first or its last byte is mostly that of this file.
+In each folder is a file `a`, too. A name without its first or its last byte is usually that of this file.
 """
 
 import os
 
 import driver
-from large_runs import (JSON, PROGRESS, Run, case, closing, json_feature, json_report, json_step, one_passing, part,
-                        refused)
+from builder import FAILING, FeatureFile, Run, Step
+from reports import FORMATS, one_line
 
 BYTES = (*range(1, 33), 127)
-PASSES = "Given it passes"
-PASSING = driver.feature(PASSES)
-FAILS = "Given it fails"
-FAILING = driver.feature(FAILS)
+FAILING_FILE, PASSING_FILE = (driver.feature(f"Given {it}") for it in ("it fails", "it passes"))
 # The escapes of control characters that have a letter in an explanation.
 SHOWN = {9: "\\t", 10: "\\n", 13: "\\r"}
-# The escapes of JSON that have a letter; the other bytes below a blank have a number.
-LETTERS = {8: "b", 9: "t", 10: "n", 12: "f", 13: "r"}
+CLOSING = """
+0 features passed, 1 failed, 0 skipped
+0 scenarios passed, 1 failed, 0 skipped
+0 steps passed, 1 failed, 0 skipped, 0 undefined
+"""
 TRY_HELP = "\nFor more information, try '--help'.\n"
 NOT_A_FORMAT = ("error: invalid value '{}' for '--format <F>'\n  [possible values: plain, progress, json]\n\n"
                 "Usage: gherkin_run [OPTIONS] <FILE>...\n" + TRY_HELP)
@@ -37,11 +37,6 @@ def edged(byte, text):
     return [end + text, text + end, end + text + end]
 
 
-def one_line(text):
-    """A text as it stands in a line of what is printed."""
-    return text.replace("\n", "\\n")
-
-
 def shown(text):
     """A text as it is in a line of an explanation or of a finding."""
     def escaped(character):
@@ -50,59 +45,44 @@ def shown(text):
     return "".join(escaped(it) for it in text)
 
 
-def in_json(text):
-    """A text between the quotes of JSON. It has no quotes and no backslashes."""
-    def escaped(character):
-        code = ord(character)
-        return "\\" + LETTERS[code] if code in LETTERS else f"\\u{code:04x}" if code < 32 else character
-    return "".join(escaped(it) for it in text)
+def both_forms(option, value):
+    """An option and its value, in one argument and in two."""
+    return [option, value], [f"{option}={value}"]
 
 
 # ---- names of files
 
 def feature_files(name):
-    """Runs of a feature file of this name."""
-    files = {"a": FAILING, name: PASSING}
-    yield Run(files, 0, one_passing([PASSES]), arguments=[name])
-    yield Run(files, 0, f"{one_line(name)}  .  passed\n" + closing(1, 1, 1), arguments=[*PROGRESS, name])
-    scenario = ('{"around":"passed","keyword":"Scenario","line":2,"name":"s","status":"passed",'
-                f'"steps":[{json_step("Given", 3, "it passes")}]}}')
-    report = json_report([json_feature("f", 1, scenario, in_json(name), "passed")], 0, features={"passed": 1},
-                         scenarios={"passed": 1}, steps={"passed": 1})
-    yield Run(files, 0, report, arguments=[*JSON, name])
-
-
-def places(name):
-    """Runs that print places in files of this name."""
+    """Runs of a feature file of this name. Two print places in it."""
+    yield Run(FeatureFile(source=name).scenario("it passes"), files={"a": FAILING_FILE}, formats=FORMATS)
     place = shown(name)
-    explanation = (f"{place}:2: Scenario: s ... failed\n  {place}:3: {FAILS} ... failed: fail step\n\n"
-                   f"{place}:2: Scenario: s\n\n" + closing((0, 1), (0, 1), (0, 1)))
-    yield Run({"a": PASSING, name: FAILING}, 1, explanation, arguments=["--explain", name])
-    found = f"{place}:1: feature without scenarios\n"
-    yield Run({"a": PASSING, name: "Feature: f\n"}, 1, found, arguments=["--lint", name])
+    explanation = (f"{place}:2: Scenario: s ... failed\n  {place}:3: Given it fails ... failed: fail step\n\n"
+                   f"{place}:2: Scenario: s\n" + CLOSING)
+    made = FeatureFile(source=name).scenario(FAILING)
+    yield Run(made, files={"a": PASSING_FILE}, options=["--explain"], printed=explanation, status=1)
+    yield Run(FeatureFile(source=name), files={"a": PASSING_FILE}, options=["--lint"],
+              printed=f"{place}:1: feature without scenarios\n", status=1)
 
 
 def faults(name):
     """Runs with a fault of files of this name, which has no other form than the one that is given."""
-    yield Run({"a": PASSING}, 3, "", refused(name, "cannot read"), arguments=[name])
-    yield Run({"a": PASSING}, 3, "", refused(name, "cannot read"), arguments=["a", name])
-    files = {"a": PASSING, name: "Feature: f\nFeature: g\n"}
-    yield Run(files, 3, "", refused(f"{name}:2", "unexpected line"), arguments=[name])
+    for sources in ([name], ["a", name]):
+        yield Run(files={"a": PASSING_FILE}, sources=sources, fault=f"{name}: cannot read")
+    files = {"a": PASSING_FILE, name: "Feature: f\nFeature: g\n"}
+    yield Run(files=files, sources=[name], fault=f"{name}:2: unexpected line")
+    made = FeatureFile().scenario("it passes")
     for option, text in (("--library", "bad step type"), ("--hooks", "unexpected line")):
-        yield Run({"a": "", "a.feature": PASSING}, 3, "", refused(name, "cannot read"),
-                  arguments=[option, name, "a.feature"])
-        yield Run({"a": "", "a.feature": PASSING, name: "dance\n"}, 3, "", refused(f"{name}:1", text),
-                  arguments=[f"{option}={name}", "a.feature"])
+        yield Run(made, files={"a": ""}, options=[option, name], fault=f"{name}: cannot read")
+        yield Run(made, files={"a": "", name: "dance\n"}, options=[f"{option}={name}"], fault=f"{name}:1: {text}")
 
 
 def other_files(name):
     """Runs with a library, and with hooks, in a file of this name."""
-    step = 'Then the variable "V" should be "x"'
-    for option, text in (("--library", 'step the variable "V" should be "x" => pass\n'),
+    step = 'the variable "V" should be "x"'
+    for option, text in (("--library", f"step {step} => pass\n"),
                          ("--hooks", 'before_all:\n* the variable "V" is set to "x"\n')):
-        files = {"a": "", "a.feature": driver.feature(step), name: text}
-        for arguments in ([option, name], [f"{option}={name}"]):
-            yield Run(files, 0, one_passing([step]), arguments=[*arguments, "a.feature"])
+        for options in both_forms(option, name):
+            yield Run(FeatureFile().scenario(step), files={"a": "", name: text}, options=options)
 
 
 # ---- other arguments
@@ -111,57 +91,54 @@ def variables(text):
     """A run with a variable of this text, and one of this name.
 
     The steps have them from a table, where a line feed can be written."""
-    steps = ['Then the variable "V" should be <t>', 'And the variable <t> should be "x"']
     cell = '"' + one_line(text) + '"'
-    feature = "\n".join(["Feature: f", "Scenario Outline: o", *steps, "Examples:", "| t |", f"| {cell} |\n"])
-    rows = [(it.replace("<t>", cell), "passed") for it in steps]
-    report = part("passed", [case("o -- @1.1", "passed", rows, "Scenario Outline")]) + closing(1, 1, 2)
-    for arguments in (["--env", f"V={text}", "--env", f"{text}=x"], [f"--env=V={text}", f"--env={text}=x"]):
-        yield Run({"a.feature": feature}, 0, report, arguments=[*arguments, "a.feature"])
+    made = FeatureFile().outline("o", 'the variable "V" should be <t>', 'the variable <t> should be "x"')
+    made.examples([cell], header=["t"])
+    for of_text, of_name in zip(both_forms("--env", f"V={text}"), both_forms("--env", f"{text}=x")):
+        yield Run(made, options=[*of_text, *of_name])
 
 
 def tags(byte):
     """Runs with texts of tags. A blank at an end is one of an expression; any other byte belongs to the tag."""
-    files = {"a.feature": "@a\n" + PASSING}
-    skipped = (part("skipped", [case("s", "skipped", [(PASSES, "skipped")])])
-               + closing((0, 0, 1), (0, 0, 1), (0, 0, 1)))
-    report = one_passing([PASSES]) if chr(byte) in "\t " else skipped
+    status = "passed" if chr(byte) in "\t " else "skipped"
     for text in edged(byte, "@a"):
-        for arguments in (["--tags", text], [f"--tags={text}"]):
-            yield Run(files, 0, report, arguments=[*arguments, "a.feature"])
+        for options in both_forms("--tags", text):
+            yield Run(FeatureFile("@a").scenario(Step("it passes", status)), options=options)
 
 
-def options(byte):
+def options_of(byte):
     """Runs with options, and values of them, that aren't one with this byte."""
-    files, end = {"a.feature": PASSING}, chr(byte)
+    made, end = FeatureFile().scenario("it passes"), chr(byte)
     for option, value, error in (("--format", "plain", NOT_A_FORMAT), ("--line", "2", NOT_A_LINE)):
         for text in edged(byte, value):
-            for arguments in ([option, text], [f"{option}={text}"]):
-                yield Run(files, 2, "", error.format(text), arguments=[*arguments, "a.feature"])
-    yield Run(files, 2, "", NOT_AN_OPTION.format(f"--stop{end}"), arguments=[f"--stop{end}", "a.feature"])
+            for options in both_forms(option, text):
+                yield Run(made, options=options, err=error.format(text), status=2)
+    yield Run(made, options=[f"--stop{end}"], err=NOT_AN_OPTION.format(f"--stop{end}"), status=2)
     # What doesn't begin with a dash is a file.
     for option in ("--stop", "--help", "--", "-h"):
-        yield Run(files, 3, "", refused(end + option, "cannot read"), arguments=[end + option, "a.feature"])
+        yield Run(made, options=[end + option], fault=f"{end + option}: cannot read")
 
 
 # ---- running them
 
 def runs():
-    """All runs."""
+    """All runs, each with its format."""
     for byte in BYTES:
         for text in (*edged(byte, "a"), chr(byte)):
-            for kind in (feature_files, places, faults, other_files, variables):
+            for kind in (feature_files, faults, other_files, variables):
                 yield from kind(text)
         yield from tags(byte)
-        yield from options(byte)
+        yield from options_of(byte)
 
 
 def troubles(program, room):
     """What is wrong with each of these runs, or nothing."""
     def trouble(numbered):
-        number, run = numbered
+        number, (run, style) = numbered
         folder = os.path.join(room, f"edge{number}")
         driver.write(folder, run.files)
-        return driver.trouble(f"arguments {run.arguments}", driver.start(program, run.arguments, folder), run.wanted())
+        arguments = run.arguments(style)
+        return driver.trouble(f"arguments {arguments}", driver.start(program, arguments, folder), run.wanted(style))
 
-    yield from driver.on_all_processors(trouble, enumerate(runs()))
+    pairs = ((run, style) for run in runs() for style in run.formats or [None])
+    yield from driver.on_all_processors(trouble, enumerate(pairs))

@@ -1,41 +1,46 @@
 #!/usr/bin/env python3
-"""Compares random changes with plain maps: random_changes.py PROGRAM ROOM.
+"""Compares random changes with plain maps: random_changes.py PROGRAM ROOM [OPTIONS].
 
 Called by tests/random_changes.sh, which says what is compared.
 """
 
 import collections
-import os
 import random
-import shutil
 import sys
 
 import driver
+import search
+from generator import BAD_NAME, BUILT_IN, LONG_TEXTS, NAMES
 from reports import FORMATS, PLAIN, Ample, Feature, Report, Scenario, verdict
 
-FEATURES = 120
+COUNT = 132  # cases
+LAYERED = 11  # each case of so many changes four layers
 SCENARIOS = 20
 CHANGES = 40  # in a scenario, at most
-REFUSALS = 12  # runs of a feature with a growth refused
-NAMES = ["a", "b", "c", "d e", "\u00e9", "n" * 255]
-BAD_NAME = "n" * 256
-# In the four layers of a suite: the run's, a feature's, a rule's and a scenario's.
-LAYERED = 12
+REFUSALS = 12  # runs of a case with a growth refused
+# In the four layers of a case: the run's, a feature's, a rule's and a scenario's.
 CARRIED_OUT = (300, 200, 200, 300)
 BETWEEN_CHECKS = 20  # changes
 MANY_NAMES = [*NAMES, *(f"name {number}" for number in range(40 - len(NAMES)))]
 OUTSIDE = {"a": "from outside", "name 0": "0", "name 39": "x=y", "left": "alone"}
-TEXTS = ["x", "y z", "1", "-7", "9223372036854775807", "\u00fc" * 40, "l" * 3000]
+PUTS = {"write_file": "files", "write_block": "files", "set_env": "env", "set_value": "values"}
+TAKES = {"remove_file": "files", "unset_env": "env", "delete_value": "values"}
+ACTIONS = ["write_file", "set_env", "set_value", *PUTS, *TAKES, "append_file", "rename_file", "write_files", "add_number"]
+
+# A change: what is done, the name, and the text, the other name, the number or the rows that it takes.
+Change = collections.namedtuple("Change", "action name more")
+# Cases, with the names that are checked: the changes of each scenario of a feature; those of the run's, a feature's and a rule's
+# layer, and of four scenarios.
+Flat = collections.namedtuple("Flat", "seed names scenarios")
+Layers = collections.namedtuple("Layers", "seed names all feature rule scenarios")
 
 
 class World:
-    """Files, variables and values as plain maps, those of values one for each layer.
+    """Files, variables and values as plain maps, those of values one for each layer."""
 
-    Each change answers the step's text, its block and, where it fails, the reason."""
-
-    def __init__(self, names):
+    def __init__(self, names, env=()):
         self.names, self.begun = names, []
-        self.files, self.env, self.values = {}, {}, collections.ChainMap()
+        self.files, self.env, self.values = {}, dict(env), collections.ChainMap()
 
     def begin(self):
         """Begins a layer."""
@@ -51,272 +56,272 @@ class World:
         """Copies of what a change in the innermost layer can change."""
         return dict(self.files), dict(self.env), dict(self.values.maps[0])
 
-    def put(self, chance, maps, text):
-        name = chance.choice(self.names)
-        maps[name] = chance.choice(TEXTS)
-        return text.format(name, maps[name]), [], None
+    def change(self, change):
+        """Carries out a change. Returns the reason if it fails."""
+        action, name, more = change
+        if action == "write_files":
+            return self.write_files(more)
+        if action in PUTS:
+            getattr(self, PUTS[action])[name] = f"{more}\n{more}" if action == "write_block" else more
+            return None
+        maps = getattr(self, TAKES.get(action, "values" if action == "add_number" else "files"))
+        if name not in maps:
+            return "absent"
+        if action in TAKES:
+            # A value is deleted only in the layer in which it was set.
+            return "other layer" if getattr(maps, "maps", [maps])[0].pop(name, None) is None else None
+        return {"append_file": self.append, "rename_file": self.rename, "add_number": self.add}[action](name, more)
 
-    def put_file(self, chance):
-        return self.put(chance, self.files, 'a file named "{}" containing "{}"')
+    def write_files(self, rows):
+        for name, text in rows:
+            if name == BAD_NAME:
+                return "bad name"
+            self.files[name] = text
+        return None
 
-    def put_file_with_block(self, chance):
-        name, text = chance.choice(self.names), chance.choice(TEXTS)
-        self.files[name] = f"{text}\n{text}"
-        return f'a file named "{name}" with:', ['"""', text, text, '"""'], None
-
-    def set_env(self, chance):
-        return self.put(chance, self.env, 'the variable "{}" is set to "{}"')
-
-    def set_value(self, chance):
-        return self.put(chance, self.values, 'the value "{}" is set to "{}"')
-
-    def name_in(self, chance, maps):
-        """A name, mostly one that is there."""
-        return chance.choice(sorted(maps) if maps and chance.random() < 0.97 else self.names)
-
-    def append(self, chance):
-        name, text = self.name_in(chance, self.files), chance.choice(TEXTS)
-        step = f'the file "{name}" is extended with "{text}"'
-        if name not in self.files:
-            return step, [], "absent"
+    def append(self, name, text):
         self.files[name] += text
-        return step, [], None
 
-    def take(self, chance, maps, text):
-        name = self.name_in(chance, maps)
-        there = maps.pop(name, None) is not None
-        return text.format(name), [], None if there else "absent"
-
-    def remove_file(self, chance):
-        return self.take(chance, self.files, 'the file "{}" is removed')
-
-    def unset(self, chance):
-        return self.take(chance, self.env, 'the variable "{}" is unset')
-
-    def delete(self, chance):
-        """A value is deleted only in the layer in which it was set."""
-        name = self.name_in(chance, self.values)
-        step = f'the value "{name}" is deleted'
-        if name not in self.values.maps[0]:
-            return step, [], "other layer" if name in self.values else "absent"
-        del self.values[name]
-        return step, [], None
-
-    def rename(self, chance):
-        name = self.name_in(chance, self.files)
-        to = chance.choice(self.names if chance.random() < 0.95 else [BAD_NAME])
-        step = f'the file "{name}" is renamed to "{to}"'
-        if name not in self.files:
-            return step, [], "absent"
+    def rename(self, name, to):
         if to == BAD_NAME:
-            return step, [], "bad name"
+            return "bad name"
         self.files[to] = self.files[name]
         if name != to:
             del self.files[name]
-        return step, [], None
+        return None
 
-    def write_files(self, chance):
-        rows = []
-        for _ in range(chance.randrange(4)):
-            names = [*self.names, *self.names[:2]] + [BAD_NAME] * (chance.random() < 0.1)
-            rows.append((chance.choice(names), chance.choice(TEXTS)))
-        block = ["| name | text |", *(f"| {name} | {text} |" for name, text in rows)]
-        for name, text in rows:
-            if name == BAD_NAME:
-                return "these files:", block, "bad name"
-            self.files[name] = text
-        return "these files:", block, None
-
-    def grow(self, chance):
-        name = self.name_in(chance, self.values)
-        more = chance.choice([0, 1, -3, 9223372036854775807])
-        step = f'the number "{name}" grows by {more}'
-        if name not in self.values:
-            return step, [], "absent"
-        text = self.values[name]
-        if not text.lstrip("-").isdigit():
-            return step, [], "not a number"
-        total = int(text) + more
+    def add(self, name, more):
+        if not self.values[name].lstrip("-").isdigit():
+            return "not a number"
+        total = int(self.values[name]) + more
         if not -2**63 <= total < 2**63:
-            return step, [], "out of range"
+            return "out of range"
         self.values[name] = str(total)
-        return step, [], None
+        return None
 
-    CHANGES = (put_file, put_file, put_file_with_block, set_env, set_env, set_value, set_value,
-               append, remove_file, unset, delete, rename, write_files, grow)
+    def is_changed_by(self, change):
+        """Carries out a change, unless it would fail or leave all as it is. Returns whether it was carried out."""
+        before = self.contents()
+        if self.change(change) is None and self.contents() != before:
+            return True
+        self.files, self.env, self.values.maps[0] = before
+        return False
 
     def checks(self):
-        """Steps that pass where each name has what it has here."""
+        """Steps that pass if each name has what it has here."""
         for name in self.names:
             if name in self.files:
-                block = ['"""', *self.files[name].split("\n"), '"""']
-                yield f'the file "{name}" should be:', block
+                yield f'the file "{name}" should be:', ['"""', *self.files[name].split("\n"), '"""']
             else:
-                yield f'the file "{name}" should not exist', []
-            for maps, noun, absent in (
-                    (self.env, "variable", "unset"), (self.values, "value", "absent")):
-                wanted = f'"{maps[name]}"' if name in maps else absent
-                yield f'the {noun} "{name}" should be {wanted}', []
+                yield BUILT_IN["file_absent"].format(file=name), []
+            for maps, noun in ((self.env, "env"), (self.values, "value")):
+                step = BUILT_IN[f"{noun}_is" if name in maps else f"{noun}_absent"]
+                yield step.format(key=name, text=maps.get(name)), []
 
 
-def scenario(chance, number):
-    """A scenario's lines, and the scenario in the report.
+def random_change(chance, world):
+    """A change. Its name is usually one that exists, if it needs one."""
+    action, names = chance.choice(ACTIONS), world.names
+    if action == "write_files":
+        rows = [(chance.choice([*names, *names[:2]] + [BAD_NAME] * (chance.random() < 0.1)), chance.choice(LONG_TEXTS))
+                for _ in range(chance.randrange(4))]
+        return Change(action, "", rows)
+    maps = world.env if action == "unset_env" else world.values if action in ("delete_value", "add_number") else world.files
+    may_exist = action not in PUTS and maps and chance.random() < 0.97
+    name = chance.choice(sorted(maps) if may_exist else names)
+    if action == "rename_file":
+        return Change(action, name, chance.choice(names if chance.random() < 0.95 else [BAD_NAME]))
+    return Change(action, name, chance.choice([0, 1, -3, 2**63 - 1] if action == "add_number" else LONG_TEXTS))
 
-    It begins with nothing, whatever the others did."""
-    world, lines, rows, reason = World(NAMES), [f"Scenario: s{number}"], [], None
-    for step, block in world.checks():
-        lines += [f"Given {step}", *block]
-        rows.append((f"Given {step}", "passed"))
-    for _ in range(chance.randrange(CHANGES)):
-        step, block, found = chance.choice(World.CHANGES)(world, chance)
-        lines += [f"When {step}", *block]
-        status = "skipped" if reason else f"failed: {found}" if found else "passed"
-        rows.append((f"When {step}", status))
-        if reason:
+
+def step_of(change):
+    """The text of the step of a change, and its block."""
+    action, name, more = change
+    blocks = {"write_block": ['"""', more, more, '"""'], "write_files": []}
+    if action == "write_files":
+        blocks[action] = ["| name | text |", *(f"| {own} | {text} |" for own, text in more)]
+    return BUILT_IN[action].format(file=name, key=name, text=more, to=more, number=more), blocks.get(action, [])
+
+
+def changes_to_failure(chance, count):
+    """At most so many changes of a world that begins with nothing. After one that fails there is one more."""
+    world, changes, has_failed = World(NAMES), [], False
+    while len(changes) < count:
+        changes.append(random_change(chance, world))
+        if has_failed:
             break
-        reason = found
-        for step, block in world.checks():
-            lines += [f"Then {step}", *block]
-            rows.append((f"Then {step}", "skipped" if reason else "passed"))
-    return lines, Scenario(f"Scenario: s{number}", "failed" if reason else "passed", rows)
+        has_failed = world.change(changes[-1]) is not None
+    return changes
 
 
-def feature(seed):
-    """The arguments and files of a run of one feature, and its plain report."""
-    chance = random.Random(seed)
-    scenarios = [scenario(chance, number) for number in range(SCENARIOS)]
-    lines = [line for own, _ in scenarios for line in own]
-    rows = [row for _, row in scenarios]
-    text = "\n".join(["Feature: f", *lines]) + "\n"
-    return ["a.feature"], {"a.feature": text}, Report(PLAIN, [judged("Feature: f", rows)])
+def changes_of_layer(chance, world, count):
+    """So many changes of a layer that begins, of which each is carried out."""
+    world.begin()
+    changes = []
+    while len(changes) < count:
+        change = random_change(chance, world)
+        if world.is_changed_by(change):
+            changes.append(change)
+    return changes
 
 
-def judged(head, scenarios):
-    """A feature of a report."""
-    statuses = [it.status for it in scenarios]
-    return Feature(head, verdict(statuses, statuses), scenarios)
+# ---- scenarios one after another
+
+class Lines:
+    """The lines of a scenario or a hook, and the rows that a report has of its steps."""
+
+    def __init__(self, heading):
+        self.heading, self.lines, self.rows, self.reason = heading, [heading], [], None
+
+    def add(self, keyword, steps, reason=None):
+        """Adds steps with their blocks. One may fail for a reason, and those after it are skipped."""
+        for step, block in steps:
+            self.lines += [f"{keyword} {step}", *block]
+            status = "skipped" if self.reason else f"failed: {reason}" if reason else "passed"
+            self.rows.append((f"{keyword} {step}", status))
+        self.reason = self.reason or reason
+
+    def scenario(self):
+        """The scenario of a report."""
+        return Scenario(self.heading, "failed" if self.reason else "passed", self.rows)
+
+
+def flat_scenario(names, number, changes):
+    """A scenario of changes, each checked. It begins with nothing, whatever the others did."""
+    world, lines = World(names), Lines(f"Scenario: s{number}")
+    lines.add("Given", world.checks())
+    for change in changes:
+        if lines.reason:
+            lines.add("When", [step_of(change)])
+            break
+        lines.add("When", [step_of(change)], world.change(change))
+        lines.add("Then", world.checks())
+    return lines
+
+
+def text_of(parts):
+    """The text of a file with these lines."""
+    return "\n".join(line for it in parts for line in it.lines) + "\n"
+
+
+def report_of(features):
+    """A plain report of features, each a name and its scenarios."""
+    found = []
+    for name, scenarios in features:
+        statuses = [it.status for it in scenarios]
+        found.append(Feature(f"Feature: {name}", verdict(statuses, statuses), scenarios))
+    return Report(PLAIN, found)
+
+
+def flat_run(case):
+    """The arguments, the files and the plain report of a run of scenarios."""
+    scenarios = [flat_scenario(case.names, number, changes) for number, changes in enumerate(case.scenarios)]
+    text = text_of([Lines("Feature: f"), *scenarios])
+    return ["a.feature"], {"a.feature": text}, report_of([("f", [it.scenario() for it in scenarios])])
 
 
 # ---- changes in four layers
 
-def all_checked(world):
-    """The steps that check each name."""
-    return [(f"Then {step}", block) for step, block in world.checks()]
+def carried_out(lines, world, keyword, changes):
+    """Adds the steps of changes to lines, without those that aren't carried out, and those of checks between them."""
+    lines.add("Then", world.checks())
+    done = 0
+    for change in changes:
+        if world.is_changed_by(change):
+            lines.add(keyword, [step_of(change)])
+            done += 1
+            if done % BETWEEN_CHECKS == 0:
+                lines.add("Then", world.checks())
+    lines.add("Then", world.checks())
+    return lines
 
 
-def carried_out(world, chance, number):
-    """The steps of so many changes of which each is carried out, and those of checks between them.
-
-    A change that would fail, or that would leave all as it is, is none of them."""
-    steps, done = all_checked(world), 0
-    while done < number:
-        before = world.contents()
-        step, block, found = chance.choice(World.CHANGES)(world, chance)
-        if found or world.contents() == before:
-            world.files, world.env, world.values.maps[0] = before
-            continue
-        steps.append((f"When {step}", block))
-        done += 1
-        if done % BETWEEN_CHECKS == 0:
-            steps += all_checked(world)
-    return steps + all_checked(world)
-
-
-def lines_of(heading, steps):
-    """The lines of a hook or a scenario."""
-    return [heading, *(line for step, block in steps for line in (step, *block))]
-
-
-def last_layer(world, chance, number, changes):
-    """The lines of a scenario, and the scenario in the report. That of number 1 fails."""
+def hooks_around(world, name, changes):
+    """Hooks around a section whose layer begins: one changes it, the other checks that all is there again."""
     world.begin()
-    steps = carried_out(world, chance, changes)
+    after = Lines(f"after_{name}:")
+    before = carried_out(Lines(f"before_{name}:"), world, "When", changes)
+    after.add("Then", world.checks())
+    return [before, after]
+
+
+def last_layer(world, number, changes=()):
+    """A scenario. That of number 1 fails."""
+    world.begin()
+    lines = carried_out(Lines(f"Scenario: s{number}"), world, "When", changes)
     world.end()
-    rows = [(step, "passed") for step, _ in steps]
     if number == 1:
-        steps, rows = [*steps, ("But it fails", [])], [*rows, ("But it fails", "failed: fail step")]
-    name = f"Scenario: s{number}"
-    return lines_of(name, steps), Scenario(name, "failed" if number == 1 else "passed", rows)
+        lines.add("But", [("it fails", [])], "fail step")
+    return lines
 
 
-def hooked(world, chance, name, changes):
-    """The lines of hooks around a section whose layer begins: one changes it, the other checks that all is there again."""
-    world.begin()
-    changed = lines_of(f"before_{name}:", carried_out(world, chance, changes))
-    return [*changed, *lines_of(f"after_{name}:", all_checked(world))]
-
-
-def layered(seed):
+def layered_run(case):
     """The same of a run that changes 40 names in each of its four layers.
 
     The layers of the run, of the features and of the rules are changed by hooks, and the hooks after them check that
     all is there again. What the scenarios of the first feature and of its first rule did changes nothing in those
     after them. A scenario of no rule finds what the feature's hook left."""
-    chance, world = random.Random(seed), World(MANY_NAMES)
-    of_run, of_feature, of_rule, of_scenario = CARRIED_OUT
-    world.env = dict(OUTSIDE)
-    hooks = hooked(world, chance, "all", of_run) + hooked(world, chance, "feature", of_feature)
-    outside = [last_layer(world, chance, number, changes) for number, changes in ((8, of_scenario), (9, 0))]
-    hooks += hooked(world, chance, "rule", of_rule)
-    files, features = {"h.hooks": "\n".join(hooks) + "\n"}, []
-    for name, before, changes in (("a", outside, of_scenario), ("b", outside[1:], 0)):
-        rules = [[last_layer(world, chance, number, changes if number < 3 else 0) for number in numbers]
-                 for numbers in ((0, 1, 2), (3, 4))]
-        made = [before, *rules]
-        headings = [f"Feature: {name}", "Rule: one", "Rule: two"]
-        lines = [line for heading, part in zip(headings, made)
-                 for line in (heading, *(line for own, _ in part for line in own))]
-        files[f"{name}.feature"] = "\n".join(lines) + "\n"
-        features.append(judged(f"Feature: {name}", [row for part in made for _, row in part]))
+    world = World(case.names, OUTSIDE)
+    hooks = hooks_around(world, "all", case.all) + hooks_around(world, "feature", case.feature)
+    outside = [last_layer(world, 8, case.scenarios[0]), last_layer(world, 9)]
+    hooks += hooks_around(world, "rule", case.rule)
+    files, features = {"h.hooks": text_of(hooks)}, []
+    for name, before, changes in (("a", outside, case.scenarios[1:]), ("b", outside[1:], [()] * 3)):
+        rules = [[last_layer(world, number, own) for number, own in enumerate(changes)],
+                 [last_layer(world, number) for number in (3, 4)]]
+        parts = [Lines(f"Feature: {name}"), *before, Lines("Rule: one"), *rules[0], Lines("Rule: two"), *rules[1]]
+        files[f"{name}.feature"] = text_of(parts)
+        features.append((name, [it.scenario() for it in (*before, *rules[0], *rules[1])]))
     options = [f"--env={name}={text}" for name, text in OUTSIDE.items()]
-    arguments = ["--hooks", "h.hooks", *options, "a.feature", "b.feature"]
-    return arguments, files, Report(PLAIN, features)
+    return ["--hooks", "h.hooks", *options, "a.feature", "b.feature"], files, report_of(features)
 
 
-# ---- running them
+# ---- cases
 
-class Runs:
-    """The runs, each in a folder of its own."""
-
-    def __init__(self, program, room):
-        self.program, self.room = program, room
-
-    def ample(self, arguments, folder, seed):
-        """The run in one of the formats, as the seed has it."""
-        styled = ["--format", FORMATS[seed % len(FORMATS)], *arguments]
-        return styled, Ample(styled, driver.start(self.program, styled, folder))
-
-    def troubles(self, made):
-        """What is wrong with each run of what a function makes of a seed, or nothing."""
-        make, seed = made
-        name = f"{make.__name__} of seed {seed}"
-        folder = os.path.join(self.room, name.replace(" ", "_"))
-        arguments, files, report = make(seed)
-        driver.write(folder, files)
-        plain = driver.start(self.program, arguments, folder)
-        yield driver.trouble(name, plain, (report.status(), report.text(), b""))
-        styled, ample = self.ample(arguments, folder, seed)
-        is_well = ample.is_read_well() and ample.report.counts == report.counts
-        yield "" if is_well else f"{name}, {styled}: other counts"
-        chance = random.Random(seed)
-        for _ in range(REFUSALS):
-            number = int(10 ** chance.uniform(0, 4.5))
-            environment = driver.limited(self.room, REFUSE=number)
-            ended = driver.start(self.program, styled, folder, environment)
-            is_well = ample.ending(ended)
-            yield "" if is_well else f"{name}, growth {number} refused: {ended[0]}, {ended[2]}"
-        shutil.rmtree(folder)
+def keys(options):
+    """The seeds of the cases."""
+    return search.seeds(options, COUNT)
 
 
-def main():
-    runs = Runs(sys.argv[1], sys.argv[2])
-    tests = driver.Tests()
-    suites = [(feature, seed) for seed in range(FEATURES)]
-    suites += [(layered, seed) for seed in range(LAYERED)]
-    for troubles in driver.on_all_processors(lambda made: list(runs.troubles(made)), suites):
-        tests.add_all(troubles)
-    return tests.close()
+def layers(seed, chance):
+    """A case of changes in four layers."""
+    world, (of_run, of_feature, of_rule, of_scenario) = World(MANY_NAMES, OUTSIDE), CARRIED_OUT
+    outer, inner = changes_of_layer(chance, world, of_run), changes_of_layer(chance, world, of_feature)
+    scenarios = [changes_of_layer(chance, world, of_scenario)]
+    world.end()
+    rule = changes_of_layer(chance, world, of_rule)
+    for _ in range(3):
+        scenarios.append(changes_of_layer(chance, world, of_scenario))
+        world.end()
+    return Layers(seed, MANY_NAMES, outer, inner, rule, scenarios)
+
+
+def case(seed):
+    """A case: most have scenarios one after another, the others four layers."""
+    chance = random.Random(seed)
+    if seed % LAYERED == 0:
+        return layers(seed, chance)
+    return Flat(seed, NAMES, [changes_to_failure(chance, chance.randrange(CHANGES)) for _ in range(SCENARIOS)])
+
+
+def troubles(case, runs):
+    """What is wrong with each run of a case: as it is, in one of the formats, and with growths of memory refused."""
+    if isinstance(case, Layers) and len(case.scenarios) < 4:
+        return
+    name = f"changes of seed {case.seed}"
+    arguments, files, report = (layered_run if isinstance(case, Layers) else flat_run)(case)
+    runs.write(files)
+    yield driver.trouble(name, runs.run(arguments), (report.status(), report.text(), b""))
+    styled = ["--format", FORMATS[case.seed % len(FORMATS)], *arguments]
+    ample = Ample(styled, runs.run(styled))
+    is_well = ample.is_read_well() and ample.report.counts == report.counts
+    yield "" if is_well else f"{name}: other counts"
+    chance = random.Random(case.seed)
+    for _ in range(REFUSALS):
+        number = int(10 ** chance.uniform(0, 4.5))
+        ended = runs.run(styled, refused=number)
+        yield "" if ample.ending(ended) else f"{name}, growth {number} refused: {ended[0]}, {ended[2]}"
 
 
 if __name__ == "__main__":
-    sys.exit(main())
+    sys.exit(search.main(search.Tester(keys, case, troubles), sys.argv[1:]))

@@ -1,5 +1,5 @@
 #!/bin/sh
-# Compares random changes with plain maps: tests/random_changes.sh [PROGRAM]
+# Compares random changes with plain maps: tests/random_changes.sh [PROGRAM [OPTIONS]]
 #
 # Some ten thousand random changes of files, variables and values, in scenarios that pass and fail.
 # After each change every name is checked against plain maps that a few lines of Python keep, and
@@ -13,4 +13,5 @@ set -eu
 
 . "$(dirname -- "$(readlink -f -- "$0")")/setup.sh"
 build_shim random_changes
-python3 "$home/tests/random_changes.py" "$program" "$room"
+[ $# -eq 0 ] || shift
+python3 "$home/tests/random_changes.py" "$program" "$room" "$@"

@@ -42,6 +42,11 @@ def style_of(arguments):
     return Style(known[0] if known else "plain", "--no-skipped" in arguments)
 
 
+def one_line(text):
+    """A text as plain and progress reports print it."""
+    return text.replace("\n", "\\n")
+
+
 class Scenario:
     """What a report calls a scenario, its status, those of its steps, and that of its hooks."""
 

@@ -1,21 +1,25 @@
 #!/usr/bin/env python3
-"""Runs with one count or length of a size at which nobody looks: sizes.py PROGRAM ROOM [all].
+"""Runs with one count or length of a size at which nobody looks, and large runs: sizes.py PROGRAM ROOM [all].
 
-Each function that is marked as a row of the table makes the run of a size: its files, its options,
-and what has to come out, worked out beside it and not taken from the program. A row is tried with
-each of SIZES and with some random ones, and the whole report is compared. Called by tests/sizes.sh,
-which says in which formats.
+ROWS are made of tables and of marked functions. Each has a function that makes the run of a size, with what has
+to come out, worked out beside it and not taken from the program. A row is tried with each of SIZES and with some
+random ones, or with sizes that are its own. A group has runs of names, which have no size. A growing run is made
+of two sizes, and the larger may take only so many times the processor time of the smaller. Called by
+tests/sizes.sh, which says in which formats.
 """
 
 import collections
 import functools
 import os
 import random
+import resource
 import shutil
 import sys
+import threading
 
 import driver
-from reports import FORMATS, Feature, Report, Rule, Scenario, Style, verdict
+from builder import FAILING, FeatureFile, Run, Step, quoted, with_hooks, with_library
+from reports import FORMATS, closing
 
 SIZES = [0, 1, 127, 128, 129, 255, 256, 257, 4095, 4096, 4097, 65_535, 65_536, 65_537]
 SMALL = 4097  # up to here every format is tried
@@ -23,7 +27,14 @@ MOST = 70_000  # of the random sizes
 RANDOM_SIZES = 2  # of each row
 NAME_LIMIT = 255
 PATH_LIMIT = 4095  # of the system, not of the program
+TEXT_LIMIT = 1_048_576
+FILE_LIMIT = 16_777_216
+STEPS_LIMIT = 1_000_000
+DEPTH_LIMIT = 100  # of an expression
+PIPE = 65_536  # bytes that a pipe holds, as the system makes it
 PATIENCE = 120  # seconds
+TIMES = 10  # a growing run is made once more so many times as large
+MOST_TIMES = 30  # and takes at most so many times the processor time; 100 where each part is compared with each other
 # Not the same letters again after a while, so that a part that is lost or doubled is seen.
 LETTERS = "".join(random.Random(0).choices("abcdefghijklmnopqrstuvwxy", k=MOST))
 OWN_ENTRIES = {
@@ -31,17 +42,50 @@ OWN_ENTRIES = {
     "variable": "step put {name} => set_env\nstep see {name} => env_is\n",
     "value": "step put {name} => set_value\nstep see {name} => value_is\n",
 }
-ROWS = []
+PASSING = FeatureFile().scenario("it passes").text()
+SKIPPED = Step("it passes", "skipped")
+UNTESTED = Step("it passes", "untested")
 
-Step = collections.namedtuple("Step", "text status block", defaults=("passed", ()))
-Case = collections.namedtuple("Case", "keyword name line status steps")
+# What makes the run of a size, the sizes, and the formats, where each of them is tried with these.
+Row = collections.namedtuple("Row", "name make sizes formats")
+ROWS, GROUPS, GROWING = [], [], []
+
+
+def rows(table, least=0, most=MOST, also=(), only=None, formats=None):
+    """Adds a row for each name of a table, with the usual sizes of a range and some more, or with other sizes alone."""
+    for name, make in table.items():
+        chance = random.Random(name)
+        sizes = [it for it in SIZES if least <= it <= most]
+        sizes += [int(most ** chance.random()) for _ in range(RANDOM_SIZES)]
+        ROWS.append(Row(name, make, list(only or [*sizes, *also]), formats))
+
+
+def row(**limits):
+    """Marks a function as a row."""
+    def marked(make):
+        rows({make.__name__: make}, **limits)
+        return make
+    return marked
+
+
+def group(make):
+    """Marks a function that makes runs, each with a name."""
+    GROUPS.append(make)
+    return make
+
+
+def growing(size, table):
+    """Adds the growing runs of a table, which are made of this size and TIMES as large."""
+    GROWING.extend((name, make, size) for name, make in table.items())
 
 
 # ---- texts
 
-def letters(count):
-    """So many letters. The last is a z, and no other."""
-    return LETTERS[:count - 1] + "z" if count else ""
+def letters(count, letter=""):
+    """A text of so many bytes. The last is a z, and no other; those before it may be of one letter of two bytes."""
+    if letter:
+        return letter * (count // 2) + "z" * (count % 2)
+    return (LETTERS * (count // MOST + 1))[:count - 1] + "z" if count else ""
 
 
 def other(text):
@@ -49,140 +93,31 @@ def other(text):
     return text[:-1] + "y"
 
 
-def quoted(text, fence='"""'):
-    """The lines of a doc string with a text. An empty text has no line."""
-    return [fence, *(text.split("\n") if text else []), fence]
-
-
 def blanks(count):
     """So many blanks, of both kinds."""
     return (" \t\t" * (count // 3 + 1))[:count]
 
 
-# ---- files, runs, and what has to come out
-
-def judged(steps):
-    """The status of a scenario, by those of its steps."""
-    statuses = {status.split(":")[0] for _, _, status in steps}
-    for status, given in (("failed", "failed"), ("undefined", "failed"), ("untested", "untested"),
-                          ("skipped", "skipped")):
-        if status in statuses:
-            return given
-    return "passed"
+def one(*steps, **more):
+    """A feature file with one scenario."""
+    return FeatureFile().scenario(*steps, **more)
 
 
-class Made:
-    """A feature file, made line by line, and the rows that a report has to have of it."""
-
-    def __init__(self, *before, name="f", source="a.feature"):
-        self.source, self.name, self.ending = source, name, "\n"
-        self.lines, self.cases, self.rules = [*before, f"Feature: {name}"], [], []
-        self.line = len(self.lines)
-
-    def add(self, *lines):
-        """Adds lines of which no report has a row."""
-        self.lines += lines
-        return self
-
-    def rule(self, name, tags="", around="passed"):
-        """Adds a rule's heading, below tags. Its hooks and cleanups end so."""
-        self.lines += [*([tags] if tags else []), f"Rule: {name}"]
-        self.rules.append((len(self.lines), around, len(self.cases)))
-        return self
-
-    def steps(self, *steps):
-        """Adds steps, and answers their rows. A step may be its text alone."""
-        rows = []
-        for step in steps:
-            text, status, block = Step(step) if isinstance(step, str) else step
-            self.lines.append(f"Given {text}")
-            rows.append((len(self.lines), text.rstrip(" "), status))
-            self.lines += block
-        return rows
-
-    def case(self, keyword, name, line, rows):
-        """Adds a row of a scenario."""
-        self.cases.append(Case(keyword, name, line, judged(rows), rows))
-
-    def scenario(self, *steps, name="s", tags="", before=()):
-        """Adds a scenario, with the rows of a background before its own."""
-        self.lines += [tags] if tags else []
-        self.lines.append(f"Scenario: {name}")
-        line = len(self.lines)
-        self.case("Scenario", name, line, [*before, *self.steps(*steps)])
-        return self
-
-    def text(self):
-        return "\n".join(self.lines) + self.ending
-
-    def feature(self, style):
-        """The feature of a report."""
-        head = {"plain": f"Feature: {self.name}", "progress": self.source,
-                "json": (self.source, self.name, self.line)}[style]
-        statuses = [it.status for it in self.cases]
-        scenarios = [scenario_of(style, it) for it in self.cases]
-        status = verdict([*(around for _, around, _ in self.rules), *statuses], statuses)
-        return Feature(head, status, scenarios, "passed", self.rules_of(style))
-
-    def rules_of(self, style):
-        """The rules of a report. Those whose hooks and cleanups passed have no line in the plain one."""
-        ends = [*(first for _, _, first in self.rules[1:]), len(self.cases)]
-        rules = [Rule(line, around, None if style == "json" else end) for (line, around, _), end in zip(self.rules, ends)]
-        return rules if style == "json" else [it for it in rules if it.around != "passed"]
+def each(text, numbers):
+    """A text with each of these numbers in place of its `{}`, one after another. A number is a count, or a range."""
+    return "".join(text.format(it) for it in (range(numbers) if isinstance(numbers, int) else numbers))
 
 
-def scenario_of(style, case):
-    """The scenario of a report."""
-    if style == "json":
-        head = case.keyword, case.name, case.line
-        steps = [(("Given", text, line), status) for line, text, status in case.steps]
-    else:
-        head = f"{case.keyword}: {case.name}"
-        steps = [(f"Given {text}", status) for _, text, status in case.steps]
-    return Scenario(head, case.status, steps)
+def too_long(name, size):
+    """The fault of a file of this size, if it has one."""
+    return f"{name}: longer than {FILE_LIMIT} bytes" if size > FILE_LIMIT else ""
 
 
-class Sized:
-    """A run: its feature files, its other files, its options, and the fault that it has, if any."""
-
-    def __init__(self, *made, files=None, options=(), sources=None, fault="", status=3):
-        self.made, self.options, self.fault, self.status = made, options, fault, status
-        self.files = {**{it.source: it.text() for it in made}, **(files or {})}
-        self.sources = [it.source for it in made] if sources is None else sources
-
-    def arguments(self, style):
-        return ["--format", style, *self.options, *self.sources]
-
-    def wanted(self, style):
-        """The status and the bytes on standard output and standard error."""
-        if self.fault:
-            return self.status, b"", f"gherkin_run: {self.fault}\n".encode()
-        features = {it: it.feature(style) for it in dict.fromkeys(self.made)}
-        report = Report(Style(style, False), [features[it] for it in self.made])
-        return report.status(), report.text(), b""
-
-
-def with_library(made, entries, **more):
-    """A run with a library of these entries."""
-    return Sized(made, files={"l.steps": entries}, options=["--library", "l.steps"], **more)
-
-
-def with_hooks(made, hooks):
-    """A run with a hooks file of these lines."""
-    return Sized(made, files={"h.hooks": hooks}, options=["--hooks", "h.hooks"])
-
-
-def row_of(make, name, least=0, most=MOST):
-    """Adds a row for the sizes from the least to the most."""
-    ROWS.append((name, make, least, most))
-
-
-def row(least=0, most=MOST):
-    """Marks a function as a row of the table."""
-    def marked(make):
-        row_of(make, make.__name__, least, most)
-        return make
-    return marked
+def counts(*numbers):
+    """The closing lines of a report. Each of the three is what passed, failed, was skipped and was undefined."""
+    names = ("passed", "failed", "skipped", "undefined")
+    kinds = zip(("feature", "scenario", "step"), numbers)
+    return "".join(closing(noun, collections.Counter(dict(zip(names, own)))) + "\n" for noun, own in kinds)
 
 
 # ---- lengths of files and lines
@@ -193,714 +128,900 @@ def padded(text, size):
     return "#" + "x" * rest + "\n" + text if rest >= 0 else ("#" + "x" * size)[:size]
 
 
-@row()
-def bytes_of_a_feature_file(size):
-    """The comment is its first line. Where there is no room for the rest, it has no feature."""
-    made = Made("#").scenario("it passes")
+def feature_of_bytes(size):
+    """The comment is its first line. If there is no room for the rest, it has no feature."""
+    made = FeatureFile("#").scenario("it passes")
     text = padded("\n".join(made.lines[1:]), size)
-    is_whole = text.endswith("passes")
-    return Sized(*[made] * is_whole, files={"a.feature": text}, sources=["a.feature"])
+    return Run(*[made] * text.endswith("passes"), files={"a.feature": text}, sources=["a.feature"],
+               fault=too_long("a.feature", size))
 
 
-@row()
-def bytes_of_a_library(size):
+def library_of_bytes(size):
     text = padded("step x => pass", size)
-    status = "passed" if text.endswith("pass") else "undefined"
-    return with_library(Made().scenario(Step("x", status)), text)
+    made = one(Step("x", "passed" if text.endswith("pass") else "undefined"))
+    return with_library(made, text, fault=too_long("l.steps", size))
 
 
-@row()
-def bytes_of_a_hooks_file(size):
+def hooks_of_bytes(size):
     """Without its last byte a hook would fail."""
-    return with_hooks(Made().scenario("it passes"), padded("before_feature:\n* it passes", size))
+    made = one("it passes")
+    return with_hooks(made, padded("before_feature:\n* it passes", size), fault=too_long("h.hooks", size))
 
 
-@row()
-def bytes_of_a_comment(size):
-    return Sized(Made().scenario("it passes").add(("#" + letters(size))[:size]))
+rows({"bytes of a feature file": feature_of_bytes, "bytes of a library": library_of_bytes,
+      "bytes of a hooks file": hooks_of_bytes}, also=(FILE_LIMIT, FILE_LIMIT + 1))
+rows({"bytes of a comment": lambda size: one("it passes").add(("#" + letters(size))[:size])},
+     also=(FILE_LIMIT - len(PASSING) - 1,))
 
 
-@row(least=1)
-def bytes_of_a_description(size):
-    return Sized(Made().add(letters(size)).scenario("it passes"))
+@group
+def files_of_the_greatest_length():
+    comment, lines = "#" + "x" * (FILE_LIMIT - 1), FILE_LIMIT // 2
+    yield "a comment alone", Run(files={"a.feature": comment}, sources=["a.feature"])
+    yield "a comment alone, one byte longer", Run(files={"a.feature": comment + "x"}, sources=["a.feature"],
+                                                  fault=too_long("a.feature", FILE_LIMIT + 1))
+    files = {"a.feature": "Feature: a\n", "b.feature": "\n" * (FILE_LIMIT + 1)}
+    yield "the second file", Run(files=files, sources=files, fault=too_long("b.feature", FILE_LIMIT + 1))
+    files = {"a.feature": b"\xff" * (FILE_LIMIT + 1)}
+    yield "too long, and not UTF-8", Run(files=files, sources=files, fault=too_long("a.feature", FILE_LIMIT + 1))
+    files = {"a.feature": b"#\n" * (lines - 1) + b"#\xff"}
+    yield "its last byte is not UTF-8", Run(files=files, sources=files, fault=f"a.feature:{lines}: not UTF-8")
 
 
-@row()
-def bytes_of_a_line_of_blanks(size):
-    return Sized(Made(blanks(size)).scenario("it passes").add(blanks(size)))
+rows({"bytes of a description": lambda size: FeatureFile().add(letters(size)).scenario("it passes")}, least=1)
+rows({
+    "bytes of a line of blanks": lambda size: FeatureFile(blanks(size)).scenario("it passes").add(blanks(size)),
+    "lines before a scenario": lambda size: FeatureFile().add(*[""] * size).scenario(FAILING),
+    "lines before a fault of a library": lambda size: with_library(
+        FeatureFile(), "\n" * size + "step x => dance\n", fault=f"l.steps:{size + 1}: unknown action"),
+    # A step is description there.
+    "lines of descriptions": lambda size: FeatureFile().add(*["Given it fails"] * size).scenario("it passes"),
+})
+rows({"lines before a fault": lambda size: Run(one("it passes").add(*["# c"] * size, "stray"),
+                                               fault=f"a.feature:{size + 4}: unexpected line")}, also=(70_000,))
+rows({"lines before the scenario of --line": lambda size: Run(
+    one(Step("it fails", "skipped"), name="no").add(*[""] * size).scenario("it passes", name="yes"),
+    options=["--line", str(size + 4)])}, only=(65_531, 65_532, 999_996))
 
 
 @row()
 def blanks_around_lines(size):
     """They are trimmed, and each line has its column."""
-    table = Step("these files:", block=("| name | text |", "| f | x |"))
-    made = Made().scenario("it passes", table)
+    made = one("it passes", Step("these files:", block=("| name | text |", "| f | x |")))
     made.lines = [f"{blanks(size)}{line}{blanks(size)}" for line in made.lines]
-    return Sized(made)
+    return made
 
 
-@row()
-def blanks_before_a_doc_string(size):
-    """As many are dropped from each line of it, or as there are."""
-    lines = [blanks(size) + '"""', blanks(size) + "  a", blanks(size), blanks(size) + "b",
-             blanks(max(0, size - 1)) + "c", '"""']
-    steps = [Step('a file named "f" with:', block=lines),
-             Step('the file "f" should be:', block=quoted("  a\n\nb\nc"))]
-    return Sized(Made().scenario(*steps))
-
-
-@row()
-def lines_before_a_scenario(size):
-    return Sized(Made().add(*[""] * size).scenario(Step("it fails", "failed: fail step")))
-
-
-@row()
-def lines_before_a_fault(size):
-    made = Made().scenario("it passes").add(*["# c"] * size, "stray")
-    return Sized(made, fault=f"a.feature:{size + 4}: unexpected line")
-
-
-@row()
-def lines_before_a_fault_of_a_library(size):
-    entries = "\n" * size + "step x => dance\n"
-    return with_library(Made(), entries, fault=f"l.steps:{size + 1}: unknown action")
-
-
-@row()
-def lines_of_descriptions(size):
-    """A step is description there."""
-    return Sized(Made().add(*["Given it fails"] * size).scenario("it passes"))
+# As many are dropped from each line of it, or as there are.
+rows({"blanks before a doc string": lambda size: one(
+    Step('a file named "f" with:', block=[blanks(size) + it for it in ('"""', "  a", "", "b")] + [
+        blanks(max(0, size - 1)) + "c", '"""']),
+    Step('the file "f" should be:', block=quoted("  a\n\nb\nc")))})
 
 
 # ---- lengths of texts
 
-def kept_text(noun, size):
+def kept(size, reason="text too long", limit=TEXT_LIMIT):
+    """The status of a step that makes something of this size."""
+    return "passed" if size <= limit else f"failed: {reason}"
+
+
+def kept_text(noun, letter, size):
     """A text is kept as it is: the same again is equal, and one with another last letter is not."""
-    text = letters(size)
-    steps = [Step("put n", block=quoted(text)), Step("see n", block=quoted(text)),
-             Step("see n", "failed: differs", quoted(other(text)))]
-    return with_library(Made().scenario(*steps), OWN_ENTRIES[noun])
+    text = letters(size, letter)
+    made = one(Step("put n", kept(size), quoted(text)), Step("see n", block=quoted(text)),
+                                  Step("see n", "failed: differs", quoted(other(text))))
+    return with_library(made, OWN_ENTRIES[noun])
 
 
-for _noun in OWN_ENTRIES:
-    row_of(functools.partial(kept_text, _noun), f"bytes_of_the_text_of_a_{_noun}")
+rows({f"bytes of the text of a {noun}": functools.partial(kept_text, noun, "") for noun in OWN_ENTRIES},
+     also=(TEXT_LIMIT, TEXT_LIMIT + 1))
+rows({"bytes of a text of longer characters": functools.partial(kept_text, "file", "\u00e9")},
+     only=(TEXT_LIMIT, TEXT_LIMIT + 1, TEXT_LIMIT + 2))
 
 
-@row()
+@row(also=(TEXT_LIMIT, TEXT_LIMIT + 1))
 def bytes_of_the_text_of_a_cell(size):
     text = letters(size)
-    steps = [Step("these files:", block=("| name | text |", f"| f | {text} |")),
-             Step('the file "f" should be:', block=quoted(text)),
-             Step('the file "f" should be:', "failed: differs", quoted(other(text)))]
-    return Sized(Made().scenario(*steps))
+    return one(
+        Step("these files:", kept(size), ("| name | text |", f"| f | {text} |")),
+        Step('the file "f" should contain:', block=quoted(text)), Step('the file "f" should be:', block=quoted(text)),
+        Step('the file "f" should be:', "failed: differs", quoted(other(text))))
 
 
-@row()
+@row(also=(TEXT_LIMIT - 1, TEXT_LIMIT, TEXT_LIMIT + 1))
 def bytes_of_a_text_in_two_halves(size):
+    """And the same text with one byte more."""
     text, half = letters(size), size // 2
-    steps = [Step('a file named "f" with:', block=quoted(text[:half])),
-             Step('the file "f" is extended with:', block=quoted(text[half:])),
-             Step('the file "f" should be:', block=quoted(text)),
-             'the file "f" is extended with "!"',
-             f'the file "f" should contain "{text[-1:]}!"',
-             Step('the file "f" should be:', "failed: differs", quoted(f"{other(text)}!"))]
-    return Sized(Made().scenario(*steps))
+    return one(
+        Step('a file named "f" with:', block=quoted(text[:half])),
+        Step('the file "f" is extended with:', kept(size), quoted(text[half:])),
+        Step('the file "f" should be:', block=quoted(text)),
+        Step('the file "f" is extended with "!"', kept(size + 1)),
+        f'the file "f" should contain "{text[-1:]}!"',
+        Step('the file "f" should be:', "failed: differs", quoted(f"{other(text)}!")))
 
 
-@row(least=1)
+@row(least=1, also=(TEXT_LIMIT, TEXT_LIMIT + 1))
 def bytes_of_a_text_in_a_step(size):
-    text = letters(size)
-    steps = [f'the variable "V" is set to "{text}"', f'the value "v" is set to "{text}"',
-             f'a file named "f" containing "{text}"',
-             f'the variable "V" should be "{text}"', f'the value "v" should be "{text}"',
-             f'the file "f" should be "{text}"',
-             Step(f'the file "f" should contain "{other(text)}"', "failed: differs")]
-    return Sized(Made().scenario(*steps))
+    text, made = letters(size), FeatureFile()
+    for put, see, last in (
+            ('the variable "V" is set to "{}"', 'the variable "V" should be "{}"', Step("it passes")),
+            ('the value "v" is set to "{}"', 'the value "v" should be "{}"',
+             Step('the number "v" grows by 1', "failed: not a number")),
+            ('a file named "f" containing "{}"', 'the file "f" should be "{}"',
+             Step(f'the file "f" should contain "{other(text)}"', "failed: differs"))):
+        made.scenario(Step(put.format(text), kept(size)), see.format(text), last)
+    return made
 
 
-@row()
-def escapes_in_a_cell(size):
-    written = "\\|" * size + "a"
-    steps = [Step("these files:", block=("| name | text |", f"| f | {written} |")),
-             Step('the file "f" should be:', block=quoted("|" * size + "a"))]
-    return Sized(Made().scenario(*steps))
+@group
+def texts_beyond_the_limit():
+    """How many bytes a text has that is too long, of a file, of one that is extended, and of a row of a table."""
+    text, fault = "x" * TEXT_LIMIT, "failed: text too long"
+    made = one(Step('a file named "f" with:', block=quoted(text + "x")), name="of a file")
+    made.scenario(Step('a file named "f" with:', block=quoted(text)), 'the file "f" is extended with "xyz"', name="at the end")
+    made.scenario(Step("these files:", block=("| name | text |", "| f | |", f"| g | {text}xy |")), name="in a table")
+    note = "      the text has {} bytes; at most 1048576 are allowed\n\n"
+    explained = (
+        f"a.feature:2: Scenario: of a file ... failed\n  a.feature:3: Given a file named \"f\" with: ... {fault}\n"
+        + note.format(TEXT_LIMIT + 1)
+        + "a.feature:7: Scenario: at the end ... failed\n  a.feature:8: Given a file named \"f\" with: ... passed\n"
+        f"  a.feature:12: Given the file \"f\" is extended with \"xyz\" ... {fault}\n" + note.format(TEXT_LIMIT + 3)
+        + f"a.feature:13: Scenario: in a table ... failed\n  a.feature:14: Given these files: ... {fault}\n"
+        + note.format(TEXT_LIMIT + 2)
+        + "a.feature:2: Scenario: of a file\na.feature:7: Scenario: at the end\na.feature:13: Scenario: in a table\n\n")
+    yield "explained", Run(made, options=["--explain"], printed=explained + counts((0, 1), (0, 3), (1, 3)), status=1)
 
 
-@row()
-def escapes_in_a_doc_string(size):
-    written, kept = r"\"\"\"" * size + "a", '"""' * size + "a"
-    steps = [Step('a file named "f" with:', block=quoted(written)),
-             Step('the file "f" should be:', block=quoted(kept, "```"))]
-    return Sized(Made().scenario(*steps))
+rows({
+    "escapes in a cell": lambda size: one(
+        Step("these files:", block=("| name | text |", "| f | " + "\\|" * size + "a |")),
+        Step('the file "f" should be:', block=quoted("|" * size + "a"))),
+    "escapes in a doc string": lambda size: one(
+        Step('a file named "f" with:', block=quoted(r"\"\"\"" * size + "a")),
+        Step('the file "f" should be:', block=quoted('"""' * size + "a", "```"))),
+    # Leading zeros change nothing. Without a digit the step is undefined.
+    "digits of a number": lambda size: one(
+        Step(f'the number "n" is set to {"0" * (size - 1) + "7" if size else "+"}', "passed" if size else "undefined"),
+        'the value "n" should be "7"'),
+})
 
 
-@row()
-def digits_of_a_number(size):
-    """Leading zeros change nothing. Where there is no digit the step is undefined."""
-    number = "0" * (size - 1) + "7" if size else "+"
-    steps = [Step(f'the number "n" is set to {number}', "passed" if size else "undefined"),
-             Step('the value "n" should be "7"', "passed" if size else "skipped")]
-    return Sized(Made().scenario(*steps))
+# ---- texts that could cost more than their length
+
+rows({
+    # A look-up at each `<` must not read on to the end, and what was filled before a `>` may not be copied there.
+    "openings": lambda size: FeatureFile().outline("o", Step("<" * size, "undefined")).examples(["1"]),
+    "openings and a closing": lambda size: FeatureFile().outline("o", Step("<" * size + ">", "undefined")).examples(["1"]),
+    "closings": lambda size: FeatureFile().outline("o", Step(">" * size * 2, "undefined")).examples(["1"]),
+}, only=(TEXT_LIMIT,))
+rows({
+    # No line of a doc string may cost the whole text.
+    "lines of a doc string with escapes": lambda size: one(
+        Step("it passes", block=["```", *["x"] * size, "\\`\\`\\`" * (size // 10), "```"])),
+}, only=(1_000_000,))
 
 
 # ---- lengths of names
 
 def kept_name(noun, letter, size):
     """A name of at most 255 bytes is kept. One that differs in its last byte is another."""
-    name = letters(size) if letter == "a" else letter * (size // 2) + "z" * (size % 2)
-    is_kept = size <= NAME_LIMIT
-    put = Step(f"put {name}", "passed" if is_kept else "failed: bad name", quoted("x"))
-    see = Step(f"see {name}", "passed" if is_kept else "skipped", quoted("x"))
-    none = Step(f"see {name[:-1]}y", "failed: absent" if is_kept else "skipped", quoted("x"))
-    made = Made().scenario(put, see, none)
+    name, is_kept = letters(size, letter), size <= NAME_LIMIT
+    made = one(
+        Step(f"put {name}", kept(size, "bad name", NAME_LIMIT), quoted("x")), Step(f"see {name}", block=quoted("x")),
+        Step(f"see {name[:-1]}y", "failed: absent" if is_kept else "skipped", quoted("x")))
     made.scenario(Step(f"see {name}", "failed: absent", quoted("x")))
     return with_library(made, OWN_ENTRIES[noun])
 
 
-for _noun in OWN_ENTRIES:
-    for _letter in ("a", "\u00e9"):
-        row_of(functools.partial(kept_name, _noun, _letter),
-               f"bytes_of_the_name_of_a_{_noun}, of {_letter}", least=1)
+rows({f"bytes of the name of a {noun}, of {letter or 'letters'}": functools.partial(kept_name, noun, letter)
+      for noun in OWN_ENTRIES for letter in ("", "\u00e9")}, least=1)
 
 
-@row()
-def bytes_of_a_name_in_a_table(size):
-    is_kept = 0 < size <= NAME_LIMIT
-    block = ("| name | text |", f"| {letters(size)} | x |")
-    status = "passed" if is_kept else "failed: bad name"
-    return Sized(Made().scenario(Step("these files:", status, block)))
+rows({"bytes of a name in a table": lambda size: one(Step(
+    "these files:", kept(size or NAME_LIMIT + 1, "bad name", NAME_LIMIT), ("| name | text |", f"| {letters(size)} | x |")))})
+rows({"bytes of the new name of a file": lambda size: one(
+    'a file named "f" containing "x"',
+    Step(f'the file "f" is renamed to "{letters(size)}"', kept(size, "bad name", NAME_LIMIT)),
+    f'the file "{letters(size)}" should be "x"', Step('the file "f" should exist', "failed: absent"))}, least=1)
+rows({
+    "bytes of the name of a feature": lambda size: FeatureFile(name=letters(size)).scenario("it passes"),
+    "bytes of the name of a scenario": lambda size: one("it passes", name=letters(size)),
+    "bytes of the names of a rule and a background": lambda size: FeatureFile().rule(letters(size)).background(
+        "it passes", name=letters(size)).scenario("it passes"),
+    "bytes of the names of an outline and of examples": lambda size: FeatureFile().outline(
+        letters(size), "it passes").examples(["x"], name=letters(size)),
+    # A placeholder of any length is filled, an empty one, too.
+    "bytes of a header and a cell": lambda size: FeatureFile().outline(
+        "o", Step(f"<{letters(size)}><{letters(size)}y>", "undefined")).examples(
+            [letters(size).upper()], header=[letters(size)]),
+})
 
 
-@row(least=1)
-def bytes_of_the_new_name_of_a_file(size):
-    is_kept, name = size <= NAME_LIMIT, letters(size)
-    status = "passed" if is_kept else "failed: bad name"
-    steps = ['a file named "f" containing "x"',
-             Step(f'the file "f" is renamed to "{name}"', status),
-             Step(f'the file "{name}" should be "x"', "passed" if is_kept else "skipped"),
-             Step('the file "f" should exist', "failed: absent" if is_kept else "skipped")]
-    return Sized(Made().scenario(*steps))
+def named(name):
+    """A feature, a scenario and an undefined step of this name."""
+    return FeatureFile(name=name).scenario(Step(name, "undefined"), name=name)
 
 
-@row()
-def bytes_of_the_name_of_a_feature(size):
-    return Sized(Made(name=letters(size)).scenario("it passes"))
-
-
-@row()
-def bytes_of_the_name_of_a_scenario(size):
-    return Sized(Made().scenario("it passes", name=letters(size)))
-
-
-@row()
-def bytes_of_the_names_of_a_rule_and_a_background(size):
-    made = Made().rule(letters(size)).add(f"Background: {letters(size)}")
-    background = made.steps("it passes")
-    return Sized(made.scenario("it passes", before=background))
-
-
-@row()
-def bytes_of_the_names_of_an_outline_and_examples(size):
-    name = letters(size)
-    made = Made().add(f"Scenario Outline: {name}")
-    steps = made.steps("it passes")
-    made.add(f"Examples: {name}", "| a |", "| x |")
-    made.case("Scenario Outline", f"{name} -- @1.1 {name}".rstrip(" "), len(made.lines), steps)
-    return Sized(made)
-
-
-@row()
-def bytes_of_a_header_and_a_cell(size):
-    """A placeholder of any length is filled, an empty one, too."""
-    header = letters(size)
-    made = Made().add("Scenario Outline: o", f"Given <{header}><{header}y>",
-                      "Examples:", f"| {header} |", f"| {header.upper()} |")
-    rows = [(3, f"{header.upper()}<{header}y>", "undefined")]
-    made.case("Scenario Outline", "o -- @1.1", 6, rows)
-    return Sized(made)
+rows({"names with escapes": lambda size: named('\u00e9"\\' * size)}, only=(100_000,), formats=FORMATS)
+rows({"names": lambda size: named("n" * size)}, only=(1_000_000,))
 
 
 @row(least=1)
 def bytes_of_a_tag(size):
     tag = f"@{letters(size - 1)}"
-    made = Made().scenario("it passes", tags=tag)
+    made = one("it passes", tags=tag)
     if size == 1:
-        return Sized(made, fault="a.feature:2: bad tag")
-    made.scenario(Step("it passes", "skipped"), tags=f"{other(tag)} {tag}z")
-    return Sized(made, options=["--tags", tag])
+        return Run(made, fault="a.feature:2: bad tag")
+    return Run(made.scenario(SKIPPED, tags=f"{other(tag)} {tag}z"), options=["--tags", tag])
 
 
 @row()
 def bytes_of_a_path(size):
     """The file's name, after as many slashes as are needed."""
     path = "." + "/" * (size - 10) + "a.feature" if size > 10 else "a"[:size]
-    made = Made(source=path).scenario("it passes")
-    is_known = 0 < size <= PATH_LIMIT
-    run = Sized(made, fault="" if is_known else f"{path}: cannot read")
+    made = FeatureFile(source=path).scenario("it passes")
+    run = Run(made, fault="" if 0 < size <= PATH_LIMIT else f"{path}: cannot read")
     run.files = {"a": made.text(), "a.feature": made.text()}
     return run
 
 
-# ---- lengths in a library and its steps
+# ---- libraries and their steps
 
-@row()
-def bytes_of_a_step(size):
-    """A keyword alone is no step, and nothing else may stand below one."""
-    made = Made().scenario("it passes", Step(letters(size), "undefined"))
-    return Sized(made, fault="" if size else "a.feature:4: unexpected line")
-
-
-@row()
-def bytes_of_a_pattern(size):
-    text = letters(size)
-    made = Made().scenario(text, Step(other(text), "undefined"))
-    fault = "" if size else "l.steps:1: bad pattern"
-    return with_library(made, f"step {text} => pass\n", fault=fault)
-
-
-@row()
-def bytes_of_the_text_of_a_field(size):
-    status = "passed" if size else "undefined"
-    made = Made().scenario(Step(f"a {letters(size)}z", status))
-    made.scenario(Step(f"a {letters(size)}", "passed" if size > 1 else "undefined"))
-    return with_library(made, "step a {x}z => pass\n")
-
-
-@row()
-def bytes_of_the_name_of_a_field(size):
-    """Names that differ in their last letter are two."""
-    name = letters(size)
-    pattern = f"step a {{{name}}},{{{other(name)}}} => pass\n"
-    made = Made().scenario("a b,c")
-    return with_library(made, pattern, fault="" if size else "l.steps:1: bad pattern")
+rows({
+    # A keyword alone is no step, and nothing else may follow below one.
+    "bytes of a step": lambda size: Run(one("it passes", Step(letters(size), "undefined")),
+                                        fault="" if size else "a.feature:4: unexpected line"),
+    "bytes of a pattern": lambda size: with_library(
+        one(letters(size), Step(other(letters(size)), "undefined")), f"step {letters(size)} => pass\n",
+        fault="" if size else "l.steps:1: bad pattern"),
+    "bytes of the text of a field": lambda size: with_library(
+        one(Step(f"a {letters(size)}z", "passed" if size else "undefined")).scenario(
+            Step(f"a {letters(size)}", "passed" if size > 1 else "undefined")), "step a {x}z => pass\n"),
+    # Names that differ in their last letter are two.
+    "bytes of the name of a field": lambda size: with_library(
+        one("a b,c"), f"step a {{{letters(size)}}},{{{other(letters(size))}}} => pass\n",
+        fault="" if size else "l.steps:1: bad pattern"),
+})
 
 
 @row(most=4097)
 def fields_of_a_pattern(size):
     fields = ",".join(f"{{f{number}}}" for number in range(size))
     texts = ",".join(f"t{number}" for number in range(size))
-    made = Made().scenario(f"a {texts}." if size else "a .", Step(f"a {texts}", "undefined"))
+    made = one(f"a {texts}." if size else "a .", Step(f"a {texts}", "undefined"))
     return with_library(made, f"step a {fields}. => pass\n")
 
 
 @row(most=4097)
 def entries_of_a_library(size):
-    entries = "".join(f"step w{number} => pass\n" for number in range(size))
     steps = [f"w{number}" for number in (0, size // 2, size - 1)] if size else []
-    return with_library(Made().scenario(*steps, Step(f"w{size}", "undefined")), entries)
+    return with_library(one(*steps, Step(f"w{size}", "undefined")), each("step w{} => pass\n", size))
+
+
+ALIKE = "the user opens the order of the"
+
+
+@group
+def entries_of_libraries():
+    """Each entry is compared with those before it. Many begin as they do."""
+    different = each("step w{} {{name}} is {{text}} => set_env\n", 1000)
+    alike = f"step {ALIKE} {{{{name}}}} at {{}} => pass\n"
+    steps = ["w0 A is 1", "w999 B is 2", "A = 1", "B = 2"]
+    yield "many", with_library(one(*steps), different + "step {name} = {text} => env_is\n")
+    yield "many, and a fault", with_library(FeatureFile(), different + "step w7 {x} is {y} => pass\n",
+                                            fault="l.steps:1001: ambiguous with an earlier line")
+    steps = [f"{ALIKE} x at {number}" for number in (0, 17, 29_999)]
+    yield "alike", with_library(one(*steps), each(alike, 30_000))
+    yield "alike, and a fault", with_library(FeatureFile(), each(alike, 3000) + f"step {ALIKE} {{other}} at 17 => pass\n",
+                                             fault="l.steps:3001: ambiguous with an earlier line")
+    steps = [f"{ALIKE} {number}" for number in (0, 17, 29_999)]
+    yield "literals alike", with_library(one(*steps), each(f"step {ALIKE} {{}} => pass\n", 30_000))
+
+
+@group
+def hopeless_patterns():
+    """Taking the fields' lengths one after another would not end."""
+    yield "texts", with_library(one(Step("a" * 400 + "x", "undefined")),
+                                "step {a}{b}{c}{d}{e}{f}{g}{h}z{i}x => pass\n")
+    yield "numbers", with_library(one(Step("1" * 400, "undefined")),
+                                  f"step {each('{{n{}:d}}', 12)} => pass\n")
 
 
 # ---- counts in a feature file
 
-KINDS = [("it passes", "passed"), ("it fails", "failed: fail step"),
-         ("the scenario is skipped", "skipped"), ("nothing knows this", "undefined")]
+KINDS = [["it passes"], [FAILING], [Step("the scenario is skipped", "skipped")], [Step("nothing knows this", "undefined")]]
+CHANGED = [['the variable "A" is set to "x"', 'the variable "A" should be "x"']]
+# A rule's hook grows the feature's number, and the first of its two scenarios what that gave. The hook of a tag fails.
+RULE_HOOKS = ('before_feature:\n* the number "n" is set to 1\nbefore_rule:\n* the number "n" grows by 10\n'
+              'after_feature:\n* the number "n" should be 1\nafter_tag @bad:\n* the number "n" should be 1\n')
+SEEN, GROWN = 'the number "n" should be 11', ['the number "n" grows by 100', 'the number "n" should be 111']
 
-
-def many_scenarios(made, size):
-    """So many scenarios, of each kind in turn."""
-    for number in range(size):
-        made.scenario(Step(*KINDS[number % 4]), name=f"s{number}")
-    return made
-
-
-@row()
-def scenarios_of_a_feature(size):
-    return Sized(many_scenarios(Made(), size))
-
-
-@row()
-def scenarios_of_a_rule(size):
-    return Sized(many_scenarios(Made().rule("r"), size))
-
-
-@row()
-def scenarios_that_pass(size):
-    made = Made()
-    for number in range(size):
-        made.scenario("it passes", name=f"s{number}")
-    return Sized(made)
-
-
-@row()
-def scenarios_after_one_that_stops_the_run(size):
-    made = Made().scenario(Step("it fails", "failed: fail step"))
-    for number in range(size):
-        made.scenario(Step("it passes", "untested"), name=f"s{number}")
-    return Sized(made, options=["--stop"])
-
-
-@row()
-def scenarios_before_the_one_that_is_chosen(size):
-    made = Made()
-    for number in range(size):
-        made.scenario(Step("it fails", "skipped"), name=f"s{number}")
-    made.scenario("it passes")
-    return Sized(made, options=["--line", str(2 + 2 * size)])
-
-
-@row()
-def rules_of_a_feature(size):
-    made = Made()
-    for number in range(size):
-        made.rule(f"r{number}").scenario("it passes", name=f"s{number}")
-    return Sized(made)
-
-
-@row()
-def rules_with_hooks(size):
-    """The value that each finds is the feature's, grown in its own hook. The hook after every third one fails, but
-    where the rule has no scenario, since such a one isn't begun."""
-    hooks = ('before_feature:\n* the number "n" is set to 1\nbefore_rule:\n* the number "n" grows by 2\n'
-             'after_rule:\n* the number "n" should be 3\nafter_feature:\n* the number "n" should be 1\n'
-             'after_tag @bad:\n* it fails\n')
-    made = Made()
-    for number in range(size):
-        is_bad, is_empty = number % 3 == 0, number % 5 == 0
-        made.rule("r", "@bad" if is_bad else "", "failed" if is_bad and not is_empty else "passed")
-        if not is_empty:
-            made.scenario('the number "n" should be 3', name=f"s{number}")
-    return with_hooks(made, hooks)
-
-
-@row()
-def rules_after_the_one_that_stops_the_run(size):
-    made = Made().rule("r", "@bad", "failed").scenario("it passes")
-    for number in range(size):
-        made.rule(f"r{number}").scenario(Step("it passes", "untested"), name=f"s{number}")
-    run = with_hooks(made, "after_tag @bad:\n* it fails\nbefore_rule:\n* it passes\n")
-    run.options = [*run.options, "--stop"]
-    return run
-
-
-@row()
-def steps_of_a_scenario(size):
-    last = [Step("it fails", "failed: fail step"), Step("it passes", "skipped")]
-    return Sized(Made().scenario(*["it passes"] * size, *last))
+rows({
+    "scenarios of a feature": lambda size: FeatureFile().scenarios(size, *KINDS),
+    "scenarios of a rule": lambda size: FeatureFile().rule("r").scenarios(size, *KINDS),
+    "scenarios that pass": lambda size: FeatureFile().scenarios(size, ["it passes"]),
+    "scenarios after one that stops the run": lambda size: Run(
+        one(FAILING).scenarios(size, [UNTESTED]), options=["--stop"]),
+    "scenarios before the one that is chosen": lambda size: Run(
+        FeatureFile().scenarios(size, [Step("it fails", "skipped")]).scenario("it passes"),
+        options=["--line", str(2 + 2 * size)]),
+    "steps of a scenario": lambda size: one(*["it passes"] * size, FAILING, "it passes"),
+    "steps of a background": lambda size: FeatureFile().background(*["it passes"] * size).scenario(
+        "it passes").scenario(FAILING),
+})
+rows({"scenarios that change something": lambda size: FeatureFile(name="many").scenarios(size, *CHANGED)},
+     only=(100_000,), formats=FORMATS)
+rows({
+    "scenarios of the file after one that stops the run": lambda size: Run(
+        FeatureFile(source="0.feature").scenario(FAILING),
+        FeatureFile().scenarios(size, [Step(it, "untested") for it in CHANGED[0]]), options=["--stop"]),
+    # Each finds what the rule's hook made.
+    "scenarios of a rule with hooks": lambda size: with_hooks(
+        FeatureFile().rule("r").scenarios(size, [SEEN, 'the number "n" grows by 1']), RULE_HOOKS),
+}, only=(100_000,), formats=["progress", "plain"])
 
 
 @row()
 def steps_of_a_dry_run(size):
-    steps = [*[Step("it passes", "untested")] * size, Step("nothing knows this", "undefined")]
-    run = Sized(Made().scenario(*steps), options=["--dry-run"])
-    made = run.made[0]
+    made = one(*[UNTESTED] * size, Step("nothing knows this", "undefined"))
     made.cases = [it._replace(status="untested") for it in made.cases]
-    return run
+    return Run(made, options=["--dry-run"])
 
 
 @row()
-def steps_of_a_background(size):
-    made = Made().add("Background:")
-    before = made.steps(*["it passes"] * size)
-    made.scenario("it passes", before=before)
-    return Sized(made.scenario(Step("it fails", "failed: fail step"), before=before))
+def rules_of_a_feature(size):
+    made = FeatureFile()
+    for number in range(size):
+        made.rule(f"r{number}").scenario("it passes", name=f"s{number}")
+    return made
 
 
 @row()
+def rules_with_hooks(size):
+    """The hook after every third one fails, unless the rule has no scenario, since such a one isn't begun."""
+    made = FeatureFile()
+    for number in range(size):
+        is_bad, is_empty = number % 3 == 0, number % 5 == 0
+        made.rule("r", "@bad" if is_bad else "", "failed" if is_bad and not is_empty else "passed")
+        if not is_empty:
+            made.scenario(SEEN, name=f"s{number}")
+    return with_hooks(made, RULE_HOOKS)
+
+
+@row(only=(1000,), formats=FORMATS)
+def rules_with_hooks_and_changes(size):
+    made = FeatureFile()
+    for number in range(size):
+        made.rule(f"r{number}", "@bad" * (number % 2), "failed" if number % 2 else "passed")
+        made.scenario(*GROWN, name="a").scenario(SEEN, name="b")
+    return with_hooks(made, RULE_HOOKS)
+
+
+@row(also=(999,))
+def rules_after_the_one_that_stops_the_run(size):
+    made = FeatureFile().rule("r", "@bad", "failed").scenario("it passes")
+    for number in range(size):
+        made.rule(f"r{number}").scenario(UNTESTED, name=f"s{number}").scenario(UNTESTED, name="t")
+    return with_hooks(made, RULE_HOOKS, ["--stop"])
+
+
+@row(only=(300,))
+def examples_and_rules_in_turn(size):
+    made = FeatureFile().outline("o", 'a file named "<a>" containing "x"')
+    for number in range(size):
+        made.examples([str(number)], ["x"], name=f"e{number}")
+    for number in range(size):
+        made.rule(f"r{number}").background("it passes").scenario(name=f"e{number}", keyword="Example")
+    return made
+
+
+@row(only=(60 * 41,), formats=FORMATS)
+def scenarios_of_a_part_of_many_pieces(size):
+    """60 before the first rule and in each. Their names grow and shrink, so that pieces end anywhere. The hook after each
+    second rule fails. Two of five aren't chosen, nor most of a rule in the middle."""
+    made = FeatureFile()
+    for number in range(size):
+        rule, place = divmod(number, 60)
+        if rule and place == 0:
+            made.rule(f"r{rule}", "@bad" * (rule % 2), "failed" if rule % 2 else "passed")
+        is_on = number % 5 not in (2, 3) and not 1025 <= number < 1078
+        made.scenario("it passes" if is_on else SKIPPED, name=f"s{number}{'x' * (number * 37 % 211)}", tags="@on" * is_on)
+    return with_hooks(made, "after_tag @bad:\n* it fails\n", ["--no-skipped", "--tags", "@on"])
+
+
+@row(also=(70_000,))
 def rows_of_a_table(size):
     table = ["| name | text |", *(f"| f{number} | {number} |" for number in range(size))]
     seen = [f'the file "f{number}" should be "{number}"' for number in (0, size // 2, size - 1)]
-    return Sized(Made().scenario(Step("these files:", block=table), *(seen if size else []),
-                                 Step(f'the file "f{size}" should exist', "failed: absent")))
+    return one(Step("these files:", block=table), *(seen if size else []),
+                                  Step(f'the file "f{size}" should exist', "failed: absent"))
 
 
 @row(least=1)
 def cells_of_a_row(size):
     """The first and the last of the examples' cells, below a step with a table of as many."""
-    header = "".join(f" h{number} |" for number in range(size))
-    table = [f"|{header}", f"|{header}"]
-    made = Made().add("Scenario Outline: o")
-    steps = made.steps(Step(f"<h{size - 1}><h0>", block=table))
-    made.add("Examples:", f"|{header}", f"|{header.replace('h', 'c')}")
-    rows = [(line, f"c{size - 1}c0", "undefined") for line, _, _ in steps]
-    made.case("Scenario Outline", "o -- @1.1", len(made.lines), rows)
-    return Sized(made)
+    header = [f"h{number}" for number in range(size)]
+    table = [f"| {' | '.join(header)} |"] * 2
+    step = Step(f"<h{size - 1}><h0>", "undefined", table)
+    return FeatureFile().outline("o", step).examples([f"c{number}" for number in range(size)], header=header)
 
 
-@row(least=1)
-def cells_of_a_row_with_one_more(size):
-    made = Made().scenario(Step("it passes", block=["|" + "a|" * size, "|" + "a|" * (size + 1)]))
-    return Sized(made, fault="a.feature:5: row with another number of cells")
+rows({"cells of a row with one more": lambda size: Run(
+    one(Step("it passes", block=[*["|" + "a|" * size] * 2, "|" + "a|" * (size + 1)])),
+    fault="a.feature:6: row with another number of cells")}, least=1, also=(100_000,))
 
 
-def outlined(size, lines_of):
-    """An outline with so many rows; the lines of each follow, of which the last is the row."""
-    made = Made().add("Scenario Outline: o")
-    steps = made.steps("it passes")
-    for number in range(size):
-        lines, name = lines_of(number)
-        made.add(*lines)
-        made.case("Scenario Outline", name, len(made.lines), steps)
-    return made
-
-
-@row()
-def rows_of_examples(size):
-    def lines_of(number):
-        head = ["Examples:", "| a |"] if number == 0 else []
-        return [*head, f"| {number} |"], f"o -- @1.{number + 1}"
-    return Sized(outlined(size, lines_of))
+rows({"rows of examples": lambda size: FeatureFile().outline("o", "it passes").examples(
+    *([str(number)] for number in range(size)))})
 
 
 @row()
 def examples_of_an_outline(size):
-    def lines_of(number):
-        return ["Examples: e", "| a |", "| x |"], f"o -- @{number + 1}.1 e"
-    return Sized(outlined(size, lines_of))
+    made = FeatureFile().outline("o", "it passes")
+    for _ in range(size):
+        made.examples(["x"], name="e")
+    return made
 
 
-@row()
-def placeholders_in_a_text(size):
-    made = Made().add("Scenario Outline: o", f"Given x{'<a>' * size}<b>")
-    made.add("Examples:", "| a |", "| 12 |")
-    made.case("Scenario Outline", "o -- @1.1", 6, [(3, f"x{'12' * size}<b>", "undefined")])
-    return Sized(made)
+rows({"placeholders in a text": lambda size: FeatureFile().outline(
+    "o", Step(f"x{'<a>' * size}<b>", "undefined")).examples(["12"])})
 
 
 def chosen_by_the_last(tags, size):
     """A scenario below lines of tags, and one without. The last tag is asked for."""
-    status = "passed" if size else "skipped"
-    made = Made().add(*tags).scenario(Step("it passes", status))
-    made.scenario(Step("it passes", "skipped"))
-    return Sized(made, options=["--tags", f"@t{size - 1}", "--tags", f"~@t{size}"])
+    made = FeatureFile().add(*tags).scenario("it passes" if size else SKIPPED).scenario(SKIPPED)
+    return Run(made, options=["--tags", f"@t{size - 1}", "--tags", f"~@t{size}"])
 
 
-@row()
-def tags_of_a_line(size):
-    return chosen_by_the_last([" ".join(f"@t{number}" for number in range(size))], size)
+rows({"tags of a line": lambda size: chosen_by_the_last([each("@t{} ", size)], size),
+      "lines of tags": lambda size: chosen_by_the_last([f"@t{number}" for number in range(size)], size)}, also=(70_000,))
 
 
-@row()
-def lines_of_tags(size):
-    return chosen_by_the_last([f"@t{number}" for number in range(size)], size)
-
-
-@row()
+@row(also=(80_000,))
 def lines_of_a_doc_string(size):
     lines = [f"line {number}" for number in range(size)]
-    other_lines = [*lines[:-1], "line"]
-    steps = [Step('a file named "f" with:', block=['"""', *lines, '"""']),
-             Step('the file "f" should be:', block=['"""', *lines, '"""']),
-             Step('the file "f" should be:', "failed: differs", ['"""', *other_lines, '"""'])]
-    return Sized(Made().scenario(*steps))
+    contained = [f'the file "f" should contain "{lines[-1]}"'] if lines else []
+    made = one(Step('a file named "f" with:', block=['"""', *lines, '"""']), *contained,
+                                  Step('the file "f" should be:', block=['"""', *lines, '"""']),
+                                  Step('the file "f" should be:', "failed: differs", ['"""', *lines[:-1], "line", '"""']))
+    return made.scenario(Step('a file named "f" with:', block=['"""', *lines, '"""']),
+                         Step(f'the file "f" should contain "line {size}"', "failed: differs"))
+
+
+# ---- files of a run
+
+@group
+def many_files():
+    seen = ['the variable "V{}" should be unset', 'the variable "V{}" is set to "x"']
+    made = [FeatureFile(name=f"f{number}", source=f"{number}.feature").scenario(
+        *(it.format(number) for it in seen), name=f"s{number}") for number in range(100)]
+    yield "in order", Run(*made)
+    yield "backwards", Run(*reversed(made))
+    made = [FeatureFile(source=f"{number}.feature") for number in range(300)]
+    yield "without scenarios", Run(*made, formats=FORMATS)
+    made[-1].add("Feature: g")
+    yield "a fault of the last", Run(*made, fault="299.feature:2: unexpected line")
+
+
+# The same file again and again.
+rows({"files of a run": lambda size: Run(*[FeatureFile(source="a").scenario("it passes")] * size)}, least=1)
+
+
+def from_a_pipe(program, folder):
+    """What is wrong if the program reads a pipe that gives one byte at a time, or nothing."""
+    made = FeatureFile(source="pipe").scenario("it passes")
+    run = Run(made)
+    os.makedirs(folder)
+    path = os.path.join(folder, "pipe")
+    os.mkfifo(path)
+
+    def feed():
+        with open(path, "wb", buffering=0) as pipe:
+            for byte in made.text().encode():
+                pipe.write(bytes([byte]))
+
+    writer = threading.Thread(target=feed)
+    writer.start()
+    found = trouble(program, folder, "from a pipe", run, "plain")
+    writer.join()
+    return found
+
+
+# ---- the limit of the steps of a file
+
+def outlined(steps, examples, step="it passes", source="a.feature"):
+    """An outline of so many steps, with so many rows."""
+    return FeatureFile(source=source).outline("o", *[step] * steps).examples(*[["x"]] * examples)
+
+
+def with_backgrounds(step, count):
+    """A background of 1,000 steps, and so many scenarios. The report of those that pass it would take the time."""
+    made = FeatureFile()
+    made.before = [it._replace(status="skipped") for it in made.add("Background:").steps(*[step] * 1000)]
+    return made.scenarios(count, [])
+
+
+@group
+def steps_of_a_file():
+    """Some are chosen, so that a report is all that takes time. Very many steps are counted, and not made."""
+    fault = "a.feature: more than 1000000 steps"
+    yield "at the limit", Run(outlined(1000, STEPS_LIMIT // 1000))
+    yield "a row more", Run(outlined(1000, 1001), fault=fault)
+    yield "a step more", Run(outlined(1000, 1000).scenario("it passes"), fault=fault)
+    yield "a later fault", Run(outlined(1000, 1001), FeatureFile(source="b.feature").add("Feature: g"), fault=fault)
+    text = "Feature: f\nScenario Outline: o\n" + "Given it passes\n" * 500_000 + "Examples:\n| a |\n" + "| x |\n" * 1_000_000
+    yield "very many", Run(files={"a.feature": text}, sources=["a.feature"], fault=fault)
+    yield "of backgrounds, too many", Run(with_backgrounds("it passes", 1001), fault=fault)
+    yield "of backgrounds", Run(with_backgrounds("it fails", 1000), options=["--tags", "@no"])
+    yield "of each of two files", Run(*(outlined(1000, 600, SKIPPED, f"{it}.feature") for it in "ab"), options=["--line", "1"])
 
 
 # ---- counts in a run
 
-@row()
-def changes_of_a_layer(size):
-    made = Made().scenario('the number "n" is set to 0', *['the number "n" grows by 1'] * size,
-                           f'the number "n" should be {size}')
-    return Sized(made.scenario('the value "n" should be absent'))
+def changes_of_each_kind(size):
+    """So many changes of each of a value, a variable and a file. The end of the scenario takes all of them back."""
+    gone = ['the variable "V" should be unset', 'the file "f" should not exist']
+    changes = [*['the number "n" grows by 1'] * size,
+               *['the variable "V" is set to "x"', 'the variable "V" is unset'] * (size // 2),
+               *['a file named "f" containing "x"', 'the file "f" is removed'] * (size // 2)]
+    made = one('the number "n" is set to 0', *changes, f'the number "n" should be {size}', *gone)
+    return made.scenario('the value "n" should be absent', *gone)
+
+
+rows({"changes of a layer": lambda size: one(
+    'the number "n" is set to 0', *['the number "n" grows by 1'] * size, f'the number "n" should be {size}').scenario(
+        'the value "n" should be absent')})
+rows({"changes of each kind": changes_of_each_kind}, only=(100_000,))
 
 
 @row()
 def names_of_a_layer(size):
     """A variable and a value of each name. The end of the layer takes all of them back."""
-    made = Made()
     put = [f'the {noun} "n{number}" is set to "{number}"'
            for number in range(size // 2) for noun in ("variable", "value")]
     last = size // 2 - 1
     seen = [f'the {noun} "n{last}" should be "{last}"' for noun in ("variable", "value")]
-    made.scenario(*put, *(seen if put else []))
-    return Sized(made.scenario(f'the variable "n{last}" should be unset',
-                               f'the value "n{last}" should be absent'))
+    return one(*put, *(seen if put else [])).scenario(
+        f'the variable "n{last}" should be unset', f'the value "n{last}" should be absent')
 
 
-@row()
-def cleanups_of_a_scenario(size):
-    """They run last in, first out."""
-    steps = [f'at cleanup the number "n" should be {size}',
-             *['at cleanup the number "n" grows by 1'] * size,
-             'at cleanup the number "n" is set to 0']
-    return Sized(Made().scenario(*steps).scenario('the value "n" should be absent'))
+# Cleanups run last in, first out.
+rows({"cleanups of a scenario": lambda size: one(
+    f'at cleanup the number "n" should be {size}', *['at cleanup the number "n" grows by 1'] * size,
+    'at cleanup the number "n" is set to 0').scenario('the value "n" should be absent')})
+
+
+@row(only=(100_000,))
+def cleanups_with_a_table(size):
+    table = ["| name | text |", *(f"| f{number} | {number} |" for number in range(size // 10))]
+    last = size // 10 - 1
+    return one(
+        f'at cleanup the number "n" should be {size}', f'at cleanup the file "f{last}" should be "{last}"',
+        *['at cleanup the number "n" grows by 1'] * size, 'at cleanup the number "n" is set to 0',
+        Step("at cleanup these files:", block=table))
 
 
 @row()
 def cleanups_of_a_rule(size):
     """They run after its scenarios and last in, first out, and the last of them fails."""
     hooks = ["before_rule:", "* at cleanup it fails", f'* at cleanup the number "n" should be {size}',
-             *['* at cleanup the number "n" grows by 1'] * size, '* at cleanup the number "n" is set to 0']
-    made = Made().rule("r", around="failed").scenario('the value "n" should be absent')
-    return with_hooks(made, "\n".join(hooks) + "\n")
+             *['* at cleanup the number "n" grows by 1'] * size, '* at cleanup the number "n" is set to 0', ""]
+    made = FeatureFile().rule("r", around="failed").scenario('the value "n" should be absent')
+    return with_hooks(made, "\n".join(hooks))
+
+
+# ---- hooks
+
+VARIABLE_SEEN = 'the variable "V" should be "{}"'
+SETTING = 'before_tag @t{0}:\n* the variable "V" is set to "{0}"\n'
+EMPTY_HOOKS = "before_tag @t{0}:\nafter_tag @t{0}:\n"
+
+
+def counting_hooks(size):
+    """Hooks of so many tags, of which each grows a number, the tags, and a step that passes if each ran once, in order."""
+    hooks = 'before_tag @t:\n* the number "n" is set to 0\n' + each('before_tag @t{}:\n* the number "n" grows by 1\n', size)
+    return hooks, "@t" + each(" @t{}", size), f'the number "n" should be {size}'
 
 
 @row(most=4097)
 def hooks_of_a_rule(size):
-    """The hooks of each of its tags run once, and in their order."""
-    hooks = "".join(f'before_tag @t{number}:\n* the number "n" grows by 1\n'
-                    for number in range(size))
-    hooks = 'before_tag @t:\n* the number "n" is set to 0\n' + hooks
-    tags = " ".join(["@t", *(f"@t{number}" for number in range(size))])
-    made = Made().rule("r", tags)
-    for name in ("one", "two"):
-        made.scenario(f'the number "n" should be {size}', name=name)
-    return with_hooks(made, hooks)
-
-
-@row()
-def steps_of_a_hook(size):
-    hooks = ["before_scenario:", '* the number "n" is set to 0',
-             *['* the number "n" grows by 1'] * size,
-             "after_scenario:", f'* the number "n" should be {size + 1}']
-    made = Made().scenario(f'the number "n" should be {size}', 'the number "n" grows by 1')
-    return with_hooks(made, "\n".join(hooks) + "\n")
-
-
-@row(most=4097)
-def hooks_of_a_file(size):
-    hooks = "".join(f'before_tag @t{number}:\n* the value "v" is set to "{number}"\n'
-                    for number in range(size))
-    tags = f"@t0 @t{size - 1}" if size else "@t"
-    seen = f'the value "v" should be "{size - 1}"' if size else 'the value "v" should be absent'
-    return with_hooks(Made().scenario(seen, tags=tags), hooks)
+    hooks, tags, seen = counting_hooks(size)
+    return with_hooks(FeatureFile().rule("r", tags).scenario(seen, name="one").scenario(seen, name="two"), hooks)
 
 
 @row(most=4097)
 def hooks_of_a_scenario(size):
-    """The hooks of each of its tags run, and in their order."""
-    hooks = "".join(f'before_tag @t{number}:\n* the number "n" grows by 1\n'
-                    for number in range(size))
-    hooks = 'before_tag @t:\n* the number "n" is set to 0\n' + hooks
-    tags = " ".join(["@t", *(f"@t{number}" for number in range(size))])
-    return with_hooks(Made().scenario(f'the number "n" should be {size}', tags=tags), hooks)
+    hooks, tags, seen = counting_hooks(size)
+    return with_hooks(one(seen, tags=tags), hooks)
 
+
+@row(most=4097, also=(1000,))
+def hooks_of_a_file(size):
+    tags = f"@t0 @t{size - 1}" if size else "@t"
+    seen = VARIABLE_SEEN.format(size - 1) if size else 'the variable "V" should be unset'
+    made = one(seen, tags=tags)
+    if size:
+        made.scenario(VARIABLE_SEEN.format(size // 2), tags=f"@t{size // 2}")
+    return with_hooks(made, each(SETTING, size))
+
+
+@row(also=(70_000,))
+def steps_of_a_hook(size):
+    hooks = ["before_scenario:", '* the number "n" is set to 0', *['* the number "n" grows by 1'] * size,
+             "after_scenario:", f'* the number "n" should be {size + 1}', ""]
+    made = one(f'the number "n" should be {size}', 'the number "n" grows by 1')
+    return with_hooks(made, "\n".join(hooks))
+
+
+growing(3000, {
+    # Each heading is looked for among those before it.
+    "headings of hooks": lambda count: with_hooks(
+        one(VARIABLE_SEEN.format("x")), each("before_tag @t{}:\n", count)
+        + 'after_tag @last:\nbefore_scenario:\n* the variable "V" is set to "x"\n'),
+    "headings of hooks before a fault": lambda count: with_hooks(
+        FeatureFile(), each(EMPTY_HOOKS, count // 2) + "after_tag @t7:\n", fault=f"h.hooks:{count + 1}: bad hook heading"),
+})
+
+
+def tags_with_hooks(count):
+    """Each tag of each of 20 scenarios has a hook before it and one after it."""
+    made, tags = FeatureFile(), each("@t{} ", count) + "@last"
+    for number in range(20):
+        made.scenario(VARIABLE_SEEN.format("x"), name=f"s{number}", tags=tags)
+    return with_hooks(made, each(EMPTY_HOOKS, count) + 'before_tag @last:\n* the variable "V" is set to "x"\n')
+
+
+def scenarios_with_hooks(count):
+    """Each scenario has a tag of its own, and each tag a hook."""
+    made = FeatureFile()
+    for number in range(count):
+        made.scenario(VARIABLE_SEEN.format(number), tags=f"@t{number}")
+    return with_hooks(made, each(SETTING, count))
+
+
+growing(300, {"tags with hooks": tags_with_hooks})
+growing(3000, {"scenarios with hooks": scenarios_with_hooks})
 
 # ---- counts and lengths of arguments
 
-@row(least=1)
-def files_of_a_run(size):
-    """The same file again and again."""
-    made = Made(source="a").scenario("it passes")
-    return Sized(*[made] * size)
+def chosen(*options, no="@c", **more):
+    """A run that chooses the first of two scenarios by its tags."""
+    made = one("it passes", tags="@a @b").scenario(SKIPPED, tags=no)
+    return Run(made, options=options, **more)
 
 
-@row()
-def options_of_tags(size):
-    made = Made().scenario("it passes", tags="@a @b")
-    made.scenario(Step("it passes", "skipped"), tags="@a")
-    return Sized(made, options=[*["--tags=a"] * size, "--tags=b"])
+rows({
+    "options of tags": lambda size: chosen(*["--tags=a"] * size, "--tags=b", no="@a"),
+    "options of lines": lambda size: chosen(*["--line=1"] * size, "--line=3"),
+})
+rows({"alternatives of tags": lambda size: chosen("--tags=" + "c2," * size + "b"),
+      "blanks of an expression": lambda size: chosen("--tags=" + " " * size + "(@b" + "\t" * size + ")")}, most=60_000)
+rows({"terms of an or": lambda size: chosen("--tags=" + "@x or " * size + "@b ")}, most=20_000, also=(21_800,))
+rows({"terms of an and": lambda size: chosen("--tags=" + "@a and " * size + "@b ", no="@a")}, most=18_000, also=(18_700,))
 
 
-@row(most=60_000)
-def alternatives_of_tags(size):
-    made = Made().scenario("it passes", tags="@b").scenario(Step("it passes", "skipped"), tags="@c")
-    return Sized(made, options=["--tags=" + "a," * size + "b"])
+def too_deep(size):
+    """The fault of an expression that is this deep, if it has one."""
+    return {"fault": "" if size <= DEPTH_LIMIT else "bad tag expression", "status": 2}
 
 
-@row(most=20_000)
-def terms_of_an_or(size):
-    made = Made().scenario("it passes", tags="@b").scenario(Step("it passes", "skipped"), tags="@c")
-    return Sized(made, options=["--tags=" + "@a or " * size + "@b "])
-
-
-@row(most=18_000)
-def terms_of_an_and(size):
-    made = Made().scenario("it passes", tags="@b @a")
-    made.scenario(Step("it passes", "skipped"), tags="@a")
-    return Sized(made, options=["--tags=" + "@a and " * size + "@b "])
-
-
-@row(most=60_000)
-def blanks_of_an_expression(size):
-    made = Made().scenario("it passes", tags="@b").scenario(Step("it passes", "skipped"), tags="@c")
-    return Sized(made, options=["--tags=" + " " * size + "(@b" + "\t" * size + ")"])
-
-
-@row(most=4_097)
-def parentheses_of_an_expression(size):
-    made = Made().scenario("it passes", tags="@b")
-    if size <= 100:
-        made.scenario(Step("it passes", "skipped"), tags="@c")
-    fault = "" if size <= 100 else "bad tag expression"
-    return Sized(made, options=["--tags=" + "(" * size + "@b" + ")" * size], fault=fault, status=2)
-
-
-@row(most=4_097)
-def negations_of_an_expression(size):
-    made = Made().scenario(Step("it passes", "skipped" if size % 2 else "passed"), tags="@b")
-    fault = "" if size <= 100 else "bad tag expression"
-    return Sized(made, options=["--tags=" + "not " * size + "@b "], fault=fault, status=2)
+rows({"parentheses of an expression": lambda size: chosen("--tags=" + "(" * size + "@b" + ")" * size, **too_deep(size)),
+      "negations of an expression": lambda size: chosen(
+          "--tags=" + "not " * size + ("@c " if size % 2 else "@b "), **too_deep(size))}, most=4097, also=(32_000,))
 
 
 @row()
 def bytes_of_a_text_of_tags(size):
     tag = letters(size)
-    made = Made().scenario("it passes", tags=f"@{tag}")
-    made.scenario(Step("it passes", "skipped"), tags=f"@{other(tag)}")
-    fault = "" if size else "bad tag expression"
     if not size:
-        made = Made().scenario("it passes")
-    return Sized(made, options=[f"--tags={tag}"], fault=fault, status=2)
+        return chosen("--tags=", fault="bad tag expression", status=2)
+    return Run(one("it passes", tags=f"@{tag}").scenario(SKIPPED, tags=f"@{other(tag)}"),
+               options=[f"--tags={tag}"])
 
 
-@row()
-def options_of_lines(size):
-    made = Made().scenario("it passes").scenario(Step("it passes", "skipped"))
-    return Sized(made, options=[*["--line=1"] * size, "--line=2"])
+@group
+def long_texts_of_tags():
+    """An argument has 131,071 bytes at most: these come near that."""
+    deep = "not (" * 50 + "@b" + ")" * 50
+    for name, texts in (
+            ("alternatives", ["~@a," * 30_000 + "@b"]), ("groups", ["(@x)or" * 21_800 + "(@b)"]),
+            ("negated terms", ["not @b or " * 13_000 + "@b", "not @c and " * 11_900 + "@b"]),
+            ("deep terms", [" or ".join([deep] * 400), " and ".join([deep] * 400)]),
+            ("expressions", [f"@b or @t{number}" for number in range(1000)]),
+            ("a long tag", ["@b or @" + "t" * 130_000])):
+        yield name, chosen(*(f"--tags={it}" for it in texts), no="@a")
+    for name, text in (
+            ("nothing after its terms", "@a or " * 21_800), ("parentheses", "(" * 65_000 + "@a" + ")" * 65_000),
+            ("open parentheses", "(" * 131_000), ("closing parentheses", "@a" + ")" * 131_000),
+            ("negations", "not " * 32_000 + "@a"), ("blanks", " \t" * 65_000)):
+        yield name, chosen("--tags", "@a or @b", "--tags", text, fault="bad tag expression", status=2)
 
 
-@row()
-def options_of_variables(size):
-    """The last of equal names counts."""
-    options = ["--env=V=0", *[f"--env=V={number % 10}" for number in range(size)]]
-    return Sized(Made().scenario(f'the variable "V" should be "{(size - 1) % 10 if size else 0}"'),
-                 options=options)
+rows({
+    # The last of equal names counts.
+    "options of variables": lambda size: Run(
+        one(VARIABLE_SEEN.format((size - 1) % 10 if size else 0)),
+        options=["--env=V=0", *(f"--env=V={number % 10}" for number in range(size))]),
+    "bytes of the name of an option": lambda size: Run(
+        one(f'the variable "{letters(size)}" should be "x"'), options=[f"--env={letters(size)}=x"],
+        fault="" if 0 < size <= NAME_LIMIT else "bad --env", status=2),
+})
 
 
-@row()
-def bytes_of_the_name_of_an_option(size):
-    name = letters(size)
-    is_kept = 0 < size <= NAME_LIMIT
-    made = Made().scenario(f'the variable "{name}" should be "x"')
-    return Sized(made, options=[f"--env={name}=x"], fault="" if is_kept else "bad --env", status=2)
-
-
-@row()
+@row(also=(100_000,))
 def bytes_of_the_text_of_an_option(size):
     text = letters(size)
-    made = Made().scenario(Step("see V", block=quoted(text)),
-                           Step("see V", "failed: differs", quoted(other(text))))
+    made = one(Step("see V", block=quoted(text)), Step("see V", "failed: differs", quoted(other(text))))
     run = with_library(made, OWN_ENTRIES["variable"])
-    run.options = [*run.options, f"--env=V={text}"]
+    run.options += [f"--env=V={text}", f"--tags=~@{text}t"]
     return run
+
+
+def given(option, values):
+    """An option with each of these values."""
+    return [it for value in values for it in (option, str(value))]
+
+
+@group
+def many_options():
+    steps = [f'the variable "V{number}" should be "{number}"' for number in (0, 999)]
+    options = given("--tags", (f"~@t{number}" for number in range(1000))) + given("--line", range(1000, 0, -1))
+    options += given("--env", (f"V{number}={number}" for number in range(1000)))
+    yield "of each kind", Run(one(*steps), options=options)
+
+
+growing(1000, {
+    "lines of which the last chooses": lambda count: chosen(*given("--line", [*range(count + 6, 7, -1), 3])),
+    # Each of them is looked up for each scenario, so the scenarios are few.
+    "tags of which the last chooses": lambda count: chosen(
+        *given("--tags", [*(f"~@t{number}" for number in range(count - 1)), "~@c"])),
+    # Each tag that is named is looked for among as many in the feature.
+    "tags that are nowhere": lambda count: Run(
+        FeatureFile(each("@t{} ", count)).scenario("it passes"), printed=f"--tags @t{count}: stands nowhere\n", status=1,
+        options=["--lint", *given("--tags", [f"@t{number}" for number in range(1, count + 1)])]),
+    "variables of the run": lambda count: Run(
+        one(*(VARIABLE_SEEN.replace("V", f"V{number}").format(number) for number in (0, count - 1)),
+            f'the variable "V{count}" should be unset'),
+        options=given("--env", (f"V{number}={number}" for number in range(count)))),
+})
+
+
+# ---- what is found before a run
+
+ADVICE = {
+    "unexpected line": "write the keyword exactly, and look at the line above, too: a description ends at the first step, "
+                       "and a step has one block",
+    "bad tag": "write an @ before each tag, and a # before remarks",
+    "language not known": "write the keywords in English, and take this comment out",
+    "row without closing bar": "close the row with a bar",
+    "doc string without end": "close it with a line of the same three characters alone",
+    "bad step type": "begin the line with given, when, then or step, in lower case",
+}
+# Files that don't read, except the last: the fault, its line, and the text.
+FAULTY = (
+    ("unexpected line", 2, "Feature: f\nFeature: number {}\n"),
+    ("bad tag", 1, "@a number {}\nFeature: f\n"),
+    ("language not known", 1, "# language: de\nFeature: number {}\n"),
+    ("row without closing bar", 4, driver.feature("Given it passes", "| {} | x")),
+    ("doc string without end", 4, driver.feature("Given it passes", '"""', "number {}")),
+    (None, 1, driver.feature("Given step {} is undefined")),
+)
+
+
+def listed(name, line, fault, text):
+    """What --lint prints of a file that doesn't read: the fault, the line that it names, and what is to be done."""
+    quoted_line = text.split("\n")[line - 1]
+    return f"gherkin_run: {name}:{line}: {fault}\n    {quoted_line}\n    {ADVICE[fault]}\n"
+
+
+def faults_of_many_files(count):
+    """The listing, on standard error, has more bytes than a pipe holds. It has nothing of the files that read."""
+    files, listing = {}, ""
+    for number in range(count):
+        fault, line, text = FAULTY[number % len(FAULTY)]
+        name = f"{number}.feature"
+        files[name] = text.format(number)
+        listing += listed(name, line, fault, files[name]) if fault else ""
+    return Run(files=files, sources=files, options=["--lint"], printed="", err=listing)
+
+
+def long_line(length):
+    """A listing that quotes a line with so many letters, whole, beside the fault of a library."""
+    files = {"l.steps": "dance\n", "a.feature": f"Feature: f\nFeature: {'x' * length}\n"}
+    found = (("l.steps", 1, "bad step type"), ("a.feature", 2, "unexpected line"))
+    listing = "".join(listed(name, line, fault, files[name]) for name, line, fault in found)
+    return Run(files=files, sources=["a.feature"], options=["--lint", "--library", "l.steps"], printed="", err=listing)
+
+
+AROUND_THE_LINE = len(long_line(0).err)
+rows({"letters of a line with a fault": long_line},
+     only=(1_000_000, PIPE - AROUND_THE_LINE, PIPE + 1 - AROUND_THE_LINE))
+
+
+growing(700, {"faults of many files": faults_of_many_files})
+# What is found goes to standard output.
+growing(2000, {"findings of a file": lambda count: Run(
+    FeatureFile().scenarios(count, []), options=["--lint"], status=1,
+    printed=each("a.feature:{}: scenario without steps\n", range(2, count + 2)))})
 
 
 # ---- running them
 
+def trouble(program, folder, name, run, style):
+    """What is wrong with a run in a folder, in a format, or nothing."""
+    ended = driver.start(program, run.arguments(style), folder, patience=PATIENCE)
+    return driver.trouble(f"{name}, {style}", ended, run.wanted(style))
+
+
+def processor_time():
+    """The seconds of the processor that runs so far took."""
+    used = resource.getrusage(resource.RUSAGE_CHILDREN)
+    return used.ru_utime + used.ru_stime
+
+
 class Table:
-    """The runs of the rows, each in a folder of its own."""
+    """The runs of the rows, the groups and the growing runs, each in a folder of its own."""
 
     def __init__(self, program, room, is_whole):
         self.program, self.room, self.is_whole = program, room, is_whole
 
-    def troubles(self, place):
-        """What is wrong with each run of the row at a place, or nothing."""
-        name, make, least, most = ROWS[place]
-        chance = random.Random(name)
-        sizes = [it for it in SIZES if least <= it <= most]
-        sizes += [int(most ** chance.random()) for _ in range(RANDOM_SIZES)]
-        found = []
-        for number, size in enumerate(sizes, place):
+    def troubles(self, kind_and_place):
+        """What is wrong with each run of a row, of a group or of a growing run, or nothing."""
+        kind, place = kind_and_place
+        folder = os.path.join(self.room, f"{kind}{place}")
+        if kind == "row":
+            return list(self.of_row(ROWS[place], folder, place))
+        if kind == "group":
+            make = GROUPS[place]
+            runs = ((f"{make.__name__}: {name}", run, run.formats or ["plain"]) for name, run in make())
+            return [it for run in runs for it in self.of_run(folder, *run)]
+        return [self.of_growing(*GROWING[place], folder)]
+
+    def of_row(self, row, folder, place):
+        """The same of a row. Each run above SMALL is tried in one format alone."""
+        for number, size in enumerate(row.sizes, place):
+            run = row.make(size)
+            run = Run(run) if isinstance(run, FeatureFile) else run
             is_each = self.is_whole or size <= SMALL
             styles = FORMATS if is_each else [FORMATS[number % len(FORMATS)]]
-            found += self.of_size(place, name, make(size), size, styles)
-        return found
+            yield from self.of_run(folder, f"{row.name}: {size}", run, run.formats or row.formats or styles)
 
-    def of_size(self, place, name, run, size, styles):
-        """What is wrong with the run of a size in these formats, or nothing."""
-        folder = os.path.join(self.room, f"row{place}")
+    def of_run(self, folder, name, run, styles):
+        """The same of a run, in these formats."""
         driver.write(folder, run.files)
         for style in styles:
-            ended = driver.start(self.program, run.arguments(style), folder, patience=PATIENCE)
-            yield driver.trouble(f"{name}: {size}, {style}", ended, run.wanted(style))
+            yield trouble(self.program, folder, name, run, style)
         shutil.rmtree(folder)
+
+    def of_growing(self, name, make, size, folder):
+        """The same of a growing run. Of three times the least counts."""
+        least = []
+        for own in (size, size * TIMES):
+            run, times = make(own), []
+            driver.write(folder, run.files)
+            for _ in range(3):
+                before = processor_time()
+                found = trouble(self.program, folder, f"{name}: {own}", run, None)
+                times.append(processor_time() - before)
+                if found:
+                    return found
+            shutil.rmtree(folder)
+            least.append(min(times))
+        if least[1] <= MOST_TIMES * least[0]:
+            return ""
+        return f"{name}: {least[0]:.3f} s, and {TIMES} times as large {least[1]:.3f} s"
 
 
 def main():
-    table = Table(sys.argv[1], sys.argv[2], sys.argv[3:] == ["all"])
-    tests = driver.Tests(most_shown=20)
-    for troubles in driver.in_processes(table.troubles, range(len(ROWS))):
+    program, room = sys.argv[1:3]
+    table, tests = Table(program, room, sys.argv[3:] == ["all"]), driver.Tests(most_shown=20)
+    places = [(kind, place) for kind, of_kind in (("group", GROUPS), ("growing", GROWING), ("row", ROWS))
+              for place in range(len(of_kind))]
+    for troubles in driver.in_processes(table.troubles, places):
         tests.add_all(troubles)
+    tests.add(from_a_pipe(program, os.path.join(room, "from_a_pipe")))
     return tests.close()
 
 

@@ -1,5 +1,5 @@
 #!/usr/bin/env python3
-"""Runs the stored runs, the large runs and those of edge_bytes.py: stored_runs.py PROGRAM ROOM [NAME].
+"""Runs the stored runs and those of edge_bytes.py: stored_runs.py PROGRAM ROOM [NAME].
 
 Called by tests/runs.sh. The stored runs are on the pages of tests/runs/. With NAME only those run whose page and heading
 have these words.
@@ -15,7 +15,6 @@ import sys
 
 import driver
 import edge_bytes
-import large_runs
 import stored_cases
 
 ROOM = re.compile(r"room_for_(\d+)_bytes")
@@ -90,7 +89,6 @@ def main():
     tests.add_all(trouble(program, room, *it) for it in enumerate(cases))
     if not name:
         tests.add(equal_names(cases))
-        tests.add_all(large_runs.troubles(program, room))
         tests.add_all(edge_bytes.troubles(program, room))
     elif not cases:
         tests.add(f"no stored run has the words {name!r} in its page and its heading")

@@ -1,0 +1,305 @@
+"""Random texts, names, steps, features, suites and bytes, by a seed: what the random testers of tests/ are made of.
+
+Lists, dicts and named tuples are the parts of a suite, so that tests/search.py can drop each of them: a step with its
+block is one part, and what is left is read as well as before.
+"""
+
+import collections
+import random
+import re
+
+TAGS = ["@a", "@b", "@c"]
+FILES = ["f", "g"]
+KEYS = ["v", "w"]  # of variables and values
+NUMBERS = [0, 1, -3, 7, 2**63 - 1]
+TEXTS = ["x", "yy", "y z", "1", "-7", "9223372036854775807"]
+LONG_TEXTS = [*TEXTS, "\u00fc" * 40, "l" * 3000]
+NAMES = ["a", "b", "c", "d e", "\u00e9", "n" * 255]
+BAD_NAME = "n" * 256
+KEYWORDS = ("Given", "When", "Then", "And", "But", "*")
+# The sections from the run inwards, as hooks call them.
+SECTIONS = ["all", "feature", "rule", "scenario"]
+
+# The steps of the built-in library, by what they do, and below those of one that a suite may have.
+BUILT_IN = {
+    "write_file": 'a file named "{file}" containing "{text}"', "write_block": 'a file named "{file}" with:',
+    "write_files": "these files:", "append_file": 'the file "{file}" is extended with "{text}"',
+    "remove_file": 'the file "{file}" is removed', "rename_file": 'the file "{file}" is renamed to "{to}"',
+    "file_exists": 'the file "{file}" should exist', "file_absent": 'the file "{file}" should not exist',
+    "file_is": 'the file "{file}" should be "{text}"', "file_contains": 'the file "{file}" should contain "{text}"',
+    "set_env": 'the variable "{key}" is set to "{text}"', "unset_env": 'the variable "{key}" is unset',
+    "env_is": 'the variable "{key}" should be "{text}"', "env_absent": 'the variable "{key}" should be unset',
+    "set_value": 'the value "{key}" is set to "{text}"', "delete_value": 'the value "{key}" is deleted',
+    "value_is": 'the value "{key}" should be "{text}"', "value_absent": 'the value "{key}" should be absent',
+    "set_number": 'the number "{key}" is set to {number}', "add_number": 'the number "{key}" grows by {number}',
+    "number_is": 'the number "{key}" should be {number}', "pass": "it passes", "fail": "it fails",
+    "skip_scenario": "the scenario is skipped", "at_cleanup": "at cleanup {step}", "nothing": "nothing knows {file}",
+}
+OWN = {
+    "write_file": "put {file} as {text}", "write_block": "put {file}", "write_files": "files",
+    "append_file": "put {text} on {file}", "remove_file": "drop {file}", "file_exists": "see {file}",
+    "file_absent": "no {file}", "file_is": "see {file} as {text}", "set_value": "keep {key} {text}",
+    "delete_value": "lose {key}", "value_is": "held {key} {text}", "set_number": "count {key} {number}",
+    "add_number": "more {key} {number}", "number_is": "count {key} {number}", "pass": "ok", "fail": "bad",
+    "skip_scenario": "leave", "at_cleanup": "later {step}", "nothing": "what {file}",
+}
+LIBRARY = """given put {name} as {text} => write_file
+step put {name} as {text} => write_file
+step put {text} on {name} => append_file
+step put {name} => write_file
+when drop {name} => remove_file
+step see {name} as {text} => file_is
+then see {name} => file_exists
+step no {name} => file_absent
+given count {name} {n:d} => set_number
+step more {name} {n:d} => add_number
+then count {name} {n:d} => number_is
+step keep {name} {text} => set_value
+step held {name} {text} => value_is
+when lose {name} => delete_value
+step files => write_files
+step later {step} => at_cleanup
+step leave => skip_scenario
+step ok => pass
+when bad => fail
+"""
+WITH_BLOCKS = ("write_block", "write_files")
+# Steps that usually pass, and make what others work on.
+CHANGING = ("write_file", "set_env", "set_value", "set_number", "pass", "file_exists", "at_cleanup")
+# Steps that pass one after another: the first two make what the next two change.
+PASSING = ("write_file", "set_value", "append_file", "add_number", "pass")
+
+# A feature or a rule, whose background is None if it has none; a scenario, whose examples are None if it is no outline; and
+# examples. A step is the tuple of its lines.
+Part = collections.namedtuple("Part", "tags heading background scenarios")
+Scenario = collections.namedtuple("Scenario", "tags heading steps examples")
+Examples = collections.namedtuple("Examples", "tags rows")
+# Feature files by their names, hooks by theirs, the lines of a library, options, texts of tags, each with a function that
+# says whether it holds of a set of tags, and the options with some of these texts, or none.
+Suite = collections.namedtuple("Suite", "features hooks library options texts choices")
+
+# The bytes that take the place of others: no text, line ends, blanks, the marks of Gherkin and of patterns, and the
+# beginnings and middles of longer characters.
+BYTES = b'\x00\xff\n\r\t :#@*|"`\\<>{}=~,\xc3\xa9\xef\x80'
+# Lines of each kind of file.
+LINES = {kind: text.replace(";\n", ";").split(";") for kind, text in {
+    ".feature": r'''Feature: a;Feature:;Rule: r;Background:;Scenario: s;Example:;Scenario Outline: o <a>;
+Scenario Template: t;Examples: e;Scenarios:;Given it passes;When it fails;Then the number "n" should be 1;
+And a file named "<a>" with:;* x;But;@t;@a @b #c;@a b;@;# c;# language: en;# language: de;;| a |;| a | b |;
+| \| \n \\ |;| a;|;|| x |;""";```;  """json;\"\"\";text;<a> text;Given these files:;| name | text |;| f | x |; ;''' +
+                "\t;\r;\ufefffeature;\u00e9;",
+    ".steps": '''step it passes => pass;given a {x} => pass;when a {name} is {text} => set_env;
+then {n:d} {name} => number_is;step {{x}} => fail;step {} => pass;step => pass;and a => pass;step a =>;step a } => pass;
+# c;;step {a}{b}{c}{d}x => pass;given {name} => dance;step {name:d} => file_is;step a => b => pass''',
+    ".hooks": '''before_all:;after_all:;before_feature:;after_feature:;before_scenario:;after_scenario:;before_tag @a:;
+after_tag @a:;before_tag @a:b:;before_tag @:;before_all :;before_rule:;after_rule:;before_step:;after_;Given it passes;
+And it fails;When the scenario is skipped;* nothing knows this;Given at cleanup it passes;
+And at cleanup at cleanup it passes;Given a file named "f" with:;""";text;Given these files:;| name | text |;| f | x |;
+# c;@a;Feature: f;stray''',
+}.items()}
+
+
+def step_text(table, action, **words):
+    """The text of a step with these words."""
+    return table[action].format(**words)
+
+
+def first_given(steps):
+    """The same steps where others precede them: the first has the type that it had at the beginning."""
+    if not steps:
+        return steps
+    keyword, _, text = steps[0][0].partition(" ")
+    return [(f"Given {text}", *steps[0][1:]), *steps[1:]] if keyword in ("And", "But", "*") else steps
+
+
+def lines_of(steps):
+    """The lines of steps."""
+    return [line for step in steps for line in step]
+
+
+def scenario_lines(scenario):
+    """The lines of a scenario, or of an outline."""
+    tags, heading, steps, examples = scenario
+    lines = [*tags, heading, *lines_of(steps)]
+    return lines if examples is None else [*lines, *examples.tags, "Examples: e", "| name | row |", *examples.rows]
+
+
+def text_of(parts):
+    """The text of a feature file with these parts."""
+    lines = []
+    for tags, heading, background, scenarios in parts:
+        lines += [*tags, heading, *([] if background is None else ["Background:", *lines_of(background)])]
+        lines += [line for it in scenarios for line in scenario_lines(it)]
+    return "\n".join(lines) + "\n"
+
+
+def text_of_hooks(hooks):
+    """The text of a hooks file with these hooks."""
+    return "".join("\n".join([f"{name}:", *lines_of(steps), ""]) for name, steps in hooks.items())
+
+
+class Maker:
+    """Makes the parts of suites by chance. With an odd seed they have the steps of their own library."""
+
+    def __init__(self, seed):
+        self.chance = random.Random(seed)
+        self.is_own = seed % 2 == 1
+        self.table = OWN if self.is_own else BUILT_IN
+        self.actions = [it for it in self.table if it not in WITH_BLOCKS] + ["pass", "pass", "at_cleanup"]
+        self.changing = [it for it in CHANGING if it in self.table] + ["pass"]
+
+    # ---- texts and steps
+
+    def word(self, kind):
+        """A word of a step's text."""
+        if kind == "step":
+            return self.text()
+        words = {"file": FILES, "to": ["g"], "key": KEYS, "text": TEXTS, "number": NUMBERS}
+        return str(self.chance.choice(words[kind]))
+
+    def text(self):
+        """A step's text."""
+        action = self.chance.choice(self.actions if self.chance.random() < 0.3 else self.changing)
+        return re.sub(r"\{(\w+)\}", lambda it: self.word(it[1]), self.table[action])
+
+    def step(self):
+        """A step, some with a block."""
+        chance, kind = self.chance, self.chance.random()
+        if kind < 0.08:
+            block = ('"""', chance.choice(["one", "two\n  three"]), '"""')
+            return ("Given " + step_text(self.table, "write_block", file="f"), *block)
+        if kind < 0.13:
+            rows = [f"| {chance.choice([*FILES, ''])} | {chance.choice(TEXTS)} |" for _ in range(chance.randrange(3))]
+            return ("When " + self.table["write_files"], "| name | text |", *rows)
+        block = ('"""', "a block", '"""') if kind < 0.16 else ()
+        return (f"{chance.choice(KEYWORDS)} {self.text()}", *block)
+
+    def steps(self, most):
+        """Some steps."""
+        return [self.step() for _ in range(self.chance.randrange(most + 1))]
+
+    def checks(self):
+        """Texts of steps of which each passes if something is what it says."""
+        texts = [("value_is", {"key": "v", "text": str(number)}) for number in range(1, 6)]
+        texts += [("file_is", {"file": "f", "text": "x" * number}) for number in range(1, 6)]
+        return [step_text(self.table, action, **words) for action, words in texts]
+
+    def passing(self):
+        """Texts of the steps of PASSING."""
+        words = {"file": "f", "key": "v", "number": 1}
+        return [step_text(self.table, it, text="1" if it == "set_value" else "x", **words) for it in PASSING]
+
+    # ---- texts of tags
+
+    def tags(self):
+        """A line of tags, or none."""
+        tags = [it for it in TAGS if self.chance.random() < 0.2]
+        return [" ".join(tags)] if tags else []
+
+    def joined(self, *parts):
+        """Parts of an expression. Between them are blanks, or none if one has a parenthesis there."""
+        text = parts[0]
+        for part in parts[1:]:
+            may_be_none = text.endswith(("(", ")")) or part.startswith(("(", ")"))
+            text += self.chance.choice(["", " "] if may_be_none else [" ", " ", "\t", "  "]) + part
+        return text
+
+    def several(self, operator, make, depth):
+        """Some parts with an operator between them, and whether each holds of a set of tags."""
+        texts, functions = zip(*(make(depth) for _ in range(self.chance.choice([1, 1, 2, 3]))))
+        return self.joined(texts[0], *(it for text in texts[1:] for it in (operator, text))), functions
+
+    def expression(self, depth=3):
+        """An expression of tags, and the function that says whether it holds of a set of tags."""
+        text, terms = self.several("or", self.term, depth)
+        return text, lambda tags: any(holds(tags) for holds in terms)
+
+    def term(self, depth):
+        """A term of an expression: factors between `and`."""
+        text, factors = self.several("and", self.factor, depth)
+        return text, lambda tags: all(holds(tags) for holds in factors)
+
+    def factor(self, depth):
+        """A tag, a negation, or an expression in parentheses."""
+        kind = self.chance.random() if depth else 1
+        if kind < 0.3:
+            text, holds = self.expression(depth - 1)
+            return self.joined("(", text, ")"), holds
+        if kind < 0.6:
+            text, holds = self.factor(depth - 1)
+            return self.joined("not", text), lambda tags: not holds(tags)
+        tag = self.chance.choice(TAGS)
+        return tag, lambda tags: tag in tags
+
+    def alternatives(self):
+        """A text of the old form, and the function that says whether it holds of a set of tags."""
+        chosen = [(self.chance.choice(["", "~"]), self.chance.choice(TAGS)) for _ in range(2)]
+        text = ",".join(tilde + tag[self.chance.randrange(2):] for tilde, tag in chosen)
+        return text, lambda tags: any((tag in tags) != bool(tilde) for tilde, tag in chosen)
+
+    # ---- features, hooks and suites
+
+    def scenario(self, name):
+        """A scenario, or an outline."""
+        chance = self.chance
+        if chance.random() < 0.75:
+            return Scenario(self.tags(), f"Scenario: {name}", self.steps(5), None)
+        rows = [f"| {chance.choice(FILES)} | {row} |" for row in range(chance.randrange(1, 4))]
+        step = "Then " + step_text(self.table, "file_is", file="<name>", text="<row>")
+        return Scenario(self.tags(), f"Scenario Outline: {name} <row>", [*self.steps(3), (step,), *self.steps(1)],
+                        Examples(self.tags(), rows))
+
+    def part(self, heading, name):
+        """A part with this heading, whose scenarios have names that begin like that."""
+        background = self.steps(2) if self.chance.random() < 0.4 else None
+        scenarios = [self.scenario(f"{name}{number}") for number in range(self.chance.randrange(5))]
+        return Part(self.tags(), heading, background, scenarios)
+
+    def feature(self, name):
+        """A feature's part, and those of its rules."""
+        rules = range(self.chance.choice([0, 0, 1, 2, 3]))
+        return [self.part(f"Feature: {name}", f"{name} "), *(self.part(f"Rule: r{it}", f"{name} r{it} ") for it in rules)]
+
+    def hooks(self):
+        """The steps of hooks by their names, such as `before_rule` and `after_tag @a`; most are missing."""
+        kinds = [*SECTIONS, *(f"tag {it}" for it in TAGS)]
+        names = [f"{when}_{kind}" for when in ("before", "after") for kind in kinds]
+        chosen = [it for it in names if self.chance.random() < 0.3]
+        hooks = {it: [self.hook_step(it), self.hook_step(it)] for it in chosen}
+        if self.chance.random() < 0.6:
+            first = [(f"Given {it}",) for it in self.passing()[:2]]
+            hooks["before_feature"] = [*first, *hooks.get("before_feature", [])]
+        return hooks
+
+    def hook_step(self, name):
+        """Usually a step that passes or registers one that does, so that something runs. A hook after something may check
+        what is there."""
+        kind = self.chance.random()
+        if kind < 0.15:
+            return self.step()
+        may_fail = name.startswith("after") and self.chance.random() < 0.4
+        step = self.chance.choice(self.checks() if may_fail else self.passing())
+        return ("Given " + (step_text(self.table, "at_cleanup", step=step) if kind < 0.35 else step),)
+
+    def suite(self):
+        """A suite."""
+        names = [f"f{number}" for number in range(1, self.chance.randrange(2, 5))]
+        features = {f"{name[1:]}.feature": self.feature(name) for name in names}
+        library = LIBRARY.splitlines() if self.is_own else []
+        options = [("--env", "v=x")] if self.chance.random() < 0.3 else []
+        hooks = self.hooks()
+        texts = [self.expression(), self.expression(), self.alternatives()]
+        texts = self.chance.sample(texts, self.chance.randrange(1, 3))
+        choices = [("--tags", text) for text, _ in texts] if self.chance.random() < 0.4 else []
+        return Suite(features, hooks, library, options, texts, choices)
+
+    # ---- lines and bytes of which a file need not be read
+
+    def lines(self, ending, most):
+        """Random lines of a kind of file. Their line ends differ."""
+        lines = self.chance.choices(LINES[ending], k=self.chance.randrange(most))
+        return b"".join(it.encode() + (b"\r\n" if self.chance.random() < 0.1 else b"\n") for it in lines)
+
+    def bytes(self, most):
+        """Random bytes."""
+        return self.chance.randbytes(self.chance.randrange(1, most))
