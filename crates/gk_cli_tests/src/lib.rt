@@ -9,4 +9,4 @@ mod counted_tests;
 #[cfg(test)]
 mod source_tests;
 #[cfg(test)]
-mod suite_tests;
+mod whole_suite_tests;
