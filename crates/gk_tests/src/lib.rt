@@ -8,8 +8,6 @@ mod act_tests;
 #[cfg(test)]
 mod entry_tests;
 #[cfg(test)]
-mod explain_tests;
-#[cfg(test)]
 mod filling_tests;
 #[cfg(test)]
 mod gherkin_tests;
@@ -18,15 +16,11 @@ mod library_tests;
 #[cfg(test)]
 mod lint_tests;
 #[cfg(test)]
-mod report_tests;
-#[cfg(test)]
 mod run_tests;
 #[cfg(test)]
 mod select_tests;
 #[cfg(test)]
 mod steps_tests;
-#[cfg(test)]
-mod suite_tests;
 #[cfg(test)]
 mod table_tests;
 #[cfg(test)]
