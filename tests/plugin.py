@@ -17,7 +17,7 @@ import driver
 import gherkin_run
 import random_runs
 
-SUITES = 240
+SUITES = 480
 # The fewest scenarios of these suites with each status, and the verdict of the test.
 FEWEST = {("passed", "passed"): 100, ("passed", "failed"): 50, ("failed", "failed"): 400, ("untested", "failed"): 100,
           ("skipped", "skipped"): 10, ("skipped", "failed"): 3}
