@@ -92,9 +92,3 @@ passed_is endings.Memory h = absurd (true≢false (sym h))
 
 pub passed_unrefused : (e : Ending) → has_passed e ≡ true → is_memory_ending e ≡ false
 passed_unrefused e h = ap is_memory_ending (passed_is e h)
-
-pub is_memory : (e : Ending) → is_memory_ending e ≡ true → e ≡ endings.Memory
-is_memory endings.Memory h = refl
-is_memory endings.Passed h = let no : ⊥ = cc in absurd no
-is_memory endings.Failed h = let no : ⊥ = cc in absurd no
-is_memory endings.Skipped h = let no : ⊥ = cc in absurd no

@@ -1,10 +1,10 @@
 -- What happens in a section, one part after another.
-use Rattle.std.proofs.Common.{Bool, List, [], ap, append_assoc, false, refl, subst, sym, true, ◌++◌, ◌||◌, ◌∙◌, ◌∷◌, ◌≡◌}
+use Rattle.std.proofs.Common.{Bool, List, [], ap, append_assoc, cond, false, refl, subst, sym, true, ◌++◌, ◌||◌, ◌∙◌, ◌∷◌, ◌≡◌}
 use Rattle.std.proofs.lemmas.Bool.{true≢false}
 use Rattle.std.proofs.lemmas.List.{append-nil}
 use Rattle.gk_run.specs.declared.ending.Ending.{Ending}
 use Rattle.gk_run.specs.declared.ending.Ending.TheVariants as endings
-use Rattle.gk_run.specs.Ending.{is_memory_ending, worse}
+use Rattle.gk_run.specs.Ending.{has_passed, is_memory_ending, worse}
 use Rattle.gk_run.specs.Events.{Event, IsCutOff, SoFar, Stand, ended_in, left_by, refused}
 use Rattle.gk_run.specs.WalkContracts.{Goes}
 use Rattle.gk_run.proofs.EndingLemmas.{memory_of, worse_assoc, worse_passed}
@@ -106,3 +106,16 @@ all_told false all told n h = sym (h ∙ append-nil told)
 -- how two parts end together
 pub worse_told : {a b : Ending} (xs ys : List Event) → a ≡ ended_in xs → b ≡ ended_in ys → worse a b ≡ ended_in (xs ++ ys)
 worse_told {a} {b} xs ys p q = ap (λ x. worse x b) p ∙ ap (worse (ended_in xs)) q ∙ sym (ended_both xs ys)
+
+-- what passed goes on with the rest
+pub passing : {S : Type 0} {hears : S → Event → S → Type 0} {before : Ending} {all : List Event} (rest : List Event) {start now : Stand} (end : Ending) {first last : S} → has_passed end ≡ true →
+    Goes hears before all (cond (has_passed end) rest []) start now end first last → Goes hears before all rest start now endings.Passed first last
+passing rest endings.Passed passes g = g
+passing rest endings.Failed passes g = absurd (true≢false (sym passes))
+passing rest endings.Skipped passes g = absurd (true≢false (sym passes))
+passing rest endings.Memory passes g = absurd (true≢false (sym passes))
+
+-- where the rest goes on only if this passed, nothing is left
+pub nothing_after : (b : Bool) (rest : List Event) → rest ≡ [] → cond b rest [] ≡ []
+nothing_after true rest none = none
+nothing_after false rest none = refl

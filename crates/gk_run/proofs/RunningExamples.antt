@@ -84,56 +84,50 @@ failed why = (Failed, Some why)
 abbrev with_status : Status → StepSeen
 with_status status = (status, None)
 
--- what is looked at of a scenario
-record CaseSeen : Type 0 where
-  verdict : Status
-  around : Status
-  cleanups : List Outcome
-  steps : List StepSeen
+-- what is looked at of a scenario: its verdict, how its hooks and cleanups ended, the outcomes of its cleanups, and its steps
+abbrev CaseSeen : Type 0
+CaseSeen = Status × Status × List Outcome × List StepSeen
 
 abbrev case_seen : CaseRow → CaseSeen
-case_seen row = record { verdict = row.status; around = row.around; cleanups = row.cleanups; steps = map (λ s. (s.status, s.reason)) row.steps }
+case_seen row = (row.status, row.around, row.cleanups, map (λ s. (s.status, s.reason)) row.steps)
 
 -- a scenario without cleanups, whose hooks passed
 abbrev simple : Status → List StepSeen → CaseSeen
-simple verdict steps = record { verdict = verdict; around = Passed; cleanups = []; steps = steps }
+simple verdict steps = (verdict, Passed, [], steps)
 
 -- a scenario with two steps that isn't reached
 abbrev two_untested : CaseSeen
 two_untested = simple Untested (with_status Untested ∷ with_status Untested ∷ [])
 
--- what is looked at of a feature
-record FeatureSeen : Type 0 where
-  verdict : Status
-  around : Status
-  cases : List CaseSeen
+-- what is looked at of a feature: its verdict, how its hooks and cleanups ended, and its scenarios
+abbrev FeatureSeen : Type 0
+FeatureSeen = Status × Status × List CaseSeen
 
 abbrev feature_seen : FeatureRow → FeatureSeen
-feature_seen row = record { verdict = row.status; around = row.around; cases = map case_seen row.cases }
+feature_seen row = (row.status, row.around, map case_seen row.cases)
 
--- what is looked at of a run
-record RunSeen : Type 0 where
-  around : Status
-  features : List FeatureSeen
+-- what is looked at of a run: how its hooks and cleanups ended, and its features
+abbrev RunSeen : Type 0
+RunSeen = Status × List FeatureSeen
 
 abbrev run_seen : Results → RunSeen
-run_seen results = record { around = results.around; features = map feature_seen results.features }
+run_seen results = (results.around, map feature_seen results.features)
 
 -- a run with one feature, cut so in this feature
-abbrev one_cut : Run → FeatureCuts → List MemberValue → RunSeen
-one_cut r cuts members = run_seen (results_from r start (record uncut { features = cuts ∷ [] }) (feature members ∷ []))
+abbrev one_cut : Run → List MemberValue → FeatureCuts → RunSeen
+one_cut r members cuts = run_seen (results_from r start (record uncut { features = cuts ∷ [] }) (feature members ∷ []))
 
 -- a run with one feature
 abbrev one_run : Run → List MemberValue → RunSeen
-one_run r members = one_cut r uncut_feature members
+one_run r members = one_cut r members uncut_feature
 
 -- what one feature comes to in a run whose own hooks passed
 abbrev comes_to : Status → Status → List CaseSeen → RunSeen
-comes_to verdict around cases = record { around = Passed; features = record { verdict = verdict; around = around; cases = cases } ∷ [] }
+comes_to verdict around cases = (Passed, (verdict, around, cases) ∷ [])
 
 -- a scenario, cut so
-abbrev cut_row : Run → Cut → MemberValue → CaseSeen
-cut_row r cut m = case_seen (reached_row r start cut m.scenario)
+abbrev cut_row : Run → MemberValue → Cut → CaseSeen
+cut_row r m cut = case_seen (reached_row r start cut m.scenario)
 
 -- an entry for steps of each type
 abbrev entry : List PieceValue → Action → EntryValue
@@ -196,7 +190,7 @@ three_files = Table ((codes "name" ∷ codes "text" ∷ []) ∷ (codes "one" ∷
 earlier_rows_stay : one_run
     (run [] (later ∷ of_name (codes "exists ") actions.FileExists ∷ word (codes "files") actions.WriteFiles ∷ of_name (codes "absent ") actions.FileAbsent ∷ []))
     (tagged [] (step_with (codes "later exists two") Empty ∷ step_with (codes "files") three_files ∷ []) ∷ scenario (codes "absent one" ∷ []) ∷ []) ≡
-    comes_to Failed Passed (record { verdict = Failed; around = Passed; cleanups = outcomes.Passed ∷ []; steps = ok ∷ failed reasons.BadName ∷ [] } ∷ simple Passed (ok ∷ []) ∷ [])
+    comes_to Failed Passed ((Failed, Passed, outcomes.Passed ∷ [], ok ∷ failed reasons.BadName ∷ []) ∷ simple Passed (ok ∷ []) ∷ [])
 unfolding found found_any match_of is_utf8 chars lib.Utf8.encode act
 earlier_rows_stay = refl
 
@@ -209,29 +203,18 @@ hidden_and_seen_again : one_run
 unfolding found found_any match_of is_utf8 chars lib.Utf8.encode act digits
 hidden_and_seen_again = refl
 
--- steps that register cleanups
-abbrev cleaning : Run
-cleaning = run [] (later ∷ write ∷ append ∷ is ∷ fail ∷ [])
-
--- four cleanups: the third registered fails, and the first asks for what the others wrote
-abbrev four_cleanups : MemberValue
-four_cleanups = scenario (codes "later is l rp" ∷ codes "later append l p" ∷ codes "later fail" ∷ codes "later write l r" ∷ [])
-
--- Cleanups run last in, first out, and one that fails doesn't keep the others from running.
-last_in_first_out : cut_row cleaning nowhere four_cleanups ≡
-    record { verdict = Failed; around = Failed; cleanups = outcomes.Passed ∷ outcomes.Failed reasons.Asked ∷ outcomes.Passed ∷ outcomes.Passed ∷ []; steps = ok ∷ ok ∷ ok ∷ ok ∷ [] }
+-- Cleanups run last in, first out, and one that fails doesn't keep the others from running: the first registered asks for what the others wrote. If memory is refused in one, its outcome is the last.
+last_in_first_out : map
+    (cut_row (run [] (later ∷ write ∷ append ∷ is ∷ fail ∷ [])) (scenario (codes "later is l rp" ∷ codes "later append l p" ∷ codes "later fail" ∷ codes "later write l r" ∷ [])))
+    (nowhere ∷ in_cleanups 2 start ∷ []) ≡
+    (Failed, Failed, outcomes.Passed ∷ outcomes.Failed reasons.Asked ∷ outcomes.Passed ∷ outcomes.Passed ∷ [], ok ∷ ok ∷ ok ∷ ok ∷ []) ∷
+    (Memory, Memory, outcomes.Passed ∷ outcomes.Failed reasons.Asked ∷ outcomes.Memory ∷ [], ok ∷ ok ∷ ok ∷ ok ∷ []) ∷ []
 unfolding found found_any match_of is_utf8 chars lib.Utf8.encode act
 last_in_first_out = refl
 
--- Memory was refused in the third of them: its outcome is the last.
-cut_in_cleanups : cut_row cleaning (in_cleanups 2 start) four_cleanups ≡
-    record { verdict = Memory; around = Memory; cleanups = outcomes.Passed ∷ outcomes.Failed reasons.Asked ∷ outcomes.Memory ∷ []; steps = ok ∷ ok ∷ ok ∷ ok ∷ [] }
-unfolding found found_any match_of is_utf8 chars lib.Utf8.encode act
-cut_in_cleanups = refl
-
 -- A cleanup that registers a cleanup fails, and so does one that skips; one that no entry matches isn't registered.
-not_here : cut_row (run [] (later ∷ skip ∷ [])) nowhere (scenario (codes "later later skip" ∷ codes "later skip" ∷ codes "later pass" ∷ [])) ≡
-    record { verdict = Failed; around = Failed; cleanups = outcomes.Failed reasons.NotHere ∷ outcomes.Failed reasons.NotHere ∷ []; steps = ok ∷ ok ∷ failed reasons.NoStep ∷ [] }
+not_here : cut_row (run [] (later ∷ skip ∷ [])) (scenario (codes "later later skip" ∷ codes "later skip" ∷ codes "later pass" ∷ [])) nowhere ≡
+    (Failed, Failed, outcomes.Failed reasons.NotHere ∷ outcomes.Failed reasons.NotHere ∷ [], ok ∷ ok ∷ failed reasons.NoStep ∷ [])
 unfolding found found_any match_of is_utf8 chars lib.Utf8.encode act
 not_here = refl
 
@@ -242,18 +225,15 @@ common = pass ∷ fail ∷ skip ∷ []
 abbrev failing : MemberValue
 failing = scenario (codes "fail" ∷ codes "pass" ∷ codes "unknown" ∷ [])
 
--- After a failed step a step is skipped where the library matches it, and else undefined.
-after_a_failure : cut_row (run [] common) nowhere failing ≡ simple Failed (failed reasons.Asked ∷ with_status Skipped ∷ with_status Undefined ∷ [])
+-- After a failed step a step is skipped if the library matches it, and otherwise undefined. Memory may be refused while it is looked up.
+after_a_failure : map (cut_row (run [] common) failing) (nowhere ∷ in_steps 1 start ∷ []) ≡
+    simple Failed (failed reasons.Asked ∷ with_status Skipped ∷ with_status Undefined ∷ []) ∷
+    simple Memory (failed reasons.Asked ∷ with_status Memory ∷ with_status Untested ∷ []) ∷ []
 unfolding found found_any match_of act
 after_a_failure = refl
 
--- Memory was refused while the second of them was looked up.
-cut_after_a_failure : cut_row (run [] common) (in_steps 1 start) failing ≡ simple Memory (failed reasons.Asked ∷ with_status Memory ∷ with_status Untested ∷ [])
-unfolding found found_any match_of act
-cut_after_a_failure = refl
-
 -- After an undefined step too, and no later step is carried out.
-after_an_undefined_step : cut_row (run [] common) nowhere (scenario (codes "unknown" ∷ codes "fail" ∷ [])) ≡ simple Failed (with_status Undefined ∷ with_status Skipped ∷ [])
+after_an_undefined_step : cut_row (run [] common) (scenario (codes "unknown" ∷ codes "fail" ∷ [])) nowhere ≡ simple Failed (with_status Undefined ∷ with_status Skipped ∷ [])
 unfolding found found_any match_of act
 after_an_undefined_step = refl
 
@@ -263,17 +243,14 @@ skips_itself : one_run (run [] common) (scenario (codes "pass" ∷ codes "skip" 
 unfolding found found_any match_of act
 skips_itself = refl
 
--- One that skips itself in its before hook: all of its steps are skipped.
-skips_before : cut_row (run (hook kinds.BeforeScenario (codes "skip" ∷ []) ∷ []) common) nowhere failing ≡
-    simple Skipped (with_status Skipped ∷ with_status Skipped ∷ with_status Skipped ∷ [])
+-- One that skips itself in its before hook: all of its steps are skipped. Its after hook still runs, and may not skip.
+skips_before :
+    let skipping = hook kinds.BeforeScenario (codes "skip" ∷ []) in
+    let all_skipped = with_status Skipped ∷ with_status Skipped ∷ with_status Skipped ∷ [] in
+    map (λ hooks. cut_row (run hooks common) failing nowhere) ((skipping ∷ []) ∷ (skipping ∷ hook kinds.AfterScenario (codes "skip" ∷ []) ∷ []) ∷ []) ≡
+    simple Skipped all_skipped ∷ (Failed, Failed, [], all_skipped) ∷ []
 unfolding found found_any match_of act
 skips_before = refl
-
--- Its after hook still runs, and may not skip.
-skips_after : cut_row (run (hook kinds.BeforeScenario (codes "skip" ∷ []) ∷ hook kinds.AfterScenario (codes "skip" ∷ []) ∷ []) common) nowhere failing ≡
-    record { verdict = Failed; around = Failed; cleanups = []; steps = with_status Skipped ∷ with_status Skipped ∷ with_status Skipped ∷ [] }
-unfolding found found_any match_of act
-skips_after = refl
 
 -- hooks that write down that they ran, before and after a scenario
 abbrev ordered_hooks : List HookValue
@@ -291,44 +268,28 @@ ordered_scenario = tagged (codes "@a" ∷ codes "@b" ∷ []) (steps_of (codes "l
 
 -- what it comes to without a cut
 abbrev ordered_row : CaseSeen
-ordered_row = record { verdict = Passed; around = Passed; cleanups = outcomes.Passed ∷ []; steps = ok ∷ ok ∷ [] }
+ordered_row = (Passed, Passed, outcomes.Passed ∷ [], ok ∷ ok ∷ [])
 
--- The hooks of tags come before the before hook, and after the after hook, and cleanups after all of them.
-hooks_in_order : one_run (ordered []) (ordered_scenario ∷ []) ≡
-    comes_to Passed Passed (ordered_row ∷ [])
+-- The hooks of tags come before the before hook, and after the after hook, and cleanups after all of them. With a before hook of the feature that fails, nothing of the scenario is run.
+hooks_in_order : map (λ others. one_run (ordered others) (ordered_scenario ∷ [])) ([] ∷ (hook kinds.BeforeFeature (codes "fail" ∷ []) ∷ []) ∷ []) ≡
+    comes_to Passed Passed (ordered_row ∷ []) ∷ comes_to Failed Failed (two_untested ∷ []) ∷ []
 unfolding found found_any match_of is_utf8 chars lib.Utf8.encode act
 hooks_in_order = refl
 
--- With a before hook of the feature that fails, nothing of the scenario is run.
-failed_before_feature : one_run (ordered (hook kinds.BeforeFeature (codes "fail" ∷ []) ∷ [])) (ordered_scenario ∷ []) ≡ comes_to Failed Failed (two_untested ∷ [])
+-- If memory is refused in its before hooks, all steps are untested; if in a step, the later ones are; if in its after hooks, its steps' statuses stay. No later hook and no cleanup runs. A cut at an event that there isn't is none.
+cuts_of_a_scenario : map (cut_row (ordered []) ordered_scenario) (in_before 1 start ∷ in_steps 0 start ∷ in_after 1 start ∷ in_after 3 start ∷ []) ≡
+    (Memory, Memory, [], with_status Untested ∷ with_status Untested ∷ []) ∷
+    simple Memory (with_status Memory ∷ with_status Untested ∷ []) ∷
+    (Memory, Memory, [], ok ∷ ok ∷ []) ∷
+    ordered_row ∷ []
 unfolding found found_any match_of is_utf8 chars lib.Utf8.encode act
-failed_before_feature = refl
-
--- Memory was refused in its before hooks: all steps are untested, and no after hook and no cleanup runs.
-cut_in_before : cut_row (ordered []) (in_before 1 start) ordered_scenario ≡ record { verdict = Memory; around = Memory; cleanups = []; steps = with_status Untested ∷ with_status Untested ∷ [] }
-unfolding found found_any match_of is_utf8 chars lib.Utf8.encode act
-cut_in_before = refl
-
--- Memory was refused in a step: the later ones are untested, and no after hook and no cleanup runs.
-cut_in_steps : cut_row (ordered []) (in_steps 0 start) ordered_scenario ≡ simple Memory (with_status Memory ∷ with_status Untested ∷ [])
-unfolding found found_any match_of is_utf8 chars lib.Utf8.encode act
-cut_in_steps = refl
-
--- Memory was refused in its after hooks: its steps' statuses stay, and no cleanup runs.
-cut_in_after : cut_row (ordered []) (in_after 1 start) ordered_scenario ≡ record { verdict = Memory; around = Memory; cleanups = []; steps = ok ∷ ok ∷ [] }
-unfolding found found_any match_of is_utf8 chars lib.Utf8.encode act
-cut_in_after = refl
-
--- A cut at an event that there isn't is none.
-cut_nowhere : cut_row (ordered []) (in_after 3 start) ordered_scenario ≡ ordered_row
-unfolding found found_any match_of is_utf8 chars lib.Utf8.encode act
-cut_nowhere = refl
+cuts_of_a_scenario = refl
 
 -- The first step of an after hook that fails ends that hook, and the others still run.
 after_hooks_by_themselves : cut_row
-    (run (hook kinds.AfterScenario (codes "fail" ∷ codes "write l x" ∷ []) ∷ tag_hook kinds.AfterTag (codes "@a") (codes "write l a" ∷ []) ∷ []) (later ∷ write ∷ is ∷ fail ∷ [])) nowhere
-    (tagged (codes "@a" ∷ []) (steps_of (codes "later is l a" ∷ []))) ≡
-    record { verdict = Failed; around = Failed; cleanups = outcomes.Passed ∷ []; steps = ok ∷ [] }
+    (run (hook kinds.AfterScenario (codes "fail" ∷ codes "write l x" ∷ []) ∷ tag_hook kinds.AfterTag (codes "@a") (codes "write l a" ∷ []) ∷ []) (later ∷ write ∷ is ∷ fail ∷ []))
+    (tagged (codes "@a" ∷ []) (steps_of (codes "later is l a" ∷ []))) nowhere ≡
+    (Failed, Failed, outcomes.Passed ∷ [], ok ∷ [])
 unfolding found found_any match_of is_utf8 chars lib.Utf8.encode act
 after_hooks_by_themselves = refl
 
@@ -339,21 +300,16 @@ two_scenarios = scenario (codes "pass" ∷ codes "unknown" ∷ []) ∷ unselecte
 abbrev not_selected : CaseSeen
 not_selected = simple Skipped (with_status Skipped ∷ [])
 
--- A feature whose before list failed: the after hook still runs, and memory may be refused in it.
-after_a_failed_before_list : one_cut
-    (run (hook kinds.BeforeFeature (codes "skip" ∷ []) ∷ hook kinds.AfterFeature (codes "pass" ∷ []) ∷ []) common) (record { own = in_after 0 start; cases = []; rules = [] }) two_scenarios ≡
-    comes_to Memory Memory (two_untested ∷ not_selected ∷ [])
-unfolding found found_any match_of act
-after_a_failed_before_list = refl
-
--- Without that it is failed: the hook of a feature may not skip.
-failed_before_list : one_run (run (hook kinds.BeforeFeature (codes "skip" ∷ []) ∷ hook kinds.AfterFeature (codes "pass" ∷ []) ∷ []) common) two_scenarios ≡
-    comes_to Failed Failed (two_untested ∷ not_selected ∷ [])
+-- A feature whose before list failed, since the hook of a feature may not skip: its after hook still runs, and memory may be refused in it.
+failed_before_list : map
+    (one_cut (run (hook kinds.BeforeFeature (codes "skip" ∷ []) ∷ hook kinds.AfterFeature (codes "pass" ∷ []) ∷ []) common) two_scenarios)
+    (uncut_feature ∷ record uncut_feature { own = in_after 0 start } ∷ []) ≡
+    comes_to Failed Failed (two_untested ∷ not_selected ∷ []) ∷ comes_to Memory Memory (two_untested ∷ not_selected ∷ []) ∷ []
 unfolding found found_any match_of act
 failed_before_list = refl
 
 -- Memory was refused in its before list: its scenarios are untested.
-cut_before_feature : one_cut (run (hook kinds.BeforeFeature (codes "pass" ∷ codes "pass" ∷ []) ∷ []) common) (record { own = in_before 1 start; cases = in_steps 0 start ∷ []; rules = [] }) two_scenarios ≡
+cut_before_feature : one_cut (run (hook kinds.BeforeFeature (codes "pass" ∷ codes "pass" ∷ []) ∷ []) common) two_scenarios (record uncut_feature { own = in_before 1 start; cases = in_steps 0 start ∷ [] }) ≡
     comes_to Memory Memory (two_untested ∷ not_selected ∷ [])
 unfolding found found_any match_of act
 cut_before_feature = refl
@@ -365,7 +321,7 @@ none_selected = refl
 
 -- A run whose before hook failed: no feature is begun.
 failed_before_all : one_run (run (hook kinds.BeforeAll (codes "unknown" ∷ []) ∷ hook kinds.BeforeFeature (codes "fail" ∷ []) ∷ []) common) two_scenarios ≡
-    record { around = Failed; features = record { verdict = Untested; around = Passed; cases = two_untested ∷ not_selected ∷ [] } ∷ [] }
+    (Failed, (Untested, Passed, two_untested ∷ not_selected ∷ []) ∷ [])
 unfolding found found_any match_of act
 failed_before_all = refl
 
@@ -374,18 +330,22 @@ abbrev same_steps : MemberValue
 same_steps = scenario (codes "absent f" ∷ codes "write f x" ∷ codes "is f x" ∷ codes "pass" ∷ [])
 
 -- Memory was refused in the third step of the second scenario: it alone is spoilt, and the third starts from the feature's state.
-spoilt_alone : one_cut (run [] (of_name (codes "absent ") actions.FileAbsent ∷ write ∷ is ∷ pass ∷ [])) (record { own = nowhere; cases = nowhere ∷ in_steps 2 start ∷ []; rules = [] }) (same_steps ∷ same_steps ∷ same_steps ∷ []) ≡
+spoilt_alone : one_cut (run [] (of_name (codes "absent ") actions.FileAbsent ∷ write ∷ is ∷ pass ∷ [])) (same_steps ∷ same_steps ∷ same_steps ∷ []) (record uncut_feature { cases = nowhere ∷ in_steps 2 start ∷ [] }) ≡
     comes_to Memory Passed (simple Passed (ok ∷ ok ∷ ok ∷ ok ∷ []) ∷ simple Memory (ok ∷ ok ∷ with_status Memory ∷ with_status Untested ∷ []) ∷ simple Passed (ok ∷ ok ∷ ok ∷ ok ∷ []) ∷ [])
 unfolding found found_any match_of is_utf8 chars lib.Utf8.encode act
 spoilt_alone = refl
 
--- two features, the second scenario of the first of which fails, in a run that stops there or doesn't
+-- two features, the second scenario of the first of which fails
 abbrev two_features : List ChosenValue
 two_features = feature (scenario (codes "pass" ∷ []) ∷ scenario (codes "fail" ∷ []) ∷ scenario (codes "pass" ∷ []) ∷ scenario (codes "pass" ∷ []) ∷ []) ∷ feature (scenario (codes "pass" ∷ []) ∷ []) ∷ []
 
--- their run, with after hooks that fail
+-- their run, with after hooks that fail, which stops at a failure or doesn't
 abbrev stopping : Bool → Run
 stopping stop = record (run (hook kinds.AfterFeature (codes "fail" ∷ []) ∷ hook kinds.AfterAll (codes "fail" ∷ []) ∷ []) common) { stop = stop }
+
+-- their run, which stops at a failure or doesn't, with a first feature that is cut so
+abbrev two_cut : Bool → FeatureCuts → RunSeen
+two_cut stop cuts = run_seen (results_from (stopping stop) start (record uncut { features = cuts ∷ [] }) two_features)
 
 abbrev one_passed : CaseSeen
 one_passed = simple Passed (ok ∷ [])
@@ -396,45 +356,23 @@ one_failed = simple Failed (failed reasons.Asked ∷ [])
 abbrev one_untested : CaseSeen
 one_untested = simple Untested (with_status Untested ∷ [])
 
--- Where a run stops at a failure, later scenarios are untested and later features aren't begun; the after hooks of what was begun still run.
-stops : run_seen (results_from (stopping true) start uncut two_features) ≡
-    record {
-      around = Failed;
-      features = record { verdict = Failed; around = Failed; cases = one_passed ∷ one_failed ∷ one_untested ∷ one_untested ∷ [] } ∷ record { verdict = Untested; around = Passed; cases = one_untested ∷ [] } ∷ [];
-    }
+-- If a run stops at a failure, later scenarios are untested and later features aren't begun; the after hooks of what was begun still run. Memory in a scenario stops it, too. Otherwise all are run.
+stops : two_cut true uncut_feature ∷ two_cut true (record uncut_feature { cases = in_steps 0 start ∷ [] }) ∷ two_cut false uncut_feature ∷ [] ≡
+    (Failed, (Failed, Failed, one_passed ∷ one_failed ∷ one_untested ∷ one_untested ∷ []) ∷ (Untested, Passed, one_untested ∷ []) ∷ []) ∷
+    (Failed, (Memory, Failed, simple Memory (with_status Memory ∷ []) ∷ one_untested ∷ one_untested ∷ one_untested ∷ []) ∷ (Untested, Passed, one_untested ∷ []) ∷ []) ∷
+    (Failed, (Failed, Failed, one_passed ∷ one_failed ∷ one_passed ∷ one_passed ∷ []) ∷ (Failed, Failed, one_passed ∷ []) ∷ []) ∷ []
 unfolding found found_any match_of act
 stops = refl
 
--- Where it doesn't, all are run.
-runs_on : run_seen (results_from (stopping false) start uncut two_features) ≡
-    record {
-      around = Failed;
-      features = record { verdict = Failed; around = Failed; cases = one_passed ∷ one_failed ∷ one_passed ∷ one_passed ∷ [] } ∷ record { verdict = Failed; around = Failed; cases = one_passed ∷ [] } ∷ [];
-    }
-unfolding found found_any match_of act
-runs_on = refl
-
--- Memory in a scenario stops it, too.
-stops_at_memory : run_seen (results_from (stopping true) start (record uncut { features = record { own = nowhere; cases = in_steps 0 start ∷ []; rules = [] } ∷ [] }) two_features) ≡
-    record {
-      around = Failed;
-      features = record { verdict = Memory; around = Failed; cases = simple Memory (with_status Memory ∷ []) ∷ one_untested ∷ one_untested ∷ one_untested ∷ [] } ∷ record { verdict = Untested; around = Passed; cases = one_untested ∷ [] } ∷ [];
-    }
-unfolding found found_any match_of act
-stops_at_memory = refl
-
 -- A dry run of them: no hook runs, and it doesn't matter that the run is to stop.
 dry_and_stopping : (contents : Contents) → run_seen (results_of (record (stopping true) { dry_run = true }) contents uncut two_features) ≡
-    record {
-      around = Passed;
-      features = record { verdict = Untested; around = Passed; cases = one_untested ∷ one_untested ∷ one_untested ∷ one_untested ∷ [] } ∷ record { verdict = Untested; around = Passed; cases = one_untested ∷ [] } ∷ [];
-    }
+    (Passed, (Untested, Passed, one_untested ∷ one_untested ∷ one_untested ∷ one_untested ∷ []) ∷ (Untested, Passed, one_untested ∷ []) ∷ [])
 unfolding found found_any match_of act
 dry_and_stopping contents = refl
 
 -- a dry run in which each hook would fail, of scenarios of one feature
-abbrev dry_one : FeatureCuts → List MemberValue → Contents → RunSeen
-dry_one cuts members contents =
+abbrev dry_one : Contents → FeatureCuts → List MemberValue → RunSeen
+dry_one contents cuts members =
     let hooks = hook kinds.BeforeAll (codes "it fails" ∷ []) ∷ hook kinds.BeforeFeature (codes "it fails" ∷ []) ∷ hook kinds.AfterScenario (codes "it fails" ∷ []) ∷ [] in
     let r = record (run hooks (word (codes "it passes") actions.Pass ∷ word (codes "it fails") actions.Fail ∷ [])) { dry_run = true } in
     run_seen (results_of r contents (record uncut { features = cuts ∷ [] }) (feature members ∷ []))
@@ -443,23 +381,19 @@ dry_one cuts members contents =
 abbrev looked_at : MemberValue
 looked_at = scenario (codes "it fails" ∷ codes "it passes" ∷ codes "nothing knows this" ∷ [])
 
--- In a dry run a step is untested where the library matches it, and else undefined; its scenario and its feature are untested.
-looked_up_alone : (contents : Contents) → dry_one uncut_feature (looked_at ∷ []) contents ≡
-    comes_to Untested Passed (simple Untested (with_status Untested ∷ with_status Untested ∷ with_status Undefined ∷ []) ∷ [])
+abbrev looked_up : CaseSeen
+looked_up = simple Untested (with_status Untested ∷ with_status Untested ∷ with_status Undefined ∷ [])
+
+-- In a dry run a step is untested if the library matches it, and otherwise undefined; its scenario and its feature are untested. Memory may be refused while a step is looked up; there is no hook to refuse it in. A scenario that isn't selected is skipped, and no step of it is looked up.
+looked_up_alone : (contents : Contents) →
+    dry_one contents uncut_feature (looked_at ∷ []) ∷
+    dry_one contents (record uncut_feature { own = in_before 0 start; cases = in_steps 1 start ∷ in_before 0 start ∷ [] }) (looked_at ∷ looked_at ∷ []) ∷
+    dry_one contents uncut_feature (unselected (codes "nothing knows this" ∷ []) ∷ []) ∷ [] ≡
+    comes_to Untested Passed (looked_up ∷ []) ∷
+    comes_to Memory Passed (simple Memory (with_status Untested ∷ with_status Memory ∷ with_status Untested ∷ []) ∷ looked_up ∷ []) ∷
+    comes_to Skipped Passed (not_selected ∷ []) ∷ []
 unfolding found found_any match_of act
 looked_up_alone contents = refl
-
--- Memory was refused while the second step was looked up; there is no hook to refuse it in.
-cut_in_a_dry_run : (contents : Contents) → dry_one (record { own = in_before 0 start; cases = in_steps 1 start ∷ in_before 0 start ∷ []; rules = [] }) (looked_at ∷ looked_at ∷ []) contents ≡
-    comes_to Memory Passed
-    (simple Memory (with_status Untested ∷ with_status Memory ∷ with_status Untested ∷ []) ∷ simple Untested (with_status Untested ∷ with_status Untested ∷ with_status Undefined ∷ []) ∷ [])
-unfolding found found_any match_of act
-cut_in_a_dry_run contents = refl
-
--- A scenario that isn't selected is skipped there, and no step of it is looked up.
-unselected_in_a_dry_run : (contents : Contents) → dry_one uncut_feature (unselected (codes "nothing knows this" ∷ []) ∷ []) contents ≡ comes_to Skipped Passed (simple Skipped (with_status Skipped ∷ []) ∷ [])
-unfolding found found_any match_of act
-unselected_in_a_dry_run contents = refl
 
 -- a selected scenario of a rule, which has the rule's tags and none of its own
 abbrev of_rule : ℕ → List (List ℕ) → List (List ℕ) → MemberValue
@@ -478,40 +412,25 @@ growing hooks =
     run (hook kinds.BeforeFeature (codes "set n 1" ∷ []) ∷ hook kinds.BeforeRule (codes "add n 10" ∷ []) ∷ hook kinds.AfterRule (codes "is n 11" ∷ []) ∷ hook kinds.AfterFeature (codes "is n 1" ∷ []) ∷ hooks)
     (of_number (codes "set ") actions.SetNumber ∷ of_number (codes "add ") actions.AddNumber ∷ of_number (codes "is ") actions.NumberIs ∷ fail ∷ [])
 
--- what is looked at of a feature with rules: it, and each rule's line with how its hooks and cleanups ended
-record RuledSeen : Type 0 where
-  feature : FeatureSeen
-  rules : List RuleRow
-
--- what the feature with two rules comes to, cut so
-abbrev rules_cut : Run → FeatureCuts → List RuledSeen
+-- each rule's line with how its hooks and cleanups ended, and what is looked at of their feature, cut so
+abbrev rules_cut : Run → FeatureCuts → List (List RuleRow × FeatureSeen)
 rules_cut r cuts =
     let results = results_from r start (record uncut { features = cuts ∷ [] }) (two_rules ∷ []) in
-    map (λ (row : FeatureRow). record { feature = feature_seen row; rules = row.rules }) results.features
+    map (λ (row : FeatureRow). (row.rules, feature_seen row)) results.features
 
 -- what it comes to, whose own hooks and cleanups pass and which has this verdict, its rules' hooks and cleanups ended so, and its scenarios came to this
-abbrev rules_come_to : Status → Status → Status → List CaseSeen → List RuledSeen
-rules_come_to verdict first second cases =
-    record { feature = record { verdict = verdict; around = Passed; cases = cases }; rules = record { line = 5; around = first } ∷ record { line = 11; around = second } ∷ [] } ∷ []
+abbrev rules_come_to : Status → Status → Status → List CaseSeen → List (List RuleRow × FeatureSeen)
+rules_come_to verdict first second cases = (record { line = 5; around = first } ∷ record { line = 11; around = second } ∷ [], (verdict, Passed, cases)) ∷ []
 
--- What the hooks of a rule set up is there for each of its scenarios, what a scenario changed isn't there for the next one, and after the rule the feature's number is seen again.
-rules_in_layers : rules_cut (growing []) uncut_feature ≡ rules_come_to Passed Passed Passed (one_passed ∷ simple Passed (ok ∷ ok ∷ []) ∷ one_passed ∷ one_passed ∷ [])
+-- What the hooks of a rule set up is there for each of its scenarios, what a scenario changed isn't there for the next one, and after the rule the feature's number is seen again. If memory is refused in the first rule's after hook, its scenarios stay as they were, and the feature goes on.
+rules_in_layers : map (rules_cut (growing [])) (uncut_feature ∷ record uncut_feature { rules = record { own = in_after 0 start; cases = [] } ∷ [] } ∷ []) ≡
+    rules_come_to Passed Passed Passed (one_passed ∷ simple Passed (ok ∷ ok ∷ []) ∷ one_passed ∷ one_passed ∷ []) ∷
+    rules_come_to Memory Memory Passed (one_passed ∷ simple Passed (ok ∷ ok ∷ []) ∷ one_passed ∷ one_passed ∷ []) ∷ []
 unfolding found found_any match_of is_utf8 chars lib.Utf8.encode act digits
 rules_in_layers = refl
 
--- With a hook for the first rule's tag that fails, its scenarios are untested, and the feature goes on.
-failed_before_rule : rules_cut (growing (tag_hook kinds.BeforeTag (codes "@x") (codes "fail" ∷ []) ∷ [])) uncut_feature ≡ rules_come_to Failed Failed Passed (one_passed ∷ two_untested ∷ one_untested ∷ one_passed ∷ [])
+-- With a hook for the first rule's tag that fails, its scenarios are untested. The feature goes on, unless the run stops at a failure: then the rules after it aren't begun.
+failed_before_rule : map (λ stop. rules_cut (record (growing (tag_hook kinds.BeforeTag (codes "@x") (codes "fail" ∷ []) ∷ [])) { stop = stop }) uncut_feature) (false ∷ true ∷ []) ≡
+    map (λ last. rules_come_to Failed Failed Passed (one_passed ∷ two_untested ∷ one_untested ∷ last ∷ [])) (one_passed ∷ one_untested ∷ [])
 unfolding found found_any match_of is_utf8 chars lib.Utf8.encode act digits
 failed_before_rule = refl
-
--- Where the run stops at a failure, the rules after it aren't begun.
-failed_rule_stops : rules_cut (record (growing (tag_hook kinds.BeforeTag (codes "@x") (codes "fail" ∷ []) ∷ [])) { stop = true }) uncut_feature ≡
-    rules_come_to Failed Failed Passed (one_passed ∷ two_untested ∷ one_untested ∷ one_untested ∷ [])
-unfolding found found_any match_of is_utf8 chars lib.Utf8.encode act digits
-failed_rule_stops = refl
-
--- Memory was refused in the first rule's after hook: its scenarios stay as they were, and the feature goes on.
-cut_after_rule : rules_cut (growing []) (record uncut_feature { rules = record { own = in_after 0 start; cases = [] } ∷ [] }) ≡
-    rules_come_to Memory Memory Passed (one_passed ∷ simple Passed (ok ∷ ok ∷ []) ∷ one_passed ∷ one_passed ∷ [])
-unfolding found found_any match_of is_utf8 chars lib.Utf8.encode act digits
-cut_after_rule = refl

@@ -28,8 +28,8 @@ use Rattle.gk_run.specs.Events.{Event, SoFar, Stand, ended_in, event_marks, left
 use Rattle.gk_run.specs.Results.{StepRow}
 use Rattle.gk_run.specs.Section.{after_of, site_of, steps_of_case}
 use Rattle.gk_run.specs.SectionHooks.{hook_steps, walk_each}
-use Rattle.gk_run.specs.Walk.{Stepped, event_of, looked_up, one_step, row_of_step, rows_of_steps, stepped, steps_from, unrun_step, walk}
-use Rattle.gk_run.specs.WalkContracts.{Goes, Happens, IsLookedUp, IsNext, IsStepRun, step_files, told_next}
+use Rattle.gk_run.specs.Walk.{IsLookedUp, Stepped, event_of, looked_up, one_step, row_of_step, rows_of_steps, stepped, steps_from, unrun_step, walk}
+use Rattle.gk_run.specs.WalkContracts.{Goes, Happens, IsNext, IsStepRun, step_files, told_next}
 use Rattle.gk_run.proofs.ActingLemmas.{called_is, used_given}
 use Rattle.gk_run.proofs.EventLemmas.{marks_append}
 use Rattle.gk_run.proofs.GoesLemmas.{all_told, begin, behind, chain, unrefused, with_rest}

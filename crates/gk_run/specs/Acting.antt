@@ -106,23 +106,18 @@ absent held = (is_none held, reasons.Absent)
 abbrev pub present : Option (List ℕ) → Bool × Reason
 present held = (is_some held, reasons.Present)
 
--- Nothing is held, or a text other than this one.
-abbrev pub is_other : Option (List ℕ) → List ℕ → Bool
-is_other None text = true
-is_other (Some held) text = not (bytes_eq held text)
+-- Nothing is held, or something of which this doesn't hold.
+abbrev pub is_not : {A : Type 0} → Option A → (A → Bool) → Bool
+is_not None holds = true
+is_not (Some held) holds = not (holds held)
 
 -- The reason if the text that is held isn't this one.
 abbrev pub differs : Option (List ℕ) → List ℕ → Bool × Reason
-differs held text = (is_other held text, reasons.Differs)
-
--- No text that contains this one is held.
-abbrev pub is_without : Option (List ℕ) → List ℕ → Bool
-is_without None text = true
-is_without (Some held) text = not (stands_in text held)
+differs held text = (is_not held (λ other. bytes_eq other text), reasons.Differs)
 
 -- The reason if the text that is held doesn't contain this one.
 abbrev pub lacks : Option (List ℕ) → List ℕ → Bool × Reason
-lacks held text = (is_without held text, reasons.Differs)
+lacks held text = (is_not held (λ other. stands_in text other), reasons.Differs)
 
 -- The number that is held.
 abbrev pub number_held : Option (List ℕ) → Option ℤ
@@ -132,22 +127,13 @@ number_held held = number_of (unwrap_or held [])
 abbrev pub not_number : Option (List ℕ) → Bool × Reason
 not_number held = (is_none (number_held held), reasons.NotNumber)
 
--- The number that is held, plus another.
-abbrev pub sum_held : Option (List ℕ) → ℤ → ℤ
-sum_held held n = unwrap_or (number_held held) (pos 0) +ℤ n
-
 -- The reason if a sum isn't a signed 64-bit number.
 abbrev pub out_of_range : ℤ → Bool × Reason
 out_of_range z = (not (is_i64 z), reasons.OutOfRange)
 
--- No number, or a number other than this one.
-abbrev pub is_other_number : Option ℤ → ℤ → Bool
-is_other_number None n = true
-is_other_number (Some held) n = not (int_eq held n)
-
 -- The reason if the number that is held isn't this one.
 abbrev pub differs_from : Option (List ℕ) → ℤ → Bool × Reason
-differs_from held n = (is_other_number (number_held held) n, reasons.Differs)
+differs_from held n = (is_not (number_held held) (λ other. int_eq other n), reasons.Differs)
 
 -- The reason if the innermost layer has no value of this name. It comes after `absent`, so an outer layer has one. (behave's documentation: context layers)
 abbrev pub other_layer : Option (List ℕ) → Bool × Reason
@@ -233,7 +219,7 @@ write_table s (Table rows) = cond (is_files_table rows) (write_rows s (drop 1 ro
 
 -- The innermost layer's value becomes the number that is held plus another, in decimal.
 abbrev pub add_number : State → List ℕ → Option (List ℕ) → ℤ → Done
-add_number s name held n = let sum = sum_held held n in unless s (bad_name name ∷ absent held ∷ not_number held ∷ out_of_range sum ∷ []) (with_own s name (signed_decimal sum))
+add_number s name held n = let sum = unwrap_or (number_held held) (pos 0) +ℤ n in unless s (bad_name name ∷ absent held ∷ not_number held ∷ out_of_range sum ∷ []) (with_own s name (signed_decimal sum))
 
 -- The table of the actions, one row each. A row says whether the action works with T, the reasons for which it fails, in order, and the state that it otherwise leaves. At a site that allows them, at_cleanup and skip_scenario do something else, which isn't in the table.
 abbrev pub table : Action → ArgumentsValue → State → Done

@@ -1,5 +1,5 @@
 -- A dry run: the steps of selected cases are only looked up.
-use Rattle.std.specs.Prelude.{◌≡◌, cond, List, [], ◌∷◌, map}
+use Rattle.std.specs.Prelude.{◌≡◌, cond, ℕ, Bool, true, false, List, [], ◌∷◌, map}
 use Rattle.std.specs.List.{list_any}
 use Rattle.gk_gherkin.specs.Feature.{StepValue}
 use Rattle.gk_select.specs.Case.{CaseValue}
@@ -7,12 +7,13 @@ use Rattle.gk_steps.specs.Finding.{LibraryValue}
 use Rattle.gk_world.specs.State.{nothing_yet, state_of}
 use Rattle.gk_run.specs.declared.results.Status.{Status}
 use Rattle.gk_run.specs.declared.results.Status.TheVariants as statuses
+use Rattle.gk_run.specs.declared.results.Mark.{Mark}
 use Rattle.gk_run.specs.declared.results.Mark.TheVariants.{Untested}
-use Rattle.gk_run.specs.Results.{CaseRow, RuleRow, FeatureRow}
+use Rattle.gk_run.specs.Results.{CaseRow, FeatureRow, RuleRow, StepRow}
 use Rattle.gk_run.specs.Ending.{is_memory_mark}
-use Rattle.gk_run.specs.Events.{Event, event_marks}
-use Rattle.gk_run.specs.Section.{Events, Cut, nowhere, happened}
-use Rattle.gk_run.specs.Walk.{looked_up, unrun_step}
+use Rattle.gk_run.specs.Events.{Event, cut_at, event_marks}
+use Rattle.gk_run.specs.Section.{Events, Cut, has_event, nowhere, happened}
+use Rattle.gk_run.specs.Walk.{IsLookedUp, looked_up, rows_of_steps, unrun_step}
 use Rattle.gk_run.specs.Running.{row_of_case, unselected_row}
 use Rattle.gk_run.specs.Chosen.{HeadValue, MemberValue, ChosenValue}
 use Rattle.gk_run.specs.Cases.{first_or, later}
@@ -59,3 +60,17 @@ dry_features_of library cuts (f ∷ fs) = dry_feature_of library (first_or uncut
 -- The rows of features are those of some cuts.
 abbrev pub AreDryFeatures : LibraryValue → List ChosenValue → List FeatureRow → Type 0
 AreDryFeatures library features rows = (cuts : List FeatureCuts) × (rows ≡ dry_features_of library cuts features)
+
+-- Proof machinery, from here on: what the code's calls do.
+
+-- The next step, by whether memory was refused before it. If it was, the step is untested.
+abbrev pub IsDryStep : LibraryValue → Bool → StepValue → Mark → Type 0
+IsDryStep library true step mark = mark ≡ Untested
+IsDryStep library false step mark = IsLookedUp library Untested step mark
+
+-- Steps were looked up. The first truth value says whether memory was refused before them, `refused` whether it is refused after them.
+abbrev pub AreDrySteps : LibraryValue → Bool → List StepValue → List StepRow → Bool → Type 0
+AreDrySteps library true steps rows refused = (rows ≡ rows_of_steps steps []) × (refused ≡ true)
+AreDrySteps library false steps rows true =
+    (n : ℕ) × (has_event n (map (dry_step library) steps) ≡ true) × (rows ≡ rows_of_steps steps (event_marks (cut_at n (state_of nothing_yet) (map (dry_step library) steps))))
+AreDrySteps library false steps rows false = rows ≡ rows_of_steps steps (event_marks (map (dry_step library) steps))

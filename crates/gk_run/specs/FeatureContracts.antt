@@ -37,10 +37,6 @@ abbrev pub IsMember : {S : Type 0} → (S → Event → S → Type 0) → Run �
 IsMember hears run now is_open m row first last =
     (section : State) → (is_open ≡ true → now ≡ section) → (cut : Cut) × (row ≡ case_of run section is_open cut m) × FoldsTo hears first (case_events run section is_open cut m) last
 
--- A case in a section has this result. `is_open` says whether the section is open.
-abbrev pub RunsMember : {S : Type 0} → (S → Event → S → Type 0) → shared.Run → SandboxValue → Bool → MemberValue → S → S → CaseResult → Type 0
-RunsMember hears run old is_open m first last r = IsMember hears (run_value run) (state_of old.now) is_open m (case_row r) first last
-
 -- The rows of cases, and what was told of them, are those of some cuts, from the section's state if they are reached.
 abbrev pub AreCases : {S : Type 0} → (S → Told → S → Type 0) → Run → State → Bool → List MemberValue → List CaseRow → S → S → Type 0
 AreCases told run now is_open members rows first last =
@@ -84,11 +80,6 @@ abbrev pub IsRule : {S : Type 0} → (S → Told → S → Type 0) → Run → S
 IsRule told run now is_open g end first last =
     (outside : State) → (is_open ≡ true → now ≡ outside) → (cuts : RuleCuts) × IsRan told (rule_of run outside is_open cuts g) end first last
 
--- The results of rules, and what was told of them, are those of some cuts, from their feature's state if the feature is open.
-abbrev pub AreRules : {S : Type 0} → (S → Told → S → Type 0) → Run → State → Bool → List Group → Inside → S → S → Type 0
-AreRules told run now is_open groups inside first last =
-    (outside : State) → (is_open ≡ true → now ≡ outside) → (cuts : List RuleCuts) × IsRan told (rules_of run outside is_open cuts groups) inside first last
-
 -- The next cases, those of one rank, were run as those of a rule. `stay` says whether what comes after the rule is still reached.
 pub record EndsRule (run : Run) (IsEnd : List MemberValue → SectionRow (List CaseRow) → Type 0) (old new : Cases) (end : RuleEnd) : Type 0 where
   pub rows : List CaseRow
@@ -112,11 +103,12 @@ abbrev pub RunsRule : {S : Type 0} → (S → Event → S → Type 0) → (S →
 RunsRule hears ends run now is_open head old new first last end =
     EndsRule run (λ members row. IsRule (tells hears ends) run now is_open (record { head = head; members = members }) row first last) old new end
 
--- The next rules were run in a feature. `is_open` says whether the feature is open.
+-- The next rules were run in a feature. Their results, and what was told of them, are those of some cuts, from the feature's state if it is open.
 pub record RunsRules {S : Type 0} (hears : S → Event → S → Type 0) (ends : S → Ended → S → Type 0) (run : Run) (now : State) (is_open : Bool) (heads : List HeadValue) (old new : Cases) (results : List RuleResult) (first last : S) : Type 0 where
   pub rows : List CaseRow
   pub told : map case_row new.results.items ≡ map case_row old.results.items ++ rows
-  pub are : AreRules (tells hears ends) run now is_open (groups_from (suc old.rank) heads (members_in old)) (record { rules = map rule_row results; cases = rows }) first last
+  pub are : (outside : State) → (is_open ≡ true → now ≡ outside) → (cuts : List RuleCuts)
+      × IsRan (tells hears ends) (rules_of run outside is_open cuts (groups_from (suc old.rank) heads (members_in old))) (record { rules = map rule_row results; cases = rows }) first last
 
 -- ---- a feature
 

@@ -24,6 +24,4 @@ pub mod JudgedInWords
 pub mod OpenRun
 -- Proof machinery: definitions that the contracts of private functions use.
 pub mod WalkContracts
-pub mod SectionContracts
 pub mod FeatureContracts
-pub mod DryRunContracts

@@ -83,3 +83,10 @@ pub record IsSectionEnd (run : Run) (level : Level) (tags : List (List ℕ)) (ou
 -- The end of a section was told: all of its events after what is inside it, with the same cut as its before list. Its hooks and cleanups ended like this, and these events of its before list happened.
 abbrev pub IsEndTold : {S : Type 0} → (S → Event → S → Type 0) → Run → Level → List (List ℕ) → State → Status → List Event → S → S → Type 0
 IsEndTold hears run level tags outside around first begin end = (last : List Event) × FoldsTo hears begin last end × IsSectionEnd run level tags outside around first last
+
+-- Proof machinery, from here on: what the code's calls do.
+
+-- The end of a section was told. Its before list had ended with `ended`, and `now` is its state and cleanups.
+abbrev pub EndsAround : {S : Type 0} → (S → Event → S → Type 0) → Run → Level → List (List ℕ) → Ending → Stand → Status → S → S → Type 0
+EndsAround hears run level tags ended now around begin end =
+    (outside : State) (first : List Event) → IsBegun run level tags outside first ended now → IsEndTold hears run level tags outside around first begin end

@@ -1,7 +1,7 @@
 -- Walking through steps.
-use Rattle.std.specs.Prelude.{cond, List, [], ◌∷◌, Option, Some, None, is_some}
+use Rattle.std.specs.Prelude.{cond, List, [], ◌∷◌, ◌≡◌, ◌⊎◌, Option, Some, None, is_some}
 use Rattle.gk_gherkin.specs.Feature.{StepValue}
-use Rattle.gk_steps.specs.Finding.{LibraryValue, FoundValue, found}
+use Rattle.gk_steps.specs.Finding.{LibraryValue, FoundValue, HasCandidateFor, found}
 use Rattle.gk_world.specs.State.{State}
 use Rattle.gk_run.specs.declared.acting.Site.{Site}
 use Rattle.gk_run.specs.declared.acting.Site.TheVariants as sites
@@ -9,6 +9,7 @@ use Rattle.gk_run.specs.declared.ending.Ending.{Ending}
 use Rattle.gk_run.specs.declared.ending.Ending.TheVariants as endings
 use Rattle.gk_run.specs.declared.results.Mark.{Mark}
 use Rattle.gk_run.specs.declared.results.Mark.TheVariants.{Acted, Skipped, Untested, Undefined}
+use Rattle.gk_run.specs.declared.results.Outcome.TheVariants as outcomes
 use Rattle.gk_run.specs.declared.section.Stage.{Stage}
 use Rattle.gk_run.specs.Acting.{CleanupValue, act}
 use Rattle.gk_run.specs.Ending.{ending_of, has_passed, status_of_mark, reason_of_mark}
@@ -69,3 +70,9 @@ abbrev pub rows_of_steps : List StepValue → List Mark → List StepRow
 rows_of_steps [] marks = []
 rows_of_steps (step ∷ steps) [] = row_of_step step Untested ∷ rows_of_steps steps []
 rows_of_steps (step ∷ steps) (mark ∷ marks) = row_of_step step mark ∷ rows_of_steps steps marks
+
+-- Proof machinery, from here on: what the code's calls do.
+
+-- A step was only looked up, or memory was refused in the look-up. If it was refused, the step's text has the ends of an entry.
+abbrev pub IsLookedUp : LibraryValue → Mark → StepValue → Mark → Type 0
+IsLookedUp library matched step mark = ((mark ≡ Acted outcomes.Memory) × HasCandidateFor library step.step_type step.text) ⊎ (mark ≡ looked_up library matched step)

@@ -1,6 +1,6 @@
 -- Proof machinery: definitions for the contracts of the private functions that walk through a section.
 use Rattle.std.specs.List.{FoldsTo}
-use Rattle.std.specs.Prelude.{List, [], ◌∷◌, ◌++◌, map, ◌≡◌, ◌⊎◌, Option, Some, None, ℕ}
+use Rattle.std.specs.Prelude.{List, [], ◌∷◌, ◌++◌, map, ◌≡◌, Option, Some, None, ℕ}
 use Rattle.gk_gherkin.specs.Feature.{StepValue, step_value, texts}
 use Rattle.gk_gherkin.specs.Hooks.{hooks_value}
 use Rattle.gk_gherkin.specs.declared.feature.Step.{Step}
@@ -9,10 +9,10 @@ use Rattle.gk_world.specs.Sandbox.{SandboxValue}
 use Rattle.gk_world.specs.State.{State, state_of}
 use Rattle.gk_run.specs.declared.acting.Site.{Site}
 use Rattle.gk_run.specs.declared.acting.Site.TheVariants as sites
-use Rattle.gk_run.specs.declared.cleanups.Cleanup.{Cleanup}
 use Rattle.gk_run.specs.declared.section_end.Closed.{Closed}
 use Rattle.gk_run.specs.declared.ending.Ending.{Ending}
 use Rattle.gk_run.specs.declared.ending.Ending.TheVariants as endings
+use Rattle.gk_run.specs.declared.open_section.OpenSection.{OpenSection}
 use Rattle.gk_run.specs.declared.results.Reserved.{Reserved}
 use Rattle.gk_run.specs.declared.results.StepResult.{StepResult}
 use Rattle.gk_run.specs.declared.results.Mark.{Mark}
@@ -24,15 +24,16 @@ use Rattle.gk_run.specs.declared.section.Level.{Level}
 use Rattle.gk_run.specs.declared.section.Stage.{Stage}
 use Rattle.gk_run.specs.declared.section.Section.{Section}
 use Rattle.gk_run.specs.declared.walk.StepsEnd.{StepsEnd}
-use Rattle.gk_run.specs.Acting.{CleanupValue, arguments_of, files_of, IsDone, WritesFirst}
-use Rattle.gk_run.specs.Cleanups.{cleanup_value}
-use Rattle.gk_run.specs.SectionEnd.{cleaned, cleanup_done}
+use Rattle.gk_run.specs.Acting.{CleanupValue, arguments_of, files_of, WritesFirst}
+use Rattle.gk_run.specs.SectionEnd.{cleaned}
 use Rattle.gk_run.specs.Ending.{is_memory_ending, worse}
 use Rattle.gk_run.specs.Events.{Event, SoFar, of_step, Stand, ended_in, event_marks, left_by, outcomes_of, stand_of}
+use Rattle.gk_run.specs.OpenSection.{IsOpened}
 use Rattle.gk_run.specs.Results.{step_row}
+use Rattle.gk_run.specs.Run.{run_value}
 use Rattle.gk_run.specs.Section.{steps_of_case, before_of}
-use Rattle.gk_run.specs.SectionHooks.{after_lists, before_list, tag_lists, walk_each}
-use Rattle.gk_run.specs.Walk.{Stepped, looked_up, one_step, rows_of_steps, steps_from, walk}
+use Rattle.gk_run.specs.SectionHooks.{after_lists, before_list, walk_each}
+use Rattle.gk_run.specs.Walk.{IsLookedUp, Stepped, one_step, rows_of_steps, steps_from, walk}
 
 -- Events of a section happened and were told, with `rest` left. `before` is how the section had ended before them, `ended` how it has ended now, and `now` its state and cleanups.
 pub record Goes {S : Type 0} (hears : S → Event → S → Type 0) (before : Ending) (all rest : List Event) (start now : Stand) (ended : Ending) (first last : S) : Type 0 where
@@ -52,10 +53,6 @@ Happens hears before all start now ended first last = Goes hears before all [] s
 abbrev pub IsStepRun : Stepped → List CleanupValue → Mark → State → List CleanupValue → Type 0
 IsStepRun this cleanups (Acted outcomes.Memory) new new_cleanups = new_cleanups ≡ cleanups
 IsStepRun this cleanups mark new new_cleanups = (mark ≡ this.mark) × (new ≡ this.state) × (new_cleanups ≡ cleanups ++ this.registered)
-
--- A step was only looked up, or memory was refused in the look-up. If it was refused, the step's text has the ends of an entry.
-abbrev pub IsLookedUp : LibraryValue → Mark → StepValue → Mark → Type 0
-IsLookedUp library matched step mark = ((mark ≡ Acted outcomes.Memory) × HasCandidateFor library step.step_type step.text) ⊎ (mark ≡ looked_up library matched step)
 
 -- The next step of a case that has ended so far with this ending.
 abbrev pub IsNext : LibraryValue → Ending → State → List CleanupValue → StepValue → Mark → State → List CleanupValue → Type 0
@@ -121,27 +118,17 @@ abbrev pub WalksBefore : {S : Type 0} → (S → Event → S → Type 0) → sha
 WalksBefore hears run section old cleanups ended new new_cleanups first last =
     Happens hears endings.Passed (walk (library_value run.library.now) (before_of section.level) (state_of old.now) (before_list (hooks_value run.hooks.now.file.now) section.level (texts section.tags.now))) (stand_of old cleanups) (stand_of new new_cleanups) ended first last
 
--- Each of these after lists was walked through by itself.
-abbrev pub WalksEach : {S : Type 0} → (S → Event → S → Type 0) → shared.Run → Level → List (List StepValue) → SandboxValue → List CleanupValue → Ending → SandboxValue → List CleanupValue → S → S → Type 0
-WalksEach hears run level lists old cleanups ended new new_cleanups first last =
-    Happens hears endings.Passed (walk_each (library_value run.library.now) level (stand_of old cleanups) lists) (stand_of old cleanups) (stand_of new new_cleanups) ended first last
-
--- Each after_tag hook of a section's tags was walked through by itself.
-abbrev pub WalksTags : {S : Type 0} → (S → Event → S → Type 0) → shared.Run → Section → SandboxValue → List CleanupValue → Ending → SandboxValue → List CleanupValue → S → S → Type 0
-WalksTags hears run section old cleanups ended new new_cleanups first last =
-    WalksEach hears run section.level (tag_lists (hooks_value run.hooks.now.file.now) (texts section.tags.now)) old cleanups ended new new_cleanups first last
-
 -- Each of a section's after lists was walked through by itself.
 abbrev pub WalksAfter : {S : Type 0} → (S → Event → S → Type 0) → shared.Run → Section → SandboxValue → List CleanupValue → Ending → SandboxValue → List CleanupValue → S → S → Type 0
 WalksAfter hears run section old cleanups ended new new_cleanups first last =
-    WalksEach hears run section.level (after_lists (hooks_value run.hooks.now.file.now) section.level (texts section.tags.now)) old cleanups ended new new_cleanups first last
+    Happens hears endings.Passed (walk_each (library_value run.library.now) section.level (stand_of old cleanups) (after_lists (hooks_value run.hooks.now.file.now) section.level (texts section.tags.now))) (stand_of old cleanups) (stand_of new new_cleanups) ended first last
 
--- ---- the end of a section
+-- ---- a section
 
--- A cleanup was carried out.
-abbrev pub CleansOne : shared.Run → Cleanup → SandboxValue → Outcome → SandboxValue → Type 0
-CleansOne run cleanup old outcome new =
-    IsDone (cleanup_done (library_value run.library.now) (cleanup_value cleanup) (state_of old.now)) outcome (state_of new.now)
+-- A section was begun, and its before list was told.
+abbrev pub Opens : {S : Type 0} → (S → Event → S → Type 0) → shared.Run → Section → SandboxValue → OpenSection → SandboxValue → S → S → Type 0
+Opens hears run section old opened new first last =
+    (is : IsOpened (run_value run) section.level (texts section.tags.now) old new opened.layer opened.before opened.cleanups) × FoldsTo hears first is.first last
 
 -- Cleanups were run, the last first, and their outcomes are those of the events that were told.
 pub record Cleans {S : Type 0} (hears : S → Event → S → Type 0) (run : shared.Run) (level : Level) (registered : List CleanupValue) (old : SandboxValue) (closed : Closed) (new : SandboxValue) (first last : S) : Type 0 where

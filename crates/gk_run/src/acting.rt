@@ -1,11 +1,11 @@
 //! What a step's action does.
 ghost use Rattle.std.specs.Prelude.{◌≡◌, ◌<◌, true, not, option_copied};
 ghost use Rattle.gk_gherkin.specs.Feature.{block_value};
-ghost use Rattle.gk_steps.specs.Finding.{library_value, found_value, found_any};
+ghost use Rattle.gk_steps.specs.Finding.{library_value, found_any};
 ghost use Rattle.gk_world.specs.State.{State, state_of};
 ghost use Rattle.gk_world.specs.Sandbox.{depth, KeepsLayers};
 ghost use Rattle.gk_run.specs.Acting as words;
-ghost use Rattle.gk_run.specs.Acting.{arguments_of, arguments_by_uses, arguments_in, arguments_value, table, registers, act_of, action_in, called, Performs, may_skip, may_register, IsDone, IsExact, HasRegistered, KeepsAtMemory, IsHeld, IsNotHeld, IsText, HasText, NeedsCandidate, CleanupNeedsCandidate};
+ghost use Rattle.gk_run.specs.Acting.{arguments_by_uses, arguments_in, arguments_value, table, registers, act_of, action_in, called, Performs, may_register, IsDone, IsExact, HasRegistered, KeepsAtMemory, IsHeld, IsNotHeld, IsText, HasText, NeedsCandidate, CleanupNeedsCandidate};
 
 mod file_actions;
 mod number_actions;
@@ -150,15 +150,6 @@ pub(crate) fn arguments_by<'a>(used: UsedFields<'a>, block: &'a Block) -> Argume
     }
 }
 
-// Returns the arguments of a found step.
-#[inline(always)]
-fn arguments_of<'a>(library: &Library, found: &'a Found, block: &'a Block) -> Arguments<'a>
-    ensures { arguments_value result
-        ≡ arguments_of (library_value library.now) (found_value found.now) (block_value block.now) }
-{
-    arguments_by(library.used_fields(found), block)
-}
-
 // Carries out an action.
 #[inline(always)]
 fn perform(
@@ -201,12 +192,6 @@ fn perform(
     }
 }
 
-fn may_skip(site: Site) -> bool
-    ensures { result ≡ may_skip site }
-{
-    matches!(site, Site::Step | Site::CaseHook)
-}
-
 fn may_register(site: Site) -> bool
     ensures { result ≡ may_register site }
 {
@@ -217,10 +202,9 @@ fn may_register(site: Site) -> bool
 fn skip(site: Site) -> Outcome
     ensures { result ≡ words.skip_outcome site }
 {
-    if may_skip(site) {
-        Outcome::Skip
-    } else {
-        Outcome::Failed(Reason::NotHere)
+    match site {
+        Site::Step | Site::CaseHook => Outcome::Skip,
+        Site::Hook | Site::Cleanup => Outcome::Failed(Reason::NotHere),
     }
 }
 
@@ -341,7 +325,7 @@ pub fn act(
         (arguments_in library.now found.now block.now) sandbox.old result sandbox.new }
     ensures layers { KeepsLayers sandbox.old sandbox.new }
 {
-    let arguments = arguments_of(library, found, block);
+    let arguments = arguments_by(library.used_fields(found), block);
     let action = library.action(found);
     act_by(alloc, sandbox, cleanups, library, site, action, &arguments)
 }

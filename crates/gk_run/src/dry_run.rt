@@ -8,8 +8,7 @@ ghost use Rattle.gk_run.specs.Results.{step_row, case_row, rule_row, feature_row
 ghost use Rattle.gk_run.specs.Section.{Cut};
 ghost use Rattle.gk_run.specs.Chosen.{head_value, member_of, members_of, chosen_value, IsPaired};
 ghost use Rattle.gk_run.specs.Features.{FeatureCuts};
-ghost use Rattle.gk_run.specs.DryRun.{dry_row, dry_case_of, dry_cases_of, dry_rules_of, dry_feature_of};
-ghost use Rattle.gk_run.specs.DryRunContracts.{IsDryStep, AreDrySteps};
+ghost use Rattle.gk_run.specs.DryRun.{dry_row, dry_case_of, dry_cases_of, dry_rules_of, dry_feature_of, IsDryStep, AreDrySteps};
 
 use crate::cases::either;
 use crate::chosen::{Chosen, RuleHead};

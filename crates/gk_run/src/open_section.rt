@@ -3,14 +3,14 @@
 ghost use Rattle.std.specs.Prelude.{◌≡◌, ◌<◌};
 ghost use Rattle.gk_gherkin.specs.Feature.{texts};
 ghost use Rattle.gk_world.specs.State.{layers};
-ghost use Rattle.gk_world.specs.Sandbox.{depth, KeepsLayers, Ends};
+ghost use Rattle.gk_world.specs.Sandbox.{depth, Ends};
 ghost use Rattle.gk_run.specs.Events.{stand_of};
+ghost use Rattle.gk_run.specs.OpenSection.{EndsAround};
 ghost use Rattle.gk_run.specs.Run.{run_value};
-ghost use Rattle.gk_run.specs.SectionContracts.{EndsAround, Opens};
-ghost use Rattle.gk_run.specs.WalkContracts.{Closes};
+ghost use Rattle.gk_run.specs.WalkContracts.{Closes, Opens};
 
 use crate::cleanups::Cleanups;
-use crate::ending::{Ending, around_status, is_memory, worse};
+use crate::ending::{Ending, around_status, worse};
 use crate::observer::Observer;
 use crate::results::Status;
 use crate::run::Run;
@@ -51,29 +51,6 @@ pub fn open_section<O: Observer>(
     }
 }
 
-// Closes a section whose body ended with `ending`. After refused memory nothing more runs in it.
-fn close_after<O: Observer>(
-    run: &Run<'_>,
-    sandbox: &mut Sandbox,
-    section: &Section<'_>,
-    ending: Ending,
-    cleanups: Cleanups,
-    observer: &mut O,
-) -> Closed
-    requires in_layer { 0 < depth sandbox.old }
-    ensures closed { Closes O.hears ending run.now section.now cleanups
-        sandbox.old result observer.old observer.new }
-    ensures layers { KeepsLayers sandbox.old sandbox.new }
-{
-    if is_memory(ending) {
-        return Closed {
-            ending: Ending::Passed,
-            outcomes: cleanups.none(),
-        };
-    }
-    close(run, sandbox, cleanups, section, observer)
-}
-
 /// Ends a section whose body ended with `ending`: closes it, unless memory was refused in it, and ends
 /// its layer.
 pub fn end_section<O: Observer>(
@@ -94,7 +71,7 @@ pub fn end_section<O: Observer>(
         before: _,
         cleanups,
     } = opened;
-    let closed = close_after(run, sandbox, section, ending, cleanups, observer);
+    let closed = close(run, sandbox, section, ending, cleanups, observer);
     sandbox.end(layer);
     closed
 }

@@ -1,14 +1,13 @@
 //! The end of a section: its after hooks, and then its cleanups.
 ghost use Rattle.std.specs.Prelude.{◌<◌};
-ghost use Rattle.gk_run.specs.declared.ending.Ending.TheVariants as endings;
 ghost use Rattle.gk_world.specs.State.{state_of};
 ghost use Rattle.gk_world.specs.Sandbox.{depth, KeepsLayers};
 ghost use Rattle.gk_steps.specs.Finding.{library_value};
-ghost use Rattle.gk_run.specs.Acting.{action_in, arguments_in, IsExact, KeepsAtMemory};
+ghost use Rattle.gk_run.specs.Acting.{action_in, arguments_in, IsDone, IsExact, KeepsAtMemory};
 ghost use Rattle.gk_run.specs.Cleanups.{cleanup_value};
 ghost use Rattle.gk_run.specs.SectionEnd.{cleanup_done};
 ghost use Rattle.gk_run.specs.Events.{of_cleanup};
-ghost use Rattle.gk_run.specs.WalkContracts.{CleansOne, Cleans, Closes};
+ghost use Rattle.gk_run.specs.WalkContracts.{Cleans, Closes};
 
 use crate::acting::{Site, act};
 use crate::cleanups::{Cleanup, Cleanups};
@@ -37,7 +36,8 @@ fn clean_one<O: Observer>(
     observer: &mut O,
 ) -> Outcome
     requires in_layer { 0 < depth sandbox.old }
-    ensures cleaned { CleansOne run.now cleanup sandbox.old result sandbox.new }
+    ensures cleaned { IsDone (cleanup_done (library_value run.now.library.now)
+        (cleanup_value cleanup) (state_of sandbox.old.now)) result (state_of sandbox.new.now) }
     ensures exact { IsExact (action_in run.now.library.now cleanup.found) (cleanup_done
         (library_value run.now.library.now) (cleanup_value cleanup) (state_of sandbox.old.now))
         result (state_of sandbox.new.now) }
@@ -63,7 +63,7 @@ fn clean_one<O: Observer>(
     outcome
 }
 
-// Runs registered cleanups, the last first.
+// Runs registered cleanups, the last first. After refused memory nothing more happens.
 fn clean<O: Observer>(
     run: &Run<'_>,
     sandbox: &mut Sandbox,
@@ -82,33 +82,37 @@ fn clean<O: Observer>(
     } = cleanups;
     let mut ending = Ending::Passed;
     while let Some(cleanup) = list.pop() {
+        if is_memory(ending) {
+            return Closed { ending, outcomes };
+        }
         let outcome = clean_one(run, sandbox, level, cleanup, observer);
         outcomes.push_reserved(outcome);
-        let this = ending_of(Mark::Acted(outcome));
-        if is_memory(this) {
-            return Closed {
-                ending: this,
-                outcomes,
-            };
-        }
-        ending = worse(ending, this);
+        ending = worse(ending, ending_of(Mark::Acted(outcome)));
     }
     Closed { ending, outcomes }
 }
 
-/// Closes a section: walks through its after lists, and then runs its cleanups.
+/// Closes a section whose body ended with `ending`: walks through its after lists, and then runs its
+/// cleanups. After refused memory nothing more happens.
 pub fn close<O: Observer>(
     run: &Run<'_>,
     sandbox: &mut Sandbox,
-    cleanups: Cleanups,
     section: &Section<'_>,
+    ending: Ending,
+    cleanups: Cleanups,
     observer: &mut O,
 ) -> Closed
     requires in_layer { 0 < depth sandbox.old }
-    ensures closed { Closes O.hears endings.Passed run.now section.now cleanups
+    ensures closed { Closes O.hears ending run.now section.now cleanups
         sandbox.old result observer.old observer.new }
     ensures layers { KeepsLayers sandbox.old sandbox.new }
 {
+    if is_memory(ending) {
+        return Closed {
+            ending: Ending::Passed,
+            outcomes: cleanups.none(),
+        };
+    }
     let mut cleanups = cleanups;
     let after = walk_after(run, sandbox, &mut cleanups, section, observer);
     if is_memory(after) {

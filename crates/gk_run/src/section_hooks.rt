@@ -4,7 +4,7 @@ ghost use Rattle.gk_gherkin.specs.Feature.{step_value};
 ghost use Rattle.gk_gherkin.specs.Hooks.{hooks_value};
 ghost use Rattle.gk_world.specs.Sandbox.{depth, KeepsLayers};
 ghost use Rattle.gk_run.specs.SectionHooks as spec;
-ghost use Rattle.gk_run.specs.WalkContracts.{WalksBefore, WalksTags, WalksAfter};
+ghost use Rattle.gk_run.specs.WalkContracts.{WalksBefore, WalksAfter};
 
 use crate::cleanups::Cleanups;
 use crate::ending::{Ending, has_passed, is_memory, worse};
@@ -78,36 +78,7 @@ pub fn walk_before<O: Observer>(
     walk_hook(run, sandbox, cleanups, stage, steps, observer)
 }
 
-// Walks through each after_tag hook by itself.
-fn walk_tags<O: Observer>(
-    run: &Run<'_>,
-    sandbox: &mut Sandbox,
-    cleanups: &mut Cleanups,
-    section: &Section<'_>,
-    observer: &mut O,
-) -> Ending
-    requires in_layer { 0 < depth sandbox.old }
-    ensures walked { WalksTags O.hears run.now section.now sandbox.old cleanups.old result
-        sandbox.new cleanups.new observer.old observer.new }
-    ensures layers { KeepsLayers sandbox.old sandbox.new }
-{
-    let stage = Stage {
-        level: section.level,
-        part: Part::After,
-    };
-    let mut ending = Ending::Passed;
-    for tag in section.tags {
-        let steps = hook_steps(run.hooks, HookKind::AfterTag, Some(tag.as_str()));
-        let this = walk_hook(run, sandbox, cleanups, stage, steps, observer);
-        if is_memory(this) {
-            return this;
-        }
-        ending = worse(ending, this);
-    }
-    ending
-}
-
-/// Walks through each of a section's after lists by itself.
+/// Walks through each of a section's after lists by itself. After refused memory nothing more happens.
 pub fn walk_after<O: Observer>(
     run: &Run<'_>,
     sandbox: &mut Sandbox,
@@ -120,15 +91,19 @@ pub fn walk_after<O: Observer>(
         sandbox.new cleanups.new observer.old observer.new }
     ensures layers { KeepsLayers sandbox.old sandbox.new }
 {
-    let steps = hook_steps(run.hooks, after_kind(section.level), None);
     let stage = Stage {
         level: section.level,
         part: Part::After,
     };
-    let first = walk_hook(run, sandbox, cleanups, stage, steps, observer);
-    if is_memory(first) {
-        return first;
+    let own = hook_steps(run.hooks, after_kind(section.level), None);
+    let mut ending = walk_hook(run, sandbox, cleanups, stage, own, observer);
+    for tag in section.tags {
+        if is_memory(ending) {
+            return ending;
+        }
+        let of_tag = hook_steps(run.hooks, HookKind::AfterTag, Some(tag.as_str()));
+        let this = walk_hook(run, sandbox, cleanups, stage, of_tag, observer);
+        ending = worse(ending, this);
     }
-    let others = walk_tags(run, sandbox, cleanups, section, observer);
-    worse(first, others)
+    ending
 }

@@ -4,8 +4,8 @@ ghost use Rattle.gk_gherkin.specs.Feature.{step_value};
 ghost use Rattle.gk_steps.specs.Finding.{library_value};
 ghost use Rattle.gk_world.specs.Sandbox.{depth, KeepsLayers};
 ghost use Rattle.gk_run.specs.Results.{step_row};
-ghost use Rattle.gk_run.specs.Walk.{row_of_step};
-ghost use Rattle.gk_run.specs.WalkContracts.{RunsStep, StepNeedsCandidate, StepKeepsAtMemory, WalksHook, IsLookedUp, TakesNext, TellsNext, RunsSteps};
+ghost use Rattle.gk_run.specs.Walk.{IsLookedUp, row_of_step};
+ghost use Rattle.gk_run.specs.WalkContracts.{RunsStep, StepNeedsCandidate, StepKeepsAtMemory, WalksHook, TakesNext, TellsNext, RunsSteps};
 
 use crate::acting::{Site, act_by, arguments_by};
 use crate::cleanups::Cleanups;
@@ -70,15 +70,16 @@ pub fn walk_hook<O: Observer>(
     ensures layers { KeepsLayers sandbox.old sandbox.new }
 {
     let site = site_of(stage);
+    let mut ending = Ending::Passed;
     for step in steps {
-        let mark = run_step(run, sandbox, cleanups, site, step);
-        observer.step(stage, step, mark, sandbox);
-        let ending = ending_of(mark);
         if !has_passed(ending) {
             return ending;
         }
+        let mark = run_step(run, sandbox, cleanups, site, step);
+        observer.step(stage, step, mark, sandbox);
+        ending = ending_of(mark);
     }
-    Ending::Passed
+    ending
 }
 
 /// Looks up a step that isn't carried out. Its mark is `matched` if an entry matches it.

@@ -4,9 +4,10 @@ ghost use Rattle.gk_select.specs.RuleOrder as order;
 ghost use Rattle.gk_world.specs.State.{state_of, layers};
 ghost use Rattle.gk_world.specs.Sandbox.{depth, IsSame};
 ghost use Rattle.gk_run.specs.Cases as spec;
-ghost use Rattle.gk_run.specs.FeatureContracts.{BeginsWith, RunsCases, RunsMember, TakesMember, members_in};
+ghost use Rattle.gk_run.specs.FeatureContracts.{BeginsWith, IsMember, RunsCases, TakesMember, members_in};
 ghost use Rattle.gk_run.specs.Chosen.{has_selected, member_of};
 ghost use Rattle.gk_run.specs.Grouping.{falls_from, members_of_rank};
+ghost use Rattle.gk_run.specs.Results.{case_row};
 ghost use Rattle.gk_run.specs.Run.{run_value};
 
 use crate::cases::{Cases, Member};
@@ -115,8 +116,9 @@ fn run_member<O: Observer>(
     observer: &mut O,
 ) -> Result<CaseResult, NoRoom>
     requires room { depth sandbox.old < layers }
-    ensures ran { IfOk result (RunsMember O.hears run.now sandbox.old is_open
-        (member_of member.case member.selected) observer.old observer.new) }
+    ensures ran { IfOk result (λ r. IsMember O.hears (run_value run.now)
+        (state_of sandbox.old.now) is_open (member_of member.case member.selected) (case_row r)
+        observer.old observer.new) }
     ensures same { IsSame sandbox.old sandbox.new }
 {
     let Member { case, selected } = member;

@@ -4,7 +4,7 @@ use Rattle.gk_steps.specs.declared.action.Action.{Action}
 use Rattle.gk_steps.specs.Finding.{library_value, found_value}
 use Rattle.gk_world.specs.State.{state_of}
 use Rattle.gk_run.specs.Acting.{Acted, ArgumentsValue, arguments_of, arguments_value, files_of, changes_nothing, done_of, IsDone, IsExactly, HasRegistered, NeedsCandidate, WritesFirst}
-use Rattle.gk_run.proofs.ActingLemmas.{called_is}
+use Rattle.gk_run.proofs.ActingLemmas.{called_is, used_given}
 use Rattle.gk_run.proofs.acting.act.Goals as goal
 
 pub returns : goal.returns
@@ -16,8 +16,9 @@ returns c =
     let new = c.act_by.new.sandbox.now in
     let o = c.act_by.result in
     let e = c.action-action.ensures in
-    let h = c.arguments_of-arguments.ensures in
-    let is = called_is library c.args.site f block (state_of old.now) c.action-action.result (arguments_value c.arguments_of-arguments.result) e h in
+    let used = c.used_fields.ensures in
+    let h = c.arguments_by-arguments.ensures ∙ used_given library f c.used_fields.result block (record { name = used.name; to = used.to; step = used.step; number = used.number; text = used.text }) in
+    let is = called_is library c.args.site f block (state_of old.now) c.action-action.result (arguments_value c.arguments_by-arguments.result) e h in
     record {
       done = subst (λ (acted : Acted). IsDone (done_of acted) o (state_of new)) is c.act_by.ensures.done;
       exact = λ nothing. subst (λ (acted : Acted). IsExactly (done_of acted) o (state_of new)) is (c.act_by.ensures.exact (ap (λ a. changes_nothing a) e ∙ nothing));

@@ -5,7 +5,7 @@ use Rattle.gk_steps.specs.Finding.{library_value}
 use Rattle.gk_run.specs.declared.results.Outcome.{Outcome}
 use Rattle.gk_run.specs.declared.results.Status.TheVariants as statuses
 use Rattle.gk_run.specs.Results.{CaseRow, step_row}
-use Rattle.gk_run.specs.DryRunContracts.{AreDrySteps}
+use Rattle.gk_run.specs.DryRun.{AreDrySteps}
 use Rattle.gk_run.proofs.DryRunLemmas.{dry_is}
 use Rattle.gk_run.proofs.dry_run.dry_case.Goals as goal
 

@@ -1,4 +1,4 @@
-use Rattle.std.proofs.Common.{◌≡◌, ◌∙◌, ◌++◌, ◌∷◌, [], List, ap, arith, false, length, map, refl, reverse, subst, sym}
+use Rattle.std.proofs.Common.{◌≡◌, ◌∙◌, ◌++◌, ◌∷◌, [], List, ap, arith, length, map, refl, reverse, subst, sym}
 use Rattle.std.proofs.lemmas.List.{map_push, reverse-append}
 use Rattle.gk_steps.specs.Finding.{library_value}
 use Rattle.gk_world.specs.State.{state_of}
@@ -11,11 +11,10 @@ use Rattle.gk_run.specs.declared.results.Outcome.{Outcome}
 use Rattle.gk_run.specs.Acting.{CleanupValue}
 use Rattle.gk_run.specs.Cleanups.{cleanup_value}
 use Rattle.gk_run.specs.SectionEnd.{clean_each, cleaned}
-use Rattle.gk_run.specs.Ending.{ending_of, is_memory_ending, worse}
+use Rattle.gk_run.specs.Ending.{ending_of, worse}
 use Rattle.gk_run.proofs.Nothing.{nothing_in}
 use Rattle.gk_run.proofs.CleanLemmas.{CleansSoFar, cleans_first, cleans_on}
-use Rattle.gk_run.proofs.EndingLemmas.{is_memory, worse_memory}
-use Rattle.gk_run.proofs.GoesLemmas.{unrefused, with_rest}
+use Rattle.gk_run.proofs.GoesLemmas.{with_rest}
 use Rattle.gk_run.proofs.WalkLemmas.{at}
 use Rattle.gk_run.proofs.section_end.clean.Goals as goal
 
@@ -36,7 +35,6 @@ loop-cleanup-init g c =
     record {
       goes = subst (λ (cs : List CleanupValue). CleansSoFar hears all (clean_each library level (state_of c.args.sandbox.now.now) (reverse cs)) start start endings.Passed c.cleanups.inside.outcomes.items first first) (sym c.cleanups.view_is)
           (subst (λ (os : List Outcome). CleansSoFar hears all all start start endings.Passed os first first) (sym empty) (cleans_first hears all start first));
-      unrefused = refl;
       layers = record { layers = refl; marks = refl };
       room = omega (arith, c.cleanups.invariant.1, ap length empty);
     }
@@ -59,42 +57,19 @@ loop-cleanup-preserved g c =
     let last = c.clean_one-outcome.new.observer in
     let is : reverse (map cleanup_value c.loop-cleanup.list.items) ≡ this ∷ reverse left = ap reverse (popped c.loop-cleanup.list.items c.pop.new.self.items c.in-Some.cleanup c.in-Some.ensures.items) ∙ reverse-append left (this ∷ []) in
     let here = subst (λ (cs : List CleanupValue). CleansSoFar hears all (clean_each library level s cs) start (at s registered) e c.loop-cleanup.outcomes.items first c.loop-cleanup.observer) is c.loop-cleanup.invariant.goes in
-    let gone = cleans_on hears library level this (reverse left) o s new registered all start e c.loop-cleanup.outcomes.items c.push_reserved.new.self.items first c.loop-cleanup.observer last c.loop-cleanup.invariant.unrefused
+    let gone = cleans_on hears library level this (reverse left) o s new registered all start e c.loop-cleanup.outcomes.items c.push_reserved.new.self.items first c.loop-cleanup.observer last (sym c.is_memory.ensures ∙ c.if-is_memory.false)
     c.clean_one-outcome.ensures.cleaned c.clean_one-outcome.ensures.told c.push_reserved.ensures.items here in
-    let ended : c.worse-ending.result ≡ worse e (ending_of (Acted o)) = c.worse-ending.ensures ∙ ap (worse e) c.ending_of-this.ensures in
-    let goes_on : is_memory_ending (ending_of (Acted o)) ≡ false = ap is_memory_ending (sym c.ending_of-this.ensures) ∙ sym c.is_memory.ensures ∙ c.if-is_memory.false in
+    let ended : c.worse-ending.result ≡ worse e (ending_of (Acted o)) = c.worse-ending.ensures ∙ ap (worse e) c.ending_of.ensures in
     record {
       goes = subst (λ (x : Ending). CleansSoFar hears all (clean_each library level new (reverse left)) start (at new registered) x c.push_reserved.new.self.items first last) (sym ended) gone;
-      unrefused = ap is_memory_ending ended ∙ sym (unrefused e (ending_of (Acted o)) c.loop-cleanup.invariant.unrefused) ∙ goes_on;
       layers = record { layers = c.clean_one-outcome.ensures.layers.layers ∙ c.loop-cleanup.invariant.layers.layers; marks = c.clean_one-outcome.ensures.layers.marks ∙ c.loop-cleanup.invariant.layers.marks };
       room = let a = c.push_reserved.ensures.capacity in let o = c.push_reserved.new.self.ok.0 in let p = c.pop.new.self.ok.0 in let q = c.loop-cleanup.list.ok.0 in let r = c.loop-cleanup.outcomes.ok.0 in omega (arith, c.push_reserved.ensures.len, c.in-Some.ensures.len, c.loop-cleanup.invariant.room);
     }
 
 pub returns-then-is_memory-clause-cleaned : goal.returns-then-is_memory-clause-cleaned
 returns-then-is_memory-clause-cleaned g c =
-    let hears = g.O.Observer.hears in
-    let library = library_value c.args.run.now.library.now in
-    let level = c.args.level in
-    let registered = c.args.cleanups in
-    let start = stand_of c.args.sandbox.now registered in
-    let all = cleaned library level start in
-    let s = state_of c.loop-cleanup.sandbox.now in
-    let new = state_of c.clean_one-outcome.new.sandbox.now in
-    let left = map cleanup_value c.pop.new.self.items in
-    let this = cleanup_value c.in-Some.cleanup in
-    let o = c.clean_one-outcome.result in
-    let e = c.loop-cleanup.ending in
-    let first = c.args.observer.now in
-    let last = c.clean_one-outcome.new.observer in
-    let is : reverse (map cleanup_value c.loop-cleanup.list.items) ≡ this ∷ reverse left = ap reverse (popped c.loop-cleanup.list.items c.pop.new.self.items c.in-Some.cleanup c.in-Some.ensures.items) ∙ reverse-append left (this ∷ []) in
-    let here = subst (λ (cs : List CleanupValue). CleansSoFar hears all (clean_each library level s cs) start (at s registered) e c.loop-cleanup.outcomes.items first c.loop-cleanup.observer) is c.loop-cleanup.invariant.goes in
-    let gone = cleans_on hears library level this (reverse left) o s new registered all start e c.loop-cleanup.outcomes.items c.push_reserved.new.self.items first c.loop-cleanup.observer last c.loop-cleanup.invariant.unrefused
-    c.clean_one-outcome.ensures.cleaned c.clean_one-outcome.ensures.told c.push_reserved.ensures.items here in
-    let refused : c.ending_of-this.result ≡ endings.Memory = is_memory c.ending_of-this.result (sym c.is_memory.ensures ∙ c.if-is_memory.true) in
-    let whole : worse e (ending_of (Acted o)) ≡ c.ending_of-this.result = ap (worse e) (sym c.ending_of-this.ensures ∙ refused) ∙ worse_memory e ∙ sym refused in
-    let ended : CleansSoFar hears all (clean_each library level new (reverse left)) start (at new registered) c.ending_of-this.result c.push_reserved.new.self.items first last =
-    subst (λ (x : Ending). CleansSoFar hears all (clean_each library level new (reverse left)) start (at new registered) x c.push_reserved.new.self.items first last) whole gone in
-    record { goes = with_rest [] ended.goes (λ n. let a = ap is_memory_ending refused in let no : ⊥ = cc in absurd no); outcomes = ended.outcomes }
+    let so_far = c.loop-cleanup.invariant.goes in
+    record { goes = with_rest [] so_far.goes (λ n. let a = c.is_memory.ensures in let b = c.if-is_memory.true in let no : ⊥ = cc in absurd no); outcomes = so_far.outcomes }
 
 pub returns-clause-cleaned : goal.returns-clause-cleaned
 returns-clause-cleaned g c =

@@ -1,11 +1,10 @@
-use Rattle.std.proofs.Common.{◌≡◌, ◌+◌, ◌≤◌, false, length, map, reverse, vec_capacity}
+use Rattle.std.proofs.Common.{◌+◌, ◌≤◌, length, map, reverse, vec_capacity}
 use Rattle.gk_steps.specs.Finding.{library_value}
 use Rattle.gk_world.specs.State.{state_of}
 use Rattle.gk_world.specs.Sandbox.{KeepsLayers}
 use Rattle.gk_run.specs.Events.{stand_of}
 use Rattle.gk_run.specs.Cleanups.{cleanup_value}
 use Rattle.gk_run.specs.SectionEnd.{clean_each, cleaned}
-use Rattle.gk_run.specs.Ending.{is_memory_ending}
 use Rattle.gk_run.proofs.CleanLemmas.{CleansSoFar}
 use Rattle.gk_run.proofs.section_end.clean.Given as goal
 
@@ -14,7 +13,6 @@ abbrev pub invariant-loop-cleanup : goal.invariant-loop-cleanup
 invariant-loop-cleanup g l = record {
   goes : CleansSoFar g.O.Observer.hears (cleaned (library_value l.fn.run.library.now) l.fn.level (stand_of l.fn.sandbox l.fn.cleanups)) (clean_each (library_value l.fn.run.library.now) l.fn.level (state_of l.sandbox.now) (reverse (map cleanup_value l.list.items)))
       (stand_of l.fn.sandbox l.fn.cleanups) (stand_of l.sandbox l.fn.cleanups) l.ending l.outcomes.items l.fn.observer l.observer;
-  unrefused : is_memory_ending l.ending ≡ false;
   layers : KeepsLayers l.fn.sandbox l.sandbox;
   room : length l.outcomes.items + length l.list.items ≤ vec_capacity l.outcomes;
 }

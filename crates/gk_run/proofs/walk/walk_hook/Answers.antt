@@ -1,4 +1,4 @@
-use Rattle.std.proofs.Common.{◌≡◌, ◌+◌, ◌∙◌, Bool, List, [], cond, drop, false, map, refl, subst, sym, true}
+use Rattle.std.proofs.Common.{Bool, ◌+◌, ◌∙◌, List, [], ap, cond, drop, map, refl, subst, sym}
 use Rattle.gk_gherkin.specs.Feature.{StepValue, step_value}
 use Rattle.gk_steps.specs.Finding.{library_value}
 use Rattle.gk_world.specs.State.{state_of}
@@ -6,11 +6,10 @@ use Rattle.gk_run.specs.Events.{stand_of}
 use Rattle.gk_run.specs.declared.acting.Site.{Site}
 use Rattle.gk_run.specs.declared.ending.Ending.{Ending}
 use Rattle.gk_run.specs.declared.ending.Ending.TheVariants as endings
-use Rattle.gk_run.specs.Ending.{ending_of, has_passed}
+use Rattle.gk_run.specs.Ending.{has_passed}
 use Rattle.gk_run.specs.Walk.{one_step, walk}
 use Rattle.gk_run.specs.WalkContracts.{Goes, IsStepRun}
-use Rattle.gk_run.proofs.EndingLemmas.{passed_is}
-use Rattle.gk_run.proofs.GoesLemmas.{begin}
+use Rattle.gk_run.proofs.GoesLemmas.{begin, nothing_after, passing, with_rest}
 use Rattle.gk_run.proofs.WalkLemmas.{at, drop_next, drop_none, walk_on}
 use Rattle.gk_run.proofs.walk.walk_hook.Goals as goal
 
@@ -37,45 +36,21 @@ loop-step-preserved g c =
     let last = c.step.new.self in
     let ran = subst (λ (x : Site). IsStepRun (one_step library x s (step_value step)) cs m new new_cleanups) c.site_of-site.ensures c.run_step-mark.ensures.ran in
     let is = drop_next step_value steps i step c.loop-step-test.true c.step-item.is in
-    let here = subst (λ (xs : List StepValue). Goes hears endings.Passed all (walk library place s xs) start (at s cs) endings.Passed first c.loop-step.observer) is c.loop-step.invariant.goes in
+    let goes = passing (walk library place s (map step_value (drop i steps))) c.loop-step.ending (sym c.has_passed.ensures ∙ c.if-not-has_passed.false) c.loop-step.invariant.goes in
+    let here = subst (λ (xs : List StepValue). Goes hears endings.Passed all (walk library place s xs) start (at s cs) endings.Passed first c.loop-step.observer) is goes in
     let gone = walk_on hears library place (step_value step) left s new cs new_cleanups m all start first c.loop-step.observer last here ran (λ registered. (last, c.step.ensures registered, refl)) in
-    let passes : has_passed (ending_of m) ≡ true = let a = c.ending_of-ending.ensures in let b = c.has_passed.ensures in let d = c.if-not-has_passed.false in cc in
     record {
-      goes = subst (λ (e : Ending). Goes hears endings.Passed all (walk library place new left) start (at new new_cleanups) e first last) (passed_is (ending_of m) passes)
-          (subst (λ (b : Bool). Goes hears endings.Passed all (cond b (walk library place new left) []) start (at new new_cleanups) (ending_of m) first last) passes gone);
+      goes = subst (λ (e : Ending). Goes hears endings.Passed all (cond (has_passed e) (walk library place new left) []) start (at new new_cleanups) e first last) (sym c.ending_of-ending.ensures) gone;
       layers = record { layers = c.run_step-mark.ensures.layers.layers ∙ c.loop-step.invariant.layers.layers; marks = c.run_step-mark.ensures.layers.marks ∙ c.loop-step.invariant.layers.marks };
     }
 
 pub returns-then-not-has_passed-clause-walked : goal.returns-then-not-has_passed-clause-walked
 returns-then-not-has_passed-clause-walked g c =
-    let hears = g.O.Observer.hears in
-    let library = library_value c.args.run.now.library.now in
-    let place = c.args.stage in
-    let steps = c.args.steps.now in
-    let i = c.loop-step.step-index in
-    let step = c.step-item.result in
-    let left = map step_value (drop (i + 1) steps) in
-    let s = state_of c.loop-step.sandbox.now in
-    let cs = c.loop-step.cleanups in
-    let m = c.run_step-mark.result in
-    let new = state_of c.run_step-mark.new.sandbox.now in
-    let new_cleanups = c.run_step-mark.new.cleanups in
-    let all = walk library place (state_of c.args.sandbox.now.now) (map step_value steps) in
-    let start = stand_of c.args.sandbox.now c.args.cleanups.now in
-    let first = c.args.observer.now in
-    let last = c.step.new.self in
-    let ran = subst (λ (x : Site). IsStepRun (one_step library x s (step_value step)) cs m new new_cleanups) c.site_of-site.ensures c.run_step-mark.ensures.ran in
-    let is = drop_next step_value steps i step c.loop-step-test.true c.step-item.is in
-    let here = subst (λ (xs : List StepValue). Goes hears endings.Passed all (walk library place s xs) start (at s cs) endings.Passed first c.loop-step.observer) is c.loop-step.invariant.goes in
-    let gone = walk_on hears library place (step_value step) left s new cs new_cleanups m all start first c.loop-step.observer last here ran (λ registered. (last, c.step.ensures registered, refl)) in
-    let ends : has_passed (ending_of m) ≡ false = let a = c.ending_of-ending.ensures in let b = c.has_passed.ensures in let d = c.if-not-has_passed.true in cc in
-    subst (λ (e : Ending). Goes hears endings.Passed all [] start (at new new_cleanups) e first last) (sym c.ending_of-ending.ensures)
-    (subst (λ (b : Bool). Goes hears endings.Passed all (cond b (walk library place new left) []) start (at new new_cleanups) (ending_of m) first last) ends gone)
+    let left = walk (library_value c.args.run.now.library.now) c.args.stage (state_of c.loop-step.sandbox.now) (map step_value (drop c.loop-step.step-index c.args.steps.now)) in
+    with_rest [] c.loop-step.invariant.goes (λ _. ap (λ (b : Bool). cond b left []) (sym c.has_passed.ensures ∙ c.if-not-has_passed.true))
 
 pub returns-clause-walked : goal.returns-clause-walked
 returns-clause-walked g c =
-    let library = library_value c.args.run.now.library.now in
-    let s = state_of c.loop-step.sandbox.now in
-    let all = walk library c.args.stage (state_of c.args.sandbox.now.now) (map step_value c.args.steps.now) in
-    subst (λ (xs : List StepValue). Goes g.O.Observer.hears endings.Passed all (walk library c.args.stage s xs) (stand_of c.args.sandbox.now c.args.cleanups.now) (stand_of c.loop-step.sandbox c.loop-step.cleanups) endings.Passed c.args.observer.now c.loop-step.observer)
-    (drop_none step_value c.args.steps.now c.loop-step.step-index c.loop-step-test.false) c.loop-step.invariant.goes
+    let walked = walk (library_value c.args.run.now.library.now) c.args.stage (state_of c.loop-step.sandbox.now) in
+    with_rest [] c.loop-step.invariant.goes
+    (λ _. nothing_after (has_passed c.loop-step.ending) (walked (map step_value (drop c.loop-step.step-index c.args.steps.now))) (ap walked (drop_none step_value c.args.steps.now c.loop-step.step-index c.loop-step-test.false)))
