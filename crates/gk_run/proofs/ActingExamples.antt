@@ -1,7 +1,6 @@
 -- Worked examples of the table of actions, with the results that the rules state.
-use Rattle.std.specs.Prelude.{ℤ, pos, negsuc, Option, Some, None, codes}
 use Rattle.std.specs.Fmt.{digits}
-use Rattle.std.proofs.Common.{◌≡◌, ℕ, Bool, true, false, List, [], ◌∷◌, map, refl, ap}
+use Rattle.std.proofs.Common.{◌≡◌, ℕ, Bool, true, false, List, [], ◌∷◌, map, refl, ap, ℤ, pos, negsuc, Option, Some, None, codes}
 use Rattle.gk_gherkin.specs.Feature.{BlockValue, Empty, Text, Table}
 use Rattle.gk_steps.specs.declared.action.Action.{Action}
 use Rattle.gk_steps.specs.declared.action.Action.TheVariants as actions

@@ -4,8 +4,7 @@ use Rattle.std.specs.FinMap as finite
 use Rattle.std.specs.FinMap.{get-insert, get-remove}
 use Rattle.std.specs.Str.Parse.{signed_digits_value, without_leading_sign}
 use Rattle.std.specs.Fmt.{signed_decimal}
-use Rattle.std.proofs.Common.{inl, inr, ◌≢◌, ◌≤◌, Vec, Global, vec_len, get_or, drop-cons, add-one, w64, ◌≡◌, ℕ, suc, ◌+◌, ◌<◌, Bool, true, false, List, [], ◌∷◌, length, drop, refl, sym, ap, subst, ◌∙◌, arith}
-use Rattle.std.proofs.lemmas.Bool.{eqb-true, leb-true, le-leb, true≢false}
+use Rattle.std.proofs.Common.{inl, inr, ◌≢◌, ◌≤◌, Vec, Global, vec_len, get_or, drop-cons, add-one, w64, ◌≡◌, ℕ, suc, ◌+◌, ◌<◌, Bool, true, false, List, [], ◌∷◌, length, drop, refl, sym, ap, subst, ◌∙◌, arith, eqb-true, leb-true, le-leb, true≢false}
 use Rattle.std.proofs.lemmas.Bool.Decides.{Decides-ltb}
 use Rattle.std.proofs.lemmas.List.{append-nil, length-map, drop_all}
 use Rattle.std.proofs.lemmas.Fmt.{length_signed_le}

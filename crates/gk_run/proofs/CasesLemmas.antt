@@ -1,8 +1,7 @@
 -- Cases, one after another.
-use Rattle.std.specs.List.{list_any}
-use Rattle.std.specs.Prelude.{Err, IfOk, None, Ok, Result, Some}
-use Rattle.std.proofs.Common.{◌⊎◌, inl, inr, Bool, List, [], ap, append_assoc, arith, cond, drop, false, get_or, length, map, refl, suc, subst, sym, true, ℕ, ◌&&◌, ◌++◌, ◌+◌, ◌<◌, ◌≤◌, ◌||◌, ◌∙◌, ◌∷◌, ◌≡◌}
-use Rattle.std.proofs.lemmas.List.{append-nil, at_drop_all, at_drop_more, map_push}
+use Rattle.std.specs.List.{FoldsTo, list_any}
+use Rattle.std.proofs.Common.{◌⊎◌, inl, inr, Bool, List, [], ap, append_assoc, arith, cond, false, length, map, refl, suc, subst, sym, true, ℕ, ◌&&◌, ◌++◌, ◌+◌, ◌<◌, ◌||◌, ◌∙◌, ◌∷◌, ◌≡◌, Err, IfOk, None, Ok, Result, Some, Vec, Global, eq-eqb}
+use Rattle.std.proofs.lemmas.List.{append-nil, map_push}
 use Rattle.gk_gherkin.specs.Feature.{StepValue}
 use Rattle.gk_select.specs.declared.case.Case.{Case}
 use Rattle.gk_world.specs.State.{State}
@@ -15,7 +14,6 @@ use Rattle.gk_run.specs.Run.{Run}
 use Rattle.gk_run.specs.Running.{AreEventsTold, alone, reached_row, unrun_row, unreached_row, unselected_row, same_marks}
 use Rattle.gk_run.specs.Walk.{row_of_step, rows_of_steps}
 use Rattle.gk_run.specs.Chosen.{MemberValue, has_selected, member_of, members_of}
-use Rattle.std.specs.List.{FoldsTo}
 use Rattle.gk_run.specs.Cases.{all_stay_open, case_events, case_of, cases_of, stays_open}
 use Rattle.gk_run.specs.Events.{Event}
 use Rattle.gk_run.specs.FeatureContracts.{AreCases, IsMember, RunsCases, TakesMember, members_in}
@@ -26,10 +24,7 @@ use Rattle.gk_run.specs.Grouping.{falls_from, members_of_rank}
 use Rattle.gk_run.proofs.GroupingLemmas.{and_left, first_of_rank, none_of_rank, not_of_rank}
 use Rattle.gk_run.specs.declared.cases.Cases.{Cases}
 use Rattle.gk_run.specs.declared.cases.Member.{Member}
-use Rattle.std.specs.Prelude.{Vec}
-use Rattle.std.specs.declared.alloc.Global.{Global}
 use Rattle.gk_select.specs.RuleOrder as order
-use Rattle.std.proofs.lemmas.Bool.{eq-eqb}
 use Rattle.gk_run.specs.declared.results.RuleResult.{RuleResult}
 use Rattle.gk_run.specs.Results.{CaseRow, RuleRow, StepRow, case_row, rule_row}
 use Rattle.gk_run.specs.Section.{Cut, happened, in_order, nowhere}
@@ -49,29 +44,6 @@ arounds_any p (r ∷ rs) = ap (λ b. p r.around || b) (arounds_any p rs)
 pub around_or : (p : Status → Bool) (rules : List RuleResult) (around : Status) (a b both : Bool) → a ≡ p around → b ≡ list_any (λ (r : RuleResult). p r.around) rules → both ≡ (a || b) →
     both ≡ list_any p (around ∷ map (λ (row : RuleRow). row.around) (map rule_row rules))
 around_or p rules around a b both first others is = is ∙ ap (λ x. x || b) first ∙ ap (λ x. p around || x) (others ∙ sym (arounds_any p rules))
-
--- the same of the cases so far, and of those that are left
-abbrev pub GoesAny : (Status → Bool) → List CaseResult → ℕ → Bool → Bool → Type 0
-GoesAny p cases i so_far whole = (so_far || list_any (λ (c : CaseResult). p c.status) (drop i cases)) ≡ whole
-
-or_assoc : (a b c : Bool) → ((a || b) || c) ≡ (a || (b || c))
-or_assoc true b c = refl
-or_assoc false b c = refl
-
-or_false : (a : Bool) → (a || false) ≡ a
-or_false true = refl
-or_false false = refl
-
-pub any_on : (p : Status → Bool) (cases : List CaseResult) (i : ℕ) (c : CaseResult) (so_far this next whole : Bool) → i < length cases → c ≡ get_or cases i c → this ≡ p c.status → next ≡ (so_far || this) →
-    GoesAny p cases i so_far whole → GoesAny p cases (i + 1) next whole
-any_on p cases i c so_far this next whole lt is here nexts goes =
-    let P : CaseResult → Bool = λ x. p x.status in
-    let left = list_any P (drop (i + 1) cases) in
-    ap (λ b. b || left) nexts ∙ ap (λ b. (so_far || b) || left) here ∙ or_assoc so_far (p c.status) left ∙ ap (λ (x : CaseResult). so_far || (p x.status || left)) is
-    ∙ sym (at_drop_more (λ xs. so_far || list_any P xs) cases i c lt) ∙ goes
-
-pub any_done : (p : Status → Bool) (cases : List CaseResult) (i : ℕ) (so_far whole : Bool) → length cases ≤ i → GoesAny p cases i so_far whole → so_far ≡ whole
-any_done p cases i so_far whole le goes = sym (or_false so_far) ∙ sym (at_drop_all (λ xs. so_far || list_any (λ (x : CaseResult). p x.status) xs) cases i le) ∙ goes
 
 pub selected_any : (cases : List Case) (selected : List Bool) → length selected ≡ length cases → has_selected (members_of cases selected) ≡ list_any (λ (s : Bool). s) selected
 selected_any [] [] h = refl
@@ -104,50 +76,36 @@ without_marks (step ∷ steps) = ap (λ rs. row_of_step step Untested ∷ rs) (w
 
 -- ---- a case
 
-pub unselected_is : (run : Run) (section : State) (is_open : Bool) (m : MemberValue) (row : CaseRow) → m.selected ≡ false → row ≡ unrun_row m.scenario statuses.Skipped (same_marks Skipped m.scenario) → row ≡ case_of run section is_open nowhere m
-unselected_is run section is_open m row h e =
+-- the result of a case, and what was told of it, by whether it is selected and whether its section is open
+member_by : {S : Type 0} (hears : S → Event → S → Type 0) (run : Run) (section : State) (is_open : Bool) (cut : Cut) (m : MemberValue) (row : CaseRow) (first last : S) (selected opens : Bool) → m.selected ≡ selected → is_open ≡ opens →
+    row ≡ cond selected (cond opens (reached_row run section cut m.scenario) (unreached_row m.scenario)) (unselected_row m.scenario) →
+    FoldsTo hears first (cond (selected && opens) (in_order (happened cut (alone run section m.scenario))) []) last →
+    (cut : Cut) × (row ≡ case_of run section is_open cut m) × FoldsTo hears first (case_events run section is_open cut m) last
+member_by hears run section is_open cut m row first last selected opens h o is told =
     let c = m.scenario in
-    e ∙ ap (λ (b : Bool). cond b (cond is_open (reached_row run section nowhere c) (unreached_row c)) (unselected_row c)) (sym h)
-
-pub unreached_is : (run : Run) (section : State) (is_open : Bool) (m : MemberValue) (row : CaseRow) → m.selected ≡ true → is_open ≡ false → row ≡ unrun_row m.scenario statuses.Untested (same_marks Untested m.scenario) → row ≡ case_of run section is_open nowhere m
-unreached_is run section is_open m row h o e =
-    let c = m.scenario in
-    let with_rows : List StepRow → CaseRow = λ rows. record { keyword = c.keyword; name = c.name; line = c.line; status = statuses.Untested; around = statuses.Passed; cleanups = []; steps = rows } in
-    e ∙ ap with_rows (sym (without_marks c.steps)) ∙ ap (λ (b : Bool). cond b (reached_row run section nowhere c) (unreached_row c)) (sym o)
-    ∙ ap (λ (b : Bool). cond b (cond is_open (reached_row run section nowhere c) (unreached_row c)) (unselected_row c)) (sym h)
-
-pub reached_is : (run : Run) (section : State) (is_open : Bool) (cut : Cut) (m : MemberValue) (row : CaseRow) → m.selected ≡ true → is_open ≡ true → row ≡ reached_row run section cut m.scenario → row ≡ case_of run section is_open cut m
-reached_is run section is_open cut m row h o is =
-    let c = m.scenario in
-    let x = reached_row run section cut c in
-    is ∙ ap (λ (b : Bool). cond b x (unreached_row c)) (sym o) ∙ ap (λ (b : Bool). cond b (cond is_open x (unreached_row c)) (unselected_row c)) (sym h)
+    let Is : Bool → Bool → Type 0 = λ s b. (row ≡ cond s (cond b (reached_row run section cut c) (unreached_row c)) (unselected_row c)) × FoldsTo hears first (cond (s && b) (in_order (happened cut (alone run section c))) []) last in
+    let both = subst (λ (b : Bool). Is m.selected b) (sym o) (subst (λ (s : Bool). Is s opens) (sym h) (is, told)) in
+    (cut, both.0, both.1)
 
 -- nothing happens in an unselected case
 pub member_unselected : {S : Type 0} (hears : S → Event → S → Type 0) (run : Run) (now : State) (is_open : Bool) (m : MemberValue) (row : CaseRow) (first : S) → m.selected ≡ false → row ≡ unrun_row m.scenario statuses.Skipped (same_marks Skipped m.scenario) →
     IsMember hears run now is_open m row first first
-member_unselected hears run now is_open m row first h e section opens =
-    let events = in_order (happened nowhere (alone run section m.scenario)) in
-    (nowhere, unselected_is run section is_open m row h e, subst (λ (b : Bool). FoldsTo hears first (cond (b && is_open) events []) first) (sym h) refl)
+member_unselected hears run now is_open m row first h e section opens = member_by hears run section is_open nowhere m row first first false is_open h refl e refl
 
 -- nor in one that isn't reached
 pub member_unreached : {S : Type 0} (hears : S → Event → S → Type 0) (run : Run) (now : State) (is_open : Bool) (m : MemberValue) (row : CaseRow) (first : S) → m.selected ≡ true → is_open ≡ false → row ≡ unrun_row m.scenario statuses.Untested (same_marks Untested m.scenario) →
     IsMember hears run now is_open m row first first
 member_unreached hears run now is_open m row first h o e section opens =
-    let events = in_order (happened nowhere (alone run section m.scenario)) in
-    (nowhere, unreached_is run section is_open m row h o e, subst (λ (b : Bool). FoldsTo hears first (cond (b && is_open) events []) first) (sym h) (subst (λ (b : Bool). FoldsTo hears first (cond b events []) first) (sym o) refl))
+    let c = m.scenario in
+    let with_rows : List StepRow → CaseRow = λ rows. record { keyword = c.keyword; name = c.name; line = c.line; status = statuses.Untested; around = statuses.Passed; cleanups = []; steps = rows } in
+    member_by hears run section is_open nowhere m row first first true false h o (e ∙ ap with_rows (sym (without_marks c.steps))) refl
 
 pub member_reached : {S : Type 0} (hears : S → Event → S → Type 0) (run : Run) (now : State) (is_open : Bool) (m : MemberValue) (row : CaseRow) (first last : S) → m.selected ≡ true → is_open ≡ true → AreEventsTold hears run now m.scenario row first last →
     IsMember hears run now is_open m row first last
 member_reached hears run now is_open m row first last h o told section opens =
     let here = subst (λ (s : State). AreEventsTold hears run s m.scenario row first last) (opens o) told in
-    let events = in_order (happened here.cut (alone run section m.scenario)) in
-    (here.cut, reached_is run section is_open here.cut m row h o here.is, subst (λ (b : Bool). FoldsTo hears first (cond (b && is_open) events []) last) (sym h) (subst (λ (b : Bool). FoldsTo hears first (cond b events []) last) (sym o) here.told))
+    member_by hears run section is_open here.cut m row first last true true h o here.is here.told
 
-pub if_ok : {A E : Type 0} (P Q : A → Type 0) (x : Result A E) → ((a : A) → P a → Q a) → IfOk x P → IfOk x Q
-if_ok P Q (Ok a) f h = f a h
-if_ok P Q (Err e) f h = h
-
--- the same from a fact that is given first
 pub of_ok : {A E : Type 0} {P : A → Type 0} (Q : A → Type 0) (x : Result A E) → IfOk x P → ((a : A) → P a → Q a) → IfOk x Q
 of_ok Q (Ok a) h f = f a h
 of_ok Q (Err e) h f = h

@@ -1,7 +1,6 @@
 -- How lists of marks end.
 use Rattle.std.specs.List.{list_any}
-use Rattle.std.proofs.Common.{Bool, List, ap, cond, false, refl, sym, true, ◌++◌, ◌||◌, ◌∙◌, ◌≡◌}
-use Rattle.std.proofs.lemmas.Bool.{true≢false}
+use Rattle.std.proofs.Common.{Bool, List, ap, cond, false, refl, sym, true, ◌++◌, ◌||◌, ◌∙◌, ◌≡◌, true≢false}
 use Rattle.std.proofs.lemmas.List.Folds.{list_any-append}
 use Rattle.gk_run.specs.declared.ending.Ending.{Ending}
 use Rattle.gk_run.specs.declared.ending.Ending.TheVariants as endings

@@ -1,7 +1,7 @@
 -- How events end, where they are cut, and where they leave a section.
 use Rattle.std.specs.List.{FoldsTo, list_any}
-use Rattle.std.proofs.Common.{List, [], ap, cond, refl, subst, suc, sym, true, zero, ℕ, ◌++◌, ◌||◌, ◌∙◌, ◌∷◌, ◌≡◌}
-use Rattle.std.proofs.lemmas.Bool.{true≢false}
+use Rattle.std.proofs.Common.{List, [], ap, cond, length, refl, subst, suc, sym, true, zero, ℕ, ◌++◌, ◌||◌, ◌∙◌, ◌∷◌, ◌≡◌, true≢false}
+use Rattle.std.proofs.lemmas.List.{map-append}
 use Rattle.gk_world.specs.State.{State}
 use Rattle.gk_run.specs.declared.ending.Ending.TheVariants as endings
 use Rattle.gk_run.specs.Ending.{ended_of, is_bad_mark, is_memory_mark, is_skip_mark, worse}
@@ -9,12 +9,8 @@ use Rattle.gk_run.specs.Events.{Event, Stand, after_event, cut_at, ended_in, eve
 use Rattle.gk_run.specs.Section.{has_event}
 use Rattle.gk_run.proofs.EndingLemmas.{ended_append, or_true, worse_memory}
 
-pub marks_append : (xs ys : List Event) → event_marks (xs ++ ys) ≡ event_marks xs ++ event_marks ys
-marks_append [] ys = refl
-marks_append (x ∷ xs) ys = ap (λ ms. mark_of x ∷ ms) (marks_append xs ys)
-
 pub ended_both : (xs ys : List Event) → ended_in (xs ++ ys) ≡ worse (ended_in xs) (ended_in ys)
-ended_both xs ys = ap ended_of (marks_append xs ys) ∙ ended_append (event_marks xs) (event_marks ys)
+ended_both xs ys = ap ended_of (map-append mark_of xs ys) ∙ ended_append (event_marks xs) (event_marks ys)
 
 -- where one part ends with memory, all do
 pub first_refused : (xs ys : List Event) → ended_in xs ≡ endings.Memory → ended_in (xs ++ ys) ≡ endings.Memory
@@ -39,15 +35,11 @@ heard_both hears a (x ∷ xs) b ys c p q = (p.0, p.1, heard_both hears p.0 xs b 
 
 -- ---- where events are cut
 
-abbrev pub count : List Event → ℕ
-count [] = zero
-count (x ∷ xs) = suc (count xs)
-
-pub place_there : (front : List Event) (event : Event) (rest : List Event) → has_event (count front) (front ++ event ∷ rest) ≡ true
+pub place_there : (front : List Event) (event : Event) (rest : List Event) → has_event (length front) (front ++ event ∷ rest) ≡ true
 place_there [] event rest = refl
 place_there (x ∷ front) event rest = place_there front event rest
 
-pub cut_there : (s : State) (front : List Event) (event : Event) (rest : List Event) → front ++ refused s event ∷ [] ≡ cut_at (count front) s (front ++ event ∷ rest)
+pub cut_there : (s : State) (front : List Event) (event : Event) (rest : List Event) → front ++ refused s event ∷ [] ≡ cut_at (length front) s (front ++ event ∷ rest)
 cut_there s [] event rest = refl
 cut_there s (x ∷ front) event rest = ap (λ xs. x ∷ xs) (cut_there s front event rest)
 

@@ -1,6 +1,5 @@
 -- What is inside of a feature, and what it comes to.
-use Rattle.std.proofs.Common.{Bool, List, [], ap, arith, false, flat_map, map, subst, suc, sym, true, zero, ℕ, ◌&&◌, ◌++◌, ◌<◌, ◌≤◌, ◌∙◌, ◌≡◌}
-use Rattle.std.proofs.lemmas.List.{append-nil}
+use Rattle.std.proofs.Common.{Bool, List, [], ap, arith, false, flat_map, map, subst, suc, sym, true, zero, ℕ, ◌&&◌, ◌++◌, ◌<◌, ◌≤◌, ◌∙◌, ◌≡◌, append-nil}
 use Rattle.gk_world.specs.State.{State}
 use Rattle.gk_run.specs.declared.cases.Cases.{Cases}
 use Rattle.gk_run.specs.declared.results.RuleResult.{RuleResult}

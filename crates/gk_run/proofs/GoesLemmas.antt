@@ -1,7 +1,5 @@
 -- What happens in a section, one part after another.
-use Rattle.std.proofs.Common.{Bool, List, [], ap, append_assoc, cond, false, refl, subst, sym, true, ◌++◌, ◌||◌, ◌∙◌, ◌∷◌, ◌≡◌}
-use Rattle.std.proofs.lemmas.Bool.{true≢false}
-use Rattle.std.proofs.lemmas.List.{append-nil}
+use Rattle.std.proofs.Common.{Bool, List, [], ap, append_assoc, cond, false, refl, subst, sym, true, ◌++◌, ◌||◌, ◌∙◌, ◌∷◌, ◌≡◌, true≢false, append-nil}
 use Rattle.gk_run.specs.declared.ending.Ending.{Ending}
 use Rattle.gk_run.specs.declared.ending.Ending.TheVariants as endings
 use Rattle.gk_run.specs.Ending.{has_passed, is_memory_ending, worse}

@@ -1,7 +1,6 @@
 -- Cases by their rules.
-use Rattle.std.specs.Prelude.{nat_eq, nat_le, flat_map, slice_index_or, MatchOption, Option, Some, None}
 use Rattle.std.specs.Slice.{IsItemAt}
-use Rattle.std.proofs.Common.{Bool, Bor, List, drop, get_or, [], ap, arith, cond, false, length, map, refl, subst, sym, true, suc, ℕ, ◌&&◌, ◌++◌, ◌+◌, ◌<◌, ◌≤◌, ◌∙◌, ◌∷◌, ◌≡◌}
+use Rattle.std.proofs.Common.{Bool, Bor, List, drop, get_or, [], ap, arith, cond, false, length, map, refl, subst, sym, true, suc, ℕ, ◌&&◌, ◌++◌, ◌+◌, ◌<◌, ◌≤◌, ◌∙◌, ◌∷◌, ◌≡◌, nat_eq, nat_le, flat_map, slice_index_or, MatchOption, Option, Some, None}
 use Rattle.std.proofs.lemmas.Bool.{eq-eqb, eqb-false, eqb-true, le-leb, leb-true, ne_eqb, true≢false}
 use Rattle.std.proofs.lemmas.List.{drop_all, drop_more, get_or_default, length-map}
 use Rattle.gk_select.specs.declared.case.Case.{Case}

@@ -1,7 +1,6 @@
 -- Judged results are those of which the words hold.
 use Rattle.std.specs.List.{list_all}
-use Rattle.std.proofs.Common.{All, Bool, Decides, List, Some, [], ap, arith, cond, false, flat_map, not, refl, slice_get, subst, suc, sym, take, true, unwrap_or, zero, ℕ, ◌&&◌, ◌++◌, ◌↔◌, ◌∙◌, ◌∷◌, ◌≡◌}
-use Rattle.std.proofs.lemmas.Bool.{true≢false}
+use Rattle.std.proofs.Common.{All, Bool, Decides, List, Some, [], ap, arith, cond, false, flat_map, not, refl, slice_get, subst, suc, sym, take, true, unwrap_or, zero, ℕ, ◌&&◌, ◌++◌, ◌↔◌, ◌∙◌, ◌∷◌, ◌≡◌, true≢false}
 use Rattle.std.proofs.lemmas.Bool.Decides.{Decides-and, Decides-at, Decides-by_and, Decides-like}
 use Rattle.std.proofs.lemmas.Option.{none-some, same_Some}
 use Rattle.gk_steps.specs.Finding.{LibraryValue}
@@ -26,6 +25,7 @@ use Rattle.gk_run.specs.Run.{Run}
 use Rattle.gk_run.specs.Running.{reached_row, unreached_row, unselected_row}
 use Rattle.gk_run.specs.Section.{Cut, Events, around_of, before_passed, happened, nowhere}
 use Rattle.gk_run.specs.Walk.{row_of_step, rows_of_steps}
+use Rattle.gk_run.proofs.CasesLemmas.{and_assoc, and_true}
 use Rattle.gk_run.proofs.JudgedLemmas.{results_by}
 
 -- ---- flags
@@ -47,18 +47,10 @@ flag_at keeps b zero rows = b
 flag_at keeps b (suc k) [] = b
 flag_at keeps b (suc k) (row ∷ rows) = flag_at keeps (b && keeps row) k rows
 
-and_true : (b : Bool) → b ≡ (b && true)
-and_true true = refl
-and_true false = refl
-
-and_assoc : (a b c : Bool) → ((a && b) && c) ≡ (a && (b && c))
-and_assoc true b c = refl
-and_assoc false b c = refl
-
 -- it says that the first one holds and each earlier element keeps it
 flag_is : {R : Type 0} (keeps : R → Bool) (b : Bool) (k : ℕ) (rows : List R) → flag_at keeps b k rows ≡ (b && list_all keeps (take k rows))
-flag_is keeps b zero rows = and_true b
-flag_is keeps b (suc k) [] = and_true b
+flag_is keeps b zero rows = sym (and_true b)
+flag_is keeps b (suc k) [] = sym (and_true b)
 flag_is keeps b (suc k) (row ∷ rows) = flag_is keeps (b && keeps row) k rows ∙ and_assoc b (keeps row) (list_all keeps (take k rows))
 
 -- what stays open unless the run is to stop

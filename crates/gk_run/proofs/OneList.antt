@@ -1,7 +1,7 @@
 -- Without a memory mark there is one list only.
 use Rattle.std.specs.List.{list_any}
-use Rattle.std.proofs.Common.{Bool, List, [], ap, cond, false, map, refl, subst, sym, true, ℕ, ◌&&◌, ◌++◌, ◌||◌, ◌∙◌, ◌∷◌, ◌≡◌}
-use Rattle.std.proofs.lemmas.Bool.{true≢false}
+use Rattle.std.proofs.Common.{Bool, List, [], ap, cond, false, map, refl, subst, sym, true, ℕ, ◌&&◌, ◌++◌, ◌||◌, ◌∙◌, ◌∷◌, ◌≡◌, true≢false}
+use Rattle.std.proofs.lemmas.List.Folds.{list_any-append}
 use Rattle.gk_select.specs.Case.{CaseValue}
 use Rattle.gk_steps.specs.Finding.{LibraryValue}
 use Rattle.gk_world.specs.State.{State, state_of}
@@ -35,10 +35,6 @@ or_left true b h = h
 or_right : (a b : Bool) → (a || b) ≡ false → b ≡ false
 or_right false b h = h
 or_right true b h = absurd (true≢false h)
-
-or_all : (a b : Bool) → a ≡ false → b ≡ false → (a || b) ≡ false
-or_all false b h k = k
-or_all true b h k = h
 
 -- a cut is none unless what happened has an ending in memory
 uncut_by : (b : Bool) (now e : Events) (f : Events → Ending) → (b ≡ true → f now ≡ endings.Memory) → (f (cond b now e) ≡ endings.Memory → ⊥) → cond b now e ≡ e
@@ -130,12 +126,10 @@ section_kept {A} run level tags outside is_begun cut inside uncut_inside h same 
     ap with_inside same ∙ ap whole (happened_kept run level tags outside is_begun cut h)
 
 append_left : (xs ys : List CaseRow) → list_any is_memory_case (xs ++ ys) ≡ false → list_any is_memory_case xs ≡ false
-append_left [] ys h = refl
-append_left (x ∷ xs) ys h = or_all (is_memory_case x) (list_any is_memory_case xs) (or_left (is_memory_case x) (list_any is_memory_case (xs ++ ys)) h) (append_left xs ys (or_right (is_memory_case x) (list_any is_memory_case (xs ++ ys)) h))
+append_left xs ys h = or_left (list_any is_memory_case xs) (list_any is_memory_case ys) (sym (list_any-append is_memory_case xs ys) ∙ h)
 
 append_right : (xs ys : List CaseRow) → list_any is_memory_case (xs ++ ys) ≡ false → list_any is_memory_case ys ≡ false
-append_right [] ys h = h
-append_right (x ∷ xs) ys h = append_right xs ys (or_right (is_memory_case x) (list_any is_memory_case (xs ++ ys)) h)
+append_right xs ys h = or_right (list_any is_memory_case xs) (list_any is_memory_case ys) (sym (list_any-append is_memory_case xs ys) ∙ h)
 
 -- a rule
 rule_kept : (run : Run) (outside : State) (is_open : Bool) (cuts : RuleCuts) (g : Group) →

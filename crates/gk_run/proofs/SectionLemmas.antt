@@ -1,7 +1,6 @@
 -- What the parts of a section come to together: there is a cut that gives all of it.
 use Rattle.std.specs.List.{FoldsTo}
-use Rattle.std.proofs.Common.{Bool, List, [], ap, cond, false, refl, subst, sym, true, ℕ, ◌++◌, ◌∙◌, ◌≡◌}
-use Rattle.std.proofs.lemmas.Bool.{true≢false}
+use Rattle.std.proofs.Common.{Bool, List, [], ap, cond, false, length, refl, subst, sym, true, ℕ, ◌++◌, ◌∙◌, ◌≡◌, true≢false}
 use Rattle.gk_select.specs.Case.{CaseValue}
 use Rattle.gk_world.specs.Sandbox.{SandboxValue}
 use Rattle.gk_world.specs.State.{State, state_of}
@@ -24,17 +23,17 @@ use Rattle.gk_run.specs.SectionHooks.{after_lists, begun, entered, walk_each}
 use Rattle.gk_run.specs.Walk.{rows_of_steps, steps_from}
 use Rattle.gk_run.specs.WalkContracts.{Happens, IsClosing}
 use Rattle.gk_run.proofs.EndingLemmas.{passed_unrefused, worse_assoc}
-use Rattle.gk_run.proofs.EventLemmas.{count, cut_there, ended_both, heard_both, place_there}
+use Rattle.gk_run.proofs.EventLemmas.{cut_there, ended_both, heard_both, place_there}
 use Rattle.gk_run.proofs.GoesLemmas.{all_told, stays_refused}
 use Rattle.gk_run.proofs.WalkLemmas.{at}
 
 -- ---- four parts and their cut
 
-cut_place : (all told : List Event) (c : IsCutOff all told) → has_event (count c.front) all ≡ true
-cut_place all told c = ap (has_event (count c.front)) c.whole ∙ place_there c.front c.event c.rest
+cut_place : (all told : List Event) (c : IsCutOff all told) → has_event (length c.front) all ≡ true
+cut_place all told c = ap (has_event (length c.front)) c.whole ∙ place_there c.front c.event c.rest
 
-cut_told : (all told : List Event) (c : IsCutOff all told) → told ≡ cut_at (count c.front) c.left all
-cut_told all told c = c.cut ∙ cut_there c.left c.front c.event c.rest ∙ ap (cut_at (count c.front) c.left) (sym c.whole)
+cut_told : (all told : List Event) (c : IsCutOff all told) → told ≡ cut_at (length c.front) c.left all
+cut_told all told c = c.cut ∙ cut_there c.left c.front c.event c.rest ∙ ap (cut_at (length c.front) c.left) (sym c.whole)
 
 -- the cut of events that there are
 cut_is : (b : Bool) (x y : Events) → b ≡ true → x ≡ cond b x y
@@ -54,23 +53,23 @@ parts_are xs xs' ys ys' zs zs' ws ws' p q r s = ap (λ x. parts x ys zs ws) p �
 pub parts_cut : (all : Events) (xs ys zs ws : List Event) (b1 b2 b3 b4 : Bool) → (b1 ≡ true → b2 ≡ true) → (b2 ≡ true → b3 ≡ true) → (b3 ≡ true → b4 ≡ true) →
     SoFar false b1 all.before [] xs → SoFar b1 b2 all.steps [] ys → SoFar b2 b3 all.after [] zs → SoFar b3 b4 all.cleanups [] ws → IsCut all (parts xs ys zs ws)
 parts_cut all xs ys zs ws true true true true k l m p q r s = (
-  in_before (count p.front) p.left,
-  parts_are xs (cut_at (count p.front) p.left all.before) ys [] zs [] ws [] (cut_told all.before xs p) q r s ∙ cut_is (has_event (count p.front) all.before) (parts (cut_at (count p.front) p.left all.before) [] [] []) all (cut_place all.before xs p),
+  in_before (length p.front) p.left,
+  parts_are xs (cut_at (length p.front) p.left all.before) ys [] zs [] ws [] (cut_told all.before xs p) q r s ∙ cut_is (has_event (length p.front) all.before) (parts (cut_at (length p.front) p.left all.before) [] [] []) all (cut_place all.before xs p),
 )
 parts_cut all xs ys zs ws false true true true k l m p q r s = (
-  in_steps (count q.front) q.left,
-  parts_are xs all.before ys (cut_at (count q.front) q.left all.steps) zs [] ws [] (all_told false all.before xs refl p) (cut_told all.steps ys q) r s
-      ∙ cut_is (has_event (count q.front) all.steps) (parts all.before (cut_at (count q.front) q.left all.steps) [] []) all (cut_place all.steps ys q),
+  in_steps (length q.front) q.left,
+  parts_are xs all.before ys (cut_at (length q.front) q.left all.steps) zs [] ws [] (all_told false all.before xs refl p) (cut_told all.steps ys q) r s
+      ∙ cut_is (has_event (length q.front) all.steps) (parts all.before (cut_at (length q.front) q.left all.steps) [] []) all (cut_place all.steps ys q),
 )
 parts_cut all xs ys zs ws false false true true k l m p q r s = (
-  in_after (count r.front) r.left,
-  parts_are xs all.before ys all.steps zs (cut_at (count r.front) r.left all.after) ws [] (all_told false all.before xs refl p) (all_told false all.steps ys refl q) (cut_told all.after zs r) s
-      ∙ cut_is (has_event (count r.front) all.after) (parts all.before all.steps (cut_at (count r.front) r.left all.after) []) all (cut_place all.after zs r),
+  in_after (length r.front) r.left,
+  parts_are xs all.before ys all.steps zs (cut_at (length r.front) r.left all.after) ws [] (all_told false all.before xs refl p) (all_told false all.steps ys refl q) (cut_told all.after zs r) s
+      ∙ cut_is (has_event (length r.front) all.after) (parts all.before all.steps (cut_at (length r.front) r.left all.after) []) all (cut_place all.after zs r),
 )
 parts_cut all xs ys zs ws false false false true k l m p q r s = (
-  in_cleanups (count s.front) s.left,
-  parts_are xs all.before ys all.steps zs all.after ws (cut_at (count s.front) s.left all.cleanups) (all_told false all.before xs refl p) (all_told false all.steps ys refl q) (all_told false all.after zs refl r) (cut_told all.cleanups ws s)
-      ∙ cut_is (has_event (count s.front) all.cleanups) (parts all.before all.steps all.after (cut_at (count s.front) s.left all.cleanups)) all (cut_place all.cleanups ws s),
+  in_cleanups (length s.front) s.left,
+  parts_are xs all.before ys all.steps zs all.after ws (cut_at (length s.front) s.left all.cleanups) (all_told false all.before xs refl p) (all_told false all.steps ys refl q) (all_told false all.after zs refl r) (cut_told all.cleanups ws s)
+      ∙ cut_is (has_event (length s.front) all.cleanups) (parts all.before all.steps all.after (cut_at (length s.front) s.left all.cleanups)) all (cut_place all.cleanups ws s),
 )
 parts_cut all xs ys zs ws false false false false k l m p q r s = (
   nowhere,
@@ -204,7 +203,7 @@ ready run level tags outside around first last ended ends end = ap has_passed en
 -- a cut of a section that leaves it open, or doesn't, as its before list ended
 pub opened_cut : (es : Events) (first : List Event) (b : Bool) → SoFar false b es.before [] first → (cut : Cut) × (first ≡ (let e = happened cut es in e.before))
 opened_cut es first true h =
-    let n = count h.front in
+    let n = length h.front in
     let now = parts (cut_at n h.left es.before) [] [] [] in
     (in_before n h.left, cut_told es.before first h ∙ ap (λ (x : Events). x.before) (cut_is (has_event n es.before) now es (cut_place es.before first h)))
 opened_cut es first false h = (nowhere, all_told false es.before first refl h)

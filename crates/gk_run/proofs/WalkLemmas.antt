@@ -1,9 +1,8 @@
 -- What the code's steps make of a walk.
 use Rattle.std.specs.List.{FoldsTo}
-use Rattle.std.proofs.Common.{Bool, List, None, Some, [], ap, append_assoc, cond, drop, false, get_or, inl, inr, is_some, length, map, refl, subst, sym, true, ℕ, ◌++◌, ◌+◌, ◌<◌, ◌∙◌, ◌∷◌, ◌≡◌, ◌≤◌, Option, find}
+use Rattle.std.proofs.Common.{Bool, List, None, Some, [], ap, append_assoc, cond, drop, false, get_or, inl, inr, is_some, length, map, refl, subst, sym, true, ℕ, ◌++◌, ◌+◌, ◌<◌, ◌∙◌, ◌∷◌, ◌≡◌, ◌≤◌, Option, find, true≢false}
 use Rattle.std.specs.Option.{option_map_or}
-use Rattle.std.proofs.lemmas.Bool.{true≢false}
-use Rattle.std.proofs.lemmas.List.{append-nil, at_drop_all, at_drop_more}
+use Rattle.std.proofs.lemmas.List.{append-nil, at_drop_all, at_drop_more, map-append}
 use Rattle.gk_gherkin.specs.Feature.{StepValue}
 use Rattle.gk_gherkin.specs.declared.hooks.HookKind.{HookKind}
 use Rattle.gk_gherkin.specs.Hooks.{HookValue, is_for}
@@ -24,14 +23,13 @@ use Rattle.gk_run.specs.declared.section.Level.{Level}
 use Rattle.gk_run.specs.declared.section.Stage.{Stage}
 use Rattle.gk_run.specs.Acting.{Acted as ActedValue, CleanupValue, ArgumentsValue, arguments_of, arguments_by_uses, act, at_site, done_of, files_of, IsDone, HasRegistered, WritesFirst}
 use Rattle.gk_run.specs.Ending.{ending_of, has_passed, is_memory_ending, is_memory_mark, worse}
-use Rattle.gk_run.specs.Events.{Event, SoFar, Stand, ended_in, event_marks, left_by, of_step}
+use Rattle.gk_run.specs.Events.{Event, SoFar, Stand, ended_in, event_marks, left_by, mark_of, of_step}
 use Rattle.gk_run.specs.Results.{StepRow}
 use Rattle.gk_run.specs.Section.{after_of, site_of, steps_of_case}
 use Rattle.gk_run.specs.SectionHooks.{hook_steps, walk_each}
 use Rattle.gk_run.specs.Walk.{IsLookedUp, Stepped, event_of, looked_up, one_step, row_of_step, rows_of_steps, stepped, steps_from, unrun_step, walk}
 use Rattle.gk_run.specs.WalkContracts.{Goes, Happens, IsNext, IsStepRun, step_files, told_next}
 use Rattle.gk_run.proofs.ActingLemmas.{called_is, used_given}
-use Rattle.gk_run.proofs.EventLemmas.{marks_append}
 use Rattle.gk_run.proofs.GoesLemmas.{all_told, begin, behind, chain, unrefused, with_rest}
 
 -- where a section stands
@@ -150,9 +148,7 @@ each_on hears library level xs others mid now ended e all start first here last 
 -- what becomes of the next step, where it happens
 abbrev pub next_marks : Ending → Mark → List Mark
 next_marks endings.Memory m = []
-next_marks endings.Passed m = m ∷ []
-next_marks endings.Failed m = m ∷ []
-next_marks endings.Skipped m = m ∷ []
+next_marks _ m = m ∷ []
 
 -- one step more of a case that stood so
 pub record Next {S : Type 0} (hears : S → Event → S → Type 0) (library : LibraryValue) (stood : Ending) (s new : State) (cs left : List CleanupValue) (step : StepValue) (steps : List StepValue) (m : Mark) (first last : S) : Type 0 where
@@ -263,9 +259,7 @@ next_goes hears library endings.Skipped s new cs left step steps m first last t 
 -- the rows so far, and those of what is left, are those of all by the marks so far
 abbrev pub Shows : Ending → List StepValue → List StepRow → List StepValue → List Mark → Type 0
 Shows endings.Memory left rows all ms = rows ++ rows_of_steps left [] ≡ rows_of_steps all ms
-Shows endings.Passed left rows all ms = (more : List Mark) → rows ++ rows_of_steps left more ≡ rows_of_steps all (ms ++ more)
-Shows endings.Failed left rows all ms = (more : List Mark) → rows ++ rows_of_steps left more ≡ rows_of_steps all (ms ++ more)
-Shows endings.Skipped left rows all ms = (more : List Mark) → rows ++ rows_of_steps left more ≡ rows_of_steps all (ms ++ more)
+Shows _ left rows all ms = (more : List Mark) → rows ++ rows_of_steps left more ≡ rows_of_steps all (ms ++ more)
 
 shown_any : (e : Ending) (left : List StepValue) (rows : List StepRow) (all : List StepValue) (ms : List Mark) → ((more : List Mark) → rows ++ rows_of_steps left more ≡ rows_of_steps all (ms ++ more)) → Shows e left rows all ms
 shown_any endings.Memory left rows all ms h = h [] ∙ ap (rows_of_steps all) (append-nil ms)
@@ -310,7 +304,7 @@ steps_on hears library before start all stood next s new cs left step steps m ro
     let e = worse stood (ending_of m) in
     let goes = with_rest (steps_from library e new steps) (chain one.more so_far.goes (λ _. one.splits) one.goes) one.later in
     let marks : event_marks (so_far.goes.told ++ one.goes.told) ≡ event_marks so_far.goes.told ++ next_marks stood m =
-    marks_append so_far.goes.told one.goes.told ∙ ap (λ ms. event_marks so_far.goes.told ++ ms) one.marks in
+    map-append mark_of so_far.goes.told one.goes.told ∙ ap (λ ms. event_marks so_far.goes.told ++ ms) one.marks in
     let whole : StepsSoFar hears library before start all e (at new left) steps (rows ++ row_of_step step m ∷ []) first last = record {
       goes = goes;
       shown = subst (Shows e steps (rows ++ row_of_step step m ∷ []) all) (sym marks) (shown_next library stood s new cs left step steps all rows (event_marks so_far.goes.told) m t so_far.shown);

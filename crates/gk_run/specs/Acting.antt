@@ -270,15 +270,12 @@ without_cleanups done = record { done = done; registered = [] }
 abbrev pub may_skip : Site → Bool
 may_skip sites.Step = true
 may_skip sites.CaseHook = true
-may_skip sites.Hook = false
-may_skip sites.Cleanup = false
+may_skip _ = false
 
 -- Everything except a cleanup may register a cleanup.
 abbrev pub may_register : Site → Bool
-may_register sites.Step = true
-may_register sites.CaseHook = true
-may_register sites.Hook = true
 may_register sites.Cleanup = false
+may_register _ = true
 
 -- The scenario is skipped. (behave's documentation: skipping scenarios)
 abbrev pub skips : State → Done

@@ -55,9 +55,7 @@ ending_of mark = ended_of (mark ∷ [])
 -- None failed, is undefined or skipped the scenario, and memory was refused in none.
 abbrev pub has_passed : Ending → Bool
 has_passed endings.Passed = true
-has_passed endings.Failed = false
-has_passed endings.Skipped = false
-has_passed endings.Memory = false
+has_passed _ = false
 
 -- The verdict of a scenario whose hooks, steps and cleanups have this ending.
 abbrev pub verdict_status : Ending → Status
@@ -68,29 +66,21 @@ verdict_status endings.Memory = statuses.Memory
 
 -- The status of hooks and cleanups with this ending. A scenario may skip itself in its before hooks; these then passed.
 abbrev pub around_status : Ending → Status
-around_status endings.Passed = statuses.Passed
-around_status endings.Failed = statuses.Failed
 around_status endings.Skipped = statuses.Passed
-around_status endings.Memory = statuses.Memory
+around_status ended = verdict_status ended
 
 -- Proof machinery, from here on: how what comes one after another ends.
 
 -- Memory was refused.
 abbrev pub is_memory_ending : Ending → Bool
 is_memory_ending endings.Memory = true
-is_memory_ending endings.Passed = false
-is_memory_ending endings.Failed = false
-is_memory_ending endings.Skipped = false
+is_memory_ending _ = false
 
 -- The worse of two endings.
 abbrev pub worse : Ending → Ending → Ending
 worse endings.Passed e = e
 worse endings.Memory e = endings.Memory
 worse endings.Failed endings.Memory = endings.Memory
-worse endings.Failed endings.Failed = endings.Failed
-worse endings.Failed endings.Skipped = endings.Failed
-worse endings.Failed endings.Passed = endings.Failed
-worse endings.Skipped endings.Memory = endings.Memory
-worse endings.Skipped endings.Failed = endings.Failed
-worse endings.Skipped endings.Skipped = endings.Skipped
+worse endings.Failed _ = endings.Failed
 worse endings.Skipped endings.Passed = endings.Skipped
+worse endings.Skipped e = e

@@ -5,8 +5,7 @@ use Rattle.std.specs.declared.alloc.Global.{Global}
 use Rattle.gk_gherkin.specs.Feature.{texts}
 use Rattle.gk_select.specs.declared.case.Case.{Case}
 use Rattle.gk_select.specs.RuleOrder as order
-use Rattle.gk_world.specs.Sandbox.{SandboxValue}
-use Rattle.gk_world.specs.State.{State, state_of}
+use Rattle.gk_world.specs.State.{State}
 use Rattle.gk_run.specs.declared.cases.Cases.{Cases}
 use Rattle.gk_run.specs.declared.cases.Member.{Member}
 use Rattle.gk_run.specs.declared.cases.Content.{Content}

@@ -7,13 +7,13 @@ use Rattle.gk_run.specs.declared.ending.Ending.{Ending}
 use Rattle.gk_run.specs.declared.results.Status.{Status}
 use Rattle.gk_run.specs.declared.section.Level.{Level}
 use Rattle.gk_run.specs.Acting.{CleanupValue}
-use Rattle.gk_run.specs.SectionEnd.{closing}
+use Rattle.gk_run.specs.SectionEnd.{cleaned}
 use Rattle.gk_run.specs.Ending.{is_memory_ending}
 use Rattle.gk_run.specs.Events.{Event, SoFar, Stand, ended_in, left_by, stand_of}
 use Rattle.gk_run.specs.Observer.{Ran, happens}
 use Rattle.gk_run.specs.Run.{Run}
 use Rattle.gk_run.specs.Section.{Events, Cut, happened, around_of, before_passed}
-use Rattle.gk_run.specs.SectionHooks.{begun, entered}
+use Rattle.gk_run.specs.SectionHooks.{after_lists, begun, entered, walk_each}
 
 -- The events of a section that starts from the state outside and enters its own layer: its before list; its steps, from how the before list ended and the state that it left; its after lists and its cleanups. (behave's documentation: context layers, environment file functions, cleanups)
 abbrev pub events_with : (Ending → State → List Event) → Run → Level → List (List ℕ) → State → Events
@@ -21,8 +21,9 @@ events_with steps_of run level tags outside =
     let before = begun run.library run.hooks level tags outside in
     let opened = left_by (entered outside) before in
     let steps = steps_of (ended_in before) opened.state in
-    let last = closing run.library run.hooks level tags (left_by opened steps) in
-    record { before = before; steps = steps; after = last.after; cleanups = last.cleanups }
+    let stepped = left_by opened steps in
+    let after = walk_each run.library level stepped (after_lists run.hooks level tags) in
+    record { before = before; steps = steps; after = after; cleanups = cleaned run.library level (left_by stepped after) }
 
 -- The events of a section without its own steps: of the run, a feature or a rule. The sections inside it leave nothing in it. (behave's documentation: context layers)
 abbrev pub section_events : Run → Level → List (List ℕ) → State → Events

@@ -14,10 +14,8 @@ use Rattle.gk_run.specs.Events.{Event, cut_at, ended_in}
 
 -- The site of the steps of a before hook. They may skip only in a scenario's before hook.
 abbrev pub before_site : Level → Site
-before_site levels.Run = sites.Hook
-before_site levels.Feature = sites.Hook
-before_site levels.Rule = sites.Hook
 before_site levels.Scenario = sites.CaseHook
+before_site _ = sites.Hook
 
 -- The site of the steps in a part of a section.
 abbrev pub site_in : Level → Part → Site

@@ -1,13 +1,11 @@
--- The end of a section: its after hooks, and then its cleanups.
-use Rattle.std.specs.Prelude.{List, [], ◌∷◌, reverse, ℕ}
-use Rattle.gk_gherkin.specs.Hooks.{HookValue}
+-- The cleanups of a section.
+use Rattle.std.specs.Prelude.{List, [], ◌∷◌, reverse}
 use Rattle.gk_steps.specs.Finding.{LibraryValue}
 use Rattle.gk_world.specs.State.{State}
 use Rattle.gk_run.specs.declared.acting.Site.TheVariants as sites
 use Rattle.gk_run.specs.declared.section.Level.{Level}
 use Rattle.gk_run.specs.Acting.{CleanupValue, Done, done_of, act}
-use Rattle.gk_run.specs.Events.{Event, of_cleanup, Stand, left_by}
-use Rattle.gk_run.specs.SectionHooks.{after_lists, walk_each}
+use Rattle.gk_run.specs.Events.{Event, of_cleanup, Stand}
 
 -- What a cleanup leaves.
 abbrev pub cleanup_done : LibraryValue → CleanupValue → State → Done
@@ -21,14 +19,3 @@ clean_each library level s (c ∷ cs) = let done = cleanup_done library c s in o
 -- The events of registered cleanups, which run last in, first out. (behave's documentation: cleanups)
 abbrev pub cleaned : LibraryValue → Level → Stand → List Event
 cleaned library level stand = clean_each library level stand.state (reverse stand.cleanups)
-
--- The events of a section's after lists, and those of its cleanups.
-pub record Closing : Type 0 where
-  pub after : List Event
-  pub cleanups : List Event
-
--- The end of a section: its after lists, and then its cleanups. (behave's documentation: cleanups)
-abbrev pub closing : LibraryValue → List HookValue → Level → List (List ℕ) → Stand → Closing
-closing library hooks level tags stand =
-    let after = walk_each library level stand (after_lists hooks level tags) in
-    record { after = after; cleanups = cleaned library level (left_by stand after) }

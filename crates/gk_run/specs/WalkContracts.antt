@@ -98,9 +98,7 @@ TakesNext run ending step old cleanups mark new new_cleanups =
 -- What is told of a step of a case, by how the case had ended before it: nothing if memory was refused before.
 abbrev pub told_next : Ending → Event → List Event
 told_next endings.Memory event = []
-told_next endings.Passed event = event ∷ []
-told_next endings.Failed event = event ∷ []
-told_next endings.Skipped event = event ∷ []
+told_next _ event = event ∷ []
 
 -- The next step of a case was told, whatever it registered. The case had ended so far with `stood`.
 abbrev pub TellsNext : {S : Type 0} → (S → Event → S → Type 0) → Ending → Step → Mark → SandboxValue → S → S → Type 0

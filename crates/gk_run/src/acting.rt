@@ -1,5 +1,5 @@
 //! What a step's action does.
-ghost use Rattle.std.specs.Prelude.{◌≡◌, ◌<◌, true, not, option_copied};
+ghost use Rattle.std.specs.Prelude.{◌≡◌, ◌<◌, option_copied};
 ghost use Rattle.gk_gherkin.specs.Feature.{block_value};
 ghost use Rattle.gk_steps.specs.Finding.{library_value, found_any};
 ghost use Rattle.gk_world.specs.State.{State, state_of};

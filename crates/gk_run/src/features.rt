@@ -1,5 +1,5 @@
 //! Running a feature.
-ghost use Rattle.std.specs.Prelude.{◌≡◌, ◌<◌, true, suc, map, IfOk};
+ghost use Rattle.std.specs.Prelude.{◌≡◌, ◌<◌, ◌∷◌, ◌||◌, true, suc, map, IfOk};
 ghost use Rattle.std.specs.List.{list_any};
 ghost use Rattle.gk_world.specs.State.{state_of, layers};
 ghost use Rattle.gk_world.specs.Sandbox.{depth, IsSame};
@@ -135,18 +135,16 @@ fn verdict_by(memory: bool, failed: bool, untested: bool, passed: bool) -> Statu
     ensures { result ≡ spec.verdict_by memory failed untested passed }
 {
     if memory {
-        return Status::Memory;
+        Status::Memory
+    } else if failed {
+        Status::Failed
+    } else if untested {
+        Status::Untested
+    } else if passed {
+        Status::Passed
+    } else {
+        Status::Skipped
     }
-    if failed {
-        return Status::Failed;
-    }
-    if untested {
-        return Status::Untested;
-    }
-    if passed {
-        return Status::Passed;
-    }
-    Status::Skipped
 }
 
 // Reports whether the hooks and cleanups of a rule ended with the wanted status.
@@ -156,28 +154,34 @@ fn has_around(rules: &[RuleResult], wanted: Status) -> bool
     rules.iter().any(|rule| has_status(rule.around, wanted))
 }
 
+// Reports whether a case has the wanted status.
+fn has_case(cases: &[CaseResult], wanted: Status) -> bool
+    ensures { result ≡ list_any (λ (c : CaseResult). rows.is_status wanted c.status) cases.now }
+{
+    cases.iter().any(|case| has_status(case.status, wanted))
+}
+
+// Reports whether a feature's hooks and cleanups, those of a rule or a case have the wanted status.
+fn has_anywhere(around: Status, rules: &[RuleResult], cases: &[CaseResult], wanted: Status) -> bool
+    ensures { result
+        ≡ (list_any (rows.is_status wanted) (around ∷ rule_statuses (map rule_row rules.now))
+        || list_any (rows.is_status wanted) (case_statuses (map case_row cases.now))) }
+{
+    let has_ended = either(has_status(around, wanted), has_around(rules, wanted));
+    either(has_ended, has_case(cases, wanted))
+}
+
 /// Returns the verdict of a feature.
 pub fn feature_status(around: Status, rules: &[RuleResult], cases: &[CaseResult]) -> Status
     ensures { result ≡ feature_verdict around (rule_statuses (map rule_row rules.now))
         (case_statuses (map case_row cases.now)) }
 {
-    let mut memory = either(
-        has_status(around, Status::Memory),
-        has_around(rules, Status::Memory),
-    );
-    let mut failed = either(
-        has_status(around, Status::Failed),
-        has_around(rules, Status::Failed),
-    );
-    let mut untested = false;
-    let mut passed = false;
-    for case in cases {
-        memory = either(memory, has_status(case.status, Status::Memory));
-        failed = either(failed, has_status(case.status, Status::Failed));
-        untested = either(untested, has_status(case.status, Status::Untested));
-        passed = either(passed, has_status(case.status, Status::Passed));
-    }
-    verdict_by(memory, failed, untested, passed)
+    verdict_by(
+        has_anywhere(around, rules, cases, Status::Memory),
+        has_anywhere(around, rules, cases, Status::Failed),
+        has_case(cases, Status::Untested),
+        has_case(cases, Status::Passed),
+    )
 }
 
 // Runs a feature of a run. `is_open` says whether the run is open.

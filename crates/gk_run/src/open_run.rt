@@ -9,7 +9,7 @@ ghost use Rattle.gk_run.specs.Features.{IsFeatureTold};
 ghost use Rattle.gk_run.specs.OpenRun as spec;
 ghost use Rattle.gk_run.specs.OpenRun.{IsStarted, IsStartTold, IsKept, IsNextRun, IsFinished, IsFinishTold};
 
-use crate::cases::{both, either, is_bad};
+use crate::cases::{either, is_bad};
 use crate::chosen::Chosen;
 use crate::ending::has_passed;
 use crate::features::feature_in;

@@ -1,5 +1,5 @@
 //! Actions on values.
-ghost use Rattle.std.specs.Prelude.{◌<◌, [], ◌∷◌};
+ghost use Rattle.std.specs.Prelude.{◌<◌};
 ghost use Rattle.gk_steps.specs.declared.action.Action.TheVariants as actions;
 ghost use Rattle.gk_world.specs.State.{state_of};
 ghost use Rattle.gk_world.specs.Sandbox.{depth};

@@ -1,5 +1,4 @@
-use Rattle.std.specs.Prelude.{IfOk}
-use Rattle.std.proofs.Common.{Bool, map, subst, sym}
+use Rattle.std.proofs.Common.{Bool, map, subst, sym, IfOk}
 use Rattle.gk_gherkin.specs.Feature.{texts}
 use Rattle.gk_world.specs.State.{state_of}
 use Rattle.gk_run.specs.Chosen.{head_value}

@@ -4,11 +4,11 @@ use Rattle.gk_world.specs.State.{state_of}
 use Rattle.gk_run.specs.declared.rules.RuleEnd.{RuleEnd}
 use Rattle.gk_run.specs.Cases.{all_stay_open}
 use Rattle.gk_run.specs.Chosen.{head_value}
-use Rattle.gk_run.specs.FeatureContracts.{BeginsRule, RunsRule, members_in}
+use Rattle.gk_run.specs.FeatureContracts.{RunsRule, members_in}
 use Rattle.gk_run.specs.Grouping.{Group, members_of_rank}
 use Rattle.gk_run.specs.Run.{run_value}
 use Rattle.gk_run.specs.Observer.{tells}
-use Rattle.gk_run.proofs.CasesLemmas.{if_ok}
+use Rattle.gk_run.proofs.CasesLemmas.{of_ok}
 use Rattle.gk_run.proofs.RulesLemmas.{passed_stays, rule_begun, rule_unbegun}
 use Rattle.gk_run.proofs.rules.run_rule.Goals as goal
 
@@ -24,8 +24,7 @@ returns-then-both-clause-rule g c =
     let first = c.args.observer.now in
     let last = c.begin_rule.new.observer in
     let begins = c.both.ensures ∙ ap (λ (b : Bool). c.args.is_open && b) c.has_selected.ensures in
-    if_ok (λ (end : RuleEnd). BeginsRule hears ends c.args.run.now now c.as_slice.result.now old c.begin_rule.new.cases first last end) (λ (end : RuleEnd). RunsRule hears ends run now c.args.is_open head old c.begin_rule.new.cases first last end)
-    c.begin_rule.result
+    of_ok (λ (end : RuleEnd). RunsRule hears ends run now c.args.is_open head old c.begin_rule.new.cases first last end) c.begin_rule.result c.begin_rule.ensures.rule
     (λ end h. record {
       rows = h.rows;
       told = h.told;
@@ -33,7 +32,6 @@ returns-then-both-clause-rule g c =
       stay = h.stay;
       left = h.left;
     })
-    c.begin_rule.ensures.rule
 
 pub returns-clause-rule : goal.returns-clause-rule
 returns-clause-rule g c =

@@ -1,5 +1,4 @@
-use Rattle.std.proofs.Common.{◌∙◌, ap, refl, sym}
-use Rattle.std.proofs.lemmas.List.{append-nil}
+use Rattle.std.proofs.Common.{◌∙◌, ap, refl, sym, append-nil}
 use Rattle.gk_gherkin.specs.Feature.{texts}
 use Rattle.gk_gherkin.specs.Hooks.{hooks_value}
 use Rattle.gk_steps.specs.Finding.{library_value}

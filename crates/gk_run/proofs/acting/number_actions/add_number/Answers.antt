@@ -1,8 +1,5 @@
 use Rattle.std.specs.Fmt.{signed_decimal}
-use Rattle.std.specs.Option.{option_copied}
-use Rattle.std.specs.Prelude.{ℤ, ◌+ℤ◌, FitsSigned}
-use Rattle.std.proofs.Common.{rules, ◌≡◌, ◌∙◌, ap, sym, subst, Some, w64, to_z, of_z}
-use Rattle.std.proofs.Math.Facts.{to_z-of_z}
+use Rattle.std.proofs.Common.{rules, ◌≡◌, ◌∙◌, ap, sym, subst, Some, w64, to_z, of_z, option_copied, ℤ, ◌+ℤ◌, FitsSigned, to_z-of_z}
 use Rattle.gk_steps.specs.Decimal.{number_of}
 use Rattle.gk_world.specs.State.{state_of}
 use Rattle.gk_run.specs.Acting.{IsActed, passes, with_own}

@@ -1,7 +1,4 @@
-use Rattle.std.specs.Option.{option_copied}
-use Rattle.std.specs.Prelude.{ℤ, FitsSigned}
-use Rattle.std.proofs.Common.{rules, subst, w64}
-use Rattle.std.proofs.Math.Facts.{to_z-of_z}
+use Rattle.std.proofs.Common.{rules, subst, w64, option_copied, ℤ, FitsSigned, to_z-of_z}
 use Rattle.gk_world.specs.State.{state_of}
 use Rattle.gk_run.specs.Acting.{IsNumber}
 use Rattle.gk_run.proofs.ActingLemmas.{number_checked}

@@ -1,6 +1,5 @@
 use Rattle.std.specs.Fmt.{signed_decimal}
-use Rattle.std.proofs.Common.{◌∙◌, ap}
-use Rattle.std.proofs.Math.Facts.{to_z-of_z}
+use Rattle.std.proofs.Common.{◌∙◌, ap, to_z-of_z}
 use Rattle.gk_world.specs.State.{state_of}
 use Rattle.gk_run.proofs.ActingLemmas.{number_acted}
 use Rattle.gk_run.proofs.acting.number_actions.put_number.Goals as goal
