@@ -1,6 +1,6 @@
 -- Cases, one after another.
 use Rattle.std.specs.List.{FoldsTo, list_any}
-use Rattle.std.proofs.Common.{◌⊎◌, inl, inr, Bool, List, [], ap, append_assoc, arith, cond, false, length, map, refl, suc, subst, sym, true, ℕ, ◌&&◌, ◌++◌, ◌+◌, ◌<◌, ◌||◌, ◌∙◌, ◌∷◌, ◌≡◌, Err, IfOk, None, Ok, Result, Some, Vec, Global, eq-eqb}
+use Rattle.std.proofs.Common.{◌⊎◌, inl, inr, Bool, List, [], ap, append_assoc, arith, cond, false, length, map, refl, suc, subst, sym, true, ℕ, ◌&&◌, ◌++◌, ◌<◌, ◌||◌, ◌∙◌, ◌∷◌, ◌≡◌, Err, IfOk, None, Ok, Result, Some, Vec, Global, eq-eqb}
 use Rattle.std.proofs.lemmas.List.{append-nil, map_push}
 use Rattle.gk_gherkin.specs.Feature.{StepValue}
 use Rattle.gk_select.specs.declared.case.Case.{Case}

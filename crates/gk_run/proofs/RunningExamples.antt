@@ -181,7 +181,7 @@ undone_wholly : one_run
 unfolding found found_any match_of is_utf8 chars lib.Utf8.encode act
 undone_wholly = refl
 
--- a table of files, of which the last has no name
+-- a table of files; the last has no name
 abbrev three_files : BlockValue
 three_files = Table ((codes "name" ∷ codes "text" ∷ []) ∷ (codes "one" ∷ codes "1" ∷ []) ∷ (codes "two" ∷ codes "2" ∷ []) ∷ ([] ∷ codes "3" ∷ []) ∷ [])
 
@@ -193,7 +193,7 @@ earlier_rows_stay : one_run
 unfolding found found_any match_of is_utf8 chars lib.Utf8.encode act
 earlier_rows_stay = refl
 
--- A value of the feature is hidden in a scenario, and seen again; it is deleted only where it was set.
+-- A value of the feature is hidden in a scenario, and seen again; it is deleted only in the layer that set it.
 hidden_and_seen_again : one_run
     (run (hook kinds.BeforeFeature (codes "set n 5" ∷ []) ∷ [])
     (of_number (codes "set ") actions.SetNumber ∷ of_number (codes "add ") actions.AddNumber ∷ of_number (codes "is ") actions.NumberIs ∷ of_name (codes "delete ") actions.DeleteValue ∷ []))
@@ -275,7 +275,7 @@ hooks_in_order : map (λ others. one_run (ordered others) (ordered_scenario ∷ 
 unfolding found found_any match_of is_utf8 chars lib.Utf8.encode act
 hooks_in_order = refl
 
--- If memory is refused in its before hooks, all steps are untested; if in a step, the later ones are; if in its after hooks, its steps' statuses stay. No later hook and no cleanup runs. A cut at an event that there isn't is none.
+-- If memory is refused in its before hooks, all steps are untested; if in a step, the later ones are; if in its after hooks, its steps' statuses stay. No later hook and no cleanup runs. A cut at a missing event has no effect.
 cuts_of_a_scenario : map (cut_row (ordered []) ordered_scenario) (in_before 1 start ∷ in_steps 0 start ∷ in_after 1 start ∷ in_after 3 start ∷ []) ≡
     (Memory, Memory, [], with_status Untested ∷ with_status Untested ∷ []) ∷
     simple Memory (with_status Memory ∷ with_status Untested ∷ []) ∷
@@ -334,7 +334,7 @@ spoilt_alone : one_cut (run [] (of_name (codes "absent ") actions.FileAbsent ∷
 unfolding found found_any match_of is_utf8 chars lib.Utf8.encode act
 spoilt_alone = refl
 
--- two features, the second scenario of the first of which fails
+-- two features; the second scenario of the first one fails
 abbrev two_features : List ChosenValue
 two_features = feature (scenario (codes "pass" ∷ []) ∷ scenario (codes "fail" ∷ []) ∷ scenario (codes "pass" ∷ []) ∷ scenario (codes "pass" ∷ []) ∷ []) ∷ feature (scenario (codes "pass" ∷ []) ∷ []) ∷ []
 
@@ -417,11 +417,11 @@ rules_cut r cuts =
     let results = results_from r start (record uncut { features = cuts ∷ [] }) (two_rules ∷ []) in
     map (λ (row : FeatureRow). (row.rules, feature_seen row)) results.features
 
--- what it comes to, whose own hooks and cleanups pass and which has this verdict, its rules' hooks and cleanups ended so, and its scenarios came to this
+-- what it comes to if its own hooks and cleanups pass: its verdict, how its rules' hooks and cleanups ended, and its scenarios
 abbrev rules_come_to : Status → Status → Status → List CaseSeen → List (List RuleRow × FeatureSeen)
 rules_come_to verdict first second cases = (record { line = 5; around = first } ∷ record { line = 11; around = second } ∷ [], (verdict, Passed, cases)) ∷ []
 
--- What the hooks of a rule set up is there for each of its scenarios, what a scenario changed isn't there for the next one, and after the rule the feature's number is seen again. If memory is refused in the first rule's after hook, its scenarios stay as they were, and the feature goes on.
+-- Each scenario of a rule sees what the rule's hooks set up, and not what another scenario changed. After the rule the feature's number is seen again. If memory is refused in the first rule's after hook, its scenarios stay as they were, and the feature goes on.
 rules_in_layers : map (rules_cut (growing [])) (uncut_feature ∷ record uncut_feature { rules = record { own = in_after 0 start; cases = [] } ∷ [] } ∷ []) ≡
     rules_come_to Passed Passed Passed (one_passed ∷ simple Passed (ok ∷ ok ∷ []) ∷ one_passed ∷ one_passed ∷ []) ∷
     rules_come_to Memory Memory Passed (one_passed ∷ simple Passed (ok ∷ ok ∷ []) ∷ one_passed ∷ one_passed ∷ []) ∷ []

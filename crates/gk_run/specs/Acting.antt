@@ -48,16 +48,21 @@ doc_string (Text text) = Some text
 doc_string Empty = None
 doc_string (Table rows) = None
 
--- The arguments of a step. T is the field `text` if the pattern has it, otherwise the step's doc string, if any.
-abbrev pub arguments_of : LibraryValue → FoundValue → BlockValue → ArgumentsValue
-arguments_of library found block = record {
-  name = unwrap_or (text_field library found (codes "name")) [];
-  to = unwrap_or (text_field library found (codes "to")) [];
-  step = unwrap_or (text_field library found (codes "step")) [];
-  number = unwrap_or (number_field library found (codes "n")) (pos 0);
-  text = option_or (text_field library found (codes "text")) (doc_string block);
+-- The arguments that these fields and this block give. T is the field `text` if the pattern has it, otherwise the step's doc string, if any.
+abbrev pub arguments_with : Option (List ℕ) → Option (List ℕ) → Option (List ℕ) → Option ℤ → Option (List ℕ) → BlockValue → ArgumentsValue
+arguments_with name to step number text block = record {
+  name = unwrap_or name [];
+  to = unwrap_or to [];
+  step = unwrap_or step [];
+  number = unwrap_or number (pos 0);
+  text = option_or text (doc_string block);
   block = block;
 }
+
+-- The arguments of a step.
+abbrev pub arguments_of : LibraryValue → FoundValue → BlockValue → ArgumentsValue
+arguments_of library found =
+    arguments_with (text_field library found (codes "name")) (text_field library found (codes "to")) (text_field library found (codes "step")) (number_field library found (codes "n")) (text_field library found (codes "text"))
 
 -- An action that passes and leaves this state.
 abbrev pub passes : State → Done
@@ -456,14 +461,6 @@ Checks action arguments now outcome = IsExactly (table action (arguments_value a
 abbrev pub IsOutcome : (State → Done) → Outcome → Type 0
 IsOutcome row outcome = (s : State) → IsExactly (row s) outcome s
 
--- Something must be held.
-abbrev pub IsHeld : Option (List ℕ) → Outcome → Type 0
-IsHeld held = IsOutcome (λ s. unless s (absent held ∷ []) s)
-
--- Nothing may be held.
-abbrev pub IsNotHeld : Option (List ℕ) → Outcome → Type 0
-IsNotHeld held = IsOutcome (λ s. unless s (present held ∷ []) s)
-
 -- The text that is held must be T.
 abbrev pub IsText : Option (List ℕ) → Option (List ℕ) → Outcome → Type 0
 IsText held text = IsOutcome (λ s. with_T s text (λ t. unless s (absent held ∷ differs held t ∷ []) s))
@@ -478,14 +475,7 @@ IsNumber held n = IsOutcome (λ s. unless s (absent held ∷ not_number held ∷
 
 -- The arguments for these used fields and this block.
 abbrev pub arguments_by_uses : UsedFields → BlockValue → ArgumentsValue
-arguments_by_uses used block = record {
-  name = unwrap_or (lent_text used.name) [];
-  to = unwrap_or (lent_text used.to) [];
-  step = unwrap_or (lent_text used.step) [];
-  number = unwrap_or used.number (pos 0);
-  text = option_or (lent_text used.text) (doc_string block);
-  block = block;
-}
+arguments_by_uses used = arguments_with (lent_text used.name) (lent_text used.to) (lent_text used.step) used.number (lent_text used.text)
 
 -- What an action leaves and registers at a site with these arguments.
 abbrev pub called : Library → Site → Action → Arguments → State → Acted

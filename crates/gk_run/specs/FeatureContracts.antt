@@ -3,7 +3,6 @@ use Rattle.std.specs.List.{FoldsTo}
 use Rattle.std.specs.Prelude.{suc, length, Option, Some, None, Bool, true, String, List, ◌∷◌, ◌++◌, map, ◌≡◌, ◌<◌, ℕ}
 use Rattle.std.specs.declared.alloc.Global.{Global}
 use Rattle.gk_gherkin.specs.Feature.{texts}
-use Rattle.gk_select.specs.declared.case.Case.{Case}
 use Rattle.gk_select.specs.RuleOrder as order
 use Rattle.gk_world.specs.State.{State}
 use Rattle.gk_run.specs.declared.cases.Cases.{Cases}
@@ -11,8 +10,6 @@ use Rattle.gk_run.specs.declared.cases.Member.{Member}
 use Rattle.gk_run.specs.declared.cases.Content.{Content}
 use Rattle.gk_run.specs.declared.features.FeatureEnd.{FeatureEnd}
 use Rattle.gk_run.specs.declared.features.InsideResults.{InsideResults}
-use Rattle.gk_run.specs.declared.results.CaseResult.{CaseResult}
-use Rattle.gk_run.specs.declared.results.Reserved.{Reserved}
 use Rattle.gk_run.specs.declared.results.RuleResult.{RuleResult}
 use Rattle.gk_run.specs.declared.rules.RuleEnd.{RuleEnd}
 use Rattle.gk_run.specs.declared.run.Run as shared
@@ -44,13 +41,6 @@ AreCases told run now is_open members rows first last =
 -- The cases that are still to come, each with whether it is selected.
 abbrev pub members_in : Cases → List MemberValue
 members_in cases = members_of cases.waiting.items cases.selected.items
-
--- The same cases and choice, with none taken yet.
-pub record BeginsWith (reserved : Reserved Case CaseResult) (choice : List Bool) (cases : Cases) : Type 0 where
-  pub rank : cases.rank ≡ 0
-  pub waiting : cases.waiting.items ≡ reserved.list.items
-  pub selected : cases.selected.items ≡ choice
-  pub results : cases.results ≡ reserved.results
 
 -- The next case of the rank was taken, or there is none.
 abbrev pub TakesMember : Cases → Option Member → Cases → Type 0

@@ -1,11 +1,11 @@
 //! What a step's action does.
-ghost use Rattle.std.specs.Prelude.{◌≡◌, ◌<◌, option_copied};
+ghost use Rattle.std.specs.Prelude.{◌≡◌, ◌<◌, ◌∷◌, [], option_copied};
 ghost use Rattle.gk_gherkin.specs.Feature.{block_value};
 ghost use Rattle.gk_steps.specs.Finding.{library_value, found_any};
 ghost use Rattle.gk_world.specs.State.{State, state_of};
 ghost use Rattle.gk_world.specs.Sandbox.{depth, KeepsLayers};
 ghost use Rattle.gk_run.specs.Acting as words;
-ghost use Rattle.gk_run.specs.Acting.{arguments_by_uses, arguments_in, arguments_value, table, registers, act_of, action_in, called, Performs, may_register, IsDone, IsExact, HasRegistered, KeepsAtMemory, IsHeld, IsNotHeld, IsText, HasText, NeedsCandidate, CleanupNeedsCandidate};
+ghost use Rattle.gk_run.specs.Acting.{arguments_by_uses, arguments_in, arguments_value, table, registers, act_of, action_in, called, Performs, may_register, IsDone, IsExact, HasRegistered, KeepsAtMemory, IsOutcome, IsText, absent, present, unless, HasText, NeedsCandidate, CleanupNeedsCandidate};
 
 mod file_actions;
 mod number_actions;
@@ -73,7 +73,7 @@ fn outcome_of(answer: Result<(), WorldFault>) -> Outcome
 
 // Passes if something is held.
 fn exists(held: Option<&str>) -> Outcome
-    ensures { IsHeld (option_copied held.entry) result }
+    ensures { IsOutcome (λ s. unless s (absent (option_copied held.entry) ∷ []) s) result }
 {
     match held {
         Some(_) => Outcome::Passed,
@@ -83,7 +83,7 @@ fn exists(held: Option<&str>) -> Outcome
 
 // Passes if nothing is held.
 fn is_absent(held: Option<&str>) -> Outcome
-    ensures { IsNotHeld (option_copied held.entry) result }
+    ensures { IsOutcome (λ s. unless s (present (option_copied held.entry) ∷ []) s) result }
 {
     match held {
         Some(_) => Outcome::Failed(Reason::Present),
@@ -125,7 +125,6 @@ fn has_text(held: Option<&str>, text: Option<&str>) -> Outcome
     }
 }
 
-// Returns the text of a doc string.
 fn doc_string(block: &Block) -> Option<&str>
     ensures { option_copied result ≡ words.doc_string (block_value block.now) }
 {
@@ -150,7 +149,6 @@ pub(crate) fn arguments_by<'a>(used: UsedFields<'a>, block: &'a Block) -> Argume
     }
 }
 
-// Carries out an action.
 #[inline(always)]
 fn perform(
     alloc: Global,

@@ -39,7 +39,6 @@ impl Model for Cleanups {
         × (length c.list.items ≤ vec_capacity c.outcomes) };
 }
 
-// Returns a copy of a block.
 fn copy_block(block: &Block) -> Result<Block, AllocError>
     ensures { IfOk result (λ b. block_value b ≡ block_value block.now) }
 {

@@ -124,7 +124,6 @@ fn has_selected(selected: &[bool]) -> bool
     selected.iter().any(|s| *s)
 }
 
-// Reports whether a status is the wanted one.
 fn has_status(status: Status, wanted: Status) -> bool
     ensures { result ≡ rows.is_status wanted status }
 {
@@ -154,7 +153,6 @@ fn has_around(rules: &[RuleResult], wanted: Status) -> bool
     rules.iter().any(|rule| has_status(rule.around, wanted))
 }
 
-// Reports whether a case has the wanted status.
 fn has_case(cases: &[CaseResult], wanted: Status) -> bool
     ensures { result ≡ list_any (λ (c : CaseResult). rows.is_status wanted c.status) cases.now }
 {

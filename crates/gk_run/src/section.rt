@@ -39,7 +39,6 @@ pub struct Stage {
     pub part: Part,
 }
 
-// Returns the site of the steps of a section's before hooks.
 fn before_site(level: Level) -> Site
     ensures { result ≡ spec.before_site level }
 {

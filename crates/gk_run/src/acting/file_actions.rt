@@ -22,7 +22,6 @@ fn put(sandbox: &mut Sandbox, name: &str, text: &str) -> Outcome
     outcome_of(sandbox.put_file(name, text))
 }
 
-// Removes a file.
 fn remove(sandbox: &mut Sandbox, name: &str) -> Outcome
     ensures { IsActed (words.remove_file (state_of sandbox.old.now) name.now)
         sandbox.old result sandbox.new }
@@ -91,7 +90,6 @@ pub fn rename_file(alloc: Global, sandbox: &mut Sandbox, arguments: &Arguments<'
     }
 }
 
-// Reports whether a cell equals a word.
 fn is_word(cell: &String, word: &str) -> bool
     ensures { result ≡ bytes_eq (string_bytes cell.now) word.now }
 {
@@ -108,7 +106,6 @@ fn is_head(row: &[String]) -> bool
     }
 }
 
-// Reports whether each row has two cells.
 fn have_two_cells(rows: &[Vec<String>]) -> bool
     ensures { result ≡ words.have_two_cells (map (λ row. texts row.items) rows.now) }
 {

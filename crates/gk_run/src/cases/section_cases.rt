@@ -4,7 +4,7 @@ ghost use Rattle.gk_select.specs.RuleOrder as order;
 ghost use Rattle.gk_world.specs.State.{state_of, layers};
 ghost use Rattle.gk_world.specs.Sandbox.{depth, IsSame};
 ghost use Rattle.gk_run.specs.Cases as spec;
-ghost use Rattle.gk_run.specs.FeatureContracts.{BeginsWith, IsMember, RunsCases, TakesMember, members_in};
+ghost use Rattle.gk_run.specs.FeatureContracts.{IsMember, RunsCases, TakesMember, members_in};
 ghost use Rattle.gk_run.specs.Chosen.{has_selected, member_of};
 ghost use Rattle.gk_run.specs.Grouping.{falls_from, members_of_rank};
 ghost use Rattle.gk_run.specs.Results.{case_row};
@@ -19,7 +19,6 @@ use gk_select::Case;
 use gk_world::Sandbox;
 use std::collections::VecDeque;
 
-// Returns the rank of a case, by its rule.
 fn rank_of(rule: Option<u32>) -> usize
     ensures { result ≡ order.rank rule }
 {
@@ -55,7 +54,10 @@ impl Cases {
     pub fn new(reserved: Reserved<Case, CaseResult>, selected: Vec<bool>) -> Cases
         requires paired { length selected.items ≡ length reserved.list.items }
         requires falls { falls_from 0 reserved.list.items ≡ true }
-        ensures { BeginsWith reserved selected.items result }
+        ensures rank { result.rank ≡ 0 }
+        ensures waiting { result.waiting.items ≡ reserved.list.items }
+        ensures selected { result.selected.items ≡ selected.items }
+        ensures results { result.results ≡ reserved.results }
     {
         let Reserved { list, results } = reserved;
         Cases {
