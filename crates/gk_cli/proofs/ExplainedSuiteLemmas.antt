@@ -9,8 +9,19 @@ use Rattle.gk_cli.specs.Inputs.{Request, Inputs, AreInputs}
 use Rattle.gk_cli.specs.RunFault.{IsUnread}
 use Rattle.gk_cli.specs.Suite.{Device, IsUntouched}
 use Rattle.gk_cli.specs.GrowingReport.{StopsBy}
-use Rattle.gk_cli.specs.ExplainedRun.{IsExplainedUpTo}
+use Rattle.gk_explain.specs.declared.explainer.Explainer.{Explainer}
+use Rattle.gk_explain.specs.Explanation.{nothing_said}
+use Rattle.gk_explain.specs.Explainer.{said, Hears}
+use Rattle.gk_cli.specs.ToldRun.{IsToldUpTo}
+use Rattle.gk_cli.specs.ExplainedRun.{Explains, Closes, IsExplainedUpTo}
 use Rattle.gk_cli.specs.ExplainedSuite.{explained_run, SaysExplanationFault}
+
+-- What was told to an explainer that had said nothing is explained.
+pub told_up_to : (run : Run) (hooks : List ℕ) (contents : Contents) (features : List ChosenValue) (first : Explainer) (old new : Device) (fault : RunFault) → said first ≡ nothing_said run.library hooks →
+    IsToldUpTo Hears Explains Closes run contents features first old new fault → IsExplainedUpTo run hooks contents features old new fault
+told_up_to run hooks contents features first old new fault silent (text, inl part, stopped) = inl (record { first = first; silent = silent; text = text; explains = part; stopped = stopped })
+told_up_to run hooks contents features first old new fault silent (text, inr (results, judged, whole), stopped) =
+    inr (record { results = results; judged = judged; first = first; silent = silent; text = text; explains = whole; stopped = stopped })
 
 -- Why an explanation ends without its whole text.
 pub why_stopped : (run : Run) (hooks : List ℕ) (contents : Contents) (features : List ChosenValue) (old new : Device) (fault : RunFault) → IsExplainedUpTo run hooks contents features old new fault → StopsBy old new fault

@@ -1,22 +1,33 @@
--- Bytes that are written piece by piece.
-use Rattle.std.proofs.Common.{◌≡◌, ◌≢◌, ◌≤◌, ◌+◌, ℕ, zero, suc, Bool, true, false, ◌&&◌, List, [], ◌∷◌, ◌++◌, length, take, Option, Some, None, refl, ap, sym, subst, ◌∙◌, append_assoc, arith}
+-- Bytes that are written piece by piece, and the report that they make up.
+use Rattle.std.specs.List.{FoldsTo}
+use Rattle.std.proofs.Common.{◌≡◌, ◌≢◌, ◌≤◌, ◌+◌, ℕ, zero, suc, Bool, true, false, ◌&&◌, List, [], ◌∷◌, ◌++◌, length, take, Option, Some, None, refl, ap, ap₂, sym, subst, ◌∙◌, append_assoc, arith, inl, inr}
 use Rattle.std.specs.Io.KnownBytes.{Appends}
 use Rattle.std.proofs.KnownBytes.{Appends-trans}
 use Rattle.std.proofs.lemmas.List.{append-nil, length-append}
-use Rattle.std.specs.Prelude.{Result, Ok, Err, IfErr, IsErrAnd}
-use Rattle.gk_run.specs.declared.results.Status.{Status}
-use Rattle.gk_run.specs.Results.{FeatureRow}
+use Rattle.gk_world.specs.State.{Contents, State, state_of}
+use Rattle.gk_steps.specs.Finding.{LibraryValue}
+use Rattle.gk_run.specs.declared.results.Status.TheVariants as statuses
+use Rattle.gk_run.specs.Results.{FeatureRow, Results}
+use Rattle.gk_run.specs.Run.{Run}
+use Rattle.gk_run.specs.Chosen.{ChosenValue}
+use Rattle.gk_run.specs.DryRun.{AreDryFeatures}
+use Rattle.gk_run.specs.Ending.{has_passed}
+use Rattle.gk_run.specs.Events.{Event, ended_in}
+use Rattle.gk_run.specs.Judged.{Judged, uncut, plain_results, DryRunsAreJudged, UnfinishedDryRunsAreJudged}
+use Rattle.gk_run.specs.Observer.{Told as Heard, tells, happens, has_ended}
 use Rattle.gk_report.specs.declared.report.Style.{Style}
-use Rattle.gk_report.specs.declared.summary.Summary.{Summary}
-use Rattle.gk_report.specs.Report.{head, part, parts, tail, report, is_empty, ReportsGrowByParts}
-use Rattle.gk_report.specs.Summary.{summary_of, status, IsStatusOf}
+use Rattle.gk_report.specs.Report.{head, parts, parts_from, tail, report, is_empty, ReportsGrowByParts}
+use Rattle.gk_report.specs.Summary.{status, summary_of}
 use Rattle.gk_report.specs.PartPieces.{IsPiece}
 use Rattle.gk_cli.specs.declared.growing_report.GrowingReport.{GrowingReport}
 use Rattle.gk_cli.specs.declared.run_fault.RunFault.{RunFault}
 use Rattle.gk_cli.specs.declared.run_fault.RunFault.TheVariants.{Read, Library, Hooks, Select, Write, Memory}
 use Rattle.gk_cli.specs.Counted.{one_more}
 use Rattle.gk_cli.specs.Suite.{Device, IsReported, IsUntouched}
-use Rattle.gk_cli.specs.GrowingReport.{so_far, results_with, IsWritten, StopsBy, IsStopped, IsGrown, Grows, Stops}
+use Rattle.gk_cli.specs.GrowingReport.{style_of, prints_nothing, results_with, IsWritten, StopsBy, IsStopped, Stays, AddsPart, ClosesByTail}
+use Rattle.gk_cli.specs.declared.told_run.Told.{Told}
+use Rattle.gk_cli.specs.ToldRun.{stays, stays_begun, reporter_of, counts_of, TellsFeature, TellsDryFeature, TellsFeatures, TellsFirst, IsWholeText, IsTextSoFar, IsToldRun, IsToldUpTo, AreTold, AreToldUpTo, IsClosed, StopsClosing}
+use Rattle.gk_cli.specs.WrittenRun.{IsWhole, IsPrefix}
 
 appends_none : (x : Option (List ℕ)) → Appends x x []
 appends_none None = tt
@@ -103,26 +114,6 @@ stopped_within a b xs ys whole fault is q =
       unflushed = q.unflushed;
     })
 
--- A report so far, and the next part.
-pub part_more : ReportsGrowByParts → (style : Style) (rows : List FeatureRow) (row : FeatureRow) (first : Bool) → first ≡ is_empty (parts style rows) →
-    so_far style rows ++ part style first row ≡ so_far style (rows ++ row ∷ [])
-part_more law style rows row first is =
-    append_assoc (head style) (parts style rows) (part style first row)
-    ∙ ap (λ (b : Bool). head style ++ (parts style rows ++ part style b row)) is
-    ∙ ap (λ (xs : List ℕ). head style ++ xs) (sym (law.next style rows row))
-
-empty_both : (xs ys : List ℕ) → is_empty (xs ++ ys) ≡ (is_empty xs && is_empty ys)
-empty_both [] ys = refl
-empty_both (x ∷ xs) ys = refl
-
--- Nothing is printed yet where nothing was and the next part is empty.
-pub first_more : ReportsGrowByParts → (style : Style) (rows : List FeatureRow) (row : FeatureRow) (first : Bool) → first ≡ is_empty (parts style rows) →
-    (first && is_empty (part style first row)) ≡ is_empty (parts style (rows ++ row ∷ []))
-first_more law style rows row first is =
-    ap (λ (b : Bool). b && is_empty (part style b row)) is
-    ∙ sym (empty_both (parts style rows) (part style (is_empty (parts style rows)) row))
-    ∙ ap is_empty (sym (law.next style rows row))
-
 -- ---- the pieces of a part
 
 -- Of a whole these bytes were written, and the rest is left. Nothing is printed yet where nothing was and none was written.
@@ -180,47 +171,155 @@ all_written old new first still whole left w e = subst (IsWritten old new) (all_
 pub first_after_all : (old new : Device) (first still : Bool) (whole left : List ℕ) → IsWrittenUpTo old new first still whole left → left ≡ [] → still ≡ (first && is_empty whole)
 first_after_all old new first still whole left w e = w.is_first ∙ ap (λ (xs : List ℕ). first && is_empty xs) (all_done old new first still whole left w e)
 
--- An error that is passed on.
-pub passed_on : {T E : Type 0} {Q P : E → Type 0} (r : Result T E) → IsErrAnd r Q → ((e : E) → Q e → P e) → IfErr r P
-passed_on (Ok x) h f = absurd h
-passed_on (Err e) h f = f e h
+-- ---- the parts of a report
 
--- ---- one part more
+-- What changes nothing changes nothing, however often.
+none_changed : {T : Type 0} (R : GrowingReport → T → GrowingReport → Type 0) → ((g : GrowingReport) (x : T) (h : GrowingReport) → R g x h → h ≡ g) → (g : GrowingReport) (xs : List T) (h : GrowingReport) → FoldsTo R g xs h → h ≡ g
+none_changed R same g [] h is = sym is
+none_changed R same g (x ∷ xs) h told = none_changed R same told.0 xs h told.2 ∙ same g x told.0 told.1
 
--- The part wasn't written whole.
-pub part_stopped : ReportsGrowByParts → (g : GrowingReport) (old new : Device) (row : FeatureRow) (text : List ℕ) (fault : RunFault) → text ≡ part g.style g.is_first row → IsStopped old new text fault → Stops old g new row fault
-part_stopped law g old new row text fault is stopped before rows grown =
-    subst (λ xs. IsStopped before new xs fault) (ap (λ (xs : List ℕ). so_far g.style rows ++ xs) is ∙ part_more law g.style rows row g.is_first grown.first)
-    (stopped_after before old new (so_far g.style rows) text fault grown.written stopped)
+events_stay : (g : GrowingReport) (events : List Event) (h : GrowingReport) → FoldsTo Stays g events h → h ≡ g
+events_stay = none_changed Stays (λ g x h is. is)
 
--- The part was written and the feature counted.
-pub part_written : ReportsGrowByParts → (g : GrowingReport) (old new : Device) (row : FeatureRow) (text : List ℕ) (summary : Summary) (first : Bool) → text ≡ part g.style g.is_first row → IsWritten old new text →
-    ((rows : List FeatureRow) → g.summary ≡ summary_of rows → summary ≡ summary_of (rows ++ row ∷ [])) → first ≡ (g.is_first && is_empty text) →
-    (let grown : GrowingReport = record { style = g.style; summary = summary; is_first = first } in Grows old g new grown row)
-part_written law g old new row text summary first is written counts still before rows grown = record {
-  written = subst (IsWritten before new) (ap (λ (xs : List ℕ). so_far g.style rows ++ xs) is ∙ part_more law g.style rows row g.is_first grown.first) (written_more before old new (so_far g.style rows) text grown.written written);
-  counted = counts rows grown.counted;
-  first = still ∙ ap (λ (xs : List ℕ). g.is_first && is_empty xs) is ∙ first_more law g.style rows row g.is_first grown.first;
-}
+told_stays : (g : GrowingReport) (x : Heard) (h : GrowingReport) → tells Stays Stays g x h → h ≡ g
+told_stays g (happens event) h is = is
+told_stays g (has_ended ended) h is = is
 
--- ---- the tail
+-- A feature that was told adds its part.
+pub adds_part : (run : Run) (now : State) (is_open : Bool) (f : ChosenValue) (row : FeatureRow) (text : List ℕ) (g h : GrowingReport) → TellsFeature Stays Stays Stays AddsPart run now is_open f row text g h → AddsPart g row text h
+adds_part run now is_open f row text g h t =
+    let heard = t.told.1.heard in
+    subst (λ (x : GrowingReport). AddsPart x row text h) (none_changed (tells Stays Stays) told_stays t.begun _ t.heard heard ∙ t.start) t.added
 
--- Memory was refused for the tail.
-pub tail_refused : ReportsGrowByParts → (g : GrowingReport) (old before : Device) (rows : List FeatureRow) (around : Status) → IsGrown before old g rows → IsStopped before old (report g.style (results_with rows around)) Memory
-tail_refused law g old before rows around grown =
-    subst (λ xs. IsStopped before old xs Memory) (sym (law.whole g.style (results_with rows around))) (stopped_before before old (so_far g.style rows) (tail g.style rows around) grown.written)
+pub adds_dry_part : (is_open : Bool) (f : ChosenValue) (row : FeatureRow) (text : List ℕ) (g h : GrowingReport) → TellsDryFeature Stays AddsPart is_open f row text g h → AddsPart g row text h
+adds_dry_part is_open f row text g h t = subst (λ (x : GrowingReport). AddsPart x row text h) t.start t.added
 
--- The tail wasn't written whole.
-pub tail_stopped : ReportsGrowByParts → (g : GrowingReport) (old new before : Device) (rows : List FeatureRow) (around : Status) (text : List ℕ) (fault : RunFault) → ((rows : List FeatureRow) → g.summary ≡ summary_of rows → text ≡ tail g.style rows around) →
-    IsStopped old new text fault → IsGrown before old g rows → IsStopped before new (report g.style (results_with rows around)) fault
-tail_stopped law g old new before rows around text fault is stopped grown =
-    subst (λ xs. IsStopped before new xs fault) (ap (λ (xs : List ℕ). so_far g.style rows ++ xs) (is rows grown.counted) ∙ sym (law.whole g.style (results_with rows around)))
-    (stopped_after before old new (so_far g.style rows) text fault grown.written stopped)
+-- Features that were told add their parts.
+pub adds_parts : (told : Bool → ChosenValue → FeatureRow → List ℕ → GrowingReport → GrowingReport → Type 0) (next : Bool → FeatureRow → Bool) →
+    ((b : Bool) (f : ChosenValue) (row : FeatureRow) (text : List ℕ) (g h : GrowingReport) → told b f row text g h → AddsPart g row text h) →
+    (b : Bool) (fs : List ChosenValue) (rows : List FeatureRow) (text : List ℕ) (g h : GrowingReport) → TellsFeatures told next b fs rows text g h → (text ≡ parts_from g.style g.is_first rows) × (h.style ≡ g.style)
+adds_parts told next adds b [] [] text g h (none, same) = (none, ap style_of (sym same))
+adds_parts told next adds b [] (row ∷ rows) text g h none = absurd none
+adds_parts told next adds b (f ∷ fs) [] text g h none = absurd none
+adds_parts told next adds b (f ∷ fs) (row ∷ rows) text g h (this, later, between, is, one, more) =
+    let part = adds b f row this g between one in
+    let rest = adds_parts told next adds (next b row) fs rows later between h more in
+    let first = part.first ∙ ap (λ (xs : List ℕ). g.is_first && is_empty xs) part.is in
+    let others = rest.0 ∙ ap (λ (s : Style). parts_from s between.is_first rows) part.style ∙ ap (λ (b : Bool). parts_from g.style b rows) first in
+    (is ∙ ap₂ (λ (xs ys : List ℕ). xs ++ ys) part.is others, rest.1 ∙ part.style)
 
--- The tail was written, and the status is returned.
-pub tail_written : ReportsGrowByParts → (g : GrowingReport) (old new before : Device) (rows : List FeatureRow) (around : Status) (text : List ℕ) (answer : ℕ) → ((rows : List FeatureRow) → g.summary ≡ summary_of rows → text ≡ tail g.style rows around) →
-    IsWritten old new text → IsStatusOf g.summary around answer → IsGrown before old g rows → IsReported g.style before new answer (results_with rows around)
-tail_written law g old new before rows around text answer is written status grown =
-    let whole = subst (IsWritten before new) (ap (λ (xs : List ℕ). so_far g.style rows ++ xs) (is rows grown.counted) ∙ sym (law.whole g.style (results_with rows around)))
-    (written_more before old new (so_far g.style rows) text grown.written written) in
-    record { written = whole.written; returned = status rows grown.counted; calls = whole.calls; busy = whole.busy; quiet = whole.quiet; unflushed = whole.unflushed }
+-- Those of a new report are all parts.
+new_parts : (style : Style) (first : GrowingReport) (rows : List FeatureRow) (text : List ℕ) → style_of first ≡ style → prints_nothing first ≡ true → text ≡ parts_from first.style first.is_first rows → text ≡ parts style rows
+new_parts style first rows text styles none is = is ∙ ap (λ (s : Style). parts_from s first.is_first rows) styles ∙ ap (λ (b : Bool). parts_from style b rows) none
+
+first_parts : (run : Run) (outside : State) (opening : List Event) (features : List ChosenValue) (rows : List FeatureRow) (text : List ℕ) (first new : GrowingReport) (style : Style) → style_of first ≡ style → prints_nothing first ≡ true →
+    TellsFirst Stays (TellsFeature Stays Stays Stays AddsPart) run outside opening features rows text first new → (text ≡ parts style rows) × (new.style ≡ style)
+first_parts run outside opening features rows text first new style styles none t =
+    let same = events_stay first opening t.begun t.start in
+    let all = adds_parts (TellsFeature Stays Stays Stays AddsPart run t.state) (stays run) (adds_part run t.state) (has_passed (ended_in opening)) features rows text t.begun new t.told in
+    (new_parts style t.begun rows text (ap style_of same ∙ styles) (ap prints_nothing same ∙ none) all.0, all.1 ∙ ap style_of same ∙ styles)
+
+-- The whole text of a run is its report, without the head.
+whole_text : (run : Run) (contents : Contents) (features : List ChosenValue) (results : Results) (first : GrowingReport) (text : List ℕ) (style : Style) → style_of first ≡ style → prints_nothing first ≡ true →
+    IsWholeText Stays (TellsFeature Stays Stays Stays AddsPart) ClosesByTail run contents features results first text → head style ++ text ≡ report style results
+whole_text run contents features results first text style styles none w =
+    let begun = first_parts run (state_of contents) w.opening features results.features w.parts first w.told style styles none w.begins in
+    let last = events_stay w.told w.finish.0 w.last w.finish.1 in
+    let end = w.closed ∙ ap (λ (s : Style). tail s results.features results.around) (ap style_of last ∙ begun.1) in
+    ap (λ (xs : List ℕ). head style ++ xs) (w.whole ∙ ap₂ (λ (xs ys : List ℕ). xs ++ ys) begun.0 end)
+
+-- The text of a run so far begins the report of judged results.
+text_so_far : ReportsGrowByParts → (run : Run) (contents : Contents) (features : List ChosenValue) (first : GrowingReport) (text : List ℕ) (style : Style) → style_of first ≡ style → prints_nothing first ≡ true →
+    IsTextSoFar Stays (TellsFeature Stays Stays Stays AddsPart) ClosesByTail run contents features first text →
+    (results : Results) × Judged run contents features results × ((rest : List ℕ) × (report style results ≡ (head style ++ text) ++ rest))
+text_so_far law run contents features first text style styles none (inl part) =
+    let begun = first_parts run (state_of contents) part.opening part.done part.rows text first part.told style styles none part.begins in
+    let some = part.judged in
+    let rest = law.begins style some.0 part.rows some.1 some.3 in
+    (some.0, some.2, (rest.0, rest.1 ∙ ap (λ (xs : List ℕ). (head style ++ xs) ++ rest.0) (sym begun.0)))
+text_so_far law run contents features first text style styles none (inr (results, judged, whole)) =
+    (results, judged, ([], sym (whole_text run contents features results first text style styles none whole) ∙ sym (append-nil (head style ++ text))))
+
+-- ---- a report from its head on
+
+reported : (style : Style) (old there new : Device) (text : List ℕ) (results : Results) (answer : ℕ) → IsWritten old there (head style) → IsWritten there new text → head style ++ text ≡ report style results → answer ≡ status results →
+    IsReported style old new answer results
+reported style old there new text results answer headed written is returned =
+    let whole = subst (IsWritten old new) is (written_more old there new (head style) text headed written) in
+    record { written = whole.written; returned = returned; calls = whole.calls; busy = whole.busy; quiet = whole.quiet; unflushed = whole.unflushed }
+
+-- The head wasn't written whole.
+pub head_stopped : (run : Run) (contents : Contents) (features : List ChosenValue) (style : Style) (old new : Device) (fault : RunFault) → IsStopped old new (head style) fault → IsPrefix run contents features style old new fault
+head_stopped run contents features style old new fault stopped =
+    let results : Results = plain_results run contents features in
+    (results, (uncut, refl), stopped_within old new (head style) (parts style results.features ++ tail style results.features results.around) (report style results) fault refl stopped)
+
+-- A run that was told whole has its report written.
+pub run_reported : (run : Run) (contents : Contents) (features : List ChosenValue) (first : GrowingReport) (style : Style) (old there new : Device) (answer : ℕ) → style_of first ≡ style → prints_nothing first ≡ true → IsWritten old there (head style) →
+    IsToldRun Stays (TellsFeature Stays Stays Stays AddsPart) ClosesByTail run contents features first there new answer → IsWhole run contents features style old new answer
+run_reported run contents features first style old there new answer styles none headed told =
+    (told.results, told.judged, reported style old there new told.text told.results answer headed told.written (whole_text run contents features told.results first told.text style styles none told.tells_all) told.returned)
+
+-- A run that wasn't told whole has a prefix written.
+pub run_stopped : ReportsGrowByParts → (run : Run) (contents : Contents) (features : List ChosenValue) (first : GrowingReport) (style : Style) (old there new : Device) (fault : RunFault) → style_of first ≡ style → prints_nothing first ≡ true → IsWritten old there (head style) →
+    IsToldUpTo Stays (TellsFeature Stays Stays Stays AddsPart) ClosesByTail run contents features first there new fault → IsPrefix run contents features style old new fault
+run_stopped law run contents features first style old there new fault styles none headed (text, told, stopped) =
+    let so_far = text_so_far law run contents features first text style styles none told in
+    (so_far.0, so_far.1, stopped_within old new (head style ++ text) so_far.2.0 (report style so_far.0) fault so_far.2.1 (stopped_after old there new (head style) text fault headed stopped))
+
+-- The parts of a dry run that was told.
+dry_parts : (library : LibraryValue) (features : List ChosenValue) (rows : List FeatureRow) (so_far : Told GrowingReport) (text : List ℕ) (last : GrowingReport) (style : Style) → style_of (reporter_of so_far) ≡ style → prints_nothing (reporter_of so_far) ≡ true →
+    TellsFeatures (TellsDryFeature Stays AddsPart) stays_begun true features rows text so_far.reporter last → (text ≡ parts style rows) × (last.style ≡ style)
+dry_parts library features rows so_far text last style styles none told =
+    let all = adds_parts (TellsDryFeature Stays AddsPart) stays_begun adds_dry_part true features rows text so_far.reporter last told in
+    (new_parts style so_far.reporter rows text styles none all.0, all.1 ∙ styles)
+
+-- A dry run that was told whole has its report written.
+pub dry_reported : DryRunsAreJudged → (run : Run) → run.dry_run ≡ true → (contents : Contents) (features : List ChosenValue) (so_far end : Told GrowingReport) (style : Style) (old headed there new : Device) (answer : ℕ) →
+    style_of (reporter_of so_far) ≡ style → prints_nothing (reporter_of so_far) ≡ true → counts_of so_far ≡ summary_of [] → IsWritten old headed (head style) →
+    AreTold (TellsDryFeature Stays AddsPart) stays_begun (AreDryFeatures run.library) true features headed so_far there end → IsClosed ClosesByTail end statuses.Passed there new answer → IsWhole run contents features style old new answer
+dry_reported judge run dry contents features so_far end style old headed there new answer styles none counts head_written told closed =
+    let last = closed told.rows (told.counted counts) in
+    let is = dry_parts run.library features told.rows so_far told.text end.reporter style styles none told.told in
+    let tail_is = last.closed ∙ ap (λ (s : Style). tail s told.rows statuses.Passed) is.1 in
+    let results = results_with told.rows statuses.Passed in (
+      results,
+      judge run contents features told.rows dry told.results,
+      reported style old headed new (told.text ++ last.text) results answer head_written (written_more headed there new told.text last.text told.written last.written)
+          (ap (λ (xs : List ℕ). head style ++ xs) (ap₂ (λ (xs ys : List ℕ). xs ++ ys) is.0 tail_is)) last.returned,
+    )
+
+-- Its last text wasn't written whole.
+pub dry_close_stopped : DryRunsAreJudged → (run : Run) → run.dry_run ≡ true → (contents : Contents) (features : List ChosenValue) (so_far end : Told GrowingReport) (style : Style) (old headed there new : Device) (fault : RunFault) →
+    style_of (reporter_of so_far) ≡ style → prints_nothing (reporter_of so_far) ≡ true → counts_of so_far ≡ summary_of [] → IsWritten old headed (head style) →
+    AreTold (TellsDryFeature Stays AddsPart) stays_begun (AreDryFeatures run.library) true features headed so_far there end → StopsClosing ClosesByTail end statuses.Passed there new fault → IsPrefix run contents features style old new fault
+dry_close_stopped judge run dry contents features so_far end style old headed there new fault styles none counts head_written told stops =
+    let is = dry_parts run.library features told.rows so_far told.text end.reporter style styles none told.told in
+    let results = results_with told.rows statuses.Passed in
+    let before = written_more old headed there (head style) told.text head_written told.written in
+    let whole : (head style ++ parts style told.rows) ++ tail style told.rows statuses.Passed ≡ report style results = append_assoc (head style) (parts style told.rows) (tail style told.rows statuses.Passed) in
+    let stopped : IsStopped old new (report style results) fault = elim stops [
+      | inl refused ↦ subst (λ w. IsStopped old new (report style results) w) (sym refused.1)
+          (subst (λ d. IsStopped old d (report style results) Memory) refused.0
+          (stopped_within old there (head style ++ told.text) (tail style told.rows statuses.Passed) (report style results) Memory
+          (sym whole ∙ ap (λ (xs : List ℕ). (head style ++ xs) ++ tail style told.rows statuses.Passed) (sym is.0)) (stopped_here old there (head style ++ told.text) before)))
+      | inr most ↦
+          let last = most told.rows (told.counted counts) in
+          let tail_is = last.1 ∙ ap (λ (s : Style). tail s told.rows statuses.Passed) is.1 in
+          subst (λ (xs : List ℕ). IsStopped old new xs fault) (ap₂ (λ (xs ys : List ℕ). (head style ++ xs) ++ ys) is.0 tail_is ∙ whole) (stopped_after old there new (head style ++ told.text) last.0 fault before last.2)
+    ] in
+    (results, judge run contents features told.rows dry told.results, stopped)
+
+-- Not all of its features were told and written.
+pub dry_run_stopped : ReportsGrowByParts → UnfinishedDryRunsAreJudged → (run : Run) → run.dry_run ≡ true → (contents : Contents) (features : List ChosenValue) (so_far : Told GrowingReport) (style : Style) (old headed new : Device) (fault : RunFault) →
+    style_of (reporter_of so_far) ≡ style → prints_nothing (reporter_of so_far) ≡ true → IsWritten old headed (head style) →
+    AreToldUpTo (TellsDryFeature Stays AddsPart) stays_begun (AreDryFeatures run.library) true features headed so_far new fault → IsPrefix run contents features style old new fault
+dry_run_stopped law begins run dry contents features so_far style old headed new fault styles none head_written part =
+    let all = dry_parts run.library part.done part.rows so_far part.text part.last style styles none part.told in
+    let some = begins run contents part.done part.others part.rows dry part.results in
+    let rest = law.begins style some.0 part.rows some.1 some.3 in
+    let is = rest.1 ∙ ap (λ (xs : List ℕ). (head style ++ xs) ++ rest.0) (sym all.0) in (
+      some.0,
+      subst (λ fs. Judged run contents fs some.0) (sym part.whole) some.2,
+      stopped_within old new (head style ++ part.text) rest.0 (report style some.0) fault is (stopped_after old headed new (head style) part.text fault head_written part.stopped),
+    )

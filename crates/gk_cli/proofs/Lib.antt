@@ -5,9 +5,9 @@ pub mod WorkedArguments
 pub mod InputsLemmas
 pub mod TakenSourcesLemmas
 pub mod GrowingReportLemmas
-pub mod WrittenRunLemmas
+pub mod ResultLemmas
 pub mod SuiteLemmas
-pub mod ExplainedRunLemmas
+pub mod ToldRunLemmas
 pub mod ExplainedSuiteLemmas
 pub mod LintedSourcesLemmas
 pub mod LintedSuiteLemmas

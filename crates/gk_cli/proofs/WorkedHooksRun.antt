@@ -34,7 +34,8 @@ use Rattle.gk_report.specs.ReportTexts.{status_text, reason_text, one_line}
 use Rattle.gk_report.specs.Summary.{status}
 use Rattle.gk_report.specs.PlainReport.{status_line, step_line, case_line, around_line, feature_line, counted, count_line, closing_lines, plain_part}
 use Rattle.gk_report.specs.Report.{report}
-use Rattle.gk_cli.specs.Inputs.{Request, Inputs, AreInputs}
+use Rattle.gk_steps.specs.DefaultFile.{default_entries}
+use Rattle.gk_cli.specs.Inputs.{Request, Inputs, AreInputs, IsLibrary}
 use Rattle.gk_cli.specs.Suite.{Device, OnlyReport, InputsAreUnique, run_with}
 use Rattle.gk_cli.proofs.WorkedRun.{plain_style, ends_so, one_request, one_inputs, one_inputs_read, one_results}
 
@@ -77,8 +78,8 @@ abbrev hooks_inputs : Inputs
 hooks_inputs = record one_inputs { hooks = before_hook ∷ after_hook ∷ [] }
 
 -- It reads so.
-hooks_inputs_read : AreInputs hooks_request hooks_inputs
-hooks_inputs_read = record { rules = one_inputs_read.rules; tags = one_inputs_read.tags; library = one_inputs_read.library; hooks = (hooks_is_text, hooks_read); features = one_inputs_read.features }
+hooks_inputs_read : IsLibrary None default_entries → AreInputs hooks_request hooks_inputs
+hooks_inputs_read spelled = let one = one_inputs_read spelled in record { rules = one.rules; tags = one.tags; library = one.library; hooks = (hooks_is_text, hooks_read); features = one.features }
 
 -- The results that plain maps give: those of the feature are as without hooks, and the run's own hook fails.
 abbrev hooks_results : Results
@@ -86,7 +87,7 @@ hooks_results = record one_results { around = statuses.Failed }
 
 -- They are those of the inputs.
 hooks_is_plain : plain_results (run_with hooks_request hooks_inputs) nothing_yet hooks_inputs.features ≡ hooks_results
-unfolding cases is_chosen found match_of act
+unfolding cases is_chosen found match_of is_utf8 chars lib.Utf8.encode act
 hooks_is_plain = refl
 
 -- Their report and their status.
@@ -103,5 +104,5 @@ hooks_status : status hooks_results ≡ 1
 hooks_status = refl
 
 -- A run of that request that doesn't end with 4 writes that report and ends with 1.
-pub hooks_run : InputsAreUnique → (old new : Device) (answer : ℕ) → OnlyReport hooks_request nothing_yet old new answer → answer ≢ 4 → Appends old.bytes new.bytes hooks_report × (answer ≡ 1)
-hooks_run = ends_so hooks_request hooks_inputs hooks_results hooks_report 1 hooks_inputs_read hooks_is_plain hooks_reports hooks_status
+pub hooks_run : IsLibrary None default_entries → InputsAreUnique → (old new : Device) (answer : ℕ) → OnlyReport hooks_request nothing_yet old new answer → answer ≢ 4 → Appends old.bytes new.bytes hooks_report × (answer ≡ 1)
+hooks_run spelled = ends_so hooks_request hooks_inputs hooks_results hooks_report 1 (hooks_inputs_read spelled) hooks_is_plain hooks_reports hooks_status

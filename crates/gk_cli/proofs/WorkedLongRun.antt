@@ -1,10 +1,10 @@
 -- A longer run by computation: a tag, a description, a background with a doc string, an outline with examples, and a rule.
-use Rattle.std.specs.Prelude.{◌≡◌, ◌≢◌, ℕ, true, false, not, List, [], ◌∷◌, ◌++◌, filter, Some, None, codes}
+use Rattle.std.specs.Prelude.{◌≡◌, ◌≢◌, ℕ, true, false, not, List, [], ◌∷◌, ◌++◌, slice_index, filter, Some, None, codes}
 use Rattle.std.specs.Io.KnownBytes.{Appends}
 use Rattle.std.specs.Fmt.{digits}
 use Rattle.std.specs.Str.{chars, is_utf8}
 use lib.Utf8
-use Rattle.std.proofs.Common.{refl, sym, subst, ◌∙◌, arith, inl}
+use Rattle.std.proofs.Common.{refl, ap, sym, subst, ◌∙◌, arith, inl}
 use Rattle.std.proofs.lemmas.Str.{IsUtf8-from_is_utf8}
 use Rattle.gk_gherkin.specs.declared.feature.StepType.TheVariants.{Given, Then}
 use Rattle.gk_gherkin.specs.Lines.{LineValue, Lines, line_at, lines_of, IsText}
@@ -45,7 +45,7 @@ use Rattle.gk_report.specs.Report.{report}
 use Rattle.gk_cli.specs.Source.{SourceValue}
 use Rattle.gk_cli.specs.Inputs.{Request, Inputs, AreInputs, IsWithinLimit, chosen_of}
 use Rattle.gk_cli.specs.Suite.{Device, OnlyReport, InputsAreUnique, run_with}
-use Rattle.gk_cli.proofs.WorkedRun.{plain_style, ends_so, other_name, same_from_bare}
+use Rattle.gk_cli.proofs.WorkedRun.{plain_style, ends_so, same_from_bare}
 
 -- The feature file.
 abbrev bytes : List ℕ
@@ -138,6 +138,10 @@ reads = sound (lines_of bytes) (Some feature) refl
 is_text : IsText bytes
 unfolding is_utf8 chars lib.Utf8.encode
 is_text = (omega arith, IsUtf8-from_is_utf8 bytes refl)
+
+-- The names of two fields differ.
+other_name : codes "text" ≢ codes "name"
+other_name e = let first : ◌≡◌ {A = ℕ} 116 110 = ap (λ (word : List ℕ). slice_index word 0) e in absurd (omega arith)
 
 -- What the library file says.
 abbrev write_entry : EntryValue

@@ -8,6 +8,7 @@ use Rattle.std.proofs.Common.{refl, ap, ap₂, sym, subst, ◌∙◌, inl, inr}
 use Rattle.gk_select.specs.Case.{CaseValue}
 use Rattle.gk_select.specs.Expansion.{cases}
 use Rattle.gk_select.specs.Choice.{is_chosen}
+use Rattle.gk_steps.specs.DefaultFile.{default_entries}
 use Rattle.gk_steps.specs.Matching.{match_of}
 use Rattle.gk_steps.specs.Finding.{LibraryValue, found}
 use Rattle.gk_world.specs.State.{nothing_yet, State}
@@ -29,7 +30,7 @@ use Rattle.gk_report.specs.ReportTexts.{status_text, reason_text, one_line}
 use Rattle.gk_report.specs.Summary.{status}
 use Rattle.gk_report.specs.PlainReport.{status_line, step_line, case_line, around_line, feature_line, counted, count_line, closing_lines, plain_part}
 use Rattle.gk_report.specs.Report.{report}
-use Rattle.gk_cli.specs.Inputs.{Request, Inputs, AreInputs, member_by}
+use Rattle.gk_cli.specs.Inputs.{Request, Inputs, AreInputs, IsLibrary, member_by}
 use Rattle.gk_cli.specs.Suite.{Device, IsReported, JudgedReport, InputsAreUnique, run_with}
 use Rattle.gk_cli.proofs.WorkedRun.{plain_style, bare_state, one_feature, two_feature, set_step, ask_step, results_from_bare, same_from_bare, one_request, one_inputs, one_inputs_read, one_results, one_report, one_reports, one_status, two_request, two_inputs, two_inputs_read, two_results, two_report, two_reports, two_status, one_row, results_with, row_A, row_B, two_rows}
 
@@ -102,7 +103,7 @@ one_memory_reports = refl
 
 -- The results of that scenario, by its cut: a cut at an event that it doesn't have is none.
 one_by_cut : (cut : Cut) → let results : Results = results_from_bare (run_with one_request one_inputs) (cuts_of (cut ∷ [])) one_inputs.features in (results ≡ one_results) ⊎ (results ≡ one_memory)
-unfolding cases is_chosen found match_of act
+unfolding cases is_chosen found match_of is_utf8 chars lib.Utf8.encode act
 one_by_cut nowhere = inl refl
 one_by_cut (in_before n s) = inl refl
 one_by_cut (in_steps zero s) = inr refl
@@ -121,10 +122,10 @@ one_by_cuts cuts =
     ]
 
 -- A run of that request writes the plain report and ends with 0, or writes that memory was refused and ends with 4.
-pub one_judged : InputsAreUnique → (old new : Device) (answer : ℕ) → JudgedReport one_request nothing_yet old new answer →
+pub one_judged : IsLibrary None default_entries → InputsAreUnique → (old new : Device) (answer : ℕ) → JudgedReport one_request nothing_yet old new answer →
     IsReturned old new answer one_report 0 ⊎ IsReturned old new answer one_memory_report 4
-one_judged unique old new answer judged =
-    let (cuts, reported) = judged_ends one_request one_inputs refl one_inputs_read unique old new answer judged in
+one_judged spelled unique old new answer judged =
+    let (cuts, reported) = judged_ends one_request one_inputs refl (one_inputs_read spelled) unique old new answer judged in
     let results : Results = results_from_bare (run_with one_request one_inputs) cuts one_inputs.features in
     elim (one_by_cuts cuts) [
       | inl is ↦ inl (returned old new answer results one_results one_report 0 is one_reports one_status reported)
@@ -242,10 +243,10 @@ two_by_cuts cuts =
     subst (λ (results : Results). IsOneOfFour results) (sym same) (two_by_cut (first_or nowhere own) (first_or nowhere (later own)))
 
 -- A run of that request writes the plain report and ends with 1, or writes where memory was refused and ends with 4. Whatever is refused, the second scenario never passes.
-pub two_judged : InputsAreUnique → (old new : Device) (answer : ℕ) → JudgedReport two_request nothing_yet old new answer →
+pub two_judged : IsLibrary None default_entries → InputsAreUnique → (old new : Device) (answer : ℕ) → JudgedReport two_request nothing_yet old new answer →
     IsReturned old new answer two_report 1 ⊎ (IsReturned old new answer memory_in_A_report 4 ⊎ (IsReturned old new answer memory_in_B_report 4 ⊎ IsReturned old new answer memory_in_both_report 4))
-two_judged unique old new answer judged =
-    let (cuts, reported) = judged_ends two_request two_inputs refl two_inputs_read unique old new answer judged in
+two_judged spelled unique old new answer judged =
+    let (cuts, reported) = judged_ends two_request two_inputs refl (two_inputs_read spelled) unique old new answer judged in
     let results : Results = results_from_bare (run_with two_request two_inputs) cuts two_inputs.features in
     elim (two_by_cuts cuts) [
       | inl is ↦ inl (returned old new answer results two_results two_report 1 is two_reports two_status reported)

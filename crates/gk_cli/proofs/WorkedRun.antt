@@ -1,15 +1,15 @@
 -- Whole runs by computation: from the bytes of a feature file to the report's bytes and the status.
-use Rattle.std.specs.Prelude.{◌≡◌, ◌≢◌, ℕ, Bool, false, cond, not, List, [], ◌∷◌, slice_index, filter, Option, Some, None, codes}
+use Rattle.std.specs.Prelude.{◌≡◌, ◌≢◌, ℕ, Bool, false, cond, List, [], ◌∷◌, Option, Some, None, codes}
 use Rattle.std.specs.Io.KnownBytes.{Appends}
 use Rattle.std.specs.Fmt.{digits}
 use Rattle.std.specs.FinMap.{get-empty}
 use Rattle.std.specs.Str.{chars, is_utf8}
 use lib.Utf8
-use Rattle.std.proofs.Common.{refl, ap, sym, subst, ◌∙◌, arith}
+use Rattle.std.proofs.Common.{refl, ap, subst, ◌∙◌, arith}
 use Rattle.std.proofs.Math.Path.{fun_ext}
 use Rattle.std.proofs.lemmas.Str.{IsUtf8-from_is_utf8}
 use Rattle.gk_gherkin.specs.declared.feature.StepType.TheVariants.{Given, When, Then}
-use Rattle.gk_gherkin.specs.Lines.{LineValue, Lines, line_at, lines_of, IsText}
+use Rattle.gk_gherkin.specs.Lines.{lines_of, IsText}
 use Rattle.gk_gherkin.specs.Feature.{Empty, StepValue, ScenarioValue, FeatureValue}
 use Rattle.gk_gherkin.specs.Grammar.{Reads}
 use Rattle.gk_gherkin.specs.Class.{class, class_of, class_of_words, heading_keyword, heading_name, step_keyword, step_text}
@@ -25,13 +25,8 @@ use Rattle.gk_gherkin.proofs.FeatureReaderSound.{sound}
 use Rattle.gk_select.specs.Case.{CaseValue}
 use Rattle.gk_select.specs.Expansion.{cases}
 use Rattle.gk_select.specs.Choice.{is_chosen}
-use Rattle.gk_steps.specs.declared.action.Action.TheVariants as actions
-use Rattle.gk_steps.specs.declared.pattern.FieldKind.TheVariants as kinds
-use Rattle.gk_steps.specs.Pattern.{Literal, FieldPiece}
 use Rattle.gk_steps.specs.Matching.{match_of}
-use Rattle.gk_steps.specs.Action.{action_row, plain_row, text_row}
-use Rattle.gk_steps.specs.Finding.{EntryValue, found}
-use Rattle.gk_steps.specs.LibraryFile.{is_ignored, type_of, sides_of, last_arrow, SpellsEntry, SpellEntries, ReadsLibrary}
+use Rattle.gk_steps.specs.Finding.{found}
 use Rattle.gk_steps.specs.DefaultFile.{default_entries}
 use Rattle.gk_world.specs.State.{nothing_yet, State, Map, nothing, state_of}
 use Rattle.gk_run.specs.declared.results.Status.TheVariants as statuses
@@ -84,17 +79,13 @@ same_from_bare run cuts features runs =
 abbrev pub one_bytes : List ℕ
 one_bytes = codes "Feature: one\n  Scenario: first\n    Given it passes\n"
 
--- A library with one entry.
-abbrev pub pass_bytes : List ℕ
-pass_bytes = codes "step it passes => pass\n"
-
 -- The file with its name.
 abbrev pub one_source : SourceValue
 one_source = record { name = codes "one.feature"; bytes = one_bytes }
 
--- What is asked for: all scenarios of that feature.
+-- What is asked for: all scenarios of that feature, with the default library.
 abbrev pub one_request : Request
-one_request = record { tags = []; lines = []; dry_run = false; stop = false; style = plain_style; library = Some pass_bytes; hooks = None; sources = one_source ∷ [] }
+one_request = record { tags = []; lines = []; dry_run = false; stop = false; style = plain_style; library = None; hooks = None; sources = one_source ∷ [] }
 
 -- What the feature file says.
 abbrev pub one_step : StepValue
@@ -118,58 +109,21 @@ one_is_text : IsText one_bytes
 unfolding is_utf8 chars lib.Utf8.encode
 one_is_text = (omega arith, IsUtf8-from_is_utf8 one_bytes refl)
 
--- What the library file says.
-abbrev pub pass_entry : EntryValue
-pass_entry = record { step_type = None; pattern = Literal (codes "it passes") ∷ []; action = actions.Pass }
-
--- Its line.
-abbrev pass_line : LineValue
-pass_line = line_at 1 (codes "step it passes => pass")
-
--- No line of it is ignored.
-pass_lines : filter (λ line. not (is_ignored line)) (lines_of pass_bytes) ≡ pass_line ∷ []
-pass_lines = refl
-
--- The line spells the entry.
-pass_spells : SpellsEntry [] pass_line pass_entry
-unfolding type_of sides_of last_arrow action_row
-pass_spells = record {
-  sides = record { pattern = codes "it passes"; action = codes "pass" };
-  row = plain_row (codes "pass") actions.Pass [];
-  is_type = refl;
-  is_cut = refl;
-  is_pattern = record { spelled = refl; names = tt; distinct = tt; runs = (omega arith, tt); some = omega arith };
-  is_action = refl;
-  action = refl;
-  needs = tt;
-  kinds = tt;
-  unambiguous = tt;
-}
-
--- The lines of its bytes spell the one entry.
-pass_reads : ReadsLibrary (lines_of pass_bytes) (pass_entry ∷ [])
-pass_reads = subst (λ (ls : Lines). SpellEntries [] ls (pass_entry ∷ [])) (sym pass_lines) (pass_spells, tt)
-
--- Its bytes are a text.
-pass_is_text : IsText pass_bytes
-unfolding is_utf8 chars lib.Utf8.encode
-pass_is_text = (omega arith, IsUtf8-from_is_utf8 pass_bytes refl)
-
 -- What is asked for, as it reads.
 abbrev pub one_inputs : Inputs
-one_inputs = record { library = pass_entry ∷ []; hooks = []; features = chosen_of (is_chosen [] []) (codes "one.feature") one_feature ∷ [] }
+one_inputs = record { library = default_entries; hooks = []; features = chosen_of (is_chosen [] []) (codes "one.feature") one_feature ∷ [] }
 
 -- It has no more steps than the limit.
 one_is_within_limit : IsWithinLimit (Some one_feature)
 unfolding cases
 one_is_within_limit = omega arith
 
--- What is asked for reads as these inputs.
-pub one_inputs_read : AreInputs one_request one_inputs
-one_inputs_read = record {
+-- What is asked for reads as these inputs, given that the default library's text spells its entries.
+pub one_inputs_read : IsLibrary None default_entries → AreInputs one_request one_inputs
+one_inputs_read spelled = record {
   rules = [];
   tags = refl;
-  library = (pass_is_text, pass_reads);
+  library = spelled;
   hooks = refl;
   features = (Some one_feature, [], one_is_text, one_reads, one_is_within_limit, refl, refl);
 }
@@ -195,7 +149,7 @@ one_results = results_with (one_row (codes "one.feature") statuses.Passed ∷ []
 
 -- They are those of the inputs.
 one_is_plain : plain_results (run_with one_request one_inputs) nothing_yet one_inputs.features ≡ one_results
-unfolding cases is_chosen found match_of act
+unfolding cases is_chosen found match_of is_utf8 chars lib.Utf8.encode act
 one_is_plain = refl
 
 -- Their report and their status.
@@ -212,16 +166,12 @@ pub one_status : status one_results ≡ 0
 one_status = refl
 
 -- A run of that request that doesn't end with 4 writes that report and ends with 0.
-pub one_run : InputsAreUnique → (old new : Device) (answer : ℕ) → OnlyReport one_request nothing_yet old new answer → answer ≢ 4 → Appends old.bytes new.bytes one_report × (answer ≡ 0)
-one_run = ends_so one_request one_inputs one_results one_report 0 one_inputs_read one_is_plain one_reports one_status
+pub one_run : IsLibrary None default_entries → InputsAreUnique → (old new : Device) (answer : ℕ) → OnlyReport one_request nothing_yet old new answer → answer ≢ 4 → Appends old.bytes new.bytes one_report × (answer ≡ 0)
+one_run spelled = ends_so one_request one_inputs one_results one_report 0 (one_inputs_read spelled) one_is_plain one_reports one_status
 
 -- A feature with two scenarios, the second of which asks for what the first has set.
 abbrev pub two_bytes : List ℕ
 two_bytes = codes "Feature: two\n  Scenario: A\n    When the variable \"X\" is set to \"1\"\n  Scenario: B\n    Then the variable \"X\" should be \"1\"\n"
-
--- A library with an entry for each of its steps.
-abbrev pub variable_bytes : List ℕ
-variable_bytes = codes "when the variable \"{name}\" is set to \"{text}\" => set_env\nthen the variable \"{name}\" should be \"{text}\" => env_is\n"
 
 -- The file with its name.
 abbrev pub two_source : SourceValue
@@ -229,7 +179,7 @@ two_source = record { name = codes "two.feature"; bytes = two_bytes }
 
 -- What is asked for: all scenarios of that feature.
 abbrev pub two_request : Request
-two_request = record { tags = []; lines = []; dry_run = false; stop = false; style = plain_style; library = Some variable_bytes; hooks = None; sources = two_source ∷ [] }
+two_request = record { tags = []; lines = []; dry_run = false; stop = false; style = plain_style; library = None; hooks = None; sources = two_source ∷ [] }
 
 -- What the feature file says.
 abbrev pub set_step : StepValue
@@ -261,74 +211,9 @@ two_is_text : IsText two_bytes
 unfolding is_utf8 chars lib.Utf8.encode
 two_is_text = (omega arith, IsUtf8-from_is_utf8 two_bytes refl)
 
--- What the library file says.
-abbrev pub set_entry : EntryValue
-set_entry = record { step_type = Some When; pattern = Literal (codes "the variable \"") ∷ FieldPiece (codes "name") kinds.Plain ∷ Literal (codes "\" is set to \"") ∷ FieldPiece (codes "text") kinds.Plain ∷ Literal (codes "\"") ∷ []; action = actions.SetEnv }
-
--- The entry of the second line.
-abbrev pub ask_entry : EntryValue
-ask_entry = record { step_type = Some Then; pattern = Literal (codes "the variable \"") ∷ FieldPiece (codes "name") kinds.Plain ∷ Literal (codes "\" should be \"") ∷ FieldPiece (codes "text") kinds.Plain ∷ Literal (codes "\"") ∷ []; action = actions.EnvIs }
-
--- The first line.
-abbrev set_line : LineValue
-set_line = line_at 1 (codes "when the variable \"{name}\" is set to \"{text}\" => set_env")
-
--- The second line.
-abbrev ask_line : LineValue
-ask_line = line_at 2 (codes "then the variable \"{name}\" should be \"{text}\" => env_is")
-
--- Neither line is ignored.
-variable_lines : filter (λ line. not (is_ignored line)) (lines_of variable_bytes) ≡ set_line ∷ ask_line ∷ []
-variable_lines = refl
-
--- The names of the two fields differ.
-pub other_name : codes "text" ≢ codes "name"
-other_name e = let first : ◌≡◌ {A = ℕ} 116 110 = ap (λ (word : List ℕ). slice_index word 0) e in absurd (omega arith)
-
--- The first line spells the first entry.
-set_spells : SpellsEntry [] set_line set_entry
-unfolding type_of sides_of last_arrow action_row
-set_spells = record {
-  sides = record { pattern = codes "the variable \"{name}\" is set to \"{text}\""; action = codes "set_env" };
-  row = text_row (codes "set_env") actions.SetEnv;
-  is_type = refl;
-  is_cut = refl;
-  is_pattern = record { spelled = refl; names = search; distinct = ((other_name, tt), (tt, tt)); runs = (omega arith, (omega arith, (omega arith, tt))); some = omega arith };
-  is_action = refl;
-  action = refl;
-  needs = search;
-  kinds = (λ kind e. cc, (λ kind e. cc, tt));
-  unambiguous = tt;
-}
-
--- The second line spells the second entry, which is for steps of another type.
-ask_spells : SpellsEntry (set_entry ∷ []) ask_line ask_entry
-unfolding type_of sides_of last_arrow action_row
-ask_spells = record {
-  sides = record { pattern = codes "the variable \"{name}\" should be \"{text}\""; action = codes "env_is" };
-  row = text_row (codes "env_is") actions.EnvIs;
-  is_type = refl;
-  is_cut = refl;
-  is_pattern = record { spelled = refl; names = search; distinct = ((other_name, tt), (tt, tt)); runs = (omega arith, (omega arith, (omega arith, tt))); some = omega arith };
-  is_action = refl;
-  action = refl;
-  needs = search;
-  kinds = (λ kind e. cc, (λ kind e. cc, tt));
-  unambiguous = (λ e. let no : ⊥ = cc in absurd no, tt);
-}
-
--- The lines of its bytes spell the two entries.
-variable_reads : ReadsLibrary (lines_of variable_bytes) (set_entry ∷ ask_entry ∷ [])
-variable_reads = subst (λ (ls : Lines). SpellEntries [] ls (set_entry ∷ ask_entry ∷ [])) (sym variable_lines) (set_spells, (ask_spells, tt))
-
--- Its bytes are a text.
-variable_is_text : IsText variable_bytes
-unfolding is_utf8 chars lib.Utf8.encode
-variable_is_text = (omega arith, IsUtf8-from_is_utf8 variable_bytes refl)
-
 -- What is asked for, as it reads.
 abbrev pub two_inputs : Inputs
-two_inputs = record { library = set_entry ∷ ask_entry ∷ []; hooks = []; features = chosen_of (is_chosen [] []) (codes "two.feature") two_feature ∷ [] }
+two_inputs = record { library = default_entries; hooks = []; features = chosen_of (is_chosen [] []) (codes "two.feature") two_feature ∷ [] }
 
 -- The feature has no more steps than the limit.
 two_is_within_limit : IsWithinLimit (Some two_feature)
@@ -340,8 +225,8 @@ two_is_read : (chooses : CaseValue → Bool) → AreRead chooses (two_source ∷
 two_is_read chooses = (Some two_feature, [], two_is_text, two_reads, two_is_within_limit, refl, refl)
 
 -- What is asked for reads as these inputs.
-pub two_inputs_read : AreInputs two_request two_inputs
-two_inputs_read = record { rules = []; tags = refl; library = (variable_is_text, variable_reads); hooks = refl; features = two_is_read (is_chosen [] []) }
+pub two_inputs_read : IsLibrary None default_entries → AreInputs two_request two_inputs
+two_inputs_read spelled = record { rules = []; tags = refl; library = spelled; hooks = refl; features = two_is_read (is_chosen [] []) }
 
 -- The rows of the two scenarios, by what became of their steps.
 abbrev pub row_A : Status → CaseRow
@@ -377,29 +262,8 @@ pub two_status : status two_results ≡ 1
 two_status = refl
 
 -- A run of that request that doesn't end with 4 writes that report and ends with 1.
-pub two_run : InputsAreUnique → (old new : Device) (answer : ℕ) → OnlyReport two_request nothing_yet old new answer → answer ≢ 4 → Appends old.bytes new.bytes two_report × (answer ≡ 1)
-two_run = ends_so two_request two_inputs two_results two_report 1 two_inputs_read two_is_plain two_reports two_status
-
--- The same feature with the default library, of which nothing is asked but that its text spells its entries.
-abbrev default_request : Request
-default_request = record two_request { library = None }
-
--- The same features, with the entries of the default library.
-abbrev default_inputs : Inputs
-default_inputs = record two_inputs { library = default_entries }
-
--- What is asked for reads so, where the default library's text spells its entries.
-default_inputs_read : IsLibrary None default_entries → AreInputs default_request default_inputs
-default_inputs_read spelled = record { rules = []; tags = refl; library = spelled; hooks = refl; features = two_is_read (is_chosen [] []) }
-
--- The results are those of the run with the library file.
-default_is_plain : plain_results (run_with default_request default_inputs) nothing_yet default_inputs.features ≡ two_results
-unfolding cases is_chosen found match_of is_utf8 chars lib.Utf8.encode act
-default_is_plain = same_from_bare (run_with default_request default_inputs) uncut default_inputs.features refl ∙ refl
-
--- A run of that request that doesn't end with 4 writes the same report and ends with 1.
-pub default_run : IsLibrary None default_entries → InputsAreUnique → (old new : Device) (answer : ℕ) → OnlyReport default_request nothing_yet old new answer → answer ≢ 4 → Appends old.bytes new.bytes two_report × (answer ≡ 1)
-default_run spelled = ends_so default_request default_inputs two_results two_report 1 (default_inputs_read spelled) default_is_plain two_reports two_status
+pub two_run : IsLibrary None default_entries → InputsAreUnique → (old new : Device) (answer : ℕ) → OnlyReport two_request nothing_yet old new answer → answer ≢ 4 → Appends old.bytes new.bytes two_report × (answer ≡ 1)
+two_run spelled = ends_so two_request two_inputs two_results two_report 1 (two_inputs_read spelled) two_is_plain two_reports two_status
 
 -- The same feature with the library file, where line 2 is chosen: the first scenario alone is run.
 abbrev line_request : Request
@@ -410,8 +274,8 @@ abbrev line_inputs : Inputs
 line_inputs = record two_inputs { features = chosen_of (is_chosen [] (2 ∷ [])) (codes "two.feature") two_feature ∷ [] }
 
 -- It reads so.
-line_inputs_read : AreInputs line_request line_inputs
-line_inputs_read = record { rules = []; tags = refl; library = (variable_is_text, variable_reads); hooks = refl; features = two_is_read (is_chosen [] (2 ∷ [])) }
+line_inputs_read : IsLibrary None default_entries → AreInputs line_request line_inputs
+line_inputs_read spelled = record { rules = []; tags = refl; library = spelled; hooks = refl; features = two_is_read (is_chosen [] (2 ∷ [])) }
 
 -- The results that plain maps give: the second scenario is skipped.
 abbrev line_results : Results
@@ -436,8 +300,8 @@ line_status : status line_results ≡ 0
 line_status = refl
 
 -- A run of that request that doesn't end with 4 writes that report and ends with 0.
-pub line_run : InputsAreUnique → (old new : Device) (answer : ℕ) → OnlyReport line_request nothing_yet old new answer → answer ≢ 4 → Appends old.bytes new.bytes line_report × (answer ≡ 0)
-line_run = ends_so line_request line_inputs line_results line_report 0 line_inputs_read line_is_plain line_reports line_status
+pub line_run : IsLibrary None default_entries → InputsAreUnique → (old new : Device) (answer : ℕ) → OnlyReport line_request nothing_yet old new answer → answer ≢ 4 → Appends old.bytes new.bytes line_report × (answer ≡ 0)
+line_run spelled = ends_so line_request line_inputs line_results line_report 0 (line_inputs_read spelled) line_is_plain line_reports line_status
 
 -- A file of a comment and a blank line, which holds no feature.
 abbrev comment_bytes : List ℕ
@@ -470,13 +334,13 @@ abbrev several_inputs : Inputs
 several_inputs = record one_inputs { features = chosen_of (is_chosen [] []) (codes "one.feature") one_feature ∷ chosen_of (is_chosen [] []) (codes "again.feature") one_feature ∷ [] }
 
 -- It reads so.
-several_inputs_read : AreInputs several_request several_inputs
-several_inputs_read =
+several_inputs_read : IsLibrary None default_entries → AreInputs several_request several_inputs
+several_inputs_read spelled =
     let again = chosen_of (is_chosen [] []) (codes "again.feature") one_feature ∷ [] in
     record {
       rules = [];
       tags = refl;
-      library = (pass_is_text, pass_reads);
+      library = spelled;
       hooks = refl;
       features = (Some one_feature, again, one_is_text, one_reads, one_is_within_limit, (None, again, comment_is_text, comment_reads, tt, (Some one_feature, [], one_is_text, one_reads, one_is_within_limit, refl, refl), refl), refl);
     }
@@ -487,7 +351,7 @@ several_results = results_with (one_row (codes "one.feature") statuses.Passed �
 
 -- They are those of the inputs.
 several_is_plain : plain_results (run_with several_request several_inputs) nothing_yet several_inputs.features ≡ several_results
-unfolding cases is_chosen found match_of act
+unfolding cases is_chosen found match_of is_utf8 chars lib.Utf8.encode act
 several_is_plain = refl
 
 -- Their report and their status.
@@ -504,5 +368,5 @@ several_status : status several_results ≡ 0
 several_status = refl
 
 -- A run of that request that doesn't end with 4 writes that report and ends with 0.
-pub several_run : InputsAreUnique → (old new : Device) (answer : ℕ) → OnlyReport several_request nothing_yet old new answer → answer ≢ 4 → Appends old.bytes new.bytes several_report × (answer ≡ 0)
-several_run = ends_so several_request several_inputs several_results several_report 0 several_inputs_read several_is_plain several_reports several_status
+pub several_run : IsLibrary None default_entries → InputsAreUnique → (old new : Device) (answer : ℕ) → OnlyReport several_request nothing_yet old new answer → answer ≢ 4 → Appends old.bytes new.bytes several_report × (answer ≡ 0)
+several_run spelled = ends_so several_request several_inputs several_results several_report 0 (several_inputs_read spelled) several_is_plain several_reports several_status

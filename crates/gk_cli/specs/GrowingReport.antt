@@ -1,24 +1,15 @@
--- A report that is written part by part.
-use Rattle.std.specs.Prelude.{◌≡◌, ◌≤◌, ◌+◌, ℕ, List, [], ◌∷◌, ◌++◌, length}
+-- Bytes that are written, and a report that is written part by part.
+use Rattle.std.specs.Prelude.{◌≡◌, ◌≤◌, ◌+◌, ◌&&◌, ℕ, Bool, List, length}
 use Rattle.std.specs.Io.KnownBytes.{Appends}
 use Rattle.gk_run.specs.declared.results.Status.{Status}
 use Rattle.gk_run.specs.Results.{FeatureRow, Results}
 use Rattle.gk_report.specs.declared.report.Style.{Style}
-use Rattle.gk_report.specs.Report.{head, parts, is_empty}
-use Rattle.gk_report.specs.Summary.{summary_of}
+use Rattle.gk_report.specs.Report.{part, tail, is_empty}
 use Rattle.gk_cli.specs.declared.growing_report.GrowingReport.{GrowingReport}
 use Rattle.gk_cli.specs.declared.run_fault.RunFault.{RunFault}
 use Rattle.gk_cli.specs.declared.run_fault.RunFault.TheVariants.{Write, Memory}
 use Rattle.gk_cli.specs.Counted.{one_more, IsPrefixWritten}
 use Rattle.gk_cli.specs.Suite.{Device}
-
--- The style of a growing report.
-abbrev pub style_of : GrowingReport → Style
-style_of g = g.style
-
--- A report so far: its head and the parts of these results.
-abbrev pub so_far : Style → List FeatureRow → List ℕ
-so_far style rows = head style ++ parts style rows
 
 -- The results of a run: those of its features, and how its own hooks and cleanups ended.
 abbrev pub results_with : List FeatureRow → Status → Results
@@ -45,16 +36,24 @@ pub record IsStopped (old new : Device) (bytes : List ℕ) (fault : RunFault) : 
   pub why : StopsBy old new fault
   pub unflushed : new.flushes ≡ old.flushes
 
--- The report of these results is written so far, and the results are counted.
-pub record IsGrown (old new : Device) (g : GrowingReport) (rows : List FeatureRow) : Type 0 where
-  pub written : IsWritten old new (so_far g.style rows)
-  pub counted : g.summary ≡ summary_of rows
-  pub first : g.is_first ≡ is_empty (parts g.style rows)
+-- Proof machinery, from here on: the style of a growing report.
+abbrev pub style_of : GrowingReport → Style
+style_of g = g.style
 
--- Proof machinery: the report grows by one feature.
-abbrev pub Grows : Device → GrowingReport → Device → GrowingReport → FeatureRow → Type 0
-Grows old g new grown row = (before : Device) (rows : List FeatureRow) → IsGrown before old g rows → IsGrown before new grown (rows ++ row ∷ [])
+-- Whether all of its parts are empty.
+abbrev pub prints_nothing : GrowingReport → Bool
+prints_nothing g = g.is_first
 
--- Proof machinery: the report stops instead of growing by one feature.
-abbrev pub Stops : Device → GrowingReport → Device → FeatureRow → RunFault → Type 0
-Stops old g new row fault = (before : Device) (rows : List FeatureRow) → IsGrown before old g rows → IsStopped before new (so_far g.style (rows ++ row ∷ [])) fault
+-- What an event leaves of a report: all.
+abbrev pub Stays : {T : Type 0} → GrowingReport → T → GrowingReport → Type 0
+Stays old told new = new ≡ old
+
+-- The text of a feature is its part. The report remembers whether all parts were empty.
+pub record AddsPart (old : GrowingReport) (row : FeatureRow) (text : List ℕ) (new : GrowingReport) : Type 0 where
+  pub is : text ≡ part old.style old.is_first row
+  pub style : new.style ≡ old.style
+  pub first : new.is_first ≡ (old.is_first && is_empty text)
+
+-- The last text of a report is its tail.
+abbrev pub ClosesByTail : GrowingReport → Results → List ℕ → Type 0
+ClosesByTail g results text = text ≡ tail g.style results.features results.around

@@ -8,6 +8,8 @@ pub mod SuiteFiles
 pub mod Suite
 pub mod RowOrder
 pub mod GrowingReport
+pub mod Reporter
+pub mod ToldRun
 pub mod WrittenRun
 pub mod ExplainedRun
 pub mod ExplainedSuite

@@ -8,7 +8,7 @@ ghost use Rattle.gk_cli.specs.ExplainedSuite.{Explained, SaysExplanationFault};
 
 use crate::arguments::Options;
 use crate::counted::Counted;
-use crate::explained_run::{Explaining, write_explanation};
+use crate::explained_run::write_explanation;
 use crate::inputs::read_inputs;
 use crate::run_fault::RunFault;
 use crate::source::FeatureSource;
@@ -66,12 +66,8 @@ pub fn explain_suite<S: FeatureSource, W: Write>(
 {
     match read_inputs(alloc, options, files) {
         Ok(inputs) => {
-            let explaining = Explaining {
-                alloc,
-                hooks: name_of(&files.hooks),
-                stop: options.stop,
-            };
-            write_explanation(explaining, sandbox, inputs, out)
+            let hooks = name_of(&files.hooks);
+            write_explanation(alloc, sandbox, options.stop, hooks, inputs, out)
         }
         Err(fault) => Err(fault),
     }

@@ -1,16 +1,23 @@
 //! A report that is written part by part.
-ghost use Rattle.std.specs.Prelude.{◌≡◌, ◌&&◌, [], OnOk, IfOk, IfErr};
+ghost use Rattle.std.specs.Prelude.{◌≡◌, ◌&&◌, OnOk, IfOk, IfErr};
 ghost use Rattle.gk_run.specs.Results.{feature_row};
-ghost use Rattle.gk_report.specs.Report.{is_empty, part, report};
+ghost use Rattle.gk_report.specs.Report as spec;
+ghost use Rattle.gk_report.specs.Report.{is_empty, part};
 ghost use Rattle.gk_cli.specs.Suite.{device_of};
 ghost use Rattle.gk_cli.specs.GrowingReport.{IsWritten, IsStopped};
 ghost use Rattle.gk_cli.specs.declared.run_fault.RunFault.TheVariants as faults;
 
 use crate::counted::{Counted, write_whole};
+use crate::reporter::Reporter;
 use crate::run_fault::RunFault;
-use gk_report::{Style, Summary, head, pieces, reports_grow_by_parts, tail};
-use gk_run::{FeatureResult, Status};
-use std::alloc::Global;
+use gk_gherkin::{Block, Step};
+use gk_report::{Style, Summary, head, pieces, tail};
+use gk_run::{
+    CaseResult, FeatureResult, Level, Mark, Observer, Outcome, RuleResult, Stage, Status,
+};
+use gk_steps::Found;
+use gk_world::Sandbox;
+use std::alloc::{AllocError, Global};
 use std::io::Write;
 
 /// Writes a piece of a text. The number of calls is at most the number of its bytes. `Write` comes if the writer
@@ -55,89 +62,97 @@ fn write_part<W: Write>(
     Ok(still_first)
 }
 
+/// Writes the head of a report. `Memory` comes if the head couldn't be made; nothing was written then. `Write` comes if
+/// the writer failed; a prefix of the head was written then.
+pub fn write_head<W: Write>(
+    alloc: Global,
+    style: Style,
+    out: &mut Counted<W>,
+) -> Result<(), RunFault>
+    ensures ok { OnOk result (IsWritten
+        (device_of W.contents out.old) (device_of W.contents out.new) (spec.head style)) }
+    ensures err { IfErr result (IsStopped
+        (device_of W.contents out.old) (device_of W.contents out.new) (spec.head style)) }
+{
+    let text = head(alloc, style)?;
+    write_piece(out, text.as_str())
+}
+
 /// A report with its head and the parts of some features written. The written text isn't kept.
 #[derive(Debug, Drop)]
 pub struct GrowingReport {
     style: Style,
-    // The counts of the features whose parts are written.
-    summary: Summary,
     // Whether each of these parts is empty.
     is_first: bool,
 }
 
 impl GrowingReport {
-    ghost use Rattle.std.specs.Prelude.{◌≡◌, ℕ, [], List, OnOk, IfOk, IfErr};
-    ghost use Rattle.gk_run.specs.Results.{FeatureRow, feature_row};
-    ghost use Rattle.gk_report.specs.Report.{report};
-    ghost use Rattle.gk_cli.specs.Suite.{Device, device_of, IsReported};
-    ghost use Rattle.gk_cli.specs.GrowingReport.{so_far, IsStopped, IsGrown, Grows, Stops, style_of, results_with};
+    ghost use Rattle.std.specs.Prelude.{◌≡◌, true};
+    ghost use Rattle.gk_cli.specs.GrowingReport.{style_of, prints_nothing};
 
-    /// Writes the head. `Memory` comes if the head couldn't be made; nothing was written then. `Write` comes if the
-    /// writer failed; a prefix of the head was written then.
-    pub fn start<W: Write>(
-        alloc: Global,
-        style: Style,
-        out: &mut Counted<W>,
-    ) -> Result<GrowingReport, RunFault>
-        ensures ok { IfOk result (λ g.
-            IsGrown (device_of W.contents out.old) (device_of W.contents out.new) g []) }
-        ensures style { IfOk result (λ g. style_of g ≡ style) }
-        ensures err { IfErr result (IsStopped
-            (device_of W.contents out.old) (device_of W.contents out.new) (so_far style [])) }
+    /// Returns a report with its head written.
+    pub fn new(style: Style) -> GrowingReport
+        ensures style { style_of result ≡ style }
+        ensures first { prints_nothing result ≡ true }
     {
-        let text = head(alloc, style)?;
-        write_piece(out, text.as_str())?;
-        Ok(GrowingReport {
+        GrowingReport {
             style,
-            summary: Summary::new(),
             is_first: true,
-        })
+        }
     }
+}
 
-    /// Writes the part of a feature in pieces, and counts the feature. Each piece is made whole before it is written.
-    /// `Memory` comes if the next piece couldn't be made, and `Write` if the writer failed. In both cases a prefix of
-    /// the part was written, and the feature isn't counted.
-    pub fn add<W: Write>(
+impl Observer for GrowingReport {
+    ghost use Rattle.gk_cli.specs.GrowingReport.{Stays};
+
+    ghost hears = { Stays };
+
+    ghost ends = { Stays };
+
+    fn case_ended(&mut self, _row: &CaseResult) {}
+
+    fn rule_ended(&mut self, _row: &RuleResult) {}
+
+    fn step(&mut self, _place: Stage, _step: &Step, _mark: Mark, _sandbox: &Sandbox) {}
+
+    fn cleanup(
+        &mut self,
+        _level: Level,
+        _found: &Found,
+        _block: &Block,
+        _outcome: Outcome,
+        _sandbox: &Sandbox,
+    ) {}
+}
+
+/// Writes the part of each feature in pieces. Each piece is made whole before it is written.
+impl Reporter for GrowingReport {
+    ghost use Rattle.gk_cli.specs.GrowingReport.{Stays, AddsPart, ClosesByTail};
+
+    ghost begins = { Stays };
+
+    ghost adds = { AddsPart };
+
+    ghost closes = { ClosesByTail };
+
+    fn feature_begun(&mut self, _source: &str) {}
+
+    fn feature_ended<W: Write>(
         &mut self,
         alloc: Global,
-        feature: FeatureResult,
+        feature: &FeatureResult,
         out: &mut Counted<W>,
-    ) -> Result<(), RunFault>
-        ensures ok { OnOk result (Grows (device_of W.contents out.old) self.old
-            (device_of W.contents out.new) self.new (feature_row feature)) }
-        ensures style { style_of self.new ≡ style_of self.old }
-        ensures err { IfErr result (Stops (device_of W.contents out.old) self.old
-            (device_of W.contents out.new) (feature_row feature)) }
-    {
-        // No code runs here: the law says how a report grows by a part.
-        reports_grow_by_parts();
-        self.is_first = write_part(alloc, self.style, self.is_first, &feature, out)?;
-        self.summary.add(&feature);
+    ) -> Result<(), RunFault> {
+        self.is_first = write_part(alloc, self.style, self.is_first, feature, out)?;
         Ok(())
     }
 
-    /// Writes the tail and returns the status of the run. `around` says how its own hooks and cleanups ended. `Memory`
-    /// comes if the tail couldn't be made; nothing of it was written then. `Write` comes if the writer failed; a prefix
-    /// of the tail was written then.
-    pub fn finish<W: Write>(
+    fn run_ended(
         self,
         alloc: Global,
+        summary: &Summary,
         around: Status,
-        out: &mut Counted<W>,
-    ) -> Result<u8, RunFault>
-        ensures ok { IfOk result (λ status. (before : Device) (rows : List FeatureRow) →
-            IsGrown before (device_of W.contents out.old) self rows →
-            IsReported (style_of self) before (device_of W.contents out.new)
-            status (results_with rows around)) }
-        ensures err { IfErr result (λ fault. (before : Device) (rows : List FeatureRow) →
-            IsGrown before (device_of W.contents out.old) self rows →
-            IsStopped before (device_of W.contents out.new)
-            (report (style_of self) (results_with rows around)) fault) }
-    {
-        // No code runs here: the law says what a whole report is.
-        reports_grow_by_parts();
-        let text = tail(alloc, self.style, &self.summary, around)?;
-        write_piece(out, text.as_str())?;
-        Ok(self.summary.status(around))
+    ) -> Result<String, AllocError> {
+        tail(alloc, self.style, summary, around)
     }
 }

@@ -16,11 +16,13 @@ mod hints;
 mod inputs;
 mod linted_sources;
 mod linted_suite;
+mod reporter;
 mod row_order;
 mod run_fault;
 mod source;
 mod suite;
 mod suite_files;
+mod told_run;
 mod written_run;
 
 pub use all_faults::{all_faults_are_found, faults_after};

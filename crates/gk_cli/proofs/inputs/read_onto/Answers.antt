@@ -2,7 +2,7 @@ use Rattle.std.proofs.Common.{option_map, ap}
 use Rattle.gk_gherkin.specs.Feature.{feature_value}
 use Rattle.gk_select.specs.Choice.{chosen_by}
 use Rattle.gk_cli.proofs.InputsLemmas.{added_onto, reading_of, too_many_of}
-use Rattle.gk_cli.proofs.WrittenRunLemmas.{if_err}
+use Rattle.gk_cli.proofs.ResultLemmas.{if_err}
 use Rattle.gk_cli.proofs.inputs.read_onto.Goals as goal
 
 pub returns-in-Ok-Some-clause-fault : goal.returns-in-Ok-Some-clause-fault

@@ -3,7 +3,7 @@ use Rattle.gk_cli.specs.Suite.{device_of}
 use Rattle.gk_cli.specs.SuiteFiles.{suite_value, request_of_files}
 use Rattle.gk_cli.proofs.SuiteLemmas.{whole_is_judged, whole_is_only, prefix_is_cut_short, unread_is_untouched}
 use Rattle.gk_cli.proofs.GrowingReportLemmas.{untouched}
-use Rattle.gk_cli.proofs.WrittenRunLemmas.{if_ok, if_err, ok_known, either_way}
+use Rattle.gk_cli.proofs.ResultLemmas.{if_ok, if_err, ok_known, either_way}
 use Rattle.gk_cli.proofs.suite.report_suite.Goals as goal
 
 pub returns-in-Ok-clause-reported : goal.returns-in-Ok-clause-reported

@@ -1,31 +1,74 @@
-use Rattle.std.proofs.Common.{◌≡◌, Bool, map, ap, rules, sym, subst}
+use Rattle.std.proofs.Common.{Bool, false, ap, map, rules, sym, subst, ◌∙◌}
 use Rattle.gk_run.specs.Run.{Run}
 use Rattle.gk_run.specs.Chosen.{chosen_value}
 use Rattle.gk_cli.specs.Inputs.{inputs_value}
 use Rattle.gk_cli.specs.Suite.{device_of, run_by}
-use Rattle.gk_cli.specs.WrittenRun.{IsWhole, IsPrefix, dry_run_of}
-use Rattle.gk_cli.proofs.WrittenRunLemmas.{if_ok, if_err}
+use Rattle.gk_cli.specs.GrowingReport.{style_of, prints_nothing}
+use Rattle.gk_cli.specs.WrittenRun.{IsWhole, IsPrefix}
+use Rattle.gk_cli.proofs.ResultLemmas.{if_ok, if_err, passed_on}
+use Rattle.gk_cli.proofs.GrowingReportLemmas.{head_stopped, run_reported, run_stopped, dry_reported, dry_close_stopped, dry_run_stopped}
 use Rattle.gk_cli.proofs.written_run.write_run.Goals as goal
 
-pub returns-then-options : goal.returns-then-options
-returns-then-options g c =
-    let inputs = inputs_value c.args.inputs in
-    let wanted = run_by c.args.options.now inputs in
-    let run = dry_run_of c.args.inputs.library c.args.inputs.hooks c.args.options.now.stop in
+pub returns-in_err-write_head-clause-err : goal.returns-in_err-write_head-clause-err
+returns-in_err-write_head-clause-err g c =
+    let run = run_by c.args.options.now (inputs_value c.args.inputs) in
     let contents = c.args.sandbox.now.now in
     let features = map chosen_value c.args.inputs.features.items in
     let style = c.args.options.now.style in
     let old = device_of g.W.Write.contents c.args.out.now in
-    let new = device_of g.W.Write.contents c.dry_all.new.out in
-    let same : run ≡ wanted = ap (λ (b : Bool). let r : Run = record { library = inputs.library; hooks = inputs.hooks; dry_run = b; stop = c.args.options.now.stop } in r) (sym c.if-options.true) in
+    let new = device_of g.W.Write.contents c.write_head.new.out in
+    passed_on c.from_residual.result c.from_residual.ensures.1 (λ fault same.
+    subst (IsPrefix run contents features style old new) (sym same) (head_stopped run contents features style old new c.in_err-write_head.field-0.0 c.in_err-write_head.ensures.err))
+
+pub returns-in_err-tell_dry_features-clause-err : goal.returns-in_err-tell_dry_features-clause-err
+returns-in_err-tell_dry_features-clause-err g c =
+    let run = run_by c.args.options.now (inputs_value c.args.inputs) in
+    let contents = c.args.sandbox.now.now in
+    let features = map chosen_value c.args.inputs.features.items in
+    let style = c.args.options.now.style in
+    let old = device_of g.W.Write.contents c.args.out.now in
+    let headed = device_of g.W.Write.contents c.write_head.new.out in
+    let new = device_of g.W.Write.contents c.tell_dry_features.new.out in
+    passed_on c.from_residual-in_err-tell_dry_features.result c.from_residual-in_err-tell_dry_features.ensures.1 (λ fault same.
+    subst (IsPrefix run contents features style old new) (sym same)
+    (dry_run_stopped c.reports_grow_by_parts.ensures c.unfinished_dry_runs_are_judged.ensures run c.if-options.true contents features c.new-told.result style old headed new c.in_err-tell_dry_features.field-0.0
+    (ap style_of c.new-told.ensures.reporter ∙ c.new-report.ensures.style) (ap prints_nothing c.new-told.ensures.reporter ∙ c.new-report.ensures.first) c.in_ok-write_head.ensures.ok c.in_err-tell_dry_features.ensures.err))
+
+pub returns-then-options : goal.returns-then-options
+returns-then-options g c =
+    let run = run_by c.args.options.now (inputs_value c.args.inputs) in
+    let contents = c.args.sandbox.now.now in
+    let features = map chosen_value c.args.inputs.features.items in
+    let style = c.args.options.now.style in
+    let old = device_of g.W.Write.contents c.args.out.now in
+    let headed = device_of g.W.Write.contents c.write_head.new.out in
+    let there = device_of g.W.Write.contents c.tell_dry_features.new.out in
+    let new = device_of g.W.Write.contents c.close.new.out in
+    let styles = ap style_of c.new-told.ensures.reporter ∙ c.new-report.ensures.style in
+    let none = ap prints_nothing c.new-told.ensures.reporter ∙ c.new-report.ensures.first in
     record {
-      ok = if_ok c.dry_all.result (λ status is. subst (λ (r : Run). IsWhole r contents features style old new status) same (is contents)) c.dry_all.ensures.ok;
-      err = if_err c.dry_all.result (λ fault is. subst (λ (r : Run). IsPrefix r contents features style old new fault) same (is contents)) c.dry_all.ensures.err;
+      ok = if_ok c.close.result (λ status closed. dry_reported c.dry_runs_are_judged.ensures run c.if-options.true contents features c.new-told.result c.tell_dry_features.new.told style old headed there new status
+          styles none c.new-told.ensures.counts c.in_ok-write_head.ensures.ok c.in_ok-tell_dry_features.ensures.ok closed) c.close.ensures.ok;
+      err = if_err c.close.result (λ fault stops. dry_close_stopped c.dry_runs_are_judged.ensures run c.if-options.true contents features c.new-told.result c.tell_dry_features.new.told style old headed there new fault
+          styles none c.new-told.ensures.counts c.in_ok-write_head.ensures.ok c.in_ok-tell_dry_features.ensures.ok stops) c.close.ensures.err;
       same = search rules;
     }
 
-pub returns-clause-ok : goal.returns-clause-ok
-returns-clause-ok g c = rw c.if-options.false c.run_all.ensures.ok
-
-pub returns-clause-err : goal.returns-clause-err
-returns-clause-err g c = rw c.if-options.false c.run_all.ensures.err
+pub returns : goal.returns
+returns g c =
+    let inputs = inputs_value c.args.inputs in
+    let run_if : Bool → Run = λ dry. record { library = inputs.library; hooks = inputs.hooks; dry_run = dry; stop = c.args.options.now.stop } in
+    let contents = c.args.sandbox.now.now in
+    let features = map chosen_value c.args.inputs.features.items in
+    let style = c.args.options.now.style in
+    let old = device_of g.W.Write.contents c.args.out.now in
+    let headed = device_of g.W.Write.contents c.write_head.new.out in
+    let new = device_of g.W.Write.contents c.tell_run.new.out in
+    let report = c.new-report in
+    record {
+      ok = if_ok c.tell_run.result (λ status told. subst (λ (dry : Bool). IsWhole (run_if dry) contents features style old new status) (sym c.if-options.false)
+          (run_reported (run_if false) contents features report.result style old headed new status report.ensures.style report.ensures.first c.in_ok-write_head.ensures.ok told)) c.tell_run.ensures.ok;
+      err = if_err c.tell_run.result (λ fault told. subst (λ (dry : Bool). IsPrefix (run_if dry) contents features style old new fault) (sym c.if-options.false)
+          (run_stopped c.reports_grow_by_parts.ensures (run_if false) contents features report.result style old headed new fault report.ensures.style report.ensures.first c.in_ok-write_head.ensures.ok told)) c.tell_run.ensures.err;
+      same = search rules;
+    }

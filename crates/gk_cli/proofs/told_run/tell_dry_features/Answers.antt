@@ -1,0 +1,75 @@
+use Rattle.std.proofs.Common.{◌≡◌, ◌∷◌, [], ◌++◌, ◌∙◌, true, List, length, map, arith, ap, sym, subst, refl}
+use Rattle.std.specs.List.{AllByRecursion}
+use Rattle.std.specs.Vec.Iter.{into_iter_items}
+use Rattle.gk_steps.specs.Finding.{library_value}
+use Rattle.gk_run.specs.Chosen.{ChosenValue, chosen_value, IsFormed}
+use Rattle.gk_run.specs.DryRun.{AreDryFeatures}
+use Rattle.gk_cli.specs.Suite.{device_of}
+use Rattle.gk_cli.specs.ToldRun.{TellsDryFeature, IsDryResult, AreToldUpTo, stays_begun}
+use Rattle.gk_cli.proofs.ResultLemmas.{passed_on}
+use Rattle.gk_cli.proofs.SuiteLemmas.{nothing_in}
+use Rattle.gk_cli.proofs.ToldRunLemmas.{DryRowsSoFar, dry_rows_first, dry_rows_next, dry_rows_last, TellingDryRun, telling_first, telling_next, telling_last, telling_stopped}
+use Rattle.gk_cli.proofs.told_run.tell_dry_features.Goals as goal
+
+pub loop-feature-init : goal.loop-feature-init
+loop-feature-init g c =
+    let here : into_iter_items c.into_iter-feature-iterator.result ≡ c.args.features.items = c.into_iter-feature-iterator.ensures.into_iter_gives.0 in
+    let library = library_value c.args.library.now in
+    let tells = TellsDryFeature g.R.Reporter.begins g.R.Reporter.adds in
+    let all = map chosen_value c.args.features.items in
+    let device = device_of g.W.Write.contents c.args.out.now in
+    record {
+      held = subst (λ (left : List ChosenValue). TellingDryRun tells library all device c.args.told.now left device c.args.told.now) (sym (ap (map chosen_value) here))
+          (telling_first tells stays_begun (DryRowsSoFar library) true all device c.args.told.now (dry_rows_first library true));
+      formed = subst (AllByRecursion IsFormed) (sym here) c.requires.formed;
+      counted = let l = c.into_iter-feature-iterator.ensures.into_iter_gives.1 in let v = c.args.features.ok.0 in let f = ap length here in omega arith;
+    }
+
+pub tell_dry_next-requires : goal.tell_dry_next-requires
+tell_dry_next-requires g c =
+    let all : AllByRecursion IsFormed (c.in-Some.feature ∷ into_iter_items c.next.new.self) = subst (AllByRecursion IsFormed) c.in-Some.ensures.steps.0 c.loop-feature.invariant.formed in
+    record { formed = all.0 }
+
+pub loop-feature-preserved : goal.loop-feature-preserved
+loop-feature-preserved g c =
+    let steps = c.in-Some.ensures.steps in
+    let library = library_value c.args.library.now in
+    let tells = TellsDryFeature g.R.Reporter.begins g.R.Reporter.adds in
+    let all = map chosen_value c.args.features.items in
+    let this = chosen_value c.in-Some.feature in
+    let old = device_of g.W.Write.contents c.args.out.now in
+    let there = device_of g.W.Write.contents c.loop-feature.out in
+    let new = device_of g.W.Write.contents c.tell_dry_next.new.out in
+    let before = subst (λ (ls : List ChosenValue). TellingDryRun tells library all old c.args.told.now ls there c.loop-feature.told) (ap (map chosen_value) steps.0) c.loop-feature.invariant.held in
+    let formed : AllByRecursion IsFormed (c.in-Some.feature ∷ into_iter_items c.next.new.self) = subst (AllByRecursion IsFormed) steps.0 c.loop-feature.invariant.formed in
+    record {
+      held = telling_next tells stays_begun (DryRowsSoFar library) (IsDryResult library this) true all old c.args.told.now this (map chosen_value (into_iter_items c.next.new.self)) true true there c.loop-feature.told new c.tell_dry_next.new.told
+          (dry_rows_next library true true this) (λ row result. refl) c.in_ok-tell_dry_next.ensures.ok before;
+      formed = formed.1;
+      counted = let f = ap length steps.0 in omega arith;
+    }
+
+pub returns-in_err-tell_dry_next-clause-err : goal.returns-in_err-tell_dry_next-clause-err
+returns-in_err-tell_dry_next-clause-err g c =
+    let library = library_value c.args.library.now in
+    let tells = TellsDryFeature g.R.Reporter.begins g.R.Reporter.adds in
+    let all = map chosen_value c.args.features.items in
+    let this = chosen_value c.in-Some.feature in
+    let old = device_of g.W.Write.contents c.args.out.now in
+    let there = device_of g.W.Write.contents c.loop-feature.out in
+    let new = device_of g.W.Write.contents c.tell_dry_next.new.out in
+    let before = subst (λ (ls : List ChosenValue). TellingDryRun tells library all old c.args.told.now ls there c.loop-feature.told) (ap (map chosen_value) c.in-Some.ensures.steps.0) c.loop-feature.invariant.held in
+    passed_on c.from_residual.result c.from_residual.ensures.1 (λ fault same.
+    subst (AreToldUpTo tells stays_begun (AreDryFeatures library) true all old c.args.told.now new) (sym same)
+    (telling_stopped tells stays_begun (DryRowsSoFar library) (AreDryFeatures library) (IsDryResult library this) true all old c.args.told.now this (map chosen_value (into_iter_items c.next.new.self)) true there c.loop-feature.told new c.in_err-tell_dry_next.field-0.0
+    (λ done rows are. dry_rows_last library done rows true are)
+    (λ done rows row result are. dry_rows_last library (done ++ this ∷ []) (rows ++ row ∷ []) true (dry_rows_next library true true this done rows row result are))
+    c.in_err-tell_dry_next.ensures.err before))
+
+pub returns-clause-ok : goal.returns-clause-ok
+returns-clause-ok g c =
+    let none : into_iter_items c.loop-feature.feature-iterator ≡ [] = nothing_in (into_iter_items c.loop-feature.feature-iterator) (c.loop-feature.invariant.counted ∙ c.in-None.ensures.steps.0) in
+    let library = library_value c.args.library.now in
+    telling_last (TellsDryFeature g.R.Reporter.begins g.R.Reporter.adds) stays_begun (DryRowsSoFar library) (AreDryFeatures library) true (map chosen_value c.args.features.items) (device_of g.W.Write.contents c.args.out.now) c.args.told.now
+    (map chosen_value (into_iter_items c.loop-feature.feature-iterator)) true (device_of g.W.Write.contents c.loop-feature.out) c.loop-feature.told (ap (map chosen_value) none)
+    (λ done rows are. dry_rows_last library done rows true are) c.loop-feature.invariant.held

@@ -1,0 +1,23 @@
+use Rattle.std.proofs.Common.{◌≡◌, true, map, length}
+use Rattle.std.specs.List.{AllByRecursion}
+use Rattle.std.specs.Vec.Iter.{into_iter_items, into_iter_len}
+use Rattle.gk_world.specs.State.{state_of}
+use Rattle.gk_world.specs.Sandbox.{IsSame}
+use Rattle.gk_run.specs.Run.{run_of}
+use Rattle.gk_run.specs.Chosen.{chosen_value, IsFormed}
+use Rattle.gk_run.specs.OpenRun.{IsKept, opens_features}
+use Rattle.gk_cli.specs.Suite.{device_of}
+use Rattle.gk_cli.specs.ToldRun.{TellsFeature}
+use Rattle.gk_cli.proofs.ToldRunLemmas.{TellingRun}
+use Rattle.gk_cli.proofs.told_run.tell_features.Given as goal
+
+abbrev pub invariant-loop-feature : goal.invariant-loop-feature
+invariant-loop-feature g l = record {
+  held : TellingRun (TellsFeature g.R.Observer.hears g.R.Observer.ends g.R.Reporter.begins g.R.Reporter.adds (run_of l.glue.library.now l.glue.hooks.now l.fn.suite.stop) (state_of l.fn.sandbox.now)) (run_of l.glue.library.now l.glue.hooks.now l.fn.suite.stop) (state_of l.fn.sandbox.now) (opens_features l.fn.suite)
+      (map chosen_value l.fn.features.items) (device_of g.W.Write.contents l.fn.out) l.fn.told (map chosen_value (into_iter_items l.feature-iterator)) (opens_features l.suite) (device_of g.W.Write.contents l.out) l.told;
+  same : IsSame l.fn.sandbox l.sandbox;
+  kept : IsKept l.fn.suite l.suite;
+  earlier : (opens_features l.suite) ≡ true → (opens_features l.fn.suite) ≡ true;
+  formed : AllByRecursion IsFormed (into_iter_items l.feature-iterator);
+  counted : length (into_iter_items l.feature-iterator) ≡ into_iter_len l.feature-iterator;
+}

@@ -1,0 +1,65 @@
+use Rattle.std.specs.List.{FoldsTo}
+use Rattle.std.proofs.Common.{Bool, ap, map, rules, subst, sym, ◌∙◌}
+use Rattle.gk_world.specs.State.{state_of}
+use Rattle.gk_run.specs.Run.{run_of}
+use Rattle.gk_run.specs.Chosen.{chosen_value}
+use Rattle.gk_run.specs.OpenRun.{AreFeatures, IsFinishTold, SuiteValue, opens_features}
+use Rattle.gk_cli.specs.declared.told_run.Told.{Told}
+use Rattle.gk_cli.specs.Suite.{device_of}
+use Rattle.gk_cli.specs.ToldRun.{TellsFeature, TellsFeatures, AreTold, AreToldUpTo, stays}
+use Rattle.gk_cli.proofs.ResultLemmas.{if_ok, if_err}
+use Rattle.gk_cli.proofs.ToldRunLemmas.{run_told, whole_told, whole_stopped, part_told}
+use Rattle.gk_cli.proofs.told_run.tell_run.Goals as goal
+
+pub returns-in-Ok : goal.returns-in-Ok
+returns-in-Ok g c =
+    let library = c.args.glue.now.library.now in
+    let hooks = c.args.glue.now.hooks.now in
+    let run = run_of library hooks c.args.stop in
+    let contents = c.args.sandbox.now.now in
+    let features = map chosen_value c.args.features.items in
+    let hears = g.R.Observer.hears in
+    let tells = TellsFeature hears g.R.Observer.ends g.R.Reporter.begins g.R.Reporter.adds in
+    let begun = c.start_watched-suite in
+    let there = c.tell_features-written.new in
+    let last = c.finish_watched-around.new.observer in
+    let around = c.finish_watched-around.result in
+    let so_far = c.new-told.result in
+    let end : Told _ = record { reporter = last; summary = there.told.summary } in
+    let before = device_of g.W.Write.contents c.args.out.now in
+    let written = device_of g.W.Write.contents there.out in
+    let new = device_of g.W.Write.contents c.close.new.out in
+    let first = state_of begun.new.sandbox.now in
+    let opens = opens_features begun.result in
+    let all : AreTold (tells run first) (stays run) (AreFeatures run first opens) opens features before so_far written there.told =
+    subst (λ (s : Bool). AreTold (tells (run_of library hooks s) first) (stays (run_of library hooks s)) (AreFeatures (run_of library hooks s) first opens) opens features before so_far written there.told) begun.ensures.0.stops c.in-Ok.ensures.ok in
+    let held : TellsFeatures (tells run first) (stays run) opens features all.rows all.text begun.new.observer there.told.reporter = subst (λ r. TellsFeatures (tells run first) (stays run) opens features all.rows all.text r there.told.reporter) c.new-told.ensures.reporter all.told in
+    let told = run_told hears tells c.finished_runs_are_judged.ensures run c.args.sandbox.now begun.new.sandbox there.sandbox begun.result there.suite c.args.reporter begun.new.observer there.told.reporter last features all.rows around all.text
+    begun.ensures.0 begun.ensures.1 all.results held c.tell_features-written.ensures.kept c.tell_features-written.ensures.same
+    (subst (λ (s : Bool). IsFinishTold hears (run_of library hooks s) there.suite there.sandbox around there.told.reporter last) (ap (λ (s : SuiteValue). s.stop) c.tell_features-written.ensures.kept ∙ begun.ensures.0.stops) c.finish_watched-around.ensures.told) in
+    record {
+      ok = if_ok c.close.result (λ status closed. whole_told hears tells g.R.Reporter.closes run contents begun.ensures.0.opened.first features all.rows around all.text c.args.reporter there.told.reporter end before written new status
+          (all.counted c.new-told.ensures.counts) told all.written closed) c.close.ensures.ok;
+      err = if_err c.close.result (λ fault stops. whole_stopped hears tells g.R.Reporter.closes run contents begun.ensures.0.opened.first features all.rows around all.text c.args.reporter there.told.reporter end before written new fault
+          (all.counted c.new-told.ensures.counts) told all.written stops) c.close.ensures.err;
+      same = search rules;
+    }
+
+pub returns-in-Err-clause-err : goal.returns-in-Err-clause-err
+returns-in-Err-clause-err g c =
+    let library = c.args.glue.now.library.now in
+    let hooks = c.args.glue.now.hooks.now in
+    let run = run_of library hooks c.args.stop in
+    let features = map chosen_value c.args.features.items in
+    let hears = g.R.Observer.hears in
+    let tells = TellsFeature hears g.R.Observer.ends g.R.Reporter.begins g.R.Reporter.adds in
+    let begun = c.start_watched-suite in
+    let so_far = c.new-told.result in
+    let before = device_of g.W.Write.contents c.args.out.now in
+    let new = device_of g.W.Write.contents c.tell_features-written.new.out in
+    let first = state_of begun.new.sandbox.now in
+    let opens = opens_features begun.result in
+    let up_to : AreToldUpTo (tells run first) (stays run) (AreFeatures run first opens) opens features before so_far new c.in-Err.fault =
+    subst (λ (s : Bool). AreToldUpTo (tells (run_of library hooks s) first) (stays (run_of library hooks s)) (AreFeatures (run_of library hooks s) first opens) opens features before so_far new c.in-Err.fault) begun.ensures.0.stops c.in-Err.ensures.err in
+    part_told hears tells g.R.Reporter.closes run c.args.sandbox.now begun.new.sandbox begun.result c.args.reporter features before so_far new c.in-Err.fault begun.ensures.0 (subst (λ r. FoldsTo hears c.args.reporter begun.ensures.0.opened.first r) (sym c.new-told.ensures.reporter) begun.ensures.1)
+    (λ done others rows are. c.unfinished_runs_are_judged.ensures run c.args.sandbox.now begun.new.sandbox begun.result done others rows begun.ensures.0 are) up_to

@@ -1,0 +1,173 @@
+-- A run that is told to a reporter from its beginning to its end, and the text that is written of it.
+use Rattle.std.specs.List.{FoldsTo}
+use Rattle.std.specs.Prelude.{◌≡◌, ◌⊎◌, ◌&&◌, ℕ, Bool, true, List, [], ◌∷◌, ◌++◌}
+use Rattle.gk_world.specs.State.{Contents, State, state_of}
+use Rattle.gk_steps.specs.Finding.{LibraryValue}
+use Rattle.gk_run.specs.declared.results.Status.{Status}
+use Rattle.gk_run.specs.declared.section.Level.TheVariants as levels
+use Rattle.gk_run.specs.Results.{FeatureRow, Results}
+use Rattle.gk_run.specs.Run.{Run}
+use Rattle.gk_run.specs.Chosen.{ChosenValue}
+use Rattle.gk_run.specs.Cases.{stays_open}
+use Rattle.gk_run.specs.DryRun.{dry_feature_of}
+use Rattle.gk_run.specs.Ending.{has_passed}
+use Rattle.gk_run.specs.Events.{Event, ended_in}
+use Rattle.gk_run.specs.Features.{FeatureCuts, IsFeatureResult, IsFeatureTold}
+use Rattle.gk_run.specs.Judged.{Judged, BeginsJudged}
+use Rattle.gk_run.specs.Observer.{Ended}
+use Rattle.gk_run.specs.OpenSection.{IsEndTold, IsOpening, section_state}
+use Rattle.gk_report.specs.declared.summary.Summary.{Summary}
+use Rattle.gk_report.specs.Summary.{status, status_of, summary_of, CountsOneMore}
+use Rattle.gk_cli.specs.declared.run_fault.RunFault.{RunFault}
+use Rattle.gk_cli.specs.declared.run_fault.RunFault.TheVariants.{Memory}
+use Rattle.gk_cli.specs.declared.told_run.Told.{Told}
+use Rattle.gk_cli.specs.GrowingReport.{IsWritten, IsStopped, results_with}
+use Rattle.gk_cli.specs.Suite.{Device}
+
+-- A feature of a run in this state was told to a reporter: its beginning, what happened in it, and its end with this result. This is the reporter's text of it.
+pub record TellsFeature {S : Type 0} (hears : S → Event → S → Type 0) (ends : S → Ended → S → Type 0) (begins : S → List ℕ → S → Type 0) (adds : S → FeatureRow → List ℕ → S → Type 0) (run : Run) (now : State) (is_open : Bool) (f : ChosenValue) (row : FeatureRow) (text : List ℕ) (old new : S) : Type 0 where
+  pub begun : S
+  pub start : begins old f.source begun
+  pub heard : S
+  pub told : IsFeatureTold hears ends run now is_open f row begun heard
+  pub added : adds heard row text new
+
+-- A feature of a dry run was told to a reporter. Nothing happens in it.
+pub record TellsDryFeature {S : Type 0} (begins : S → List ℕ → S → Type 0) (adds : S → FeatureRow → List ℕ → S → Type 0) (is_open : Bool) (f : ChosenValue) (row : FeatureRow) (text : List ℕ) (old new : S) : Type 0 where
+  pub begun : S
+  pub start : begins old f.source begun
+  pub added : adds begun row text new
+
+-- Whether a run is still open after a feature with this result.
+abbrev pub stays : Run → Bool → FeatureRow → Bool
+stays run is_open row = is_open && stays_open run row.status
+
+-- Features with these results were told to a reporter, one after another. This is its text of all of them.
+abbrev pub TellsFeatures : {S : Type 0} → (Bool → ChosenValue → FeatureRow → List ℕ → S → S → Type 0) → (Bool → FeatureRow → Bool) → Bool → List ChosenValue → List FeatureRow → List ℕ → S → S → Type 0
+TellsFeatures tells next is_open [] [] text old new = (text ≡ []) × (old ≡ new)
+TellsFeatures tells next is_open [] (row ∷ rows) text old new = ⊥
+TellsFeatures tells next is_open (f ∷ fs) [] text old new = ⊥
+TellsFeatures {S} tells next is_open (f ∷ fs) (row ∷ rows) text old new =
+    (this later : List ℕ) × (between : S) × (text ≡ this ++ later) × tells is_open f row this old between × TellsFeatures tells next (next is_open row) fs rows later between new
+
+-- A reporter was told events of the run's before hook and then the run's first features. The events are all of the hook's, or those up to the one that ran out of memory. If the before hook passed, the features are told from the run's state. This is the reporter's text of all these.
+pub record TellsFirst {S : Type 0} (hears : S → Event → S → Type 0) (tells : Run → State → Bool → ChosenValue → FeatureRow → List ℕ → S → S → Type 0) (run : Run) (outside : State) (opening : List Event) (features : List ChosenValue) (rows : List FeatureRow) (text : List ℕ) (first new : S) : Type 0 where
+  pub begun : S
+  pub opens : IsOpening run levels.Run [] outside opening
+  pub start : FoldsTo hears first opening begun
+  pub state : State
+  pub from : has_passed (ended_in opening) ≡ true → state ≡ section_state run levels.Run [] outside
+  pub told : TellsFeatures (tells run state) (stays run) (has_passed (ended_in opening)) features rows text begun new
+
+-- The whole text of a run with these results: all of the run was told to the reporter.
+pub record IsWholeText {S : Type 0} (hears : S → Event → S → Type 0) (tells : Run → State → Bool → ChosenValue → FeatureRow → List ℕ → S → S → Type 0) (closes : S → Results → List ℕ → Type 0) (run : Run) (contents : Contents) (features : List ChosenValue) (results : Results) (first : S) (text : List ℕ) : Type 0 where
+  pub opening : List Event
+  pub parts : List ℕ
+  pub told : S
+  pub begins : TellsFirst hears tells run (state_of contents) opening features results.features parts first told
+  pub last : S
+  pub finish : IsEndTold hears run levels.Run [] (state_of contents) results.around opening told last
+  pub tail : List ℕ
+  pub closed : closes last results tail
+  pub whole : text ≡ parts ++ tail
+
+-- The text of a run's first features. Their results begin a judged list.
+pub record IsFirstText {S : Type 0} (hears : S → Event → S → Type 0) (tells : Run → State → Bool → ChosenValue → FeatureRow → List ℕ → S → S → Type 0) (run : Run) (contents : Contents) (features : List ChosenValue) (first : S) (text : List ℕ) : Type 0 where
+  pub done : List ChosenValue
+  pub others : List ChosenValue
+  pub whole : features ≡ done ++ others
+  pub rows : List FeatureRow
+  pub judged : BeginsJudged run contents features rows
+  pub opening : List Event
+  pub told : S
+  pub begins : TellsFirst hears tells run (state_of contents) opening done rows text first told
+
+-- The text of a run's first features, or the whole text of a run with judged results.
+abbrev pub IsTextSoFar : {S : Type 0} → (S → Event → S → Type 0) → (Run → State → Bool → ChosenValue → FeatureRow → List ℕ → S → S → Type 0) → (S → Results → List ℕ → Type 0) → Run → Contents → List ChosenValue → S → List ℕ → Type 0
+IsTextSoFar hears tells closes run contents features first text =
+    IsFirstText hears tells run contents features first text ⊎ ((results : Results) × Judged run contents features results × IsWholeText hears tells closes run contents features results first text)
+
+-- The whole text of a run with judged results was written, and their status is returned.
+pub record IsToldRun {S : Type 0} (hears : S → Event → S → Type 0) (tells : Run → State → Bool → ChosenValue → FeatureRow → List ℕ → S → S → Type 0) (closes : S → Results → List ℕ → Type 0) (run : Run) (contents : Contents) (features : List ChosenValue) (first : S) (old new : Device) (answer : ℕ) : Type 0 where
+  pub results : Results
+  pub judged : Judged run contents features results
+  pub text : List ℕ
+  pub tells_all : IsWholeText hears tells closes run contents features results first text
+  pub written : IsWritten old new text
+  pub returned : answer ≡ status results
+
+-- A prefix of the text of a run's first features, or of the whole text, was written.
+abbrev pub IsToldUpTo : {S : Type 0} → (S → Event → S → Type 0) → (Run → State → Bool → ChosenValue → FeatureRow → List ℕ → S → S → Type 0) → (S → Results → List ℕ → Type 0) → Run → Contents → List ChosenValue → S → Device → Device → RunFault → Type 0
+IsToldUpTo hears tells closes run contents features first old new fault = (text : List ℕ) × IsTextSoFar hears tells closes run contents features first text × IsStopped old new text fault
+
+-- Proof machinery, from here on: the reporter of a run.
+abbrev pub reporter_of : {R : Type 0} → Told R → R
+reporter_of told = told.reporter
+
+-- The counts of the features that it was told.
+abbrev pub counts_of : {R : Type 0} → Told R → Summary
+counts_of told = told.summary
+
+-- The next feature was told to a reporter, and its text was written.
+pub record TellsNext {R : Type 0} (tells : Bool → ChosenValue → FeatureRow → List ℕ → R → R → Type 0) (Result : FeatureRow → Type 0) (is_open : Bool) (f : ChosenValue) (old : Device) (so_far : Told R) (new : Device) (grown : Told R) : Type 0 where
+  pub row : FeatureRow
+  pub result : Result row
+  pub text : List ℕ
+  pub told : tells is_open f row text so_far.reporter grown.reporter
+  pub written : IsWritten old new text
+  pub counted : CountsOneMore so_far.summary row grown.summary
+
+-- The next feature has no result, or its text wasn't written whole.
+abbrev pub EndsNext : {R : Type 0} → (Bool → ChosenValue → FeatureRow → List ℕ → R → R → Type 0) → (FeatureRow → Type 0) → Bool → ChosenValue → Device → Told R → Device → RunFault → Type 0
+EndsNext {R} tells Result is_open f old so_far new fault =
+    ((old ≡ new) × (fault ≡ Memory))
+    ⊎ ((row : FeatureRow) × (text : List ℕ) × (told : R) × Result row × tells is_open f row text so_far.reporter told × IsStopped old new text fault)
+
+-- What the result of a run's next feature is, and whether the run is open after it.
+abbrev pub IsNextResult : Run → State → Bool → Bool → ChosenValue → FeatureRow → Type 0
+IsNextResult run now is_open next f row = IsFeatureResult run now is_open f row × (next ≡ stays run is_open row)
+
+-- A dry run begins each feature: it is never closed.
+abbrev pub stays_begun : Bool → FeatureRow → Bool
+stays_begun is_open row = is_open
+
+-- What the result of a dry run's next feature is.
+abbrev pub IsDryResult : LibraryValue → ChosenValue → FeatureRow → Type 0
+IsDryResult library f row = (cuts : FeatureCuts) × (row ≡ dry_feature_of library cuts f)
+
+-- Features were told to a reporter, and its text of them was written.
+pub record AreTold {R : Type 0} (tells : Bool → ChosenValue → FeatureRow → List ℕ → R → R → Type 0) (next : Bool → FeatureRow → Bool) (Give : List ChosenValue → List FeatureRow → Type 0) (is_open : Bool) (features : List ChosenValue) (old : Device) (so_far : Told R) (new : Device) (grown : Told R) : Type 0 where
+  pub rows : List FeatureRow
+  pub results : Give features rows
+  pub text : List ℕ
+  pub told : TellsFeatures tells next is_open features rows text so_far.reporter grown.reporter
+  pub written : IsWritten old new text
+  pub counted : so_far.summary ≡ summary_of [] → grown.summary ≡ summary_of rows
+
+-- The first of some features were told to a reporter, and a prefix of its text of them was written.
+pub record AreToldUpTo {R : Type 0} (tells : Bool → ChosenValue → FeatureRow → List ℕ → R → R → Type 0) (next : Bool → FeatureRow → Bool) (Give : List ChosenValue → List FeatureRow → Type 0) (is_open : Bool) (features : List ChosenValue) (old : Device) (so_far : Told R) (new : Device) (fault : RunFault) : Type 0 where
+  pub done : List ChosenValue
+  pub others : List ChosenValue
+  pub whole : features ≡ done ++ others
+  pub rows : List FeatureRow
+  pub results : Give done rows
+  pub text : List ℕ
+  pub last : R
+  pub told : TellsFeatures tells next is_open done rows text so_far.reporter last
+  pub stopped : IsStopped old new text fault
+
+-- For any results with these counts, the last text was written, and their status is returned.
+pub record IsClosedWith {R : Type 0} (closes : R → Results → List ℕ → Type 0) (told : Told R) (around : Status) (old new : Device) (answer : ℕ) (rows : List FeatureRow) : Type 0 where
+  pub text : List ℕ
+  pub closed : closes told.reporter (results_with rows around) text
+  pub written : IsWritten old new text
+  pub returned : answer ≡ status_of rows around
+
+abbrev pub IsClosed : {R : Type 0} → (R → Results → List ℕ → Type 0) → Told R → Status → Device → Device → ℕ → Type 0
+IsClosed closes told around old new answer = (rows : List FeatureRow) → told.summary ≡ summary_of rows → IsClosedWith closes told around old new answer rows
+
+-- The last text wasn't written whole: memory was refused and nothing was written, or a prefix was.
+abbrev pub StopsClosing : {R : Type 0} → (R → Results → List ℕ → Type 0) → Told R → Status → Device → Device → RunFault → Type 0
+StopsClosing closes told around old new fault =
+    ((old ≡ new) × (fault ≡ Memory))
+    ⊎ ((rows : List FeatureRow) → told.summary ≡ summary_of rows → (text : List ℕ) × closes told.reporter (results_with rows around) text × IsStopped old new text fault)
