@@ -1,5 +1,5 @@
 -- The command that reads the arguments, and what its matches hold.
-use Rattle.std.proofs.Common.{◌≡◌, ◌≢◌, ◌⊎◌, ◌∙◌, ◌<◌, ◌≤◌, ◌&&◌, ◌||◌, ◌==◌, ◌+◌, ◌++◌, ap, ap₂, sym, subst, refl, inl, inr, arith, zero, suc, ℕ, Bool, true, false, not, List, [], ◌∷◌, length, map, codes, drop, take, is_some, get_or, Option, Some, None, Result, Ok, Err}
+use Rattle.std.proofs.Common.{◌≡◌, ◌≢◌, ◌⊎◌, ◌∙◌, ◌<◌, ◌≤◌, ◌&&◌, ◌||◌, ◌==◌, ◌+◌, ◌++◌, ap, ap₂, sym, subst, refl, inl, inr, arith, zero, suc, ℕ, Bool, true, false, not, List, [], ◌∷◌, length, map, codes, drop, fold, take, is_some, get_or, Option, Some, None, Result, Ok, Err}
 use Rattle.std.specs.Prelude.{IsOk, cond, find, if◌then◌else◌, option_map, unwrap_or, IsErrAnd, IsSomeAnd}
 use Rattle.std.specs.Option.{option_map_or}
 use Rattle.std.specs.List.{All, Any, after_first, before_first, slice_index_or, list_all}
@@ -37,9 +37,11 @@ use Rattle.clap.specs.declared.error.kind.ErrorKind.TheVariants.{ArgumentConflic
 use Rattle.gk_report.specs.declared.report.Format.{Format}
 use Rattle.gk_report.specs.declared.report.Format.TheVariants.{Plain, Progress, Json}
 use Rattle.gk_cli.specs.Arguments.{HasRule, IsAskedBy, IsCommand, IsFaultBy, IsLineNumber, PairValue, SaysArguments, SaysMatches, SaysVariable, SaysVariables, command, split_at_equals, faults_in, files_rule, format_asked, format_name, found_in, has_equals, is_format, line_number, values_of, is_clash, is_given, with_version}
+use Rattle.gk_cli.specs.OptionTable.{option_value, rule_of_option}
 use Rattle.gk_cli.specs.declared.arguments.Words.{Words}
 use Rattle.gk_cli.specs.declared.arguments.WordsFault.{WordsFault}
 use Rattle.gk_cli.specs.declared.arguments.WordsFault.TheVariants.{Usage, Env, Memory}
+use Rattle.gk_cli.specs.declared.option_table.OptionRow.{OptionRow}
 
 -- what some value is known to be
 pub some_is : {X : Type 0} (o : Option X) (x : X) → IsSomeAnd o (λ y. y ≡ x) → o ≡ Some x
@@ -92,6 +94,13 @@ versioned a old new text is with = record {
   local = ap (λ (g : Command-F Command). g.has_globals) with ∙ is.local;
   demands = ap (λ (g : Command-F Command). g.subcommand_negates_reqs) with ∙ is.demands;
 }
+
+-- the option of one row more is added
+pub one_rule_more : (app : App) (rows : List OptionRow) (i : ℕ) (row : OptionRow) → i < length rows
+    → fold with_rule (with_rule app (rule_of_option (option_value (get_or rows i row)))) (map rule_of_option (map option_value (drop (i + 1) rows))) ≡ fold with_rule app (map rule_of_option (map option_value (drop i rows)))
+one_rule_more app rows i row lt =
+    let split : drop i rows ≡ get_or rows i row ∷ drop (i + 1) rows = grind (arith, common_steps) in
+    ap (λ (rs : List OptionRow). fold with_rule app (map rule_of_option (map option_value rs))) (sym split)
 
 -- the command as clap returns it: as it was, or built
 abbrev MayBeBuilt : Command → Type 0

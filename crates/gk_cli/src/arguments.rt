@@ -1,11 +1,13 @@
 //! The command-line arguments.
-ghost use Rattle.std.specs.Prelude.{◌≡◌, map, Some, IfOk, codes, is_some, option_map, string_bytes};
-ghost use Rattle.std.specs.List.{All};
-ghost use Rattle.clap.specs.Words.{found_of, kind_of, new_rule, rows_of};
+ghost use Rattle.std.specs.Prelude.{◌≡◌, IfOk, codes, fold, is_some, map, option_map, string_bytes};
+ghost use Rattle.std.specs.List.{All, list_any};
+ghost use Rattle.clap.specs.Words.{found_of, kind_of, rows_of, with_rule};
 ghost use Rattle.clap.specs.declared.error.kind.ErrorKind.TheVariants.{ArgumentConflict, InvalidValue};
 ghost use Rattle.gk_cli.specs.Arguments as spec;
-ghost use Rattle.gk_cli.specs.Arguments.{is_clash, mode_asked, files_rule, line_rule, flag_rule, command, HasRule, IsCommand, values_of, is_set, IsLineNumber, line_number, format_name, format_asked, SaysFormat, SaysVariable, SaysVariables, AreAsked, SaysMatches, SaysArguments};
+ghost use Rattle.gk_cli.specs.OptionTable.{option_value, rule_of_option};
+ghost use Rattle.gk_cli.specs.Arguments.{is_clash, mode_asked, files_rule, command, HasRule, IsCommand, values_of, is_set, IsLineNumber, line_number, format_name, format_asked, SaysFormat, SaysVariable, SaysVariables, AreAsked, SaysMatches, SaysArguments};
 
+use crate::option_table::{OPTIONS, OptionRow, Takes};
 use clap::builder::ValueParser;
 use clap::error::ErrorKind;
 use clap::{Arg, ArgAction, ArgMatches, Command};
@@ -17,37 +19,6 @@ const EXAMPLE: &str =
     "Example:\n  gherkin_run --tags @smoke --stop --format progress login.feature cart.feature";
 
 const FILES_HELP: &str = "Feature files, run in this order";
-
-const TAGS_HELP: &str =
-    "Run only scenarios whose tags fit T, as @a,~@b or '@a or not @b'; each --tags has to fit";
-
-const LINE_HELP: &str =
-    "Run only the scenarios at line N of a file; of several lines, one has to fit";
-
-const LIBRARY_HELP: &str = "Take the steps from FILE in place of the default library";
-
-const HOOKS_HELP: &str = "Run the hooks in FILE around the run, its features, rules and scenarios";
-
-const ENV_HELP: &str = "Set a variable before the run; of equal names the last counts";
-
-const FORMAT_HELP: &str = "Write the report as plain, progress or json [default: plain]";
-
-const DRY_RUN_HELP: &str = "Look up the steps in the library, and run no step, hook or cleanup";
-
-const STOP_HELP: &str = "Stop at the first failure, and leave later scenarios untested";
-
-const NO_SKIPPED_HELP: &str = "Leave skipped features and scenarios out of the report";
-
-const EXPLAIN_HELP: &str = "In place of the report, say what happened in each scenario that failed";
-
-const LINT_HELP: &str =
-    "In place of a run, list what of the files vanishes, can't work or isn't used";
-
-const EXPLANATION_CLASH: &str =
-    "the argument '--explain' cannot be used with '--dry-run', '--format' or '--no-skipped'";
-
-const LINT_CLASH: &str =
-    "the argument '--lint' cannot be used with '--explain', '--format', '--dry-run', '--no-skipped', '--stop' or '--env'";
 
 const VERSION: &str = "unreleased";
 
@@ -158,67 +129,53 @@ fn files_arg<'a>(alloc: Global) -> Arg<'a>
         .action(ArgAction::Append)
 }
 
-// Makes an option that has a value.
-fn value_arg<'a>(
-    alloc: Global,
-    name: &'a str,
-    value_name: &'a str,
-    help: &'a str,
-    action: ArgAction,
-) -> Arg<'a>
-    ensures { HasRule (record (new_rule name.entry.now)
-        { long = Some name.entry.now; action = Some action; value_names = 1 }) result }
+// Makes the argument of an option.
+fn arg_of<'a>(alloc: Global, row: &OptionRow) -> Arg<'a>
+    ensures { HasRule (rule_of_option (option_value row.now)) result }
 {
-    Arg::new(alloc, name)
-        .long(name)
-        .value_name(value_name)
-        .help(help)
-        .action(action)
+    let arg = Arg::new(alloc, row.name)
+        .long(row.name)
+        .help(row.help)
+        .help_heading(row.heading);
+    match row.takes {
+        Takes::Nothing => arg.action(ArgAction::SetTrue),
+        Takes::Text => arg.value_name(row.value_name).action(ArgAction::Set),
+        Takes::Texts => arg.value_name(row.value_name).action(ArgAction::Append),
+        Takes::Lines => arg
+            .value_name(row.value_name)
+            .action(ArgAction::Append)
+            .value_parser(ValueParser::unsigned(1, 4_294_967_295)),
+    }
 }
 
-// Makes the option `--line`, whose value is a number.
-fn line_arg<'a>(alloc: Global) -> Arg<'a>
-    ensures { HasRule line_rule result }
+// Makes the command without its options.
+fn command_of_files<'a>(alloc: Global) -> Result<Command<'a>, AllocError>
+    ensures { IfOk result (IsCommand spec.command_of_files) }
 {
-    value_arg(alloc, "line", "N", LINE_HELP, ArgAction::Append).value_parser(ValueParser::unsigned(
-        1,
-        4_294_967_295,
-    ))
+    Command::new(alloc, "gherkin_run")
+        .about("Runs the scenarios of feature files")
+        .version(VERSION)
+        .after_help(EXAMPLE)
+        .arg(files_arg(alloc))
 }
 
-// Makes a flag, which can be given at most once.
-fn flag_arg<'a>(alloc: Global, name: &'a str, help: &'a str) -> Arg<'a>
-    ensures { HasRule (flag_rule name.entry.now) result }
+// Makes the command with the options of these rows.
+fn with_options<'a>(alloc: Global, rows: &[OptionRow]) -> Result<Command<'a>, AllocError>
+    ensures { IfOk result (IsCommand (fold with_rule spec.command_of_files
+        (map rule_of_option (map option_value rows.now)))) }
 {
-    Arg::new(alloc, name)
-        .long(name)
-        .help(help)
-        .action(ArgAction::SetTrue)
+    let mut command = command_of_files(alloc)?;
+    for row in rows {
+        command = command.arg(arg_of(alloc, row))?;
+    }
+    Ok(command)
 }
 
 // Makes the command that reads the arguments.
 fn command_of<'a>(alloc: Global) -> Result<Command<'a>, AllocError>
     ensures { IfOk result (IsCommand command) }
 {
-    Command::new(alloc, "gherkin_run")
-        .about("Runs the scenarios of feature files")
-        .version(VERSION)
-        .after_help(EXAMPLE)
-        .arg(files_arg(alloc))?
-        .next_help_heading("Which scenarios run")
-        .arg(value_arg(alloc, "tags", "T", TAGS_HELP, ArgAction::Append))?
-        .arg(line_arg(alloc))?
-        .next_help_heading("How they run")
-        .arg(value_arg(alloc, "library", "FILE", LIBRARY_HELP, ArgAction::Set))?
-        .arg(value_arg(alloc, "hooks", "FILE", HOOKS_HELP, ArgAction::Set))?
-        .arg(value_arg(alloc, "env", "NAME=VALUE", ENV_HELP, ArgAction::Append))?
-        .arg(flag_arg(alloc, "dry-run", DRY_RUN_HELP))?
-        .arg(flag_arg(alloc, "stop", STOP_HELP))?
-        .next_help_heading("Report")
-        .arg(value_arg(alloc, "format", "F", FORMAT_HELP, ArgAction::Set))?
-        .arg(flag_arg(alloc, "no-skipped", NO_SKIPPED_HELP))?
-        .arg(flag_arg(alloc, "explain", EXPLAIN_HELP))?
-        .arg(flag_arg(alloc, "lint", LINT_HELP))
+    with_options(alloc, &OPTIONS)
 }
 
 fn copied(alloc: Global, texts: &[&str]) -> Result<Vec<String>, AllocError>
@@ -330,55 +287,77 @@ fn is_given(matches: &ArgMatches, name: &str) -> bool
     matches.get_str(name).is_some()
 }
 
-// Returns whether `--dry-run`, `--format` or `--no-skipped` is given.
-fn shapes_report(matches: &ArgMatches) -> bool
-    ensures { result ≡ spec.shapes_report (rows_of (found_of matches.now)) }
+// Returns whether an option is among the arguments.
+fn is_among(matches: &ArgMatches, row: &OptionRow) -> bool
+    ensures { result ≡ spec.is_among (rows_of (found_of matches.now)) (option_value row.now) }
 {
-    let dry_run = flag(matches, "dry-run");
-    let no_skipped = flag(matches, "no-skipped");
-    let formatted = is_given(matches, "format");
-    dry_run || (no_skipped || formatted)
-}
-
-// Returns whether `--explain` is given together with an option that it excludes.
-fn explanation_clashes(matches: &ArgMatches) -> bool
-    ensures { result ≡ spec.explanation_clashes (rows_of (found_of matches.now)) }
-{
-    let explain = flag(matches, "explain");
-    let shaped = shapes_report(matches);
-    explain && shaped
-}
-
-// Returns whether `--lint` is given together with an option that it excludes.
-fn lint_clashes(matches: &ArgMatches) -> bool
-    ensures { result ≡ spec.lint_clashes (rows_of (found_of matches.now)) }
-{
-    let lint = flag(matches, "lint");
-    let explain = flag(matches, "explain");
-    let stop = flag(matches, "stop");
-    let env = is_given(matches, "env");
-    let shaped = shapes_report(matches);
-    lint && (explain || (stop || (env || shaped)))
-}
-
-// Returns the message to show if `--lint` or `--explain` is given together with an option that it excludes.
-fn clash_message(matches: &ArgMatches) -> Option<&'static str>
-    ensures { is_some result ≡ is_clash (rows_of (found_of matches.now)) }
-{
-    if lint_clashes(matches) {
-        Some(LINT_CLASH)
-    } else if explanation_clashes(matches) {
-        Some(EXPLANATION_CLASH)
-    } else {
-        None
+    match row.takes {
+        Takes::Nothing => flag(matches, row.name),
+        _ => is_given(matches, row.name),
     }
 }
 
-// Makes the error for such arguments, in clap's words.
-fn clash(command: &mut Command, message: &str) -> Result<clap::Error, AllocError>
+// Returns whether an option may accompany the output of this mode.
+fn is_accepted(mode: Mode, row: &OptionRow) -> bool
+    ensures { result ≡ spec.is_accepted mode (option_value row.now) }
+{
+    match mode {
+        Mode::Report => true,
+        Mode::Explanation => row.beside_explain,
+        Mode::Findings => row.beside_lint,
+    }
+}
+
+// Returns whether an option is among the arguments and may not accompany the output of this mode.
+fn is_excluded(matches: &ArgMatches, mode: Mode, row: &OptionRow) -> bool
+    ensures { result ≡ spec.is_excluded mode (rows_of (found_of matches.now))
+        (option_value row.now) }
+{
+    let among = is_among(matches, row);
+    let accepted = is_accepted(mode, row);
+    among && !accepted
+}
+
+// Returns the name of the first of these options that is among the arguments and may not accompany the output of this
+// mode.
+fn first_excluded(
+    matches: &ArgMatches,
+    mode: Mode,
+    rows: &[OptionRow],
+) -> Option<&'static str>
+    ensures { is_some result ≡ list_any (spec.is_excluded mode (rows_of (found_of matches.now)))
+        (map option_value rows.now) }
+{
+    for row in rows {
+        if is_excluded(matches, mode, row) {
+            return Some(row.name);
+        }
+    }
+    None
+}
+
+// Returns the name of the first option among the arguments that may not accompany what they ask for.
+fn first_clash(matches: &ArgMatches) -> Option<&'static str>
+    ensures { is_some result ≡ is_clash (rows_of (found_of matches.now)) }
+{
+    first_excluded(matches, mode_of(matches), &OPTIONS)
+}
+
+// Makes the error for an option that may not accompany the output of this mode, in clap's words.
+fn clash(
+    alloc: Global,
+    command: &mut Command,
+    mode: Mode,
+    name: &str,
+) -> Result<clap::Error, AllocError>
     ensures { IfOk result (λ error. kind_of error ≡ ArgumentConflict) }
 {
-    command.error(ErrorKind::ArgumentConflict, message)
+    let by = match mode {
+        Mode::Findings => "lint",
+        Mode::Report | Mode::Explanation => "explain",
+    };
+    let message = format!(in alloc; "the argument '--{by}' cannot be used with '--{name}'")?;
+    command.error(ErrorKind::ArgumentConflict, message.as_str())
 }
 
 fn options_of(alloc: Global, matches: &ArgMatches, format: Format) -> Result<Options, AllocError>
@@ -428,8 +407,8 @@ fn words_by<'a>(
     ensures { SaysArguments (map string_bytes words.now) result }
 {
     let matches = reader.try_get_matches_from_mut(words)?;
-    if let Some(message) = clash_message(&matches) {
-        return Err(WordsFault::Usage(clash(reader, message)?));
+    if let Some(name) = first_clash(&matches) {
+        return Err(WordsFault::Usage(clash(alloc, reader, mode_of(&matches), name)?));
     }
     let name = matches.get_str("format").unwrap_or("plain");
     match format_of(name) {
