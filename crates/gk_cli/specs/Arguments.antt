@@ -27,7 +27,7 @@ use Rattle.gk_cli.specs.declared.arguments.Mode.TheVariants.{Report, Explanation
 use Rattle.gk_cli.specs.declared.arguments.Options.{Options}
 use Rattle.gk_cli.specs.declared.arguments.Words.{Words}
 use Rattle.gk_cli.specs.declared.arguments.WordsFault.{WordsFault}
-use Rattle.gk_cli.specs.declared.arguments.WordsFault.TheVariants.{Usage, Env, Memory}
+use Rattle.gk_cli.specs.declared.arguments.WordsFault.TheVariants.{Usage, Env, File, Memory}
 
 -- The files: at least one, anywhere among the arguments.
 abbrev pub files_rule : Rule
@@ -144,19 +144,15 @@ has_equals text = has_byte 61 text
 abbrev pub split_at_equals : Text → PairValue
 split_at_equals text = record { name = before_first (λ b. b == 61) text; text = after_first (λ b. b == 61) text }
 
--- The variable that a text of `--env` names; a text without `=` names none.
-abbrev pub SaysVariable : Text → Result (String Global × String Global) WordsFault → Type 0
-SaysVariable text (Ok variable) = (has_equals text ≡ true) × (pair_value variable ≡ split_at_equals text)
-SaysVariable text (Err Env) = has_equals text ≡ false
-SaysVariable text (Err Memory) = Unit {0}
-SaysVariable text (Err (Usage e)) = ⊥
+-- The parts of a text of `--env` or `--file`; a text without `=` has none.
+abbrev pub SaysPair : Text → Option (String Global × String Global) → Type 0
+SaysPair text (Some pair) = (has_equals text ≡ true) × (pair_value pair ≡ split_at_equals text)
+SaysPair text None = has_equals text ≡ false
 
--- The variables that texts of `--env` name; a text without `=` is a fault.
-abbrev pub SaysVariables : List Text → Result (Vec (String Global × String Global) Global) WordsFault → Type 0
-SaysVariables texts (Ok variables) = All (λ text. has_equals text ≡ true) texts × (map pair_value variables.items ≡ map split_at_equals texts)
-SaysVariables texts (Err Env) = Any (λ text. has_equals text ≡ false) texts
-SaysVariables texts (Err Memory) = Unit {0}
-SaysVariables texts (Err (Usage e)) = ⊥
+-- The parts of each text, in order, if each has an `=`.
+abbrev pub SaysPairs : List Text → Option (Vec (String Global × String Global) Global) → Type 0
+SaysPairs texts (Some pairs) = All (λ text. has_equals text ≡ true) texts × (map pair_value pairs.items ≡ map split_at_equals texts)
+SaysPairs texts None = Any (λ text. has_equals text ≡ false) texts
 
 -- The options are those that clap found.
 pub record AreAsked (rows : List Row) (options : Options) : Type 0 where
@@ -176,19 +172,23 @@ pub record IsAskedBy (rows : List Row) (w : Words) : Type 0 where
   pub hooks : option_map string_bytes w.hooks ≡ first_of (codes "hooks") rows
   pub variables : map pair_value w.env.items ≡ map split_at_equals (values_of (codes "env") rows)
   pub equals : All (λ text. has_equals text ≡ true) (values_of (codes "env") rows)
+  pub world_files : map pair_value w.world_files.items ≡ map split_at_equals (values_of (codes "file") rows)
+  pub file_equals : All (λ text. has_equals text ≡ true) (values_of (codes "file") rows)
 
--- What the arguments ask for, from what clap found. `Env` comes if an `--env` has no `=`.
+-- What the arguments ask for, from what clap found. `Env` comes if an `--env` has no `=`, and otherwise `File` if a `--file` has none.
 abbrev pub SaysMatches : List Row → Result Words WordsFault → Type 0
 SaysMatches rows (Ok w) = IsAskedBy rows w
 SaysMatches rows (Err (Usage e)) = ⊥
 SaysMatches rows (Err Env) = Any (λ text. has_equals text ≡ false) (values_of (codes "env") rows)
+SaysMatches rows (Err File) = All (λ text. has_equals text ≡ true) (values_of (codes "env") rows) × Any (λ text. has_equals text ≡ false) (values_of (codes "file") rows)
 SaysMatches rows (Err Memory) = Unit {0}
 
--- Arguments without a fault give what clap finds in them: at least one file, and no line 0. `Usage` has one of their faults and comes before `Env`. `Memory` can come instead of any other result.
+-- Arguments without a fault give what clap finds in them: at least one file, and no line 0. `Usage` has one of their faults and comes before `Env`, and that before `File`. `Memory` can come instead of any other result.
 abbrev pub SaysArguments : List Text → Result Words WordsFault → Type 0
 SaysArguments arguments (Ok w) = (faults_in arguments ≡ []) × IsAskedBy (found_in arguments) w × (w.files.items ≢ []) × All (λ n. 1 ≤ n) w.options.lines.items
 SaysArguments arguments (Err (Usage e)) = IsAmong (kind_of e) (faults_in arguments)
 SaysArguments arguments (Err Env) = (faults_in arguments ≡ []) × SaysMatches (found_in arguments) (Err Env)
+SaysArguments arguments (Err File) = (faults_in arguments ≡ []) × SaysMatches (found_in arguments) (Err File)
 SaysArguments arguments (Err Memory) = Unit {0}
 
 -- Proof machinery: a clap argument has this rule, and excludes nothing.
@@ -208,4 +208,5 @@ pub record IsCommand (wanted : App) (c : Command) : Type 0 where
 abbrev pub IsFaultBy : Error → WordsFault → Type 0
 IsFaultBy e (Usage f) = (f ≡ e) × (kind_of e ≢ OutOfMemory)
 IsFaultBy e Env = ⊥
+IsFaultBy e File = ⊥
 IsFaultBy e Memory = kind_of e ≡ OutOfMemory

@@ -52,6 +52,7 @@ options =
     ∷ anywhere (codes "library") OneText
     ∷ anywhere (codes "hooks") OneText
     ∷ in_a_run (codes "env") Texts
+    ∷ in_a_run (codes "file") Texts
     ∷ in_a_report (codes "dry-run") Flag
     ∷ in_a_run (codes "stop") Flag
     ∷ in_a_report (codes "format") OneText

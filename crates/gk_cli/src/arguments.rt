@@ -5,7 +5,7 @@ ghost use Rattle.clap.specs.Words.{found_of, kind_of, rows_of, with_rule};
 ghost use Rattle.clap.specs.declared.error.kind.ErrorKind.TheVariants.{ArgumentConflict, InvalidValue};
 ghost use Rattle.gk_cli.specs.Arguments as spec;
 ghost use Rattle.gk_cli.specs.OptionTable.{option_value, rule_of_option};
-ghost use Rattle.gk_cli.specs.Arguments.{is_clash, mode_asked, files_rule, command, HasRule, IsCommand, values_of, is_set, IsLineNumber, line_number, format_name, format_asked, SaysFormat, SaysVariable, SaysVariables, AreAsked, SaysMatches, SaysArguments};
+ghost use Rattle.gk_cli.specs.Arguments.{is_clash, mode_asked, files_rule, command, HasRule, IsCommand, is_set, IsLineNumber, line_number, format_name, format_asked, SaysFormat, SaysPair, SaysPairs, AreAsked, SaysMatches, SaysArguments};
 
 use crate::option_table::{OPTIONS, OptionRow, Takes};
 use clap::builder::ValueParser;
@@ -64,6 +64,8 @@ pub struct Words {
     pub hooks: Option<String>,
     /// The names and values of `--env`, in order.
     pub env: Vec<(String, String)>,
+    /// The names and paths of `--file`, in order.
+    pub world_files: Vec<(String, String)>,
     /// The feature files, in the order of the arguments; at least one.
     pub files: Vec<String>,
 }
@@ -77,6 +79,9 @@ pub enum WordsFault {
     /// The value of an `--env` has no `=`.
     #[error("bad --env")]
     Env,
+    /// The value of a `--file` has no `=`.
+    #[error("bad --file")]
+    File,
     /// Memory couldn't be allocated.
     #[error("out of memory")]
     Memory,
@@ -178,6 +183,13 @@ fn command_of<'a>(alloc: Global) -> Result<Command<'a>, AllocError>
     with_options(alloc, &OPTIONS)
 }
 
+// Returns the values of an option, or the files, in order.
+fn values_of<'a>(matches: &'a ArgMatches, name: &str) -> &'a [&'a str]
+    ensures { map (λ text. text.now) result.now ≡ spec.values_of name.now (rows_of (found_of matches.now)) }
+{
+    matches.get_strs(name).unwrap_or(&[])
+}
+
 fn copied(alloc: Global, texts: &[&str]) -> Result<Vec<String>, AllocError>
     ensures { IfOk result (λ copies. map string_bytes copies.items
         ≡ map (λ text. text.now) texts.now) }
@@ -201,27 +213,31 @@ fn numbers(alloc: Global, texts: &[&str]) -> Result<Vec<u32>, AllocError>
     Ok(numbers)
 }
 
-// Returns the name and the text of a variable, split at the first `=`.
-fn variable(alloc: Global, text: &str) -> Result<(String, String), WordsFault>
-    ensures { SaysVariable text.now result }
+// Splits a text at its first `=`. A text without `=` has no parts.
+fn pair(alloc: Global, text: &str) -> Result<Option<(String, String)>, AllocError>
+    ensures { IfOk result (SaysPair text.now) }
 {
     match text.split_once('=') {
-        Some((name, value)) => Ok((
+        Some((name, value)) => Ok(Some((
             String::from_str(alloc, name)?,
             String::from_str(alloc, value)?,
-        )),
-        None => Err(WordsFault::Env),
+        ))),
+        None => Ok(None),
     }
 }
 
-fn variables(alloc: Global, texts: &[&str]) -> Result<Vec<(String, String)>, WordsFault>
-    ensures { SaysVariables (map (λ text. text.now) texts.now) result }
+// Splits each text at its first `=`. Returns `None` if a text has no `=`.
+fn pairs(alloc: Global, texts: &[&str]) -> Result<Option<Vec<(String, String)>>, AllocError>
+    ensures { IfOk result (SaysPairs (map (λ text. text.now) texts.now)) }
 {
-    let mut variables = Vec::new(alloc);
+    let mut pairs = Vec::new(alloc);
     for text in texts {
-        variables.push(variable(alloc, text)?)?;
+        match pair(alloc, text)? {
+            Some(pair) => pairs.push(pair)?,
+            None => return Ok(None),
+        }
     }
-    Ok(variables)
+    Ok(Some(pairs))
 }
 
 fn copied_text(alloc: Global, text: Option<&str>) -> Result<Option<String>, AllocError>
@@ -361,12 +377,12 @@ fn clash(
 }
 
 fn options_of(alloc: Global, matches: &ArgMatches, format: Format) -> Result<Options, AllocError>
-    requires lines { All IsLineNumber (values_of (codes "line") (rows_of (found_of matches.now))) }
+    requires lines { All IsLineNumber (spec.values_of (codes "line") (rows_of (found_of matches.now))) }
     requires format { format_name format ≡ format_asked (rows_of (found_of matches.now)) }
     ensures { IfOk result (AreAsked (rows_of (found_of matches.now))) }
 {
-    let tags = copied(alloc, matches.get_strs("tags").unwrap_or(&[]))?;
-    let lines = numbers(alloc, matches.get_strs("line").unwrap_or(&[]))?;
+    let tags = copied(alloc, values_of(matches, "tags"))?;
+    let lines = numbers(alloc, values_of(matches, "line"))?;
     let no_skipped = flag(matches, "no-skipped");
     Ok(Options {
         tags,
@@ -378,21 +394,29 @@ fn options_of(alloc: Global, matches: &ArgMatches, format: Format) -> Result<Opt
 }
 
 fn words_of(alloc: Global, matches: &ArgMatches, format: Format) -> Result<Words, WordsFault>
-    requires lines { All IsLineNumber (values_of (codes "line") (rows_of (found_of matches.now))) }
+    requires lines { All IsLineNumber (spec.values_of (codes "line") (rows_of (found_of matches.now))) }
     requires format { format_name format ≡ format_asked (rows_of (found_of matches.now)) }
     ensures { SaysMatches (rows_of (found_of matches.now)) result }
 {
-    let files = copied(alloc, matches.get_strs("files").unwrap_or(&[]))?;
+    let files = copied(alloc, values_of(matches, "files"))?;
     let options = options_of(alloc, matches, format)?;
     let library = copied_text(alloc, matches.get_str("library"))?;
     let hooks = copied_text(alloc, matches.get_str("hooks"))?;
-    let env = variables(alloc, matches.get_strs("env").unwrap_or(&[]))?;
+    let env = match pairs(alloc, values_of(matches, "env"))? {
+        Some(env) => env,
+        None => return Err(WordsFault::Env),
+    };
+    let world_files = match pairs(alloc, values_of(matches, "file"))? {
+        Some(world_files) => world_files,
+        None => return Err(WordsFault::File),
+    };
     Ok(Words {
         options,
         mode: mode_of(matches),
         library,
         hooks,
         env,
+        world_files,
         files,
     })
 }
@@ -419,17 +443,17 @@ fn words_by<'a>(
 
 /// Reads the command-line arguments. The first is the program's name.
 ///
-/// `--tags T`, `--line N` (1 to 4,294,967,295) and `--env NAME=VALUE` can be given several times. The following can be
-/// given at most once: `--library FILE`, `--hooks FILE`, `--format F` (`plain`, `progress` or `json`; `plain` by
-/// default), `--dry-run`, `--stop`, `--no-skipped`, `--explain` and `--lint`. `--explain` excludes `--format`,
-/// `--dry-run` and `--no-skipped`. `--lint` excludes these three, `--explain`, `--stop` and `--env`. Options and files
-/// can be in any order, and `--opt=value` is the same as `--opt value`.
+/// `OPTIONS` lists the options. `--tags T`, `--line N` (1 to 4,294,967,295), `--env NAME=VALUE` and `--file NAME=PATH`
+/// can be given several times, and the others at most once. `--format` is `plain`, `progress` or `json`; `plain` by
+/// default. `--explain` and `--lint` exclude the options that their column of the table says. Options and files can be
+/// in any order, and `--opt=value` is the same as `--opt value`.
 ///
 /// Every other argument that doesn't begin with `-`, or is only `-`, is a feature file. So is every argument after the
 /// first `--`. At least one feature file is required.
 ///
 /// `--help` and `-h` ask for help, `--version` and `-V` for the version; they return `Usage` with the exit code 0. A
-/// mistake also returns `Usage`, which comes before `Env`. `Memory` can come instead of any other result.
+/// mistake also returns `Usage`, which comes before `Env`, and that before `File`. `Memory` can come instead of any
+/// other result.
 pub fn read_words(alloc: Global, words: &[String]) -> Result<Words, WordsFault>
     ensures { SaysArguments (map string_bytes words.now) result }
 {

@@ -35,7 +35,7 @@ const RUN: &str = "How they run";
 const REPORT: &str = "Report";
 
 /// The options, in the order of the help.
-pub static OPTIONS: [OptionRow; 11] = [
+pub static OPTIONS: [OptionRow; 12] = [
     OptionRow {
         name: "tags",
         takes: Takes::Texts,
@@ -78,6 +78,15 @@ pub static OPTIONS: [OptionRow; 11] = [
         value_name: "NAME=VALUE",
         heading: RUN,
         help: "Set a variable before the run; of equal names the last counts",
+        beside_explain: true,
+        beside_lint: false,
+    },
+    OptionRow {
+        name: "file",
+        takes: Takes::Texts,
+        value_name: "NAME=PATH",
+        heading: RUN,
+        help: "Put the text of PATH into the world as file NAME; of equal names the last counts",
         beside_explain: true,
         beside_lint: false,
     },
@@ -131,7 +140,7 @@ pub static OPTIONS: [OptionRow; 11] = [
         takes: Takes::Nothing,
         value_name: "",
         heading: REPORT,
-        help: "In place of a run, list what of the files vanishes, can't work or isn't used",
+        help: "In place of a run, list ignored lines, steps that can't work and unused entries",
         beside_explain: false,
         beside_lint: true,
     },
