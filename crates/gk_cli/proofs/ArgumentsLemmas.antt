@@ -1,5 +1,5 @@
 -- The command that reads the arguments, and what its matches hold.
-use Rattle.std.proofs.Common.{◌≡◌, ◌≢◌, ◌⊎◌, ◌∙◌, ◌<◌, ◌≤◌, ◌&&◌, ◌||◌, ◌==◌, ◌+◌, ◌++◌, ap, ap₂, sym, subst, refl, inl, inr, arith, zero, suc, ℕ, Bool, true, false, not, List, [], ◌∷◌, length, map, codes, drop, take, is_some, get_or, Option, Some, None, Result, Ok, Err}
+use Rattle.std.proofs.Common.{◌≡◌, ◌≢◌, ◌⊎◌, ◌∙◌, ◌<◌, ◌≤◌, ◌&&◌, ◌||◌, ◌==◌, ◌+◌, ◌++◌, ap, ap₂, sym, subst, refl, inl, inr, arith, zero, suc, ℕ, Bool, true, false, not, List, [], ◌∷◌, length, map, codes, drop, fold, take, is_some, get_or, Option, Some, None, Result, Ok, Err}
 use Rattle.std.specs.Prelude.{IsOk, cond, find, if◌then◌else◌, option_map, unwrap_or, IsErrAnd, IsSomeAnd}
 use Rattle.std.specs.Option.{option_map_or}
 use Rattle.std.specs.List.{All, Any, after_first, before_first, slice_index_or, list_all}
@@ -36,10 +36,12 @@ use Rattle.clap.specs.declared.error.kind.ErrorKind.{ErrorKind}
 use Rattle.clap.specs.declared.error.kind.ErrorKind.TheVariants.{ArgumentConflict, InvalidValue}
 use Rattle.gk_report.specs.declared.report.Format.{Format}
 use Rattle.gk_report.specs.declared.report.Format.TheVariants.{Plain, Progress, Json}
-use Rattle.gk_cli.specs.Arguments.{HasRule, IsAskedBy, IsCommand, IsFaultBy, IsLineNumber, PairValue, SaysArguments, SaysMatches, SaysVariable, SaysVariables, command, split_at_equals, faults_in, files_rule, format_asked, format_name, found_in, has_equals, is_format, line_number, values_of, is_clash, is_given, with_version}
+use Rattle.gk_cli.specs.Arguments.{HasRule, IsAskedBy, IsCommand, IsFaultBy, IsLineNumber, PairValue, SaysArguments, SaysMatches, SaysPair, SaysPairs, command, split_at_equals, faults_in, files_rule, format_asked, format_name, found_in, has_equals, is_format, line_number, values_of, is_clash, is_given, with_version}
+use Rattle.gk_cli.specs.OptionTable.{option_value, rule_of_option}
 use Rattle.gk_cli.specs.declared.arguments.Words.{Words}
 use Rattle.gk_cli.specs.declared.arguments.WordsFault.{WordsFault}
-use Rattle.gk_cli.specs.declared.arguments.WordsFault.TheVariants.{Usage, Env, Memory}
+use Rattle.gk_cli.specs.declared.arguments.WordsFault.TheVariants.{Usage, Env, File, Memory}
+use Rattle.gk_cli.specs.declared.option_table.OptionRow.{OptionRow}
 
 -- what some value is known to be
 pub some_is : {X : Type 0} (o : Option X) (x : X) → IsSomeAnd o (λ y. y ≡ x) → o ≡ Some x
@@ -92,6 +94,13 @@ versioned a old new text is with = record {
   local = ap (λ (g : Command-F Command). g.has_globals) with ∙ is.local;
   demands = ap (λ (g : Command-F Command). g.subcommand_negates_reqs) with ∙ is.demands;
 }
+
+-- the option of one row more is added
+pub one_rule_more : (app : App) (rows : List OptionRow) (i : ℕ) (row : OptionRow) → i < length rows
+    → fold with_rule (with_rule app (rule_of_option (option_value (get_or rows i row)))) (map rule_of_option (map option_value (drop (i + 1) rows))) ≡ fold with_rule app (map rule_of_option (map option_value (drop i rows)))
+one_rule_more app rows i row lt =
+    let split : drop i rows ≡ get_or rows i row ∷ drop (i + 1) rows = grind (arith, common_steps) in
+    ap (λ (rs : List OptionRow). fold with_rule app (map rule_of_option (map option_value rs))) (sym split)
 
 -- the command as clap returns it: as it was, or built
 abbrev MayBeBuilt : Command → Type 0
@@ -390,7 +399,7 @@ one_number_more done more n texts i d lt grown same all before =
 
 -- a text that was split at its first `=`
 pub split_there : (text name value : Text) (variable : String Global × String Global) → text ≡ name ++ 61 ∷ value → string_bytes variable.0 ≡ before_first (λ b. b == 61) text → string_bytes variable.1 ≡ after_first (λ b. b == 61) text
-    → SaysVariable text (Ok variable)
+    → SaysPair text (Some variable)
 split_there text name value variable whole before after =
     (subst (λ t. has_equals t ≡ true) (sym whole) (list_any-at 61 name value), alike before after)
   where
@@ -414,14 +423,6 @@ all_pairs f done texts i le split equals = (
   subst (λ xs. All (λ text. has_equals text ≡ true) (map (λ t. t.now) xs)) (take_all i texts le) equals,
   sym (append-nil (map f done)) ∙ ap (λ xs. map f done ++ map split_at_equals (map (λ (t : Bor Text). t.now) xs)) (sym (drop_all i texts le)) ∙ split,
 )
-
--- what the variables' fault says of the answer
-pub says_variables : (rows : List Row) (texts : List Text) (e : WordsFault) (r : Result Words WordsFault) → texts ≡ values_of (codes "env") rows
-    → SaysVariables texts (Err e) → IsErrAnd r (λ f. f ≡ e) → SaysMatches rows r
-says_variables rows texts e (Ok w) is says by = absurd by
-says_variables rows texts (Usage x) (Err f) is says by = absurd says
-says_variables rows texts Env (Err f) is says by = subst (λ g. SaysMatches rows (Err g)) (sym by) (subst (Any (λ text. has_equals text ≡ false)) is says)
-says_variables rows texts Memory (Err f) is says by = subst (λ g. SaysMatches rows (Err g)) (sym by) tt
 
 -- ---- the files of a parse that succeeds
 
@@ -516,6 +517,7 @@ says_found arguments old new m format r is whole after from parsed matches kinds
         )
     go (Err (Usage e)) says = absurd says
     go (Err Env) says = (faultless, subst (λ x. SaysMatches x (Err Env)) same says)
+    go (Err File) says = (faultless, subst (λ x. SaysMatches x (Err File)) same says)
     go (Err Memory) says = tt
 
 -- what a parse that succeeds says of an unknown format
@@ -546,4 +548,5 @@ says_fault arguments old e (Err (Usage f)) is kinds by =
       | inr among ↦ stays_among _ _ _ (subst (λ (x : Error). IsAmong (kind_of x) (fault_of command arguments)) (sym by.0) among)
     ]
 says_fault arguments old e (Err Env) is kinds by = absurd by
+says_fault arguments old e (Err File) is kinds by = absurd by
 says_fault arguments old e (Err Memory) is kinds by = tt

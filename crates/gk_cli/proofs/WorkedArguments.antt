@@ -232,6 +232,23 @@ linted_with_a_variable : faults_in (program ∷ codes "--lint" ∷ codes "--env"
 unfolding clap_on_literals
 linted_with_a_variable = refl
 
+linted_with_a_file : faults_in (program ∷ codes "--file=n=p" ∷ codes "--lint" ∷ codes "a" ∷ []) ≡ kind.ArgumentConflict ∷ []
+unfolding clap_on_literals
+linted_with_a_file = refl
+
+-- files of the world, each with the name and the path that it has
+abbrev placing : List Text
+placing = program ∷ codes "--file" ∷ codes "out=a=b" ∷ codes "a" ∷ codes "--file=n=p" ∷ codes "--explain" ∷ []
+
+placing_is_taken : faults_in placing ≡ []
+unfolding clap_on_literals
+placing_is_taken = refl
+
+placed : map split_at_equals (values_of (codes "file") (found_in placing))
+    ≡ record { name = codes "out"; text = codes "a=b" } ∷ record { name = codes "n"; text = codes "p" } ∷ []
+unfolding clap_on_literals
+placed = refl
+
 two_lints : faults_in (program ∷ codes "--lint" ∷ codes "a" ∷ codes "--lint" ∷ []) ≡ kind.ArgumentConflict ∷ []
 unfolding clap_on_literals
 two_lints = refl

@@ -1,5 +1,5 @@
 -- What the command-line arguments ask for.
-use Rattle.std.specs.Prelude.{◌≡◌, ◌≢◌, ◌≤◌, ◌==◌, ◌&&◌, ◌||◌, is_some, ℕ, Bool, List, [], ◌∷◌, true, false, Option, Some, None, Result, Ok, Err, if◌then◌else◌, codes, string_bytes, map, fold, option_map, unwrap_or}
+use Rattle.std.specs.Prelude.{◌≡◌, ◌≢◌, ◌≤◌, ◌==◌, ◌&&◌, not, is_some, ℕ, Bool, List, [], ◌∷◌, true, false, Option, Some, None, Result, Ok, Err, if◌then◌else◌, codes, string_bytes, map, fold, option_map, unwrap_or}
 use Rattle.std.specs.List.{All, Any, after_first, before_first, list_any}
 use Rattle.std.specs.Option.{option_map_or}
 use Rattle.std.specs.Str.{bytes_eq}
@@ -17,6 +17,9 @@ use Rattle.clap.specs.declared.builder.command.Command.TheViews.{out-Command as 
 use Rattle.clap.specs.declared.builder.value_parser.ValueParser.TheVariants.{Unsigned}
 use Rattle.clap.specs.declared.error.Error.{Error}
 use Rattle.clap.specs.declared.error.kind.ErrorKind.TheVariants.{ArgumentConflict, InvalidValue, OutOfMemory}
+use Rattle.gk_cli.specs.OptionTable.{OptionValue, options, rule_of_option}
+use Rattle.gk_cli.specs.declared.option_table.Takes.{Takes}
+use Rattle.gk_cli.specs.declared.option_table.Takes.TheVariants.{Nothing as Flag}
 use Rattle.gk_report.specs.declared.report.Format.{Format}
 use Rattle.gk_report.specs.declared.report.Format.TheVariants.{Plain, Progress, Json}
 use Rattle.gk_cli.specs.declared.arguments.Mode.{Mode}
@@ -24,7 +27,7 @@ use Rattle.gk_cli.specs.declared.arguments.Mode.TheVariants.{Report, Explanation
 use Rattle.gk_cli.specs.declared.arguments.Options.{Options}
 use Rattle.gk_cli.specs.declared.arguments.Words.{Words}
 use Rattle.gk_cli.specs.declared.arguments.WordsFault.{WordsFault}
-use Rattle.gk_cli.specs.declared.arguments.WordsFault.TheVariants.{Usage, Env, Memory}
+use Rattle.gk_cli.specs.declared.arguments.WordsFault.TheVariants.{Usage, Env, File, Memory}
 
 -- The files: at least one, anywhere among the arguments.
 abbrev pub files_rule : Rule
@@ -35,53 +38,17 @@ files_rule = record (new_rule (codes "files")) {
   required = true;
 }
 
--- The option `--tags T`, any number of times. (behave's documentation: command line arguments)
-abbrev pub tags_rule : Rule
-tags_rule = record (new_rule (codes "tags")) { long = Some (codes "tags"); action = Some Append; value_names = 1 }
-
--- The option `--line N`, any number of times. N fits a `u32` and isn't 0.
-abbrev pub line_rule : Rule
-line_rule = record (new_rule (codes "line")) {
-  long = Some (codes "line");
-  action = Some Append;
-  parser = Some (Unsigned 1 4294967295);
-  value_names = 1;
-}
-
--- The option `--library FILE`, at most once.
-abbrev pub library_rule : Rule
-library_rule = record (new_rule (codes "library")) { long = Some (codes "library"); action = Some Set; value_names = 1 }
-
--- The option `--hooks FILE`, at most once.
-abbrev pub hooks_rule : Rule
-hooks_rule = record (new_rule (codes "hooks")) { long = Some (codes "hooks"); action = Some Set; value_names = 1 }
-
--- The option `--env NAME=VALUE`, any number of times.
-abbrev pub env_rule : Rule
-env_rule = record (new_rule (codes "env")) { long = Some (codes "env"); action = Some Append; value_names = 1 }
-
--- The option `--format F`, at most once. (behave's documentation: command line arguments)
-abbrev pub format_rule : Rule
-format_rule = record (new_rule (codes "format")) { long = Some (codes "format"); action = Some Set; value_names = 1 }
-
--- A flag, at most once: clap finds `true` for it if it is among the arguments, and `false` otherwise.
-abbrev pub flag_rule : Text → Rule
-flag_rule name = record (new_rule name) { long = Some name; action = Some SetTrue }
-
--- The files, the options and the flags.
-abbrev pub rules : List Rule
-rules =
-    files_rule ∷ tags_rule ∷ line_rule ∷ library_rule ∷ hooks_rule ∷ env_rule
-    ∷ flag_rule (codes "dry-run") ∷ flag_rule (codes "stop") ∷ format_rule ∷ flag_rule (codes "no-skipped") ∷ flag_rule (codes "explain")
-    ∷ flag_rule (codes "lint") ∷ []
-
 -- An app that has a version.
 abbrev pub with_version : App → App
 with_version app = record app { top = record app.top { has_version = true } }
 
--- The command: its name, that it has a version, and its rules. clap itself adds the options for help and the version.
+-- The command without its options: its name, that it has a version, and its files. clap itself adds the options for help and the version.
+abbrev pub command_of_files : App
+command_of_files = with_rule (with_version (new_app (codes "gherkin_run"))) files_rule
+
+-- The command: the files and the options.
 abbrev pub command : App
-command = fold with_rule (with_version (new_app (codes "gherkin_run"))) rules
+command = fold with_rule command_of_files (map rule_of_option options)
 
 -- What clap finds in the arguments. The first argument is the program's name.
 abbrev pub found_in : List Text → List Row
@@ -113,23 +80,29 @@ mode_asked rows = if is_set (codes "explain") rows then Explanation else (if is_
 abbrev pub is_given : Text → List Row → Bool
 is_given name rows = is_some (first_of name rows)
 
--- Whether `--dry-run`, `--no-skipped` or `--format` is given.
-abbrev pub shapes_report : List Row → Bool
-shapes_report rows = is_set (codes "dry-run") rows || (is_set (codes "no-skipped") rows || is_given (codes "format") rows)
+abbrev is_among_by : Takes → Text → List Row → Bool
+is_among_by Flag name rows = is_set name rows
+is_among_by _ name rows = is_given name rows
 
--- Whether `--explain` is given together with `--dry-run`, `--no-skipped` or `--format`, which it excludes.
-abbrev pub explanation_clashes : List Row → Bool
-explanation_clashes rows = is_set (codes "explain") rows && shapes_report rows
+-- Whether an option is among the arguments.
+abbrev pub is_among : List Row → OptionValue → Bool
+is_among rows o = is_among_by o.takes o.name rows
 
--- Whether `--lint` is given together with an option that it excludes: `--explain`, `--stop`, `--env`, `--dry-run`, `--no-skipped` or `--format`. With `--lint` nothing runs.
-abbrev pub lint_clashes : List Row → Bool
-lint_clashes rows = is_set (codes "lint") rows && (is_set (codes "explain") rows || (is_set (codes "stop") rows || (is_given (codes "env") rows || shapes_report rows)))
+-- Whether an option may accompany the output of this mode. A report excludes none.
+abbrev pub is_accepted : Mode → OptionValue → Bool
+is_accepted Report o = true
+is_accepted Explanation o = o.beside_explain
+is_accepted Findings o = o.beside_lint
 
--- Whether `--lint` or `--explain` is given together with an option that it excludes.
+-- Whether an option is among the arguments and may not accompany the output of this mode.
+abbrev pub is_excluded : Mode → List Row → OptionValue → Bool
+is_excluded mode rows o = is_among rows o && not (is_accepted mode o)
+
+-- Whether an option is among the arguments that may not accompany what they ask for.
 abbrev pub is_clash : List Row → Bool
-is_clash rows = lint_clashes rows || explanation_clashes rows
+is_clash rows = list_any (is_excluded (mode_asked rows) rows) options
 
--- The faults in what clap found: an option that `--lint` or `--explain` excludes, or otherwise a format with an unknown name.
+-- The faults in what clap found: an option that may not accompany what the arguments ask for, or otherwise a format with an unknown name.
 abbrev pub faults_found : List Row → Kinds
 faults_found rows = if is_clash rows then (ArgumentConflict ∷ []) else (if is_format (format_asked rows) then [] else (InvalidValue ∷ []))
 
@@ -171,19 +144,15 @@ has_equals text = has_byte 61 text
 abbrev pub split_at_equals : Text → PairValue
 split_at_equals text = record { name = before_first (λ b. b == 61) text; text = after_first (λ b. b == 61) text }
 
--- The variable that a text of `--env` names; a text without `=` names none.
-abbrev pub SaysVariable : Text → Result (String Global × String Global) WordsFault → Type 0
-SaysVariable text (Ok variable) = (has_equals text ≡ true) × (pair_value variable ≡ split_at_equals text)
-SaysVariable text (Err Env) = has_equals text ≡ false
-SaysVariable text (Err Memory) = Unit {0}
-SaysVariable text (Err (Usage e)) = ⊥
+-- The parts of a text of `--env` or `--file`; a text without `=` has none.
+abbrev pub SaysPair : Text → Option (String Global × String Global) → Type 0
+SaysPair text (Some pair) = (has_equals text ≡ true) × (pair_value pair ≡ split_at_equals text)
+SaysPair text None = has_equals text ≡ false
 
--- The variables that texts of `--env` name; a text without `=` is a fault.
-abbrev pub SaysVariables : List Text → Result (Vec (String Global × String Global) Global) WordsFault → Type 0
-SaysVariables texts (Ok variables) = All (λ text. has_equals text ≡ true) texts × (map pair_value variables.items ≡ map split_at_equals texts)
-SaysVariables texts (Err Env) = Any (λ text. has_equals text ≡ false) texts
-SaysVariables texts (Err Memory) = Unit {0}
-SaysVariables texts (Err (Usage e)) = ⊥
+-- The parts of each text, in order, if each has an `=`.
+abbrev pub SaysPairs : List Text → Option (Vec (String Global × String Global) Global) → Type 0
+SaysPairs texts (Some pairs) = All (λ text. has_equals text ≡ true) texts × (map pair_value pairs.items ≡ map split_at_equals texts)
+SaysPairs texts None = Any (λ text. has_equals text ≡ false) texts
 
 -- The options are those that clap found.
 pub record AreAsked (rows : List Row) (options : Options) : Type 0 where
@@ -203,19 +172,23 @@ pub record IsAskedBy (rows : List Row) (w : Words) : Type 0 where
   pub hooks : option_map string_bytes w.hooks ≡ first_of (codes "hooks") rows
   pub variables : map pair_value w.env.items ≡ map split_at_equals (values_of (codes "env") rows)
   pub equals : All (λ text. has_equals text ≡ true) (values_of (codes "env") rows)
+  pub world_files : map pair_value w.world_files.items ≡ map split_at_equals (values_of (codes "file") rows)
+  pub file_equals : All (λ text. has_equals text ≡ true) (values_of (codes "file") rows)
 
--- What the arguments ask for, from what clap found. `Env` comes if an `--env` has no `=`.
+-- What the arguments ask for, from what clap found. `Env` comes if an `--env` has no `=`, and otherwise `File` if a `--file` has none.
 abbrev pub SaysMatches : List Row → Result Words WordsFault → Type 0
 SaysMatches rows (Ok w) = IsAskedBy rows w
 SaysMatches rows (Err (Usage e)) = ⊥
 SaysMatches rows (Err Env) = Any (λ text. has_equals text ≡ false) (values_of (codes "env") rows)
+SaysMatches rows (Err File) = All (λ text. has_equals text ≡ true) (values_of (codes "env") rows) × Any (λ text. has_equals text ≡ false) (values_of (codes "file") rows)
 SaysMatches rows (Err Memory) = Unit {0}
 
--- Arguments without a fault give what clap finds in them: at least one file, and no line 0. `Usage` has one of their faults and comes before `Env`. `Memory` can come instead of any other result.
+-- Arguments without a fault give what clap finds in them: at least one file, and no line 0. `Usage` has one of their faults and comes before `Env`, and that before `File`. `Memory` can come instead of any other result.
 abbrev pub SaysArguments : List Text → Result Words WordsFault → Type 0
 SaysArguments arguments (Ok w) = (faults_in arguments ≡ []) × IsAskedBy (found_in arguments) w × (w.files.items ≢ []) × All (λ n. 1 ≤ n) w.options.lines.items
 SaysArguments arguments (Err (Usage e)) = IsAmong (kind_of e) (faults_in arguments)
 SaysArguments arguments (Err Env) = (faults_in arguments ≡ []) × SaysMatches (found_in arguments) (Err Env)
+SaysArguments arguments (Err File) = (faults_in arguments ≡ []) × SaysMatches (found_in arguments) (Err File)
 SaysArguments arguments (Err Memory) = Unit {0}
 
 -- Proof machinery: a clap argument has this rule, and excludes nothing.
@@ -235,4 +208,5 @@ pub record IsCommand (wanted : App) (c : Command) : Type 0 where
 abbrev pub IsFaultBy : Error → WordsFault → Type 0
 IsFaultBy e (Usage f) = (f ≡ e) × (kind_of e ≢ OutOfMemory)
 IsFaultBy e Env = ⊥
+IsFaultBy e File = ⊥
 IsFaultBy e Memory = kind_of e ≡ OutOfMemory

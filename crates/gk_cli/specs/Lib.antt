@@ -1,4 +1,5 @@
 -- What a whole run can return and write, in reading order. A definition whose comment names no source belongs to this project's profile, or is a term that the others use.
+pub mod OptionTable
 pub mod Arguments
 pub mod Counted
 pub mod Source

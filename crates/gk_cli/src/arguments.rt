@@ -1,11 +1,13 @@
 //! The command-line arguments.
-ghost use Rattle.std.specs.Prelude.{◌≡◌, map, Some, IfOk, codes, is_some, option_map, string_bytes};
-ghost use Rattle.std.specs.List.{All};
-ghost use Rattle.clap.specs.Words.{found_of, kind_of, new_rule, rows_of};
+ghost use Rattle.std.specs.Prelude.{◌≡◌, IfOk, codes, fold, is_some, map, option_map, string_bytes};
+ghost use Rattle.std.specs.List.{All, list_any};
+ghost use Rattle.clap.specs.Words.{found_of, kind_of, rows_of, with_rule};
 ghost use Rattle.clap.specs.declared.error.kind.ErrorKind.TheVariants.{ArgumentConflict, InvalidValue};
 ghost use Rattle.gk_cli.specs.Arguments as spec;
-ghost use Rattle.gk_cli.specs.Arguments.{is_clash, mode_asked, files_rule, line_rule, flag_rule, command, HasRule, IsCommand, values_of, is_set, IsLineNumber, line_number, format_name, format_asked, SaysFormat, SaysVariable, SaysVariables, AreAsked, SaysMatches, SaysArguments};
+ghost use Rattle.gk_cli.specs.OptionTable.{option_value, rule_of_option};
+ghost use Rattle.gk_cli.specs.Arguments.{is_clash, mode_asked, files_rule, command, HasRule, IsCommand, is_set, IsLineNumber, line_number, format_name, format_asked, SaysFormat, SaysPair, SaysPairs, AreAsked, SaysMatches, SaysArguments};
 
+use crate::option_table::{OPTIONS, OptionRow, Takes};
 use clap::builder::ValueParser;
 use clap::error::ErrorKind;
 use clap::{Arg, ArgAction, ArgMatches, Command};
@@ -17,37 +19,6 @@ const EXAMPLE: &str =
     "Example:\n  gherkin_run --tags @smoke --stop --format progress login.feature cart.feature";
 
 const FILES_HELP: &str = "Feature files, run in this order";
-
-const TAGS_HELP: &str =
-    "Run only scenarios whose tags fit T, as @a,~@b or '@a or not @b'; each --tags has to fit";
-
-const LINE_HELP: &str =
-    "Run only the scenarios at line N of a file; of several lines, one has to fit";
-
-const LIBRARY_HELP: &str = "Take the steps from FILE in place of the default library";
-
-const HOOKS_HELP: &str = "Run the hooks in FILE around the run, its features, rules and scenarios";
-
-const ENV_HELP: &str = "Set a variable before the run; of equal names the last counts";
-
-const FORMAT_HELP: &str = "Write the report as plain, progress or json [default: plain]";
-
-const DRY_RUN_HELP: &str = "Look up the steps in the library, and run no step, hook or cleanup";
-
-const STOP_HELP: &str = "Stop at the first failure, and leave later scenarios untested";
-
-const NO_SKIPPED_HELP: &str = "Leave skipped features and scenarios out of the report";
-
-const EXPLAIN_HELP: &str = "In place of the report, say what happened in each scenario that failed";
-
-const LINT_HELP: &str =
-    "In place of a run, list what of the files vanishes, can't work or isn't used";
-
-const EXPLANATION_CLASH: &str =
-    "the argument '--explain' cannot be used with '--dry-run', '--format' or '--no-skipped'";
-
-const LINT_CLASH: &str =
-    "the argument '--lint' cannot be used with '--explain', '--format', '--dry-run', '--no-skipped', '--stop' or '--env'";
 
 const VERSION: &str = "unreleased";
 
@@ -93,6 +64,8 @@ pub struct Words {
     pub hooks: Option<String>,
     /// The names and values of `--env`, in order.
     pub env: Vec<(String, String)>,
+    /// The names and paths of `--file`, in order.
+    pub world_files: Vec<(String, String)>,
     /// The feature files, in the order of the arguments; at least one.
     pub files: Vec<String>,
 }
@@ -106,6 +79,9 @@ pub enum WordsFault {
     /// The value of an `--env` has no `=`.
     #[error("bad --env")]
     Env,
+    /// The value of a `--file` has no `=`.
+    #[error("bad --file")]
+    File,
     /// Memory couldn't be allocated.
     #[error("out of memory")]
     Memory,
@@ -158,67 +134,60 @@ fn files_arg<'a>(alloc: Global) -> Arg<'a>
         .action(ArgAction::Append)
 }
 
-// Makes an option that has a value.
-fn value_arg<'a>(
-    alloc: Global,
-    name: &'a str,
-    value_name: &'a str,
-    help: &'a str,
-    action: ArgAction,
-) -> Arg<'a>
-    ensures { HasRule (record (new_rule name.entry.now)
-        { long = Some name.entry.now; action = Some action; value_names = 1 }) result }
+// Makes the argument of an option.
+fn arg_of<'a>(alloc: Global, row: &OptionRow) -> Arg<'a>
+    ensures { HasRule (rule_of_option (option_value row.now)) result }
 {
-    Arg::new(alloc, name)
-        .long(name)
-        .value_name(value_name)
-        .help(help)
-        .action(action)
+    let arg = Arg::new(alloc, row.name)
+        .long(row.name)
+        .help(row.help)
+        .help_heading(row.heading);
+    match row.takes {
+        Takes::Nothing => arg.action(ArgAction::SetTrue),
+        Takes::Text => arg.value_name(row.value_name).action(ArgAction::Set),
+        Takes::Texts => arg.value_name(row.value_name).action(ArgAction::Append),
+        Takes::Lines => arg
+            .value_name(row.value_name)
+            .action(ArgAction::Append)
+            .value_parser(ValueParser::unsigned(1, 4_294_967_295)),
+    }
 }
 
-// Makes the option `--line`, whose value is a number.
-fn line_arg<'a>(alloc: Global) -> Arg<'a>
-    ensures { HasRule line_rule result }
+// Makes the command without its options.
+fn command_of_files<'a>(alloc: Global) -> Result<Command<'a>, AllocError>
+    ensures { IfOk result (IsCommand spec.command_of_files) }
 {
-    value_arg(alloc, "line", "N", LINE_HELP, ArgAction::Append).value_parser(ValueParser::unsigned(
-        1,
-        4_294_967_295,
-    ))
+    Command::new(alloc, "gherkin_run")
+        .about("Runs the scenarios of feature files")
+        .version(VERSION)
+        .after_help(EXAMPLE)
+        .arg(files_arg(alloc))
 }
 
-// Makes a flag, which can be given at most once.
-fn flag_arg<'a>(alloc: Global, name: &'a str, help: &'a str) -> Arg<'a>
-    ensures { HasRule (flag_rule name.entry.now) result }
+// Makes the command with the options of these rows.
+fn with_options<'a>(alloc: Global, rows: &[OptionRow]) -> Result<Command<'a>, AllocError>
+    ensures { IfOk result (IsCommand (fold with_rule spec.command_of_files
+        (map rule_of_option (map option_value rows.now)))) }
 {
-    Arg::new(alloc, name)
-        .long(name)
-        .help(help)
-        .action(ArgAction::SetTrue)
+    let mut command = command_of_files(alloc)?;
+    for row in rows {
+        command = command.arg(arg_of(alloc, row))?;
+    }
+    Ok(command)
 }
 
 // Makes the command that reads the arguments.
 fn command_of<'a>(alloc: Global) -> Result<Command<'a>, AllocError>
     ensures { IfOk result (IsCommand command) }
 {
-    Command::new(alloc, "gherkin_run")
-        .about("Runs the scenarios of feature files")
-        .version(VERSION)
-        .after_help(EXAMPLE)
-        .arg(files_arg(alloc))?
-        .next_help_heading("Which scenarios run")
-        .arg(value_arg(alloc, "tags", "T", TAGS_HELP, ArgAction::Append))?
-        .arg(line_arg(alloc))?
-        .next_help_heading("How they run")
-        .arg(value_arg(alloc, "library", "FILE", LIBRARY_HELP, ArgAction::Set))?
-        .arg(value_arg(alloc, "hooks", "FILE", HOOKS_HELP, ArgAction::Set))?
-        .arg(value_arg(alloc, "env", "NAME=VALUE", ENV_HELP, ArgAction::Append))?
-        .arg(flag_arg(alloc, "dry-run", DRY_RUN_HELP))?
-        .arg(flag_arg(alloc, "stop", STOP_HELP))?
-        .next_help_heading("Report")
-        .arg(value_arg(alloc, "format", "F", FORMAT_HELP, ArgAction::Set))?
-        .arg(flag_arg(alloc, "no-skipped", NO_SKIPPED_HELP))?
-        .arg(flag_arg(alloc, "explain", EXPLAIN_HELP))?
-        .arg(flag_arg(alloc, "lint", LINT_HELP))
+    with_options(alloc, &OPTIONS)
+}
+
+// Returns the values of an option, or the files, in order.
+fn values_of<'a>(matches: &'a ArgMatches, name: &str) -> &'a [&'a str]
+    ensures { map (λ text. text.now) result.now ≡ spec.values_of name.now (rows_of (found_of matches.now)) }
+{
+    matches.get_strs(name).unwrap_or(&[])
 }
 
 fn copied(alloc: Global, texts: &[&str]) -> Result<Vec<String>, AllocError>
@@ -244,27 +213,31 @@ fn numbers(alloc: Global, texts: &[&str]) -> Result<Vec<u32>, AllocError>
     Ok(numbers)
 }
 
-// Returns the name and the text of a variable, split at the first `=`.
-fn variable(alloc: Global, text: &str) -> Result<(String, String), WordsFault>
-    ensures { SaysVariable text.now result }
+// Splits a text at its first `=`. A text without `=` has no parts.
+fn pair(alloc: Global, text: &str) -> Result<Option<(String, String)>, AllocError>
+    ensures { IfOk result (SaysPair text.now) }
 {
     match text.split_once('=') {
-        Some((name, value)) => Ok((
+        Some((name, value)) => Ok(Some((
             String::from_str(alloc, name)?,
             String::from_str(alloc, value)?,
-        )),
-        None => Err(WordsFault::Env),
+        ))),
+        None => Ok(None),
     }
 }
 
-fn variables(alloc: Global, texts: &[&str]) -> Result<Vec<(String, String)>, WordsFault>
-    ensures { SaysVariables (map (λ text. text.now) texts.now) result }
+// Splits each text at its first `=`. Returns `None` if a text has no `=`.
+fn pairs(alloc: Global, texts: &[&str]) -> Result<Option<Vec<(String, String)>>, AllocError>
+    ensures { IfOk result (SaysPairs (map (λ text. text.now) texts.now)) }
 {
-    let mut variables = Vec::new(alloc);
+    let mut pairs = Vec::new(alloc);
     for text in texts {
-        variables.push(variable(alloc, text)?)?;
+        match pair(alloc, text)? {
+            Some(pair) => pairs.push(pair)?,
+            None => return Ok(None),
+        }
     }
-    Ok(variables)
+    Ok(Some(pairs))
 }
 
 fn copied_text(alloc: Global, text: Option<&str>) -> Result<Option<String>, AllocError>
@@ -330,64 +303,86 @@ fn is_given(matches: &ArgMatches, name: &str) -> bool
     matches.get_str(name).is_some()
 }
 
-// Returns whether `--dry-run`, `--format` or `--no-skipped` is given.
-fn shapes_report(matches: &ArgMatches) -> bool
-    ensures { result ≡ spec.shapes_report (rows_of (found_of matches.now)) }
+// Returns whether an option is among the arguments.
+fn is_among(matches: &ArgMatches, row: &OptionRow) -> bool
+    ensures { result ≡ spec.is_among (rows_of (found_of matches.now)) (option_value row.now) }
 {
-    let dry_run = flag(matches, "dry-run");
-    let no_skipped = flag(matches, "no-skipped");
-    let formatted = is_given(matches, "format");
-    dry_run || (no_skipped || formatted)
-}
-
-// Returns whether `--explain` is given together with an option that it excludes.
-fn explanation_clashes(matches: &ArgMatches) -> bool
-    ensures { result ≡ spec.explanation_clashes (rows_of (found_of matches.now)) }
-{
-    let explain = flag(matches, "explain");
-    let shaped = shapes_report(matches);
-    explain && shaped
-}
-
-// Returns whether `--lint` is given together with an option that it excludes.
-fn lint_clashes(matches: &ArgMatches) -> bool
-    ensures { result ≡ spec.lint_clashes (rows_of (found_of matches.now)) }
-{
-    let lint = flag(matches, "lint");
-    let explain = flag(matches, "explain");
-    let stop = flag(matches, "stop");
-    let env = is_given(matches, "env");
-    let shaped = shapes_report(matches);
-    lint && (explain || (stop || (env || shaped)))
-}
-
-// Returns the message to show if `--lint` or `--explain` is given together with an option that it excludes.
-fn clash_message(matches: &ArgMatches) -> Option<&'static str>
-    ensures { is_some result ≡ is_clash (rows_of (found_of matches.now)) }
-{
-    if lint_clashes(matches) {
-        Some(LINT_CLASH)
-    } else if explanation_clashes(matches) {
-        Some(EXPLANATION_CLASH)
-    } else {
-        None
+    match row.takes {
+        Takes::Nothing => flag(matches, row.name),
+        _ => is_given(matches, row.name),
     }
 }
 
-// Makes the error for such arguments, in clap's words.
-fn clash(command: &mut Command, message: &str) -> Result<clap::Error, AllocError>
+// Returns whether an option may accompany the output of this mode.
+fn is_accepted(mode: Mode, row: &OptionRow) -> bool
+    ensures { result ≡ spec.is_accepted mode (option_value row.now) }
+{
+    match mode {
+        Mode::Report => true,
+        Mode::Explanation => row.beside_explain,
+        Mode::Findings => row.beside_lint,
+    }
+}
+
+// Returns whether an option is among the arguments and may not accompany the output of this mode.
+fn is_excluded(matches: &ArgMatches, mode: Mode, row: &OptionRow) -> bool
+    ensures { result ≡ spec.is_excluded mode (rows_of (found_of matches.now))
+        (option_value row.now) }
+{
+    let among = is_among(matches, row);
+    let accepted = is_accepted(mode, row);
+    among && !accepted
+}
+
+// Returns the name of the first of these options that is among the arguments and may not accompany the output of this
+// mode.
+fn first_excluded(
+    matches: &ArgMatches,
+    mode: Mode,
+    rows: &[OptionRow],
+) -> Option<&'static str>
+    ensures { is_some result ≡ list_any (spec.is_excluded mode (rows_of (found_of matches.now)))
+        (map option_value rows.now) }
+{
+    for row in rows {
+        if is_excluded(matches, mode, row) {
+            return Some(row.name);
+        }
+    }
+    None
+}
+
+// Returns the name of the first option among the arguments that may not accompany what they ask for.
+fn first_clash(matches: &ArgMatches) -> Option<&'static str>
+    ensures { is_some result ≡ is_clash (rows_of (found_of matches.now)) }
+{
+    first_excluded(matches, mode_of(matches), &OPTIONS)
+}
+
+// Makes the error for an option that may not accompany the output of this mode, in clap's words.
+fn clash(
+    alloc: Global,
+    command: &mut Command,
+    mode: Mode,
+    name: &str,
+) -> Result<clap::Error, AllocError>
     ensures { IfOk result (λ error. kind_of error ≡ ArgumentConflict) }
 {
-    command.error(ErrorKind::ArgumentConflict, message)
+    let by = match mode {
+        Mode::Findings => "lint",
+        Mode::Report | Mode::Explanation => "explain",
+    };
+    let message = format!(in alloc; "the argument '--{by}' cannot be used with '--{name}'")?;
+    command.error(ErrorKind::ArgumentConflict, message.as_str())
 }
 
 fn options_of(alloc: Global, matches: &ArgMatches, format: Format) -> Result<Options, AllocError>
-    requires lines { All IsLineNumber (values_of (codes "line") (rows_of (found_of matches.now))) }
+    requires lines { All IsLineNumber (spec.values_of (codes "line") (rows_of (found_of matches.now))) }
     requires format { format_name format ≡ format_asked (rows_of (found_of matches.now)) }
     ensures { IfOk result (AreAsked (rows_of (found_of matches.now))) }
 {
-    let tags = copied(alloc, matches.get_strs("tags").unwrap_or(&[]))?;
-    let lines = numbers(alloc, matches.get_strs("line").unwrap_or(&[]))?;
+    let tags = copied(alloc, values_of(matches, "tags"))?;
+    let lines = numbers(alloc, values_of(matches, "line"))?;
     let no_skipped = flag(matches, "no-skipped");
     Ok(Options {
         tags,
@@ -399,21 +394,29 @@ fn options_of(alloc: Global, matches: &ArgMatches, format: Format) -> Result<Opt
 }
 
 fn words_of(alloc: Global, matches: &ArgMatches, format: Format) -> Result<Words, WordsFault>
-    requires lines { All IsLineNumber (values_of (codes "line") (rows_of (found_of matches.now))) }
+    requires lines { All IsLineNumber (spec.values_of (codes "line") (rows_of (found_of matches.now))) }
     requires format { format_name format ≡ format_asked (rows_of (found_of matches.now)) }
     ensures { SaysMatches (rows_of (found_of matches.now)) result }
 {
-    let files = copied(alloc, matches.get_strs("files").unwrap_or(&[]))?;
+    let files = copied(alloc, values_of(matches, "files"))?;
     let options = options_of(alloc, matches, format)?;
     let library = copied_text(alloc, matches.get_str("library"))?;
     let hooks = copied_text(alloc, matches.get_str("hooks"))?;
-    let env = variables(alloc, matches.get_strs("env").unwrap_or(&[]))?;
+    let env = match pairs(alloc, values_of(matches, "env"))? {
+        Some(env) => env,
+        None => return Err(WordsFault::Env),
+    };
+    let world_files = match pairs(alloc, values_of(matches, "file"))? {
+        Some(world_files) => world_files,
+        None => return Err(WordsFault::File),
+    };
     Ok(Words {
         options,
         mode: mode_of(matches),
         library,
         hooks,
         env,
+        world_files,
         files,
     })
 }
@@ -428,8 +431,8 @@ fn words_by<'a>(
     ensures { SaysArguments (map string_bytes words.now) result }
 {
     let matches = reader.try_get_matches_from_mut(words)?;
-    if let Some(message) = clash_message(&matches) {
-        return Err(WordsFault::Usage(clash(reader, message)?));
+    if let Some(name) = first_clash(&matches) {
+        return Err(WordsFault::Usage(clash(alloc, reader, mode_of(&matches), name)?));
     }
     let name = matches.get_str("format").unwrap_or("plain");
     match format_of(name) {
@@ -440,17 +443,17 @@ fn words_by<'a>(
 
 /// Reads the command-line arguments. The first is the program's name.
 ///
-/// `--tags T`, `--line N` (1 to 4,294,967,295) and `--env NAME=VALUE` can be given several times. The following can be
-/// given at most once: `--library FILE`, `--hooks FILE`, `--format F` (`plain`, `progress` or `json`; `plain` by
-/// default), `--dry-run`, `--stop`, `--no-skipped`, `--explain` and `--lint`. `--explain` excludes `--format`,
-/// `--dry-run` and `--no-skipped`. `--lint` excludes these three, `--explain`, `--stop` and `--env`. Options and files
-/// can be in any order, and `--opt=value` is the same as `--opt value`.
+/// `OPTIONS` lists the options. `--tags T`, `--line N` (1 to 4,294,967,295), `--env NAME=VALUE` and `--file NAME=PATH`
+/// can be given several times, and the others at most once. `--format` is `plain`, `progress` or `json`; `plain` by
+/// default. `--explain` and `--lint` exclude the options that their column of the table says. Options and files can be
+/// in any order, and `--opt=value` is the same as `--opt value`.
 ///
 /// Every other argument that doesn't begin with `-`, or is only `-`, is a feature file. So is every argument after the
 /// first `--`. At least one feature file is required.
 ///
 /// `--help` and `-h` ask for help, `--version` and `-V` for the version; they return `Usage` with the exit code 0. A
-/// mistake also returns `Usage`, which comes before `Env`. `Memory` can come instead of any other result.
+/// mistake also returns `Usage`, which comes before `Env`, and that before `File`. `Memory` can come instead of any
+/// other result.
 pub fn read_words(alloc: Global, words: &[String]) -> Result<Words, WordsFault>
     ensures { SaysArguments (map string_bytes words.now) result }
 {

@@ -16,6 +16,7 @@ mod hints;
 mod inputs;
 mod linted_sources;
 mod linted_suite;
+mod option_table;
 mod reporter;
 mod row_order;
 mod run_fault;

@@ -1,0 +1,10 @@
+use Rattle.std.proofs.Common.{◌≡◌, map, drop}
+use Rattle.std.specs.List.{list_any}
+use Rattle.clap.specs.Words.{found_of, rows_of}
+use Rattle.gk_cli.specs.Arguments as spec
+use Rattle.gk_cli.specs.OptionTable.{option_value}
+use Rattle.gk_cli.proofs.arguments.first_excluded.Given as goal
+
+-- the rows that are left have an excluded option exactly if all rows have one
+abbrev pub invariant-loop-row : goal.invariant-loop-row
+invariant-loop-row l = let p = spec.is_excluded l.mode (rows_of (found_of l.matches)) in list_any p (map option_value (drop l.row-index l.rows)) ≡ list_any p (map option_value l.rows)

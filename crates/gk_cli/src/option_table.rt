@@ -1,0 +1,147 @@
+//! The table of options. Clap's rules, the help, and what each option excludes are made from its rows.
+
+/// What is given with an option, and how often.
+#[derive(Clone, Copy, Debug, PartialEq, Eq)]
+pub enum Takes {
+    /// No value: a flag, given at most once.
+    Nothing,
+    /// One value, given at most once.
+    Text,
+    /// One value each time it is given.
+    Texts,
+    /// A line number each time it is given: 1 to 4,294,967,295.
+    Lines,
+}
+
+/// A row of the table of options.
+#[derive(Clone, Copy, Debug)]
+pub struct OptionRow {
+    /// The name without its dashes.
+    pub name: &'static str,
+    pub takes: Takes,
+    /// What the help calls the value; empty for a flag.
+    pub value_name: &'static str,
+    /// The heading of the help that lists the option.
+    pub heading: &'static str,
+    pub help: &'static str,
+    /// Whether `--explain` accepts the option beside itself.
+    pub beside_explain: bool,
+    /// Whether `--lint` accepts the option beside itself.
+    pub beside_lint: bool,
+}
+
+const CHOICE: &str = "Which scenarios run";
+const RUN: &str = "How they run";
+const REPORT: &str = "Report";
+
+/// The options, in the order of the help.
+pub static OPTIONS: [OptionRow; 12] = [
+    OptionRow {
+        name: "tags",
+        takes: Takes::Texts,
+        value_name: "T",
+        heading: CHOICE,
+        help: "Run only scenarios whose tags fit T, as @a,~@b or '@a or not @b'; each --tags has to fit",
+        beside_explain: true,
+        beside_lint: true,
+    },
+    OptionRow {
+        name: "line",
+        takes: Takes::Lines,
+        value_name: "N",
+        heading: CHOICE,
+        help: "Run only the scenarios at line N of a file; of several lines, one has to fit",
+        beside_explain: true,
+        beside_lint: true,
+    },
+    OptionRow {
+        name: "library",
+        takes: Takes::Text,
+        value_name: "FILE",
+        heading: RUN,
+        help: "Take the steps from FILE in place of the default library",
+        beside_explain: true,
+        beside_lint: true,
+    },
+    OptionRow {
+        name: "hooks",
+        takes: Takes::Text,
+        value_name: "FILE",
+        heading: RUN,
+        help: "Run the hooks in FILE around the run, its features, rules and scenarios",
+        beside_explain: true,
+        beside_lint: true,
+    },
+    OptionRow {
+        name: "env",
+        takes: Takes::Texts,
+        value_name: "NAME=VALUE",
+        heading: RUN,
+        help: "Set a variable before the run; of equal names the last counts",
+        beside_explain: true,
+        beside_lint: false,
+    },
+    OptionRow {
+        name: "file",
+        takes: Takes::Texts,
+        value_name: "NAME=PATH",
+        heading: RUN,
+        help: "Put the text of PATH into the world as file NAME; of equal names the last counts",
+        beside_explain: true,
+        beside_lint: false,
+    },
+    OptionRow {
+        name: "dry-run",
+        takes: Takes::Nothing,
+        value_name: "",
+        heading: RUN,
+        help: "Look up the steps in the library, and run no step, hook or cleanup",
+        beside_explain: false,
+        beside_lint: false,
+    },
+    OptionRow {
+        name: "stop",
+        takes: Takes::Nothing,
+        value_name: "",
+        heading: RUN,
+        help: "Stop at the first failure, and leave later scenarios untested",
+        beside_explain: true,
+        beside_lint: false,
+    },
+    OptionRow {
+        name: "format",
+        takes: Takes::Text,
+        value_name: "F",
+        heading: REPORT,
+        help: "Write the report as plain, progress or json [default: plain]",
+        beside_explain: false,
+        beside_lint: false,
+    },
+    OptionRow {
+        name: "no-skipped",
+        takes: Takes::Nothing,
+        value_name: "",
+        heading: REPORT,
+        help: "Leave skipped features and scenarios out of the report",
+        beside_explain: false,
+        beside_lint: false,
+    },
+    OptionRow {
+        name: "explain",
+        takes: Takes::Nothing,
+        value_name: "",
+        heading: REPORT,
+        help: "In place of the report, say what happened in each scenario that failed",
+        beside_explain: true,
+        beside_lint: false,
+    },
+    OptionRow {
+        name: "lint",
+        takes: Takes::Nothing,
+        value_name: "",
+        heading: REPORT,
+        help: "In place of a run, list ignored lines, steps that can't work and unused entries",
+        beside_explain: false,
+        beside_lint: true,
+    },
+];
