@@ -35,7 +35,7 @@ UNCALLED = {
         "Summary::add Summary::status".split(),
     "gk_explain": "push_place Explainer::new Explainer::is_cut Explainer::begin_feature "
         "Explainer::end_feature Explainer::end_run Explainer::take_ready "
-        "Explainer::into_failures push_shown".split(),
+        "Explainer::into_failures push_shown push_entry type_word".split(),
 }
 
 Function = collections.namedtuple("Function", "crate type name")

@@ -55,6 +55,11 @@ SUITE = {
     Given it passes
     Examples:
       | n |
+  Scenario Outline: Rows
+    Given a file named "<NAME>" containing "b"
+    Examples:
+      | name |
+      | a |
 """,
     "nowhere.hooks": "before_tag @gone:\n  Given it passes\n",
     "nothing.feature": "",
@@ -77,7 +82,7 @@ RUNS = [
      [("too late.hooks", 2), ("too late.hooks", 4)] + [("in a folder/outside.feature", line) for line in (2, 4, 6)]),
     (["--lint", "cr.feature"], [("cr.feature", 1), ("cr.feature", 1)]),
     (["--lint", "--hooks", "nowhere.hooks", "blocks.feature", "nothing.feature"],
-     [("nowhere.hooks", 1)] + [("blocks.feature", line) for line in (3, 4, 5, 7, 9, 12, 13)] + [("nothing.feature", 1)]),
+     [("nowhere.hooks", 1)] + [("blocks.feature", line) for line in (3, 4, 5, 7, 9, 12, 13, 18)] + [("nothing.feature", 1)]),
 ]
 
 

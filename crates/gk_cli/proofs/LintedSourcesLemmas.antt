@@ -7,10 +7,10 @@ use Rattle.gk_gherkin.specs.Feature.{FeatureValue}
 use Rattle.gk_gherkin.specs.Grammar.{Reads}
 use Rattle.gk_select.specs.Expansion.{IsExpandable}
 use Rattle.gk_select.specs.Case.{CaseValue}
-use Rattle.gk_steps.specs.Finding.{LibraryValue}
 use Rattle.gk_run.specs.Chosen.{ChosenValue}
 use Rattle.gk_cli.specs.declared.linted_sources.LintSoFar.{LintSoFar}
 use Rattle.gk_cli.specs.Source.{SourceValue}
+use Rattle.gk_cli.specs.FindingLines.{NotedLibraryValue}
 use Rattle.gk_cli.specs.Inputs.{AreRead, with_reading}
 use Rattle.gk_cli.specs.LintedSources.{features_in, used_by, IsLintedAs, AreLinted, IsLintOf, IsLintedOnto, AreExpandable}
 
@@ -20,7 +20,7 @@ expandable law bytes None text reads = tt
 expandable law bytes (Some f) text reads = law bytes f text reads
 
 -- One source more.
-pub linted_one : (library : LibraryValue) (ss : List SourceValue) (rs : List (Option FeatureValue)) (text : List ℕ) (s : SourceValue) (r : Option FeatureValue) (this : List ℕ) →
+pub linted_one : (library : NotedLibraryValue) (ss : List SourceValue) (rs : List (Option FeatureValue)) (text : List ℕ) (s : SourceValue) (r : Option FeatureValue) (this : List ℕ) →
     AreLinted library ss rs text → IsLintedAs library s r this → AreLinted library (ss ++ s ∷ []) (rs ++ r ∷ []) (text ++ this)
 linted_one library [] rs text s r this none one = (
   r,
@@ -44,7 +44,7 @@ linted_one library (x ∷ ss) rs text s r this h one = (
 )
 
 -- Sources that were linted are read, whichever cases are chosen.
-pub are_read : (chooses : CaseValue → Bool) (library : LibraryValue) (ss : List SourceValue) (rs : List (Option FeatureValue)) (text : List ℕ) →
+pub are_read : (chooses : CaseValue → Bool) (library : NotedLibraryValue) (ss : List SourceValue) (rs : List (Option FeatureValue)) (text : List ℕ) →
     AreLinted library ss rs text → (features : List ChosenValue) × AreRead chooses ss features
 are_read chooses library [] rs text none = ([], refl)
 are_read chooses library (s ∷ ss) rs text h =
@@ -54,7 +54,7 @@ are_read chooses library (s ∷ ss) rs text h =
     (with_reading chooses s.name h.0 others.0, (h.0, others.0, read.text, read.reads, read.limit, others.1, refl))
 
 -- One source more, of all that was found.
-pub lint_of_more : (library : LibraryValue) (ss : List SourceValue) (s : SourceValue) (old new : LintSoFar) → IsLintOf library ss old → IsLintedOnto library s old new → IsLintOf library (ss ++ s ∷ []) new
+pub lint_of_more : (library : NotedLibraryValue) (ss : List SourceValue) (s : SourceValue) (old new : LintSoFar) → IsLintOf library ss old → IsLintedOnto library s old new → IsLintOf library (ss ++ s ∷ []) new
 lint_of_more library ss s old new before onto =
     let readings = before.readings ++ onto.reading ∷ [] in
     let features : features_in readings ≡ features_in before.readings ++ option_to_list onto.reading =
@@ -63,6 +63,6 @@ lint_of_more library ss s old new before onto =
       readings = readings;
       linted = subst (AreLinted library (ss ++ s ∷ []) readings) (sym onto.text) (linted_one library ss before.readings (string_bytes old.text) s onto.reading onto.this before.linted onto.linted);
       features = onto.features ∙ ap (λ l. l ++ option_to_list onto.reading) before.features ∙ sym features;
-      used = onto.used ∙ ap (λ l. l ++ used_by library (option_to_list onto.reading)) before.used
-          ∙ sym (flat_map-append _ (features_in before.readings) (option_to_list onto.reading)) ∙ ap (used_by library) (sym features);
+      used = onto.used ∙ ap (λ l. l ++ used_by library.entries (option_to_list onto.reading)) before.used
+          ∙ sym (flat_map-append _ (features_in before.readings) (option_to_list onto.reading)) ∙ ap (used_by library.entries) (sym features);
     }

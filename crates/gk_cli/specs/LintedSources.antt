@@ -1,6 +1,7 @@
 -- The findings of sources.
 use Rattle.std.specs.Prelude.{◌≡◌, ℕ, Bool, List, [], ◌∷◌, ◌++◌, map, flat_map, Option, Some, None, option_to_list, string_bytes}
-use Rattle.gk_gherkin.specs.Lines.{Lines, lines_of, IsText}
+use Rattle.std.specs.Str.Lines.{lines}
+use Rattle.gk_gherkin.specs.Lines.{Lines, lines_of, without_mark, IsText}
 use Rattle.gk_gherkin.specs.Feature.{FeatureValue, feature_value}
 use Rattle.gk_gherkin.specs.Grammar.{Reads}
 use Rattle.gk_select.specs.Case.{CaseValue}
@@ -15,7 +16,7 @@ use Rattle.gk_cli.specs.declared.run_fault.RunFault.{RunFault}
 use Rattle.gk_cli.specs.Source.{SourceValue}
 use Rattle.gk_cli.specs.Inputs.{IsWithinLimit}
 use Rattle.gk_cli.specs.RunFault.{SaysSources}
-use Rattle.gk_cli.specs.FindingLines.{finding_lines}
+use Rattle.gk_cli.specs.FindingLines.{NotedLibraryValue, NotedFileValue, scenarios_in, noted_lines}
 
 -- The features among the readings of sources.
 abbrev pub features_in : List (Option FeatureValue) → List FeatureValue
@@ -40,35 +41,39 @@ pub record IsReadAs (bytes : List ℕ) (reading : Option FeatureValue) : Type 0 
   pub reads : Reads (lines_of bytes) reading
   pub limit : IsWithinLimit reading
 
--- A source has this reading, and this is the text of all its findings, in the order of lines.
-pub record IsLintedAs (library : LibraryValue) (source : SourceValue) (reading : Option FeatureValue) (text : List ℕ) : Type 0 where
+-- A source with this reading, as notes quote it.
+abbrev pub noted_source : SourceValue → Option FeatureValue → NotedFileValue
+noted_source source reading = record { name = source.name; lines = lines (without_mark source.bytes); scenarios = scenarios_in reading }
+
+-- A source has this reading, and this is the text of all its findings with their notes, in the order of lines.
+pub record IsLintedAs (library : NotedLibraryValue) (source : SourceValue) (reading : Option FeatureValue) (text : List ℕ) : Type 0 where
   pub read : IsReadAs source.bytes reading
   pub ordered : List Finding
-  pub in_order : AreInOrder (source_findings library reading (lines_of source.bytes)) ordered
-  pub whole : text ≡ finding_lines source.name ordered
+  pub in_order : AreInOrder (source_findings library.entries reading (lines_of source.bytes)) ordered
+  pub whole : text ≡ noted_lines library (noted_source source reading) ordered
 
 -- Sources have these readings, one each, and this is the text of their findings, one source after the other.
-abbrev pub AreLinted : LibraryValue → List SourceValue → List (Option FeatureValue) → List ℕ → Type 0
+abbrev pub AreLinted : NotedLibraryValue → List SourceValue → List (Option FeatureValue) → List ℕ → Type 0
 AreLinted library [] readings text = (readings ≡ []) × (text ≡ [])
 AreLinted library (s ∷ ss) readings text =
     (reading : Option FeatureValue) × (others : List (Option FeatureValue)) × (this later : List ℕ)
     × IsLintedAs library s reading this × AreLinted library ss others later × (readings ≡ reading ∷ others) × (text ≡ this ++ later)
 
 -- Proof machinery, from here on: what a `LintSoFar` has of these sources.
-pub record IsLintOf (library : LibraryValue) (sources : List SourceValue) (l : LintSoFar) : Type 0 where
+pub record IsLintOf (library : NotedLibraryValue) (sources : List SourceValue) (l : LintSoFar) : Type 0 where
   pub readings : List (Option FeatureValue)
   pub linted : AreLinted library sources readings (string_bytes l.text)
   pub features : map feature_value l.features.items ≡ features_in readings
-  pub used : l.used.items ≡ used_by library (features_in readings)
+  pub used : l.used.items ≡ used_by library.entries (features_in readings)
 
 -- A source was linted after others.
-pub record IsLintedOnto (library : LibraryValue) (source : SourceValue) (old new : LintSoFar) : Type 0 where
+pub record IsLintedOnto (library : NotedLibraryValue) (source : SourceValue) (old new : LintSoFar) : Type 0 where
   pub reading : Option FeatureValue
   pub this : List ℕ
   pub linted : IsLintedAs library source reading this
   pub text : string_bytes new.text ≡ string_bytes old.text ++ this
   pub features : map feature_value new.features.items ≡ map feature_value old.features.items ++ option_to_list reading
-  pub used : new.used.items ≡ old.used.items ++ used_by library (option_to_list reading)
+  pub used : new.used.items ≡ old.used.items ++ used_by library.entries (option_to_list reading)
 
 -- Whichever cases are chosen, this is the fault of the sources.
 abbrev pub SaysOfSources : List SourceValue → RunFault → Type 0

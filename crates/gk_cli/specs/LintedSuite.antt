@@ -1,14 +1,15 @@
 -- What a whole lint can return and write.
-use Rattle.std.specs.Prelude.{◌≡◌, ℕ, List, [], ◌∷◌, ◌++◌, map, Option, Some, None, string_bytes}
+use Rattle.std.specs.Prelude.{◌≡◌, ℕ, length, List, [], ◌∷◌, ◌++◌, map, Option, Some, None, string_bytes}
+use Rattle.std.specs.Str.Lines.{lines}
 use Rattle.gk_gherkin.specs.Feature.{FeatureValue, feature_value}
 use Rattle.gk_gherkin.specs.Hooks.{HookValue, hooks_value}
-use Rattle.gk_gherkin.specs.Lines.{lines_of, IsText}
+use Rattle.gk_gherkin.specs.Lines.{lines_of, without_mark, IsText}
 use Rattle.gk_select.specs.TagGrammar.{Expression}
 use Rattle.gk_select.specs.TagRules.{tag_rule_value}
 use Rattle.gk_steps.specs.Finding.{LibraryValue, library_value}
 use Rattle.gk_lint.specs.declared.findings.Finding.{Finding}
 use Rattle.gk_lint.specs.Findings.{AreInOrder}
-use Rattle.gk_lint.specs.LibraryUse.{unused_entries}
+use Rattle.gk_lint.specs.LibraryUse.{entry_lines, unused_entries}
 use Rattle.gk_lint.specs.NamedTags.{nowhere}
 use Rattle.gk_lint.specs.ScenarioLines.{without_scenario}
 use Rattle.gk_lint.specs.TagUse.{hooks_of_no_tag}
@@ -17,7 +18,7 @@ use Rattle.gk_cli.specs.declared.inputs.ReadBefore.{ReadBefore}
 use Rattle.gk_cli.specs.declared.linted_sources.LintSoFar.{LintSoFar}
 use Rattle.gk_cli.specs.declared.run_fault.RunFault.{RunFault}
 use Rattle.gk_cli.specs.declared.run_fault.RunFault.TheVariants.{Write, Memory}
-use Rattle.gk_cli.specs.FindingLines.{finding_lines, tag_lines, idle_lines}
+use Rattle.gk_cli.specs.FindingLines.{NotedLibraryValue, NotedFileValue, noted_lines, finding_lines, count_line, tag_lines, idle_lines}
 use Rattle.gk_cli.specs.GrowingReport.{IsWritten, IsStopped}
 use Rattle.gk_cli.specs.Inputs.{Request, AreRules, IsLibrary, AreHooks}
 use Rattle.gk_cli.specs.LintedSources.{features_in, used_by, AreLinted}
@@ -28,6 +29,28 @@ use Rattle.gk_cli.specs.Suite.{Device, IsUntouched}
 abbrev pub library_findings : Option (List ℕ) → List ℕ → List Finding
 library_findings None used = []
 library_findings (Some bytes) used = unused_entries used (lines_of bytes)
+
+-- The lines of a library file that are entries.
+abbrev pub lines_of_library : Option (List ℕ) → List ℕ
+lines_of_library None = []
+lines_of_library (Some bytes) = entry_lines (lines_of bytes)
+
+-- The entries of a library file with this name, as notes name them.
+abbrev pub noted_library : List ℕ → Option (List ℕ) → LibraryValue → NotedLibraryValue
+noted_library name bytes entries = record { entries = entries; name = name; lines = lines_of_library bytes }
+
+-- The lines of a hooks file.
+abbrev pub lines_of_hooks : Option (List ℕ) → List (List ℕ)
+lines_of_hooks None = []
+lines_of_hooks (Some bytes) = lines (without_mark bytes)
+
+-- A hooks file with this name, as notes quote it.
+abbrev pub noted_hooks : List ℕ → Option (List ℕ) → NotedFileValue
+noted_hooks name bytes = record { name = name; lines = lines_of_hooks bytes; scenarios = [] }
+
+-- The lines of a library file with this name: its findings, and their number beside that of its entries.
+abbrev pub library_lines : List ℕ → Option (List ℕ) → List ℕ → List ℕ
+library_lines name bytes used = finding_lines name (library_findings bytes used) ++ count_line name (length (library_findings bytes used)) (length (lines_of_library bytes))
 
 -- The inputs that a lint has read: the rules of tags, the entries of the library, the hooks and the features; and the text of the sources' findings.
 pub record LintRead : Type 0 where
@@ -45,11 +68,12 @@ all_used read = used_in read.entries (of_hooks read.hooks) ++ used_by read.entri
 abbrev pub hook_findings : LintRead → List Finding
 hook_findings read = hooks_of_no_tag read.features read.hooks ++ found_in read.entries (of_hooks read.hooks)
 
--- The text about these inputs, with these names of the library file and of the hooks file. It has the findings of the library, of the hooks and of the sources, the tags of `--tags` that occur nowhere, and the lines of `--line` that choose nothing.
+-- The text about these inputs, with these names of the library file and of the hooks file. It has the findings of the hooks and of the sources, the tags of `--tags` that occur nowhere, the lines of `--line` that choose nothing, and at last the unused entries of the library.
 abbrev pub IsTextOf : Request → List ℕ → List ℕ → LintRead → List ℕ → Type 0
 IsTextOf r library hooks read text =
     (ordered : List Finding) × AreInOrder (hook_findings read) ordered
-    × (text ≡ finding_lines library (library_findings r.library (all_used read)) ++ (finding_lines hooks ordered ++ (read.of_sources ++ (tag_lines (nowhere read.features read.rules) ++ idle_lines (without_scenario read.features r.lines)))))
+    × (text ≡ noted_lines (noted_library library r.library read.entries) (noted_hooks hooks r.hooks) ordered
+    ++ (read.of_sources ++ (tag_lines (nowhere read.features read.rules) ++ (idle_lines (without_scenario read.features r.lines) ++ library_lines library r.library (all_used read)))))
 
 -- The request reads, and this is the text of all its findings, those of each file in the order of lines.
 pub record IsLinted (r : Request) (library_file hooks_file text : List ℕ) : Type 0 where
@@ -59,7 +83,7 @@ pub record IsLinted (r : Request) (library_file hooks_file text : List ℕ) : Ty
   pub hooks : AreHooks r.hooks read.hooks
   pub readings : List (Option FeatureValue)
   pub features : read.features ≡ features_in readings
-  pub sources : AreLinted read.entries r.sources readings read.of_sources
+  pub sources : AreLinted (noted_library library_file r.library read.entries) r.sources readings read.of_sources
   pub whole : IsTextOf r library_file hooks_file read text
 
 -- The status of a lint that writes this text: 0 if nothing was found, and 1 otherwise.

@@ -63,9 +63,9 @@ fn line_of(text: &str, line: u32) -> Option<&str>
     text.lines().nth(line.saturating_sub(1) as usize)
 }
 
-// Pushes a text below a fault, on a separate line.
+/// Pushes a text below a fault or a finding, on a separate line.
 #[tactic(auto, unfolding(crate::specs::FaultNotes::note))]
-fn push_note(out: &mut String, text: &str) -> Result<(), AllocError>
+pub fn push_note(out: &mut String, text: &str) -> Result<(), AllocError>
     ensures { Pushes out.old (spec.note text.now) result out.new }
 {
     out.push_str("    ")?;
@@ -73,9 +73,9 @@ fn push_note(out: &mut String, text: &str) -> Result<(), AllocError>
     out.push_str("\n")
 }
 
-// Pushes a line of a file below a fault.
+/// Pushes a line of a file below a fault or a finding.
 #[tactic(auto, unfolding(crate::specs::FaultNotes::note))]
-fn push_shown_note(out: &mut String, text: &str) -> Result<(), AllocError>
+pub fn push_shown_note(out: &mut String, text: &str) -> Result<(), AllocError>
     ensures { Pushes out.old (spec.note (shown text.now)) result out.new }
 {
     out.push_str("    ")?;

@@ -2,21 +2,24 @@
 ghost use Rattle.std.specs.Prelude.{◌≡◌, ◌≤◌, ◌++◌, map, length, option_map, option_to_list, IfOk, IfErr, OnOk, Some};
 ghost use Rattle.std.specs.Str.Lines.{lines};
 ghost use Rattle.gk_gherkin.specs.Lines.{IsText, without_mark, numbered_from};
-ghost use Rattle.gk_gherkin.specs.Feature.{feature_value};
+ghost use Rattle.gk_gherkin.specs.Feature.{feature_value, scenario_value};
 ghost use Rattle.gk_steps.specs.Finding.{library_value};
 ghost use Rattle.gk_lint.specs.Findings.{AreInOrder};
+ghost use Rattle.gk_report.specs.ReportTexts.{Pushes};
+ghost use Rattle.gk_cli.specs.FindingLines as of_notes;
+ghost use Rattle.gk_cli.specs.FindingLines.{noted_library_value, noted_lines};
 ghost use Rattle.gk_cli.specs.Source.{source_value};
 ghost use Rattle.gk_cli.specs.Inputs.{IsWithinLimit};
 ghost use Rattle.gk_cli.specs.RunFault.{SaysSourceAt, SaysExpansion};
 ghost use Rattle.gk_cli.specs.LintedSources as spec;
 ghost use Rattle.gk_cli.specs.LintedSources.{IsReadAs, IsLintOf, IsLintedOnto, SaysOfSources, used_by};
 
-use crate::finding_lines::push_findings;
+use crate::finding_lines::{NotedFile, NotedLibrary, push_noted_findings, text_lines};
 use crate::inputs::{feature_at, select_fault_at};
 use crate::run_fault::RunFault;
 use crate::source::Source;
-use gk_gherkin::{Feature, LIMIT, text_of};
-use gk_lint::{Finding, StepFindings, in_order, lint_feature, lint_steps};
+use gk_gherkin::{Feature, LIMIT, Scenario, text_of};
+use gk_lint::{Finding, StepFindings, in_order, lint_feature, lint_steps, scenarios_of};
 use gk_select::{SelectFault, has_room, read_features_are_expandable};
 use gk_steps::Library;
 use std::alloc::{AllocError, Global};
@@ -130,26 +133,64 @@ fn all_findings(
     with_findings(findings, of_steps)
 }
 
+// Returns the scenarios of a feature, if there is one.
+fn scenarios_in(alloc: Global, feature: &Option<Feature>) -> Result<Vec<&Scenario>, AllocError>
+    ensures { IfOk result (λ all. map (λ s. scenario_value s.now) all.items
+        ≡ of_notes.scenarios_in (option_map feature_value feature.now)) }
+{
+    match feature {
+        Some(feature) => scenarios_of(alloc, feature),
+        None => Ok(Vec::new(alloc)),
+    }
+}
+
+// Pushes the findings of a source with this name, this text and this feature, or none.
+fn push_source_findings(
+    out: &mut String,
+    alloc: Global,
+    library: &NotedLibrary<'_>,
+    name: &str,
+    text: &str,
+    feature: &Option<Feature>,
+    findings: &[Finding],
+) -> Result<(), AllocError>
+    ensures { Pushes out.old (noted_lines (noted_library_value library.now) (record {
+      name = name.now;
+      lines = lines text.now;
+      scenarios = of_notes.scenarios_in (option_map feature_value feature.now);
+    }) findings.now) result out.new }
+{
+    let file = NotedFile {
+        name,
+        lines: text_lines(alloc, text)?,
+        scenarios: scenarios_in(alloc, feature)?,
+    };
+    push_noted_findings(out, alloc, library, &file, findings)
+}
+
 // Adds the findings of a source that reads as this feature, or as none.
 fn add_source(
     so_far: &mut LintSoFar,
     alloc: Global,
-    library: &Library,
+    library: &NotedLibrary<'_>,
     source: &Source,
     feature: Option<Feature>,
 ) -> Result<(), AllocError>
     requires { IsReadAs source.now.bytes.items (option_map feature_value feature) }
-    ensures { OnOk result (IsLintedOnto (library_value library.now)
+    ensures { OnOk result (IsLintedOnto (noted_library_value library.now)
         (source_value source.now) so_far.old so_far.new) }
 {
     // No code runs here: the law says that what was read can be expanded.
     read_features_are_expandable();
     let text = known_text(source.bytes.as_slice());
-    let mut found = all_findings(alloc, library, &feature, text)?;
-    push_findings(
+    let mut found = all_findings(alloc, library.library, &feature, text)?;
+    push_source_findings(
         &mut so_far.text,
         alloc,
+        library,
         source.name.as_str(),
+        text,
+        &feature,
         found.findings.as_slice(),
     )?;
     so_far.used.append(&mut found.used)?;
@@ -162,12 +203,12 @@ fn add_source(
 // Reads the source at a place and adds its findings.
 fn lint_source(
     alloc: Global,
-    library: &Library,
+    library: &NotedLibrary<'_>,
     input: usize,
     source: &Source,
     so_far: &mut LintSoFar,
 ) -> Result<(), RunFault>
-    ensures ok { OnOk result (IsLintedOnto (library_value library.now)
+    ensures ok { OnOk result (IsLintedOnto (noted_library_value library.now)
         (source_value source.now) so_far.old so_far.new) }
     ensures fault { IfErr result (λ e. SaysSourceAt input source.now.bytes.items e) }
 {
@@ -182,10 +223,10 @@ fn lint_source(
 /// only if memory can't be allocated.
 pub fn lint_sources(
     alloc: Global,
-    library: &Library,
+    library: &NotedLibrary<'_>,
     sources: &[Source],
 ) -> Result<LintSoFar, RunFault>
-    ensures linted { IfOk result (λ l. IsLintOf (library_value library.now)
+    ensures linted { IfOk result (λ l. IsLintOf (noted_library_value library.now)
         (map source_value sources.now) l) }
     ensures fault { IfErr result (λ e. SaysOfSources (map source_value sources.now) e) }
 {

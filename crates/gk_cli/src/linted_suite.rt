@@ -1,5 +1,5 @@
 //! The findings in a whole request, before any run.
-ghost use Rattle.std.specs.Prelude.{◌≡◌, ◌++◌, map, option_map, string_bytes, IfOk, IfErr, OnOk};
+ghost use Rattle.std.specs.Prelude.{◌≡◌, length, ◌++◌, map, option_map, string_bytes, IfOk, IfErr, OnOk};
 ghost use Rattle.gk_gherkin.specs.Feature.{feature_value};
 ghost use Rattle.gk_gherkin.specs.Hooks.{hooks_value};
 ghost use Rattle.gk_report.specs.ReportTexts.{Pushes};
@@ -9,48 +9,110 @@ ghost use Rattle.gk_cli.specs.Counted.{HasNotFailed, IsUnflushed, IsNeverIdle};
 ghost use Rattle.gk_cli.specs.SuiteFiles as of_files;
 ghost use Rattle.gk_cli.specs.Source.{source_value};
 ghost use Rattle.gk_cli.specs.SuiteFiles.{suite_value, request_of_files, library_name, hooks_name};
-ghost use Rattle.gk_cli.specs.FindingLines.{finding_lines};
+ghost use Rattle.gk_cli.specs.FindingLines.{noted_library_value, noted_file_value};
+ghost use Rattle.gk_cli.specs.LintedSuite as spec;
 ghost use Rattle.gk_cli.specs.RunFault.{IsUnread};
 ghost use Rattle.gk_cli.specs.Suite.{device_of};
 ghost use Rattle.gk_lint.specs.TagUse.{hooks_of_no_tag};
 ghost use Rattle.gk_lint.specs.WrittenSteps.{of_hooks, found_in, used_in};
 ghost use Rattle.gk_cli.specs.LintedSources.{used_by};
-ghost use Rattle.gk_cli.specs.LintedSuite.{library_findings, lint_status, AreTexts, IsTextOf, read_of, IsLinted, Linted, SaysLintFault};
+ghost use Rattle.gk_cli.specs.LintedSuite.{lint_status, AreTexts, IsTextOf, read_of, IsLinted, Linted, SaysLintFault};
 
 use crate::arguments::Options;
 use crate::counted::Counted;
-use crate::finding_lines::{push_findings, push_idle_lines, push_tag_lines};
+use crate::finding_lines::{
+    NotedFile, NotedLibrary, push_count_line, push_findings, push_idle_lines, push_noted_findings,
+    push_tag_lines, text_lines,
+};
 use crate::growing_report::write_piece;
 use crate::inputs::{ReadBefore, read_before};
 use crate::linted_sources::{LintSoFar, known_text, lint_sources, with_findings};
 use crate::run_fault::RunFault;
 use crate::source::Source;
-use crate::suite_files::{SuiteFiles, bytes_of, name_of};
+use crate::suite_files::{SuiteFiles, bytes_of};
 use gk_gherkin::Feature;
 use gk_lint::{
-    StepFindings, lines_without_scenario, lint_hook_tags, lint_hooks, lint_library,
+    StepFindings, entry_lines, lines_without_scenario, lint_hook_tags, lint_hooks, lint_library,
     tags_that_stand_nowhere,
 };
+use gk_steps::Library;
 use std::alloc::{AllocError, Global};
 use std::io::Write;
 
-// Pushes the findings of a library file, if there is one, given the places of the entries that are used.
-fn push_library_findings(
+// Returns the library, as notes name it.
+fn noted_library<'a>(
+    alloc: Global,
+    library: &'a Library,
+    file: &'a Option<Source>,
+) -> Result<NotedLibrary<'a>, AllocError>
+    requires { AreTexts (of_files.bytes_of (option_map source_value file.now)) }
+    ensures { let f = option_map source_value file.now in IfOk result (λ noted.
+        noted_library_value noted ≡ spec.noted_library (of_files.name_of f)
+        (of_files.bytes_of f) (library_value library.now)) }
+{
+    match file {
+        Some(source) => {
+            let text = known_text(source.bytes.as_slice());
+            Ok(NotedLibrary {
+                library,
+                name: source.name.as_str(),
+                lines: entry_lines(alloc, text)?,
+            })
+        }
+        None => Ok(NotedLibrary {
+            library,
+            name: "",
+            lines: Vec::new(alloc),
+        }),
+    }
+}
+
+// Returns the hooks file, as notes quote it.
+fn noted_hooks(alloc: Global, file: &Option<Source>) -> Result<NotedFile<'_>, AllocError>
+    requires { AreTexts (of_files.bytes_of (option_map source_value file.now)) }
+    ensures { let f = option_map source_value file.now in IfOk result (λ noted.
+        noted_file_value noted ≡ spec.noted_hooks (of_files.name_of f) (of_files.bytes_of f)) }
+{
+    match file {
+        Some(source) => {
+            let text = known_text(source.bytes.as_slice());
+            Ok(NotedFile {
+                name: source.name.as_str(),
+                lines: text_lines(alloc, text)?,
+                scenarios: Vec::new(alloc),
+            })
+        }
+        None => Ok(NotedFile {
+            name: "",
+            lines: Vec::new(alloc),
+            scenarios: Vec::new(alloc),
+        }),
+    }
+}
+
+// Pushes the lines of a library file, if there is one, given the number of its entries and the places of those that are
+// used.
+fn push_library_lines(
     out: &mut String,
     alloc: Global,
     library: &Option<Source>,
+    entries: usize,
     used: &[usize],
 ) -> Result<(), AllocError>
-    requires { AreTexts (of_files.bytes_of (option_map source_value library.now)) }
-    ensures { let file = option_map source_value library.now in Pushes out.old (finding_lines
-        (of_files.name_of file)
-        (library_findings (of_files.bytes_of file) used.now)) result out.new }
+    requires texts { AreTexts (of_files.bytes_of (option_map source_value library.now)) }
+    requires entries { entries ≡ length (spec.lines_of_library
+        (of_files.bytes_of (option_map source_value library.now))) }
+    ensures { let file = option_map source_value library.now in Pushes out.old
+        (spec.library_lines (of_files.name_of file) (of_files.bytes_of file) used.now)
+        result out.new }
 {
     match library {
         Some(source) => {
             let text = known_text(source.bytes.as_slice());
             let findings = lint_library(alloc, text, used)?;
-            push_findings(out, alloc, source.name.as_str(), findings.as_slice())
+            let name = source.name.as_str();
+            push_findings(out, alloc, name, &findings)?;
+            push_count_line(out, name, findings.len(), entries)
         }
         None => Ok(()),
     }
@@ -80,10 +142,15 @@ fn whole_text(
     alloc: Global,
     options: &Options,
     files: &SuiteFiles<Source>,
+    library: &NotedLibrary<'_>,
     before: &ReadBefore,
     so_far: LintSoFar,
 ) -> Result<String, AllocError>
     requires texts { AreTexts (of_files.bytes_of (option_map source_value files.now.library)) }
+    requires hooks { AreTexts (of_files.bytes_of (option_map source_value files.now.hooks)) }
+    requires noted { let file = option_map source_value files.now.library in
+        noted_library_value library.now ≡ spec.noted_library (of_files.name_of file)
+        (of_files.bytes_of file) (library_value before.now.library) }
     requires used { so_far.used.items ≡ used_by (library_value before.now.library)
         (map feature_value so_far.features.items) }
     ensures { IfOk result (λ text. IsTextOf
@@ -101,14 +168,27 @@ fn whole_text(
     let mut used = used;
     of_hooks.used.append(&mut used)?;
     let mut text = String::new(alloc);
-    push_library_findings(&mut text, alloc, &files.library, of_hooks.used.as_slice())?;
-    let hooks = name_of(&files.hooks);
-    push_findings(&mut text, alloc, hooks, of_hooks.findings.as_slice())?;
+    let hooks = noted_hooks(alloc, &files.hooks)?;
+    push_noted_findings(
+        &mut text,
+        alloc,
+        library,
+        &hooks,
+        of_hooks.findings.as_slice(),
+    )?;
     text.push_str(of_sources.as_str())?;
     let tags = tags_that_stand_nowhere(alloc, before.rules.as_slice(), features.as_slice())?;
     push_tag_lines(&mut text, tags.as_slice())?;
     let idle = lines_without_scenario(alloc, options.lines.as_slice(), features.as_slice())?;
     push_idle_lines(&mut text, idle.as_slice())?;
+    let entries = library.lines.len();
+    push_library_lines(
+        &mut text,
+        alloc,
+        &files.library,
+        entries,
+        of_hooks.used.as_slice(),
+    )?;
     Ok(text)
 }
 
@@ -131,8 +211,9 @@ fn read_and_lint(
         Ok(before) => before,
         Err(fault) => return Err(fault),
     };
-    match lint_sources(alloc, &before.library, files.sources.as_slice()) {
-        Ok(so_far) => Ok(whole_text(alloc, options, files, &before, so_far)?),
+    let noted = noted_library(alloc, &before.library, &files.library)?;
+    match lint_sources(alloc, &noted, files.sources.as_slice()) {
+        Ok(so_far) => Ok(whole_text(alloc, options, files, &noted, &before, so_far)?),
         Err(fault) => Err(fault),
     }
 }
@@ -145,9 +226,10 @@ fn status_of(text: &str) -> u8
 }
 
 /// Reads the request as `run_suite` does, runs nothing, and writes the findings, each as a line `NAME:LINE: TEXT`.
-/// Those of the library file come first, then those of the hooks file, then those of each source in order, each in the
-/// order of its lines. Then there is a line for each tag of `--tags` that occurs nowhere, as often as it is named, and
-/// for each `--line` that chooses no scenario. Findings are silently ignored parts of a file, steps that can't work
+/// Those of the hooks file come first, then those of each source in order, each in the order of its lines. Then there is
+/// a line for each tag of `--tags` that occurs nowhere, as often as it is named, and for each `--line` that chooses no
+/// scenario. The unused entries of the library file come last, with a line that counts them. Below an undefined step are
+/// its text and the entry that may be meant. Findings are silently ignored parts of a file, steps that can't work
 /// because an entry, a text or a table is missing, unused items, and scenarios that share a name. Of the options, only
 /// `tags` and `lines` are looked at.
 ///

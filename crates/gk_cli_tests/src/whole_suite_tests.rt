@@ -112,8 +112,8 @@ fn suites_are_explained(rt: HostRuntime) -> Result<(), Fail> {
 const WICK: [&str; 4] = [
     "step the wick \"{name}\" is trimmed => write_file\nstep the wick \"{name}\" is put out => remove_file\nstep the night is over => skip_scenario\nthen the wick \"{name}\" should be gone => file_absent\n",
     "before_tag @quick:\n  Given the wick \"night\" is put out\n\nafter_scenario:\n  Then the night is over\n",
-    "Feature: A wick\n  Scenario: It is trimmed\n    Given the wick \"hall\" is trimmed\n    When the wick \"hall\" is lit\n\n  Scenario Outline: It smokes <often>\n    Given the wick \"hall\" is put out\n",
-    "wick.steps:4: entry that no step finds\nwick.hooks:1: hook for a tag that stands nowhere\nwick.hooks:5: action that isn't allowed here\nwick.feature:3: step without the text that its action needs\nwick.feature:4: undefined step\nwick.feature:6: outline without rows\n--tags @quik: stands nowhere\n--line 6: chooses no scenario\n1",
+    "Feature: A wick\n  Scenario: It is trimmed\n    Given the wick \"hall\" is trimmed\n    When the wick \"hall\" is lit\n\n  Scenario Outline: It smokes <offen>\n    Given the wick \"hall\" is put out\n    Examples:\n      | often |\n",
+    "wick.hooks:1: hook for a tag that stands nowhere\nwick.hooks:5: action that isn't allowed here\nwick.feature:3: step without the text that its action needs\nwick.feature:4: undefined step\n    When the wick \"hall\" is lit\n    the nearest entry is: step the wick \"{name}\" is trimmed\nwick.feature:6: outline without rows\nwick.feature:6: placeholder that no column has\n    the nearest column is: often\n--tags @quik: stands nowhere\n--line 6: chooses no scenario\nwick.steps:4: entry that no step finds\nwick.steps: no step finds 1 of 4 entries\n1",
 ];
 
 // What is found in files, and the status.

@@ -58,9 +58,13 @@ piece_shown (FieldPiece name kind) = field_shown name kind
 abbrev pub pattern_shown : List PieceValue → List ℕ
 pattern_shown ps = flat_map piece_shown ps
 
--- The line that names an entry: the steps that it is for, and its pattern.
+-- An entry as it is shown: the steps that it is for, and its pattern.
+abbrev pub entry_shown : EntryValue → List ℕ
+entry_shown e = type_word e.step_type ++ (codes " " ++ pattern_shown e.pattern)
+
+-- The line that names an entry.
 unfoldable pub nearest_line : EntryValue → List ℕ
-nearest_line e = codes "      the nearest entry is: " ++ (type_word e.step_type ++ (codes " " ++ (pattern_shown e.pattern ++ line_feed)))
+nearest_line e = codes "      the nearest entry is: " ++ (entry_shown e ++ line_feed)
 
 -- The first word of a text: the part before its first space.
 abbrev pub first_word : List ℕ → List ℕ

@@ -21,4 +21,5 @@ mod tables;
 pub use differing_lines::differing_lines_are_shown;
 pub use event_lines::push_place;
 pub use explainer::{Explainer, cases_are_explained, cleanups_are_of_their_steps};
+pub use nearest::{push_entry, type_word};
 pub use shown::push_shown;

@@ -92,7 +92,8 @@ fn nearest<'a>(first: &'a Entry, others: &'a [Entry], text: &[u8]) -> &'a Entry
     best
 }
 
-fn type_word(step_type: Option<StepType>) -> &'static str
+/// Returns the word for the steps that an entry is for. Doesn't allocate.
+pub fn type_word(step_type: Option<StepType>) -> &'static str
     ensures { result.now ≡ spec.type_word step_type }
 {
     match step_type {
@@ -156,15 +157,22 @@ fn push_pattern(out: &mut String, pattern: &[Piece]) -> Result<(), AllocError>
     Ok(())
 }
 
+/// Appends an entry as it is shown: the steps that it is for, and its pattern, with invisible characters as escapes. An
+/// error comes only if a growth was refused; a part of it may have been appended then.
+pub fn push_entry(out: &mut String, entry: &Entry) -> Result<(), AllocError>
+    ensures { Pushes out.old (spec.entry_shown (entry_value entry.now)) result out.new }
+{
+    out.push_str(type_word(entry.step_type))?;
+    out.push_str(" ")?;
+    push_pattern(out, &entry.pattern.pieces)
+}
+
 // Appends the line that names an entry.
-#[tactic(auto, unfolding(crate::specs::Nearest::nearest_line))]
-fn push_entry(out: &mut String, entry: &Entry) -> Result<(), AllocError>
+fn push_entry_line(out: &mut String, entry: &Entry) -> Result<(), AllocError>
     ensures { Pushes out.old (spec.nearest_line (entry_value entry.now)) result out.new }
 {
     out.push_str("      the nearest entry is: ")?;
-    out.push_str(type_word(entry.step_type))?;
-    out.push_str(" ")?;
-    push_pattern(out, &entry.pattern.pieces)?;
+    push_entry(out, entry)?;
     out.push_str("\n")?;
     Ok(())
 }
@@ -198,7 +206,7 @@ pub fn push_nearest(out: &mut String, library: &Library, text: &str) -> Result<(
     };
     let entry = nearest(first, others, text.as_bytes());
     if is_near(entry, text.as_bytes()) {
-        push_entry(out, entry)
+        push_entry_line(out, entry)
     } else {
         Ok(())
     }

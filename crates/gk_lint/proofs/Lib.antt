@@ -7,6 +7,7 @@ pub mod LineOrder
 pub mod NamedAgain
 pub mod IdleHooks
 pub mod RunSteps
+pub mod FirstHints
 pub mod RisingNumbers
 pub mod EntryLinesLoop
 pub mod MisspeltLoop

@@ -11,7 +11,7 @@ use Rattle.gk_steps.specs.declared.action.Action.TheVariants.{FileIs, WriteFiles
 use Rattle.gk_lint.specs.declared.findings.FindingKind.TheVariants.{NameTwice, OfStep, UnusedEntry, HookOfNoTag}
 use Rattle.gk_lint.specs.declared.step_faults.StepFault.TheVariants.{Undefined, NotAllowed, NoText, NoTable, BadTable, IgnoredText, IgnoredTable}
 use Rattle.gk_lint.specs.Findings.{at_line, named_once}
-use Rattle.gk_lint.specs.StepFaults.{all_faults}
+use Rattle.gk_lint.specs.StepFaults.{other_faults}
 use Rattle.gk_lint.specs.declared.step_sites.StepSite.TheVariants.{Cleanup}
 use Rattle.gk_lint.specs.StepSites.{site_of_hook}
 use Rattle.gk_lint.specs.Lookups.{site_faults}
@@ -23,8 +23,8 @@ use Rattle.gk_lint.specs.TagUse.{hooks_of_no_tag}
 use Rattle.gk_lint.specs.ScenarioLines.{without_scenario}
 use Rattle.gk_lint.specs.NamedTags.{nowhere}
 
--- However many rows have a fault, it is named once, and undefined steps come first.
-once : named_once all_faults 3 (NoText ∷ Undefined ∷ NoText ∷ []) ≡ at_line 3 (OfStep Undefined) ∷ at_line 3 (OfStep NoText) ∷ []
+-- However many rows have a fault, it is named once.
+once : named_once other_faults 3 (NoText ∷ NotAllowed ∷ NoText ∷ []) ≡ at_line 3 (OfStep NotAllowed) ∷ at_line 3 (OfStep NoText) ∷ []
 once = refl
 
 -- A check of a file with no text, with a doc string, with both, and with a table; and a check that works with no text.

@@ -9,11 +9,12 @@ use Rattle.gk_lint.specs.Findings.{AreInOrder}
 use Rattle.gk_lint.specs.LineEnds.{cr_alone}
 use Rattle.gk_lint.specs.MissingParts.{missing_parts}
 use Rattle.gk_lint.specs.ScenarioNames.{same_names}
+use Rattle.gk_lint.specs.Placeholders.{of_outlines}
 use Rattle.gk_lint.specs.Misspelt.{misspelt}
 
--- The findings of a file with this feature, or none, and these lines: that they end with CR alone, the missing parts of the feature, scenarios with the name of an earlier one, and the misspelt lines.
+-- The findings of a file with this feature, or none, and these lines: that they end with CR alone, the missing parts of the feature, scenarios with the name of an earlier one, misspelt placeholders, and the misspelt lines.
 abbrev pub file_findings : Option FeatureValue → Lines → List Finding
-file_findings feature lines = cr_alone lines ++ (missing_parts feature ++ (same_names feature ++ misspelt Elsewhere lines))
+file_findings feature lines = cr_alone lines ++ (missing_parts feature ++ (same_names feature ++ (of_outlines feature ++ misspelt Elsewhere lines)))
 
 -- These findings are all those of a file with these bytes, in the order of their lines.
 pub record AreOfFile (bytes : List ℕ) (findings : List Finding) : Type 0 where

@@ -3,8 +3,9 @@ use Rattle.std.specs.Prelude.{codes, ◌≡◌, ℕ, Bool, ◌==◌, List, [], �
 use Rattle.std.specs.List.Sorted.{IsNonDecreasingBy}
 use Rattle.gk_lint.specs.declared.findings.Finding.{Finding}
 use Rattle.gk_lint.specs.declared.findings.FindingKind.{FindingKind}
-use Rattle.gk_lint.specs.declared.findings.FindingKind.TheVariants.{CrAlone, FileWithoutFeature, FeatureWithoutScenarios, ScenarioWithoutSteps, OutlineWithoutRows, LikeKeyword, StepOutside, NameTwice, OfStep, UnusedEntry, HookOfNoTag}
+use Rattle.gk_lint.specs.declared.findings.FindingKind.TheVariants.{CrAlone, FileWithoutFeature, FeatureWithoutScenarios, ScenarioWithoutSteps, OutlineWithoutRows, LikeKeyword, StepOutside, NameTwice, NoColumn, UndefinedStep, OfStep, UnusedEntry, HookOfNoTag}
 use Rattle.gk_lint.specs.declared.step_faults.StepFault.{StepFault}
+use Rattle.gk_lint.specs.declared.step_faults.StepFault.TheVariants.{Undefined}
 use Rattle.gk_lint.specs.Keywords.{spelling}
 use Rattle.gk_lint.specs.StepFaults.{fault_text, has_fault}
 
@@ -29,6 +30,8 @@ finding_text ScenarioWithoutSteps = codes "scenario without steps"
 finding_text OutlineWithoutRows = codes "outline without rows"
 finding_text StepOutside = codes "step outside of a scenario"
 finding_text NameTwice = codes "scenario with the name of one before it"
+finding_text (NoColumn scenario column) = codes "placeholder that no column has"
+finding_text (UndefinedStep hint) = fault_text Undefined
 finding_text (OfStep fault) = fault_text fault
 finding_text HookOfNoTag = codes "hook for a tag that stands nowhere"
 finding_text UnusedEntry = codes "entry that no step finds"

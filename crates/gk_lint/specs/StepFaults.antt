@@ -15,11 +15,11 @@ fault_text BadTable = codes "table that isn't one of name and text"
 fault_text IgnoredText = codes "doc string that is ignored"
 fault_text IgnoredTable = codes "table that is ignored"
 
--- The faults that a step can have.
-abbrev pub all_faults : List StepFault
-all_faults = Undefined ∷ CleanupWithoutStep ∷ NotAllowed ∷ NoText ∷ NoTable ∷ BadTable ∷ IgnoredText ∷ IgnoredTable ∷ []
+-- The faults that a step can have, apart from `Undefined`.
+abbrev pub other_faults : List StepFault
+other_faults = CleanupWithoutStep ∷ NotAllowed ∷ NoText ∷ NoTable ∷ BadTable ∷ IgnoredText ∷ IgnoredTable ∷ []
 
--- The position of a fault in `all_faults`, counted from 0.
+-- The position of a fault among all faults, counted from 0.
 abbrev pub number_of_fault : StepFault → ℕ
 number_of_fault Undefined = 0
 number_of_fault CleanupWithoutStep = 1

@@ -10,12 +10,15 @@ use Rattle.gk_select.specs.Inherited.{background_steps}
 use Rattle.gk_select.specs.Outline.{is_outline}
 use Rattle.gk_steps.specs.Finding.{LibraryValue}
 use Rattle.gk_lint.specs.declared.findings.Finding.{Finding}
-use Rattle.gk_lint.specs.StepFaults.{all_faults}
+use Rattle.gk_lint.specs.StepFaults.{has_fault, other_faults}
+use Rattle.gk_lint.specs.declared.findings.FindingKind.TheVariants.{UndefinedStep}
+use Rattle.gk_lint.specs.declared.step_faults.StepFault.TheVariants.{Undefined}
 use Rattle.gk_lint.specs.declared.step_sites.StepSite.{StepSite}
 use Rattle.gk_lint.specs.declared.step_sites.StepSite.TheVariants as sites
 use Rattle.gk_lint.specs.StepSites.{site_of_hook}
-use Rattle.gk_lint.specs.Findings.{named_once}
+use Rattle.gk_lint.specs.Findings.{found_if, named_once}
 use Rattle.gk_lint.specs.Lookups.{faults_in, positions_in}
+use Rattle.gk_lint.specs.StepHints.{hint_in}
 
 -- A step as it is written: its line, its site, and the steps that it is run as.
 pub record WrittenStep : Type 0 where
@@ -83,9 +86,13 @@ of_hook h = map (as_written (site_of_hook h.kind)) h.steps
 abbrev pub of_hooks : List HookValue → List WrittenStep
 of_hooks hooks = flat_map of_hook hooks
 
+-- The finding that at least one of these steps is undefined, which are run at a site and written at a line, with the hint for the first that is.
+abbrev pub undefined_at : LibraryValue → WrittenStep → List Finding
+undefined_at library written = found_if (has_fault (faults_in library written.site written.runs) Undefined) written.line (UndefinedStep (hint_in library written.runs))
+
 -- The findings of a written step: each fault of at least one of the steps that it is run as.
 abbrev pub at_step : LibraryValue → WrittenStep → List Finding
-at_step library written = named_once all_faults written.line (faults_in library written.site written.runs)
+at_step library written = undefined_at library written ++ named_once other_faults written.line (faults_in library written.site written.runs)
 
 -- The findings of written steps, one step after the other.
 abbrev pub found_in : LibraryValue → List WrittenStep → List Finding

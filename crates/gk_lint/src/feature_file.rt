@@ -13,6 +13,7 @@ use crate::findings::{Finding, in_order};
 use crate::line_ends::add_cr_alone;
 use crate::missing_parts::add_missing_parts;
 use crate::misspelt::add_misspelt;
+use crate::placeholders::add_of_outlines;
 use crate::scenario_names::add_same_names;
 use gk_gherkin::{Feature, LIMIT, ReadFault, read_feature, text_of};
 use std::alloc::{AllocError, Global};
@@ -36,14 +37,15 @@ pub fn lint_feature(
     add_cr_alone(&mut findings, text)?;
     add_missing_parts(&mut findings, feature)?;
     add_same_names(&mut findings, alloc, feature)?;
+    add_of_outlines(&mut findings, alloc, feature)?;
     add_misspelt(&mut findings, alloc, text)?;
     in_order(findings)
 }
 
 /// Returns the findings of a feature file with these bytes, in the order of lines. Three kinds concern the whole file:
 /// its lines end with CR alone, it has no feature, or the feature has no scenarios. The others are scenarios without
-/// steps, outlines without rows, scenarios with the name of an earlier one, description lines that begin like a
-/// keyword, and steps outside of scenarios.
+/// steps, outlines without rows, scenarios with the name of an earlier one, placeholders that no column has, description
+/// lines that begin like a keyword, and steps outside of scenarios.
 ///
 /// If the file is invalid, the error is the fault that `read_feature` returns for it. `Memory` comes only if a growth
 /// was refused.

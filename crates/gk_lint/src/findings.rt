@@ -5,6 +5,7 @@ ghost use Rattle.gk_lint.specs.Findings as spec;
 ghost use Rattle.gk_lint.specs.Findings.{AreInOrder};
 
 use crate::keywords::Keyword;
+use crate::nearest_entry::EntryHint;
 use crate::step_faults::{StepFault, has_fault};
 use std::alloc::{AllocError, Global};
 
@@ -29,7 +30,13 @@ pub enum FindingKind {
     StepOutside,
     /// An earlier scenario of the feature has the same name.
     NameTwice,
-    /// The step has the fault as it is run; in an outline, in at least one row.
+    /// In an outline, `<WORD>` stays as it is, since no column has this name. It is nearest to the column at position
+    /// `column` of the outline, which is the scenario at position `scenario` of the feature.
+    NoColumn { scenario: usize, column: usize },
+    /// The step finds no entry of the library as it is run; in an outline, in at least one row. Its author may have meant
+    /// this entry. (behave's documentation: undefined steps)
+    UndefinedStep(EntryHint),
+    /// The step has the fault as it is run, which isn't `Undefined`; in an outline, in at least one row.
     OfStep(StepFault),
     /// No step and no cleanup finds the entry of the library.
     UnusedEntry,
@@ -62,6 +69,12 @@ impl FindingKind {
             FindingKind::StepOutside => { String::from_str(alloc, "step outside of a scenario") }
             FindingKind::NameTwice => {
                 String::from_str(alloc, "scenario with the name of one before it")
+            }
+            FindingKind::NoColumn { .. } => {
+                String::from_str(alloc, "placeholder that no column has")
+            }
+            FindingKind::UndefinedStep(_) => {
+                String::from_str(alloc, StepFault::Undefined.text())
             }
             FindingKind::OfStep(fault) => String::from_str(alloc, fault.text()),
             FindingKind::HookOfNoTag => {

@@ -22,8 +22,8 @@ fn add_entry_line(lines: &mut Vec<u32>, line: &BorrowedLine<'_>) -> Result<(), A
     Ok(())
 }
 
-// Returns the line numbers of a library file's entries.
-fn entry_lines(alloc: Global, text: &str) -> Result<Vec<u32>, AllocError>
+/// Returns the line numbers of the entries of a library file with this text. An error comes only if a growth was refused.
+pub fn entry_lines(alloc: Global, text: &str) -> Result<Vec<u32>, AllocError>
     requires { length text.now ≤ LIMIT }
     ensures { IfOk result (λ found.
         found.items ≡ spec.entry_lines (numbered_from 1 (lines text.now))) }

@@ -61,9 +61,8 @@ impl StepFault {
     }
 }
 
-/// The faults that a step can have.
-pub const ALL_FAULTS: [StepFault; 8] = [
-    StepFault::Undefined,
+/// The faults that a step can have, apart from `Undefined`.
+pub const OTHER_FAULTS: [StepFault; 7] = [
     StepFault::CleanupWithoutStep,
     StepFault::NotAllowed,
     StepFault::NoText,

@@ -1,5 +1,5 @@
 //! Findings of the steps of a feature and of a hooks file.
-ghost use Rattle.std.specs.Prelude.{◌≡◌, [], ◌++◌, map, option_map, OnOk, IfOk};
+ghost use Rattle.std.specs.Prelude.{◌≡◌, [], ◌∷◌, ◌++◌, map, option_map, OnOk, IfOk};
 ghost use Rattle.std.specs.List.{AllByRecursion};
 ghost use Rattle.gk_gherkin.specs.Feature.{step_value, examples_value, background_value};
 ghost use Rattle.gk_gherkin.specs.Feature.{scenario_value, rule_value, feature_value};
@@ -7,16 +7,19 @@ ghost use Rattle.gk_gherkin.specs.Hooks.{hook_value, hooks_value};
 ghost use Rattle.gk_select.specs.Outline.{AllFit};
 ghost use Rattle.gk_select.specs.Expansion.{RowsFit, IsExpandable};
 ghost use Rattle.gk_steps.specs.Finding.{library_value};
-ghost use Rattle.gk_lint.specs.Findings.{AreInOrder, named_once};
-ghost use Rattle.gk_lint.specs.StepFaults.{all_faults};
+ghost use Rattle.gk_lint.specs.Findings.{AreInOrder, found_if, named_once};
+ghost use Rattle.gk_lint.specs.StepFaults.{other_faults};
+ghost use Rattle.gk_lint.specs.StepHints.{hint_in};
+ghost use Rattle.gk_lint.specs.declared.findings.FindingKind.TheVariants.{UndefinedStep};
 ghost use Rattle.gk_lint.specs.Lookups.{faults_in, positions_in};
 ghost use Rattle.gk_lint.specs.declared.step_sites.StepSite.TheVariants as sites;
 ghost use Rattle.gk_lint.specs.WrittenSteps as spec;
 ghost use Rattle.gk_lint.specs.WrittenSteps.{found_in, used_in};
 
-use crate::findings::{Finding, add_once, in_order};
+use crate::findings::{Finding, FindingKind, add_once, in_order};
 use crate::lookups::Lookups;
-use crate::step_faults::ALL_FAULTS;
+use crate::step_faults::{OTHER_FAULTS, StepFault, has_fault};
+use crate::step_hints::{hint_as_written, hint_in_scenario};
 use crate::step_sites::{StepSite, site_of_hook};
 use gk_gherkin::{Background, Examples, Feature, Hook, HookFile, Rule, Scenario, Step};
 use gk_select::{fill_step, is_outline};
@@ -101,16 +104,40 @@ fn look_up_runs(
     }
 }
 
-// Adds the results of one written step.
+// Adds the results of one written step, apart from `Undefined`.
 fn add_lookups(found: &mut StepFindings, line: u32, lookups: Lookups) -> Result<(), AllocError>
     ensures found { OnOk result (found.new.findings.items
-        ≡ found.old.findings.items ++ named_once all_faults line lookups.faults.items) }
+        ≡ found.old.findings.items ++ named_once other_faults line lookups.faults.items) }
     ensures used { OnOk result (found.new.used.items
         ≡ found.old.used.items ++ lookups.used.items) }
 {
     let mut lookups = lookups;
-    add_once(&mut found.findings, &ALL_FAULTS, line, &lookups.faults)?;
+    add_once(&mut found.findings, &OTHER_FAULTS, line, &lookups.faults)?;
     found.used.append(&mut lookups.used)
+}
+
+// Adds the finding of a step of a scenario, if it is undefined.
+fn add_undefined(
+    findings: &mut Vec<Finding>,
+    alloc: Global,
+    library: &Library,
+    scenario: &Scenario,
+    step: &Step,
+    is_undefined: bool,
+) -> Result<(), AllocError>
+    requires { AllByRecursion AllFit (scenario_value scenario.now).examples }
+    ensures { OnOk result (findings.new.items ≡ findings.old.items
+        ++ found_if is_undefined step.now.line (UndefinedStep (hint_in (library_value library.now)
+        (spec.runs_in (scenario_value scenario.now) (step_value step.now))))) }
+{
+    if is_undefined {
+        let hint = hint_in_scenario(alloc, library, scenario, step)?;
+        findings.push(Finding {
+            line: step.line,
+            kind: FindingKind::UndefinedStep(hint),
+        })?;
+    }
+    Ok(())
 }
 
 // Adds the results of a step of a scenario.
@@ -131,6 +158,15 @@ fn add_scenario_step(
 {
     let mut lookups = Lookups::new(alloc);
     look_up_runs(&mut lookups, alloc, library, scenario, step)?;
+    let is_undefined = has_fault(&lookups.faults, StepFault::Undefined);
+    add_undefined(
+        &mut found.findings,
+        alloc,
+        library,
+        scenario,
+        step,
+        is_undefined,
+    )?;
     add_lookups(found, step.line, lookups)
 }
 
@@ -172,6 +208,28 @@ fn add_scenarios(
     Ok(())
 }
 
+// Adds the finding of a step that is run as it is written, if it is undefined.
+fn add_undefined_as_written(
+    findings: &mut Vec<Finding>,
+    alloc: Global,
+    library: &Library,
+    step: &Step,
+    is_undefined: bool,
+) -> Result<(), AllocError>
+    ensures { OnOk result (findings.new.items ≡ findings.old.items
+        ++ found_if is_undefined step.now.line (UndefinedStep
+        (hint_in (library_value library.now) (step_value step.now ∷ [])))) }
+{
+    if is_undefined {
+        let hint = hint_as_written(alloc, library, step)?;
+        findings.push(Finding {
+            line: step.line,
+            kind: FindingKind::UndefinedStep(hint),
+        })?;
+    }
+    Ok(())
+}
+
 // Adds the results of a step that is run at a site as it is written.
 fn add_plain_step(
     found: &mut StepFindings,
@@ -189,6 +247,8 @@ fn add_plain_step(
 {
     let mut lookups = Lookups::new(alloc);
     lookups.add(alloc, library, site, step)?;
+    let is_undefined = has_fault(&lookups.faults, StepFault::Undefined);
+    add_undefined_as_written(&mut found.findings, alloc, library, step, is_undefined)?;
     add_lookups(found, step.line, lookups)
 }
 

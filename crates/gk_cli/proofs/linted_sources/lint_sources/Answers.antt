@@ -1,5 +1,5 @@
 use Rattle.std.proofs.Common.{map, take, sym, subst, string_bytes}
-use Rattle.gk_steps.specs.Finding.{library_value}
+use Rattle.gk_cli.specs.FindingLines.{noted_library_value}
 use Rattle.gk_cli.specs.Source.{source_value}
 use Rattle.gk_cli.specs.LintedSources.{IsLintOf}
 use Rattle.gk_cli.proofs.InputsLemmas.{at_place, take_one, first_unread}
@@ -8,7 +8,7 @@ use Rattle.gk_cli.proofs.linted_sources.lint_sources.Goals as goal
 
 pub returns-in-Err : goal.returns-in-Err
 returns-in-Err c =
-    let library = library_value c.args.library.now in
+    let library = noted_library_value c.args.library.now in
     let sources = map source_value c.args.sources.now in
     let source = source_value c.index-sources-input.result in
     let place = at_place source_value c.args.sources.now c.loop-input.input c.index-sources-input.result c.loop-input-test.true c.index-sources-input.is in
@@ -22,7 +22,7 @@ returns-in-Err c =
 
 pub loop-input-preserved : goal.loop-input-preserved
 loop-input-preserved c =
-    let library = library_value c.args.library.now in
+    let library = noted_library_value c.args.library.now in
     let sources = map source_value c.args.sources.now in
     let source = source_value c.index-sources-input.result in
     let place = at_place source_value c.args.sources.now c.loop-input.input c.index-sources-input.result c.loop-input-test.true c.index-sources-input.is in

@@ -1,10 +1,11 @@
-use Rattle.std.proofs.Common.{map}
+use Rattle.std.proofs.Common.{map, subst, string_bytes}
 use Rattle.gk_gherkin.specs.Hooks.{hooks_value}
 use Rattle.gk_select.specs.Choice.{is_chosen}
 use Rattle.gk_select.specs.TagRules.{tag_rule_value}
 use Rattle.gk_steps.specs.Finding.{library_value}
 use Rattle.gk_cli.specs.Source.{source_value}
 use Rattle.gk_cli.specs.SuiteFiles.{suite_value, request_of_files}
+use Rattle.gk_cli.specs.LintedSources.{AreLinted}
 use Rattle.gk_cli.specs.LintedSuite.{read_of}
 use Rattle.gk_cli.proofs.InputsLemmas.{sources_unread}
 use Rattle.gk_cli.proofs.linted_suite.read_and_lint.Goals as goal
@@ -20,7 +21,7 @@ returns-in-Ok-lint_sources-clause-linted c =
       hooks = read.hooks;
       readings = lint.readings;
       features = lint.features;
-      sources = lint.linted;
+      sources = subst (λ noted. AreLinted noted (map source_value c.args.files.now.sources.items) lint.readings (string_bytes c.in-Ok-lint_sources.so_far.text)) c.in_ok-noted.ensures lint.linted;
       whole = c.in_ok-whole_text-in-Ok-lint_sources.ensures;
     }
 

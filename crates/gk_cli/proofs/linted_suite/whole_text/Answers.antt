@@ -9,30 +9,31 @@ use Rattle.gk_lint.specs.ScenarioLines.{without_scenario}
 use Rattle.gk_lint.specs.TagUse.{hooks_of_no_tag}
 use Rattle.gk_lint.specs.WrittenSteps.{of_hooks, found_in}
 use Rattle.gk_cli.specs.Source.{source_value}
-use Rattle.gk_cli.specs.SuiteFiles.{bytes_of, library_name, suite_value}
-use Rattle.gk_cli.specs.FindingLines.{finding_lines, tag_lines, idle_lines}
-use Rattle.gk_cli.specs.LintedSuite.{library_findings}
+use Rattle.gk_cli.specs.SuiteFiles.{bytes_of, library_name, hooks_name, suite_value}
+use Rattle.gk_cli.specs.FindingLines.{noted_lines, tag_lines, idle_lines}
+use Rattle.gk_cli.specs.LintedSuite.{noted_library, noted_hooks, library_lines}
 use Rattle.gk_cli.proofs.LintedSuiteLemmas.{five_parts}
 use Rattle.gk_cli.proofs.linted_suite.whole_text.Goals as goal
 
 pub returns : goal.returns
 returns c =
+    let files = suite_value source_value c.args.files.now in
     let library = library_value c.args.before.now.library in
     let hooks = hooks_value c.args.before.now.hooks in
     let found = c.in_ok-of_hooks.of_hooks.findings.items in
-    let used = c.as_slice-2.ensures.value ∙ c.in_ok-append.ensures.items ∙ ap₂ (λ l m. l ++ m) c.in_ok-of_hooks.ensures.used c.requires.used in
+    let used = c.as_slice-9.ensures.value ∙ c.in_ok-append.ensures.items ∙ ap₂ (λ l m. l ++ m) c.in_ok-of_hooks.ensures.used c.requires.used in
     let tags =
-    ap (map (λ t. t.now)) c.as_slice-6.ensures.value ∙ c.in_ok-tags.ensures ∙ ap₂ (λ features rules. nowhere (map feature_value features) (map tag_rule_value rules)) c.as_slice-5.ensures.value c.as_slice-4.ensures.value in
+    ap (map (λ t. t.now)) c.as_slice-5.ensures.value ∙ c.in_ok-tags.ensures ∙ ap₂ (λ features rules. nowhere (map feature_value features) (map tag_rule_value rules)) c.as_slice-4.ensures.value c.as_slice-3.ensures.value in
     let idle =
-    c.as_slice-9.ensures.value ∙ c.in_ok-idle.ensures ∙ ap₂ (λ features lines. without_scenario (map feature_value features) lines) c.as_slice-8.ensures.value c.as_slice-7.ensures.value in (
+    c.as_slice-8.ensures.value ∙ c.in_ok-idle.ensures ∙ ap₂ (λ features lines. without_scenario (map feature_value features) lines) c.as_slice-7.ensures.value c.as_slice-6.ensures.value in (
       found,
       subst (λ features. AreInOrder (hooks_of_no_tag (map feature_value features) hooks ++ found_in library (of_hooks hooks)) found) c.as_slice.ensures.value c.in_ok-of_hooks.ensures.found,
       five_parts _ _ _ _ _ _ _ _ _ _ _ c.new-text.ensures.bytes
-          (c.in_ok-push_library_findings.ensures
-          ∙ ap (λ places. string_bytes c.new-text.result ++ finding_lines (library_name (suite_value source_value c.args.files.now)) (library_findings (bytes_of (option_map source_value c.args.files.now.library)) places)) used)
-          (c.in_ok-push_findings.ensures
-          ∙ ap₂ (λ name findings. string_bytes c.push_library_findings.new.out ++ finding_lines name findings) c.name_of-hooks.ensures c.as_slice-3.ensures.value)
-          (c.in_ok-push_str.ensures.bytes ∙ ap (λ text. string_bytes c.push_findings.new.out ++ text) c.as_str.ensures.value)
+          (c.in_ok-push_noted_findings.ensures
+          ∙ ap₂ (λ noted file. string_bytes c.new-text.result ++ noted_lines noted file c.as_slice-2.result.now) c.requires.noted c.in_ok-hooks.ensures
+          ∙ ap (λ findings. string_bytes c.new-text.result ++ noted_lines (noted_library (library_name files) (bytes_of files.library) library) (noted_hooks (hooks_name files) (bytes_of files.hooks)) findings) c.as_slice-2.ensures.value)
+          (c.in_ok-push_str.ensures.bytes ∙ ap (λ text. string_bytes c.push_noted_findings.new.out ++ text) c.as_str.ensures.value)
           (c.in_ok-push_tag_lines.ensures ∙ ap (λ tags. string_bytes c.push_str.new.self ++ tag_lines tags) tags)
-          (c.in_ok-push_idle_lines.ensures ∙ ap (λ lines. string_bytes c.push_tag_lines.new.out ++ idle_lines lines) idle),
+          (c.in_ok-push_idle_lines.ensures ∙ ap (λ lines. string_bytes c.push_tag_lines.new.out ++ idle_lines lines) idle)
+          (c.in_ok-push_library_lines.ensures ∙ ap (λ places. string_bytes c.push_idle_lines.new.out ++ library_lines (library_name files) (bytes_of files.library) places) used),
     )
