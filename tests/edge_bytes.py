@@ -12,7 +12,8 @@ import os
 
 import driver
 from builder import FAILING, FeatureFile, Run, Step
-from reports import FORMATS, one_line
+from reports import one_line
+from tables import FORMATS
 
 BYTES = (*range(1, 33), 127)
 FAILING_FILE, PASSING_FILE = (driver.feature(f"Given {it}") for it in ("it fails", "it passes"))
@@ -24,7 +25,7 @@ CLOSING = """
 0 steps passed, 1 failed, 0 skipped, 0 undefined
 """
 TRY_HELP = "\nFor more information, try '--help'.\n"
-NOT_A_FORMAT = ("error: invalid value '{}' for '--format <F>'\n  [possible values: plain, progress, json]\n\n"
+NOT_A_FORMAT = ("error: invalid value '{}' for '--format <F>'\n  [possible values: " + ", ".join(FORMATS) + "]\n\n"
                 "Usage: gherkin_run [OPTIONS] <FILE>...\n" + TRY_HELP)
 NOT_A_LINE = "error: invalid value '{}' for '--line <N>': invalid digit found in string\n" + TRY_HELP
 NOT_AN_OPTION = ("error: unexpected argument '{}' found\n\n  tip: a similar argument exists: '--stop'\n\n"

@@ -10,6 +10,7 @@ import sys
 import tempfile
 
 import driver
+from tables import FORMATS
 
 PIECE = 16_384  # bytes, as the program reads them
 STEP = "    Given it passes\n"
@@ -48,8 +49,8 @@ OPENED = [
      ["l.steps", "h.hooks", "b.feature", "a.feature"]),
     ([*SUITE, "--", "b.feature", "empty.feature"], 0, ["l.steps", "h.hooks", "b.feature", "empty.feature"]),
     *(([*options, *ARGUMENTS], 0, list(FILES)) for options in (
-        ["--dry-run"], ["--stop"], ["--no-skipped"], ["--explain"], ["--lint"], ["--format", "json"],
-        ["--format", "progress"], ["--tags", "@none"], ["--line", "99"], ["--env", "A=b"])),
+        ["--dry-run"], ["--stop"], ["--no-skipped"], ["--explain"], ["--lint"], *(["--format", it] for it in FORMATS),
+        ["--tags", "@none"], ["--line", "99"], ["--env", "A=b"])),
     (["--stop", "fails.feature", "b.feature"], 1, ["fails.feature", "b.feature"]),
     (["--lint", "fails.feature", "b.feature"], 1, ["fails.feature", "b.feature"]),
     # A file is opened as often as it is named, and under the name that is given.
