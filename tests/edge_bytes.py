@@ -99,6 +99,14 @@ def variables(text):
         yield Run(made, options=[*of_text, *of_name])
 
 
+def world_files(text):
+    """A run with a file of this name from a path of the same name, and one whose path is missing."""
+    made = FeatureFile().outline("o", 'the file <t> should be "x"').examples(['"' + one_line(text) + '"'], header=["t"])
+    for options in both_forms("--file", f"{text}={text}"):
+        yield Run(made, files={text: "x"}, options=options)
+        yield Run(made, options=options, fault=f"{text}: cannot read")
+
+
 def tags(byte):
     """Runs with texts of tags. A blank at an end is one of an expression; any other byte belongs to the tag."""
     status = "passed" if chr(byte) in "\t " else "skipped"
@@ -126,7 +134,7 @@ def runs():
     """All runs, each with its format."""
     for byte in BYTES:
         for text in (*edged(byte, "a"), chr(byte)):
-            for kind in (feature_files, faults, other_files, variables):
+            for kind in (feature_files, faults, other_files, variables, world_files):
                 yield from kind(text)
         yield from tags(byte)
         yield from options_of(byte)
