@@ -34,7 +34,7 @@ LONG = {
 # The page of the guide on an option.
 PAGES = {
     "tags": "choosing.md#tags", "line": "choosing.md#lines", "library": "own_steps.md", "hooks": "hooks.md",
-    "env": "choosing.md#variables-from-the-command-line", "dry-run": "choosing.md#dry-runs",
+    "env": "choosing.md#variables-from-the-command-line", "file": "checking.md", "dry-run": "choosing.md#dry-runs",
     "stop": "choosing.md#stopping-at-the-first-failure", "format": "reports.md#formats", "explain": "explaining.md",
     "lint": "linting.md",
 }
