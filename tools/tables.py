@@ -18,6 +18,10 @@ import textwrap
 
 HOME = os.path.dirname(os.path.dirname(os.path.realpath(__file__)))
 
+# Where the tables are.
+OPTION_TABLE, ARGUMENTS = "crates/gk_cli/src/option_table.rt", "crates/gk_cli/src/arguments.rt"
+ACTION_TABLE, DEFAULT_FILE = "crates/gk_steps/src/action.rt", "crates/gk_steps/src/default_file.rt"
+
 # ---- texts that the sources lack
 
 # What the man page says of an option below its help, unless its row in the source has a comment.
@@ -89,7 +93,7 @@ def literals(code):
 
 def options():
     """The options, in the order of the help."""
-    code = read("crates/gk_cli/src/option_table.rt")
+    code = read(OPTION_TABLE)
     constants = dict(re.findall(r'^const (\w+): &str = ("[^"]*");', code, re.M))
     rows = re.findall(r"((?:^ *//[^\n]*\n)*)^ *OptionRow \{\n(.*?)^ *\}", code.partition("OPTIONS")[2], re.M | re.S)
     found = []
@@ -105,12 +109,12 @@ def options():
 
 def formats():
     """The names of the formats. The first is that of a run without --format."""
-    return re.findall(r'^ *"(\w+)" => Some\(Format::', read("crates/gk_cli/src/arguments.rt"), re.M)
+    return re.findall(r'^ *"(\w+)" => Some\(Format::', read(ARGUMENTS), re.M)
 
 
 def default_text():
     """The text of the built-in library."""
-    found = re.search(r'const DEFAULT_TEXT: &str =\s*("(?:[^"\\]|\\.|\\\n)*");', read("crates/gk_steps/src/default_file.rt"))
+    found = re.search(r'const DEFAULT_TEXT: &str =\s*("(?:[^"\\]|\\.|\\\n)*");', read(DEFAULT_FILE))
     return json.loads(re.sub(r"\\\n\s*", "", found[1]))
 
 
@@ -122,7 +126,7 @@ def steps():
 
 def actions():
     """The actions, each with the fields of a pattern that it needs, and all that it uses."""
-    rows = re.findall(r'^ *row!\(("\w+"), \w+, (\[.*?\]), (\[.*?\])\)', read("crates/gk_steps/src/action.rt"), re.M)
+    rows = re.findall(r'^ *row!\(("\w+"), \w+, (\[.*?\]), (\[.*?\])\)', read(ACTION_TABLE), re.M)
     return [Action(json.loads(name), literals(needs), literals(uses)) for name, needs, uses in rows]
 
 
