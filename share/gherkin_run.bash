@@ -2,6 +2,12 @@
 
 _gherkin_run() {
     local word=${COMP_WORDS[COMP_CWORD]} before= earlier
+    # tools/tables.py: options
+    local formats='plain progress json'
+    local texts=' --tags --line --env --file '
+    local files=' --library --hooks '
+    local options='--tags --line --library --hooks --env --file --dry-run --stop --format --no-skipped --explain --lint --help -h --version -V'
+    # tools/tables.py: end
     COMPREPLY=()
     # After -- every argument is a file.
     for earlier in "${COMP_WORDS[@]:0:COMP_CWORD}"; do
@@ -14,24 +20,14 @@ _gherkin_run() {
     elif [[ $before == = ]]; then
         ((COMP_CWORD < 2)) || before=${COMP_WORDS[COMP_CWORD - 2]}
     fi
-    case $before in
-    --format)
+    if [[ $before == --format ]]; then
         compopt +o default
-        mapfile -t COMPREPLY < <(compgen -W 'plain progress json' -- "$word")
-        return
-        ;;
-    --tags | --line | --env)
+        mapfile -t COMPREPLY < <(compgen -W "$formats" -- "$word")
+    elif [[ $texts == *" $before "* ]]; then
         compopt +o default
-        return
-        ;;
-    --library | --hooks)
-        return
-        ;;
-    esac
-    if [[ $word == -* ]]; then
+    elif [[ $word == -* && $files != *" $before "* ]]; then
         compopt +o default
-        mapfile -t COMPREPLY < <(compgen -W '--tags --line --library --hooks --env --dry-run --stop --format
-            --no-skipped --explain --lint --help -h --version -V' -- "$word")
+        mapfile -t COMPREPLY < <(compgen -W "$options" -- "$word")
     fi
 }
 

@@ -16,7 +16,6 @@ Fails where
 - README.md has more than 120 lines, a page for users is hard to read, or all of them have too many words (prose.py says how
   that is counted);
 - a fault text or a reason of the program has no entry in docs/FAULTS.md, or an entry has no such text;
-- examples/default.steps isn't the built-in library;
 - a picture of docs/pictures/ isn't the one that its script draws;
 - a page at the top or of docs/ has a word of WORDS; elsewhere such words are counted only.
 """
@@ -485,20 +484,6 @@ def picture_differences(program):
             yield f"docs/pictures/{name} isn't what {script} draws"
 
 
-# ---- the built-in library
-
-def library_difference():
-    """Where examples/default.steps isn't the built-in library: the text of the constant DEFAULT_TEXT."""
-    for path in FILES:
-        found = re.search(r'const DEFAULT_TEXT: &str =\s*"((?:[^"\\]|\\.|\\\n)*)";', read(path)) if path.endswith(".rt") else None
-        if found:
-            text = re.sub(r"\\\n\s*", "", found.group(1)).replace("\\n", "\n").replace('\\"', '"')
-            if text != read("examples/default.steps"):
-                yield f"examples/default.steps isn't the text of {path}"
-            return
-    yield "no crate has a constant DEFAULT_TEXT"
-
-
 # ---- words
 
 def counted_words():
@@ -561,7 +546,6 @@ def main():
     check(tests, "entries of docs/FAULTS.md", fault_differences())
     check(tests, "hints of docs/FAULTS.md", hint_differences())
     check(tests, "pictures", picture_differences(program))
-    check(tests, "the built-in library", library_difference())
     faults, elsewhere = counted_words()
     check(tests, "words in pages", [f"{path}:{number}: {text}" for path, number, text in faults])
     if elsewhere:

@@ -12,7 +12,8 @@ import os
 
 import driver
 from builder import FAILING, FeatureFile, Run, Step
-from reports import FORMATS, one_line
+from reports import one_line
+from tables import FORMATS
 
 BYTES = (*range(1, 33), 127)
 FAILING_FILE, PASSING_FILE = (driver.feature(f"Given {it}") for it in ("it fails", "it passes"))
@@ -24,7 +25,7 @@ CLOSING = """
 0 steps passed, 1 failed, 0 skipped, 0 undefined
 """
 TRY_HELP = "\nFor more information, try '--help'.\n"
-NOT_A_FORMAT = ("error: invalid value '{}' for '--format <F>'\n  [possible values: plain, progress, json]\n\n"
+NOT_A_FORMAT = ("error: invalid value '{}' for '--format <F>'\n  [possible values: " + ", ".join(FORMATS) + "]\n\n"
                 "Usage: gherkin_run [OPTIONS] <FILE>...\n" + TRY_HELP)
 NOT_A_LINE = "error: invalid value '{}' for '--line <N>': invalid digit found in string\n" + TRY_HELP
 NOT_AN_OPTION = ("error: unexpected argument '{}' found\n\n  tip: a similar argument exists: '--stop'\n\n"
@@ -98,6 +99,14 @@ def variables(text):
         yield Run(made, options=[*of_text, *of_name])
 
 
+def world_files(text):
+    """A run with a file of this name from a path of the same name, and one whose path is missing."""
+    made = FeatureFile().outline("o", 'the file <t> should be "x"').examples(['"' + one_line(text) + '"'], header=["t"])
+    for options in both_forms("--file", f"{text}={text}"):
+        yield Run(made, files={text: "x"}, options=options)
+        yield Run(made, options=options, fault=f"{text}: cannot read")
+
+
 def tags(byte):
     """Runs with texts of tags. A blank at an end is one of an expression; any other byte belongs to the tag."""
     status = "passed" if chr(byte) in "\t " else "skipped"
@@ -125,7 +134,7 @@ def runs():
     """All runs, each with its format."""
     for byte in BYTES:
         for text in (*edged(byte, "a"), chr(byte)):
-            for kind in (feature_files, faults, other_files, variables):
+            for kind in (feature_files, faults, other_files, variables, world_files):
                 yield from kind(text)
         yield from tags(byte)
         yield from options_of(byte)

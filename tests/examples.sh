@@ -40,5 +40,16 @@ for feature in examples/*.feature; do
     fi
 done
 
+# The script of examples/checks/, whose programs write what they should, or not.
+for check in passing: failing:-r; do
+    # shellcheck disable=SC2086
+    if examples/checks/check.sh "$program" ${check#*:} 2>&1 | cmp - "examples/checks/${check%:*}.report"; then
+        passed=$((passed + 1))
+    else
+        failed=$((failed + 1))
+        echo "examples/checks/check.sh: the $check one differs from what is stored"
+    fi
+done
+
 echo "$passed passed, $failed failed"
 [ "$failed" -eq 0 ]

@@ -10,6 +10,7 @@ import sys
 import tempfile
 
 import driver
+from tables import FORMATS
 
 PIECE = 16_384  # bytes, as the program reads them
 STEP = "    Given it passes\n"
@@ -48,8 +49,12 @@ OPENED = [
      ["l.steps", "h.hooks", "b.feature", "a.feature"]),
     ([*SUITE, "--", "b.feature", "empty.feature"], 0, ["l.steps", "h.hooks", "b.feature", "empty.feature"]),
     *(([*options, *ARGUMENTS], 0, list(FILES)) for options in (
-        ["--dry-run"], ["--stop"], ["--no-skipped"], ["--explain"], ["--lint"], ["--format", "json"],
-        ["--format", "progress"], ["--tags", "@none"], ["--line", "99"], ["--env", "A=b"])),
+        ["--dry-run"], ["--stop"], ["--no-skipped"], ["--explain"], ["--lint"], *(["--format", it] for it in FORMATS),
+        ["--tags", "@none"], ["--line", "99"], ["--env", "A=b"])),
+    # The files of --file come first, in their order, and each as often as it is named.
+    ([*ARGUMENTS, "--file", "f=bad.feature", "--file=g=l.steps", "--file", "f=bad.feature"], 0,
+     ["bad.feature", "l.steps", "bad.feature", *FILES]),
+    (["--dry-run", "--file", "f=fails.feature", *ARGUMENTS], 0, ["fails.feature", *FILES]),
     (["--stop", "fails.feature", "b.feature"], 1, ["fails.feature", "b.feature"]),
     (["--lint", "fails.feature", "b.feature"], 1, ["fails.feature", "b.feature"]),
     # A file is opened as often as it is named, and under the name that is given.
@@ -64,6 +69,8 @@ OPENED = [
     ([*ARGUMENTS, "--tags", "(", "--lint"], 2, list(FILES)),
     # None is opened after the first that can't be read.
     (["--library", "no", "--hooks", "h.hooks", "b.feature"], 3, ["no"]),
+    ([*ARGUMENTS, "--file", "f=b.feature", "--file", "g=no", "--file", "h=a.feature"], 3, ["b.feature", "no"]),
+    ([*ARGUMENTS, "--file", "f=too_long"], 3, ["too_long"]),
     (["--library", "l.steps", "--hooks", "no", "b.feature"], 3, ["l.steps", "no"]),
     ([*SUITE, "b.feature", "no", "a.feature"], 3, ["l.steps", "h.hooks", "b.feature", "no"]),
     (["b.feature", "too_long", "a.feature"], 3, ["b.feature", "too_long"]),
@@ -78,6 +85,8 @@ OPENED = [
         ["--no-such-option"], ["--library", "l.steps"], ["--hooks", "h.hooks"], ["--format", "xml"], ["--line", "0"],
         ["--stop", "--stop"], ["--lint", "--explain"], ["--lint", "--env", "A=b"], ["--env", "A"], ["--env", "=b"],
         ["--env", "A=b", "--env", "N" * 256 + "=b"], ["--dry-run", "--env", "A"], ["--explain", "--env", "A"],
+        ["--file", "A"], ["--file", "f=b.feature", "--file", "A"], ["--file", "f=b.feature", "--env", "=b"],
+        ["--lint", "--file", "f=b.feature"],
         [b"\xff"])),
     (SUITE, 2, []),
     ([], 2, []),

@@ -10,6 +10,7 @@ import sys
 
 import driver
 from reports import Report, style_of
+from tables import FORMATS
 
 ONE = driver.feature("Given it passes", name="one", scenario="first")
 HOOKS = """before_all:
@@ -25,7 +26,7 @@ CHOSEN_FILES = {
     "b.feature": "@a\n" + ONE + "And it fails\n",
     "c.feature": "@a\n" + ONE,
 }
-STYLES = ([], ["--format", "progress"], ["--format", "json"])
+STYLES = [["--format", it] for it in FORMATS]
 # Arguments and files of the runs, each of which is made in each of the styles.
 RUNS = (
     (["a.feature", "b.feature"], TWO_FILES),

@@ -24,20 +24,19 @@ import sys
 import driver
 import search
 from generator import BYTES, Maker
-from reports import FORMATS, Report, style_of
+from reports import Report, style_of
+from tables import FLAGS, FORMATS, VALUED
 
 COUNT = 2400  # random cases
-VALUED = ("--hooks", "--tags", "--line", "--env", "--library", "--format")  # options with an argument of their own
 OWN_STYLE = {"--format", "--no-skipped", "--dry-run", "--stop"}
 STYLES = [[("--format", it)] for it in FORMATS] + [[]]
 RUN_OPTIONS = [["--no-skipped"], [], ["--dry-run"], [], ["--stop"], ["--no-skipped", "--dry-run", "--stop"], []]
 OPTIONS = [
-    "--hooks", "--hooks=h.hooks", "h.hooks", "--tags", "--line", "--env", "--library", "--", "-",
-    "@a", "~@a,b", "@", ",", "a b", "0", "1", "4294967295", "4294967296", "A=b", "=", "A",
+    *VALUED, *(it for it in FLAGS if it not in ("--explain", "--lint")), *FORMATS, *(f"--format={it}" for it in FORMATS),
+    "--hooks=h.hooks", "h.hooks", "--", "-",
+    "@a", "~@a,b", "@", ",", "a b", "0", "1", "4294967295", "4294967296", "A=b", "=", "A", "A=a.feature",
     "a.feature", "l.steps", "no", "", "--tags=@a", "--tags=", "--env=A=b=c", "--line=3", "--help",
-    "--x", "\u00e9", "--library=l.steps", "\udcff", "--dry-run", "--stop", "--no-skipped",
-    "--format", "json", "progress", "plain", "xml", "--format=json", "--format=progress",
-    "--format=", "--stop=x",
+    "--x", "\u00e9", "--library=l.steps", "\udcff", "xml", "--format=", "--stop=x",
 ]
 # What the random options and the random hooks run.
 OPTION_FILES = {

@@ -28,7 +28,7 @@ def pieces(text):
     """The paragraphs, list items and cells of a page without fenced blocks: each with its line, and whether it is a cell."""
     paragraph, start = [], 0
     for number, line in enumerate([*text.split("\n"), ""], 1):
-        line = line.strip()
+        line = "" if line.startswith("<!--") else line.strip()
         if paragraph and (not line or line.startswith("|") or re.match(r"#|>|[-*] |\d+\. ", line)):
             yield start, plain(" ".join(paragraph)), False
             paragraph = []

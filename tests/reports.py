@@ -12,9 +12,10 @@ import collections
 import json
 import re
 
+from tables import FORMATS
+
 AROUND = "(hooks and cleanups)"
 RULE_AROUND = "(rule, line {}: hooks and cleanups)"
-FORMATS = ("plain", "progress", "json")
 CHARACTERS = {"passed": ".", "failed": "F", "skipped": "S", "untested": "U", "memory": "M"}
 VERDICTS = ("passed", "failed", "skipped", "untested", "memory")
 STEP_STATUSES = ("passed", "failed", "skipped", "undefined", "untested", "memory")
@@ -39,7 +40,7 @@ def style_of(arguments):
     """The style that arguments ask for."""
     known = [it.removeprefix("--format=") for it in arguments if it.startswith("--format=")]
     known += [following for it, following in zip(arguments, arguments[1:]) if it == "--format"]
-    return Style(known[0] if known else "plain", "--no-skipped" in arguments)
+    return Style(known[0] if known else FORMATS[0], "--no-skipped" in arguments)
 
 
 def one_line(text):

@@ -847,6 +847,9 @@ rows({
     "bytes of the name of an option": lambda size: Run(
         one(f'the variable "{letters(size)}" should be "x"'), options=[f"--env={letters(size)}=x"],
         fault="" if 0 < size <= NAME_LIMIT else "bad --env", status=2),
+    "bytes of the name of a file of an option": lambda size: Run(
+        one(f'the file "{letters(size)}" should contain "x"'), files={"x.txt": "x"}, options=[f"--file={letters(size)}=x.txt"],
+        fault="" if 0 < size <= NAME_LIMIT else "bad --file", status=2),
 })
 
 
@@ -856,6 +859,19 @@ def bytes_of_the_text_of_an_option(size):
     made = one(Step("see V", block=quoted(text)), Step("see V", "failed: differs", quoted(other(text))))
     run = with_library(made, OWN_ENTRIES["variable"])
     run.options += [f"--env=V={text}", f"--tags=~@{text}t"]
+    return run
+
+
+@row(also=(TEXT_LIMIT - 1, TEXT_LIMIT, TEXT_LIMIT + 1, FILE_LIMIT + 1))
+def bytes_of_the_file_of_an_option(size):
+    text = letters(size)
+    made = one(Step("see f", block=quoted(text)), Step("see f", "failed: differs", quoted(other(text))))
+    if size > TEXT_LIMIT:
+        return Run(one("it passes"), files={"x.txt": text}, options=["--file=f=x.txt"],
+                   fault=f"x.txt: longer than {TEXT_LIMIT} bytes")
+    run = with_library(made, OWN_ENTRIES["file"])
+    run.files["x.txt"] = text
+    run.options.append("--file=f=x.txt")
     return run
 
 
@@ -885,6 +901,9 @@ growing(1000, {
         one(*(VARIABLE_SEEN.replace("V", f"V{number}").format(number) for number in (0, count - 1)),
             f'the variable "V{count}" should be unset'),
         options=given("--env", (f"V{number}={number}" for number in range(count)))),
+    "files of the run": lambda count: Run(
+        one(*(f'the file "f{number}" should be "x"' for number in (0, count - 1)), f'the file "f{count}" should not exist'),
+        files={"x.txt": "x"}, options=given("--file", (f"f{number}=x.txt" for number in range(count)))),
 })
 
 

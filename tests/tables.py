@@ -1,0 +1,87 @@
+#!/usr/bin/env python3
+"""The tables of the sources, for the tests; and whether what tools/tables.py writes from them is up to date: tables.py
+
+Closes with one line 'N passed, M failed', and with status 0 only if M is 0.
+"""
+
+import importlib.util
+import os
+import re
+import sys
+import tempfile
+
+sys.dont_write_bytecode = True  # nothing is left in the repository
+
+import driver
+
+_spec = importlib.util.spec_from_file_location("tables_of_sources", os.path.join(driver.HOME, "tools", "tables.py"))
+written = importlib.util.module_from_spec(_spec)
+_spec.loader.exec_module(written)
+
+OPTIONS = written.options()
+FORMATS = tuple(written.formats())
+STEPS = written.steps()
+ACTIONS = written.actions()
+# The options by what is given with them.
+FLAGS = [f"--{it.name}" for it in OPTIONS if it.takes == "Nothing"]
+VALUED = [f"--{it.name}" for it in OPTIONS if it.takes != "Nothing"]
+
+# Changes of the tables, and in how many written files each has to be seen.
+CHANGES = (
+    (written.OPTION_TABLE, 'name: "stop"', 'name: "halt"', "halt", 6),
+    (written.OPTION_TABLE, "leave later scenarios untested", "leave others", "leave others", 5),
+    (written.ARGUMENTS, '"progress" => Some', '"dots" => Some', "dots", 3),
+    (written.DEFAULT_FILE, "step it fails =>", "step it breaks =>", "it breaks", 4),
+    (written.ACTION_TABLE, '["name", "n"], ["name", "n"]', '["name", "n"], ["name", "n", "by"]', "{by}", 1),
+)
+
+
+def read(path, home=driver.HOME):
+    return driver.read(os.path.join(home, path)).decode()
+
+
+def unread():
+    """Tables of which tools/tables.py reads other rows than there are."""
+    counts = {"options": (OPTIONS, written.OPTION_TABLE, r"OptionRow \{\n +name:"),
+              "formats": (FORMATS, written.ARGUMENTS, r"=> Some\(Format::"),
+              "steps": (STEPS, written.DEFAULT_FILE, r" => \w+\\n"), "actions": (ACTIONS, written.ACTION_TABLE, r"\n +row!\(")}
+    for name, (rows, path, row) in counts.items():
+        count = len(re.findall(row, read(path)))
+        yield f"tools/tables.py reads {len(rows)} of {count} {name}" if len(rows) != count else ""
+
+
+def not_up_to_date():
+    for path, text in written.texts().items():
+        yield f"{path} isn't what tools/tables.py --write writes" if text != read(path) else ""
+
+
+def copied(folder):
+    """Copies tools/tables.py with all that it reads and writes. Returns how to call the copy."""
+    sources = {written.OPTION_TABLE, written.ARGUMENTS, written.ACTION_TABLE, written.DEFAULT_FILE}
+    for path in ("tools/tables.py", *sources, *written.texts()):
+        driver.write(os.path.join(folder, os.path.dirname(path)), {os.path.basename(path): read(path)})
+    return lambda option: driver.start(sys.executable, [os.path.join(folder, "tools", "tables.py"), option])
+
+
+def unseen(path, old, new, text, files):
+    """What is wrong with a copy in which a table was changed, or nothing."""
+    with tempfile.TemporaryDirectory() as folder:
+        call = copied(folder)
+        if call("--check") != (0, b"", b""):
+            return "tools/tables.py --check finds something in a copy without a change"
+        driver.write(os.path.join(folder, os.path.dirname(path)), {os.path.basename(path): read(path).replace(old, new)})
+        statuses = [call(it)[0] for it in ("--check", "--write", "--check", "--json")]
+        found = [it for it in written.texts() if text in read(it, folder)]
+    return "" if (statuses, len(found)) == ([1, 0, 0, 0], files) else f"{new!r}: statuses {statuses}, seen in {found}"
+
+
+def main():
+    tests = driver.Tests()
+    tests.add_all(unread())
+    tests.add_all(not_up_to_date())
+    tests.add_all(unseen(*it) for it in CHANGES)
+    return tests.close()
+
+
+if __name__ == "__main__":
+    sys.exit(main())

@@ -1,0 +1,381 @@
+#!/usr/bin/env python3
+"""Writes what repeats the tables of the sources: tools/tables.py --write | --check | --json
+
+    --write   renews the man page, the completions, the tables of the guide, the stored help and examples/default.steps
+    --check   names those that differ from what --write would write; the status is 1 if there are any
+    --json    prints the tables: options, formats, steps and actions
+
+The tables are OPTIONS of crates/gk_cli, ACTIONS and DEFAULT_TEXT of crates/gk_steps, and the names in `format_of` of
+crates/gk_cli. A written part is between a line with `tools/tables.py: NAME` and the next line with `tools/tables.py: end`.
+"""
+
+import collections
+import json
+import os
+import re
+import sys
+import textwrap
+
+HOME = os.path.dirname(os.path.dirname(os.path.realpath(__file__)))
+
+# Where the tables are.
+OPTION_TABLE, ARGUMENTS = "crates/gk_cli/src/option_table.rt", "crates/gk_cli/src/arguments.rt"
+ACTION_TABLE, DEFAULT_FILE = "crates/gk_steps/src/action.rt", "crates/gk_steps/src/default_file.rt"
+
+# ---- texts that the sources lack
+
+# What the man page says of an option below its help, unless its row in the source has a comment.
+LONG = {
+    "tags": "A comma means or, and ~ means not.",
+    "line": "N is the line of a scenario's heading, or of a row of an outline's examples.",
+    "env": "Steps see no variable of the real environment.",
+    "file": "PATH is read before the run, and never written. Its text is UTF-8 and has at most 1048576 bytes.",
+    "explain": "Failed hooks and cleanups are explained, too.",
+    "lint": "Each finding is a line NAME:LINE: TEXT. Tags of --tags that appear in no file, and each --line that chooses "
+            "nothing, are listed, too. If the lines of a file can't be read, standard error has the first fault of each such "
+            "file, the faulty line and a fix.",
+}
+# The page of the guide on an option.
+PAGES = {
+    "tags": "choosing.md#tags", "line": "choosing.md#lines", "library": "own_steps.md", "hooks": "hooks.md",
+    "env": "choosing.md#variables-from-the-command-line", "file": "checking.md", "dry-run": "choosing.md#dry-runs",
+    "stop": "choosing.md#stopping-at-the-first-failure", "format": "reports.md#formats", "explain": "explaining.md",
+    "lint": "linting.md",
+}
+# The tables of the guide's page on steps, each with its first action.
+STEP_TABLES = {"write_file": "Files", "set_env": "Variables", "set_value": "Values and numbers", "at_cleanup": "Others"}
+# What the step of an action does, and its reasons for failing.
+DOES = {
+    "write_file": ("writes the file, replacing an old text", "bad name, text too long"),
+    "append_file": ("appends the text", "bad name, absent, text too long"),
+    "remove_file": ("removes the file", "bad name, absent"),
+    "rename_file": ("renames the file, replacing an old `TO`", "absent, bad name (of `TO`)"),
+    "write_files": ("writes a file for each row of a table with the header `name`, `text`",
+                    "no table, bad table, bad name, text too long"),
+    "file_exists": ("checks that it exists", "absent"),
+    "file_absent": ("checks that it doesn't", "present"),
+    "file_is": ("compares the whole text", "absent, differs"),
+    "file_contains": ("looks for the text in the file", "absent, differs"),
+    "set_env": ("sets the variable", "bad name, text too long"),
+    "remove_env": ("removes the variable", "bad name, absent"),
+    "env_is": ("compares the text", "absent, differs"),
+    "env_absent": ("checks that there is none", "present"),
+    "set_value": ("sets the value in the step's layer", "bad name, text too long"),
+    "delete_value": ("deletes it from the step's layer", "bad name, absent, other layer"),
+    "value_is": ("compares the text", "absent, differs"),
+    "value_absent": ("checks that there is none in any layer", "present"),
+    "set_number": ("sets the value to the number", "bad name"),
+    "add_number": ("adds `N`, and sets the sum in the step's layer", "bad name, absent, not a number, out of range"),
+    "number_is": ("compares the number", "absent, not a number, differs"),
+    "at_cleanup": ("registers `STEP` to run as a [cleanup](cleanups.md) when the layer ends", "not allowed here, no such step"),
+    "skip_scenario": ("[skips](cleanups.md) the scenario", "not allowed here"),
+    "pass": ("nothing", ""),
+    "fail": ("fails", "fail step"),
+}
+
+# ---- the tables of the sources
+
+# An option: `takes` is Nothing, Text, Texts or Lines.
+Option = collections.namedtuple("Option", "name takes value heading help long beside_explain beside_lint")
+Step = collections.namedtuple("Step", "type text action")
+Action = collections.namedtuple("Action", "name needs uses")
+
+
+def read(path):
+    with open(os.path.join(HOME, path), encoding="utf-8") as file:
+        return file.read()
+
+
+def literals(code):
+    """The string literals in a piece of code."""
+    return [json.loads(it) for it in re.findall(r'"(?:[^"\\]|\\.)*"', code)]
+
+
+def options():
+    """The options, in the order of the help."""
+    code = read(OPTION_TABLE)
+    constants = dict(re.findall(r'^const (\w+): &str = ("[^"]*");', code, re.M))
+    rows = re.findall(r"((?:^ *//[^\n]*\n)*)^ *OptionRow \{\n(.*?)^ *\}", code.partition("OPTIONS")[2], re.M | re.S)
+    found = []
+    for comment, body in rows:
+        row = dict(re.findall(r"^ *(\w+): (.*?),?\n", re.sub(r":\n\s*", ": ", body), re.M))
+        name, value, heading, help_text = (
+            json.loads(constants.get(it, it)) for it in (row["name"], row["value_name"], row["heading"], row["help"]))
+        long = " ".join(it.strip(" /") for it in comment.splitlines()) or LONG.get(name, "")
+        found.append(Option(name, row["takes"].rpartition(":")[2], value, heading, help_text, long,
+                            row["beside_explain"] == "true", row["beside_lint"] == "true"))
+    return found
+
+
+def formats():
+    """The names of the formats. The first is that of a run without --format."""
+    return re.findall(r'^ *"(\w+)" => Some\(Format::', read(ARGUMENTS), re.M)
+
+
+def default_text():
+    """The text of the built-in library."""
+    found = re.search(r'const DEFAULT_TEXT: &str =\s*("(?:[^"\\]|\\.|\\\n)*");', read(DEFAULT_FILE))
+    return json.loads(re.sub(r"\\\n\s*", "", found[1]))
+
+
+def steps():
+    """The entries of the built-in library."""
+    entries = (it.rpartition(" => ") for it in default_text().splitlines())
+    return [Step(*entry.split(" ", 1), action) for entry, _, action in entries]
+
+
+def actions():
+    """The actions, each with the fields of a pattern that it needs, and all that it uses."""
+    rows = re.findall(r'^ *row!\(("\w+"), \w+, (\[.*?\]), (\[.*?\])\)', read(ACTION_TABLE), re.M)
+    return [Action(json.loads(name), literals(needs), literals(uses)) for name, needs, uses in rows]
+
+
+def given(option):
+    """How an option is written with the name of its value."""
+    return f"--{option.name} {option.value}".strip()
+
+
+def named(options_named, mark="`", word="or"):
+    """Names of options as a list in words."""
+    names = [f"{mark}--{it.name}{mark}" for it in options_named]
+    return f"{', '.join(names[:-1])} {word} {names[-1]}" if names[1:] else names[0]
+
+
+def excluded():
+    """The options that exclude others, each with these."""
+    rows = options()
+    by_name = {it.name: it for it in rows}
+    return [(by_name["explain"], [it for it in rows if not it.beside_explain]),
+            (by_name["lint"], [it for it in rows if not it.beside_lint])]
+
+
+def of_action(action):
+    return [it.text for it in steps() if it.action == action.name]
+
+
+# ---- the man page
+
+def roff(text):
+    return re.sub(r"^(?=[.'])", r"\&", text.replace("\\", r"\e").replace("-", r"\-"), flags=re.M)
+
+
+def roff_of_option(text, option):
+    """The text of an option in the man page, a line for each sentence."""
+    text = roff(text).replace("'", r"\(aq")
+    if option.value:
+        text = re.sub(rf"\b(?:{'|'.join(option.value.split('='))})\b", r"\\fI\g<0>\\fR", text)
+    text = re.sub(r"(?<!\S)\\-\\-[a-z\\-]+", r"\\fB\g<0>\\fR", text)
+    return re.sub(r"(?<=\.) (?=[A-Z\\])", "\n", text)
+
+
+def man_options():
+    heading, refused = None, dict((option.name, others) for option, others in excluded())
+    for option in options():
+        if option.heading != heading:
+            heading = option.heading
+            yield f".SS {heading}"
+        value = rf" \fI{option.value}\fR" if option.value else ""
+        yield f".TP\n\\fB{roff('--' + option.name)}\\fR{value}"
+        yield roff_of_option(f"{option.help}. {option.long}".strip(), option)
+        if option.name in refused:
+            *first, last = (roff(f"--{it.name}") for it in refused[option.name])
+            yield "\n".join(["This can't be used with", *(f".BR {it} ," for it in first[:-1]), f".B {first[-1]}", "or", f".BR {last} ."])
+
+
+def man_steps():
+    yield from [".nf", *(roff(it.text) for it in steps()), ".fi"]
+
+
+# ---- the completions
+
+def short(option):
+    """The help of an option without its details."""
+    return re.split(r"; | \[", option.help)[0]
+
+
+def takes_file(option):
+    return option.value == "FILE"
+
+
+def words_of_bash(kind):
+    """The options that are followed by a file, by a text that isn't completed, or by a word of a list."""
+    return [it for it in options() if it.value and kind == ("file" if takes_file(it) else "word" if it.name == "format" else "text")]
+
+
+def bash():
+    yield f"    local formats='{' '.join(formats())}'"
+    for kind in ("text", "file"):
+        yield f"    local {kind}s=' {' '.join('--' + it.name for it in words_of_bash(kind))} '"
+    yield f"    local options='{' '.join('--' + it.name for it in options())} --help -h --version -V'"
+
+
+def zsh():
+    for option in options():
+        star = "*" if option.takes in ("Texts", "Lines") else ""
+        text = short(option).replace("'", r"'\''")
+        label = option.value if "=" in option.value else option.name
+        value = (f":{label}:_files" if takes_file(option) else f":{label}:({' '.join(formats())})" if option.name == "format"
+                 else f":{label}: " if option.value else "")
+        yield f"    '{star}--{option.name}{'=' * bool(option.value)}[{text}]{value}'"
+
+
+def fish():
+    for option in options():
+        text = short(option).replace("'", r"\'")
+        value = (" -r -F" if takes_file(option) else f" -x -a '{' '.join(formats())}'" if option.name == "format"
+                 else " -x" if option.value else "")
+        yield f"complete -c gherkin_run -l {option.name}{value} -d '{text}'"
+
+
+# ---- the help, as clap prints it
+
+def stored_help(command):
+    """The block of a run that prints the help."""
+    yield from ["```console", f"$ {command}", "Runs the scenarios of feature files", "", "Usage: gherkin_run [OPTIONS] <FILE>...", "",
+                "Arguments:", "  <FILE>...  Feature files, run in this order", "", "Options:", "  -h, --help     Print help",
+                "  -V, --version  Print version"]
+    for heading in dict.fromkeys(it.heading for it in options()):
+        rows = [it for it in options() if it.heading == heading]
+        names = [f"--{it.name} <{it.value}>" if it.value else f"--{it.name}" for it in rows]
+        width = max(map(len, names))
+        yield from ["", f"{heading}:", *(f"      {name:{width}}  {it.help}" for name, it in zip(names, rows))]
+    yield from ["", "Example:", "  gherkin_run --tags @smoke --stop --format progress login.feature cart.feature", "```"]
+
+
+# ---- the guide
+
+def table(header, rows):
+    yield f"| {' | '.join(header)} |"
+    yield "|---" * len(header) + "|"
+    for row in rows:
+        yield "|" + "|".join(f" {it} " if it else " " for it in row) + "|"
+
+
+def code(text):
+    return f"`{text}`"
+
+
+def markdown_of_option(option):
+    """The help of an option in the guide."""
+    words = rf"|\b(?:{'|'.join(formats())})\b" if option.name == "format" else ""
+    text = re.sub(rf"'[^']*'(?!\w)|\S*@\S*[^\s,;]|--[a-z-]+{words}", r"`\g<0>`", option.help)
+    return re.sub(rf"(?<!\S)(?:{'|'.join(option.value.split('='))})\b(?!`)", r"`\g<0>`", text) if option.value else text
+
+
+def guide_options():
+    files = [[code("FILE"), "A feature file; at least one; they run in this order"]]
+    rows = [[f"[`{given(it)}`]({PAGES[it.name]})" if it.name in PAGES else code(given(it)), markdown_of_option(it)] for it in options()]
+    own = [["`--help`, `-h`", "Print the help"], ["`--version`, `-V`", "Print the version"]]
+    yield from table(["Argument", "Means"], [*files, *rows, *own])
+    yield ""
+    yield f"- Only {named([it for it in options() if it.takes in ('Texts', 'Lines')], word='and')} may be given more than once."
+    for option, others in excluded():
+        yield textwrap.fill(f"- {code('--' + option.name)} can't be used with {named(others)}.", 100, subsequent_indent="  ",
+                            break_on_hyphens=False)
+
+
+def upper_fields(text):
+    return re.sub(r"\{(\w+)(?::d)?\}", lambda found: found[1].upper(), text)
+
+
+def reasons(text):
+    """Reasons in code style, without what is in parentheses."""
+    return re.sub(r"(?:^|(?<=, ))[a-z ]*[a-z]", r"`\g<0>`", text)
+
+
+def guide_steps():
+    tables = []
+    for action in actions():
+        if action.name in STEP_TABLES:
+            tables.append((STEP_TABLES[action.name], []))
+        does, fails = DOES[action.name]
+        tables[-1][1].append(["<br>".join(code(upper_fields(it)) for it in of_action(action)), does, reasons(fails)])
+    for number, (heading, rows) in enumerate(tables):
+        yield from ["", *table([heading, "Does", "Can fail with"], rows)][number == 0:]
+
+
+def fields(action):
+    """The fields of an action as its built-in step writes them."""
+    written = dict(it[::-1] for it in re.findall(r"(\{(\w+)(?::d)?\})", " ".join(of_action(action))))
+    return ", ".join(code(written.get(it, f"{{{it}}}")) for it in action.uses)
+
+
+def shortened(texts):
+    """Steps of one action: of the later ones only the words that differ from the first."""
+    first, *others = texts
+    yield code(first)
+    for other in others:
+        equal = [one == two for one, two in zip(first.split(" "), other.split(" "))]
+        yield code(f".. {' '.join(other.split(' ')[equal.index(False):])}")
+
+
+def guide_actions():
+    yield from table(["Action", "Fields", "The built-in step"],
+                     ([code(it.name), fields(it), ", ".join(shortened(of_action(it)))] for it in actions()))
+
+
+# ---- writing and checking
+
+PARTS = {
+    "share/gherkin_run.1": {"options": man_options, "steps": man_steps},
+    "share/gherkin_run.bash": {"options": bash},
+    "share/_gherkin_run": {"options": zsh},
+    "share/gherkin_run.fish": {"options": fish},
+    "docs/guide/command_line.md": {"options": guide_options},
+    "docs/guide/steps.md": {"steps": guide_steps},
+    "docs/guide/library_files.md": {"actions": guide_actions},
+    "tests/runs/arguments.md": {
+        "--help": lambda: stored_help("gherkin_run --help"),
+        "-h": lambda: stored_help("gherkin_run -h"),
+        "--help among others": lambda: stored_help("gherkin_run a.feature --help no.feature"),
+    },
+}
+MARKED = re.compile(r"(^[^\n]*tools/tables\.py: ([^\n]*?)(?: -->)?\n)(.*?)(^[^\n]*tools/tables\.py: end)", re.M | re.S)
+
+
+def renewed(path):
+    """The text that a file with written parts should have."""
+    parts, text = PARTS[path], read(path)
+    if [it[2] for it in MARKED.finditer(text)] != list(parts):
+        raise ValueError(f"{path} doesn't have the parts {', '.join(parts)}, in this order")
+    return MARKED.sub(lambda found: found[1] + "".join(f"{it}\n" for it in parts[found[2]]()) + found[4], text)
+
+
+def texts():
+    """The text that each written file should have."""
+    return {**{path: renewed(path) for path in PARTS}, "examples/default.steps": default_text()}
+
+
+def differing():
+    return {path: text for path, text in texts().items() if read(path) != text}
+
+
+def write():
+    for path, text in differing().items():
+        with open(os.path.join(HOME, path), "w", encoding="utf-8") as file:
+            file.write(text)
+        print(path)
+
+
+def check():
+    found = differing()
+    print("".join(f"{path} isn't what tools/tables.py --write writes\n" for path in found), end="")
+    return 1 if found else 0
+
+
+def as_json():
+    found = {"options": [it._asdict() for it in options()], "formats": formats(), "steps": [it._asdict() for it in steps()],
+             "actions": [it._asdict() for it in actions()]}
+    print(json.dumps(found, indent=2))
+
+
+def main():
+    commands = {"--write": write, "--check": check, "--json": as_json}
+    if len(sys.argv) != 2 or sys.argv[1] not in commands:
+        print(__doc__.split("\n")[0], file=sys.stderr)
+        return 2
+    return commands[sys.argv[1]]()
+
+
+if __name__ == "__main__":
+    sys.exit(main())
