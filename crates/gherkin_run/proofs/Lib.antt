@@ -1,5 +1,6 @@
 -- Lemmas.
 mod FilesLemmas
 mod FaultListingLemmas
+mod WorldFilesLemmas
 mod ProgramLemmas
 mod WorkedHelp

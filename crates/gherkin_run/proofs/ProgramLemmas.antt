@@ -32,11 +32,11 @@ use Rattle.gk_cli.specs.declared.arguments.Words.{Words}
 use Rattle.gk_cli.specs.declared.run_fault.RunFault.{RunFault}
 use Rattle.gk_cli.specs.declared.run_fault.RunFault.TheVariants as run
 use Rattle.gherkin_run.specs.Files.{AreRead, IsFaultOfFiles, IsFileFault, Reading, StopsReading, files_in_order, name_of}
-use Rattle.gherkin_run.specs.Program.{AreGiven, AreLeft, AreTaken, IsFaultAs, IsFaultOfGiven, IsFaultOfRun, IsFaultOfVariable, IsFlushedRun, IsGiven, IsRefused, IsRun, IsShown, IsTextFault, SaysCalls, SaysCallsOfRun, IsWrittenAs, SaysFaultAs, IsStoppedAs, names_given, SaysProgram, SaysSuite, SaysVariables, contents_given, variables_given, with_variables}
-use Rattle.gherkin_run.proofs.FilesLemmas.{stops_for_memory}
+use Rattle.gherkin_run.specs.Program.{AreGiven, AreLeft, AreTaken, IsFaultAs, IsFaultOfGiven, IsFaultOfRun, IsFaultOfVariable, IsFlushedRun, IsGiven, IsRefused, IsRun, IsShown, IsTextFault, SaysCalls, SaysCallsOfRun, IsWrittenAs, SaysFaultAs, IsStoppedAs, names_given, IsRunFrom, SaysProgram, SaysRunFrom, SaysSuite, SaysVariables, contents_given, files_to_put, variables_given, with_variables}
+use Rattle.gherkin_run.specs.WorldFiles.{ArePut, StopsPutting}
 use Rattle.gherkin_run.specs.FaultListing.{IsListedAs}
 use Rattle.gherkin_run.specs.declared.fault.Fault.{Fault}
-use Rattle.gherkin_run.specs.declared.fault.Fault.TheVariants.{NotUtf8, Usage, Env, CannotRead, TooLong, OfRun, Unread, Write, Memory}
+use Rattle.gherkin_run.specs.declared.fault.Fault.TheVariants.{NotUtf8, Usage, Env, File, NotText, TextTooLong, CannotRead, TooLong, OfRun, Unread, Write, Memory}
 
 -- what holds of a result, by what is known of it
 pub if_ok_both : {T E : Type 0} (P Q : T → Type 0) (r : Result T E) → IfOk r P → IfOk r Q → IfOk r (λ x. P x × Q x)
@@ -257,8 +257,8 @@ refused_here P f xs i x lt is here =
 
 pub of_variables : {S : Type 0} (r : Reading S) (w : Words) (s : S) (d : Device) (variables : List (String Global × String Global)) (old new : SandboxValue) (fault : Fault) → variables ≡ w.env.items
     → SaysVariables (map pair_value variables) old new (Err fault) → SaysProgram r w s s d d fault
-of_variables r w s d variables old new Env same says = (subst (λ xs. Any IsRefused (map pair_value xs)) same says, refl)
-of_variables r w s d variables old new Memory same says = inl (untouched d, stops_for_memory r s (names_given w) Memory refl)
+of_variables r w s d variables old new Env same says = inl (subst (λ xs. Any IsRefused (map pair_value xs)) same says, refl, untouched d)
+of_variables r w s d variables old new Memory same says = inl (refl, untouched d)
 of_variables r w s d variables old new _ same says = absurd says
 
 pub calls_of_variables : (d : Device) (variables : List PairValue) (old new : SandboxValue) (fault : Fault) → SaysVariables variables old new (Err fault) → SaysCallsOfRun d d fault
@@ -268,31 +268,31 @@ calls_of_variables d variables old new _ says = absurd says
 
 -- ---- a fault of a file
 
-from_files : {S : Type 0} (r : Reading S) (w : Words) (a b : S) (d : Device) (fault : Fault) → AreTaken (variables_given w) → StopsReading r a (names_given w) b fault
-    → Any (λ name. IsFileFault (string_bytes name) fault) w.files.items → SaysProgram r w a b d d fault
-from_files r w a b d (CannotRead other) taken stops h = record { given = inr (inr h); taken = taken; stops = stops }
-from_files r w a b d (TooLong other) taken stops h = record { given = inr (inr h); taken = taken; stops = stops }
-from_files r w a b d Memory taken stops h = inl (untouched d, stops)
-from_files r w a b d _ taken stops h = absurd h.4
+from_files : {S : Type 0} (r : Reading S) (w : Words) (c : Contents) (a b : S) (d : Device) (fault : Fault) → StopsReading r a (names_given w) b fault
+    → Any (λ name. IsFileFault (string_bytes name) fault) w.files.items → SaysRunFrom r w c a b d d fault
+from_files r w c a b d (CannotRead other) stops h = record { given = inr (inr h); stops = stops }
+from_files r w c a b d (TooLong other) stops h = record { given = inr (inr h); stops = stops }
+from_files r w c a b d Memory stops h = inl (untouched d, stops)
+from_files r w c a b d _ stops h = absurd h.4
 
 no_file : (name : Option (String Global)) → IsSomeAnd name (λ n. ⊥) → ⊥
 no_file None says = says
 no_file (Some n) says = says
 
 -- a fault of the library file or of the hooks file
-from_named : {S : Type 0} (r : Reading S) (w : Words) (a b : S) (d : Device) (name : Option (String Global)) (fault : Fault) → ((file : List ℕ) → IsSomeAnd name (λ n. file ≡ string_bytes n) → IsGiven w file)
-    → AreTaken (variables_given w) → StopsReading r a (names_given w) b fault → IsSomeAnd name (λ n. IsFileFault (string_bytes n) fault) → SaysProgram r w a b d d fault
-from_named r w a b d name (CannotRead other) given taken stops says = record { given = given (string_bytes other) says; taken = taken; stops = stops }
-from_named r w a b d name (TooLong other) given taken stops says = record { given = given (string_bytes other) says; taken = taken; stops = stops }
-from_named r w a b d name Memory given taken stops says = inl (untouched d, stops)
-from_named r w a b d name _ given taken stops says = absurd (no_file name says)
+from_named : {S : Type 0} (r : Reading S) (w : Words) (c : Contents) (a b : S) (d : Device) (name : Option (String Global)) (fault : Fault) → ((file : List ℕ) → IsSomeAnd name (λ n. file ≡ string_bytes n) → IsGiven w file)
+    → StopsReading r a (names_given w) b fault → IsSomeAnd name (λ n. IsFileFault (string_bytes n) fault) → SaysRunFrom r w c a b d d fault
+from_named r w c a b d name (CannotRead other) given stops says = record { given = given (string_bytes other) says; stops = stops }
+from_named r w c a b d name (TooLong other) given stops says = record { given = given (string_bytes other) says; stops = stops }
+from_named r w c a b d name Memory given stops says = inl (untouched d, stops)
+from_named r w c a b d name _ given stops says = absurd (no_file name says)
 
 -- a fault of one of the files
-pub from_run_files : {S : Type 0} (r : Reading S) (w : Words) (a b : S) (d : Device) (fault : Fault) → AreTaken (variables_given w) → StopsReading r a (names_given w) b fault
-    → IsFaultOfFiles w.library w.hooks w.files.items fault → SaysProgram r w a b d d fault
-from_run_files r w a b d fault taken stops (inl h) = from_named r w a b d w.library fault (λ file is. inl is) taken stops h
-from_run_files r w a b d fault taken stops (inr (inl h)) = from_named r w a b d w.hooks fault (λ file is. inr (inl is)) taken stops h
-from_run_files r w a b d fault taken stops (inr (inr h)) = from_files r w a b d fault taken stops h
+pub from_run_files : {S : Type 0} (r : Reading S) (w : Words) (c : Contents) (a b : S) (d : Device) (fault : Fault) → StopsReading r a (names_given w) b fault
+    → IsFaultOfFiles w.library w.hooks w.files.items fault → SaysRunFrom r w c a b d d fault
+from_run_files r w c a b d fault stops (inl h) = from_named r w c a b d w.library fault (λ file is. inl is) stops h
+from_run_files r w c a b d fault stops (inr (inl h)) = from_named r w c a b d w.hooks fault (λ file is. inr (inl is)) stops h
+from_run_files r w c a b d fault stops (inr (inr h)) = from_files r w c a b d fault stops h
 
 -- then standard output is not called
 pub calls_of_files : (library hooks : Option (String Global)) (names : List (String Global)) (d : Device) (fault : Fault) → IsFaultOfFiles library hooks names fault → SaysCallsOfRun d d fault
@@ -309,6 +309,9 @@ abbrev IsSuiteFault : Fault → Type 0
 IsSuiteFault NotUtf8 = ⊥
 IsSuiteFault (Usage e) = ⊥
 IsSuiteFault Env = ⊥
+IsSuiteFault File = ⊥
+IsSuiteFault (NotText name) = ⊥
+IsSuiteFault (TextTooLong name) = ⊥
 IsSuiteFault (CannotRead name) = ⊥
 IsSuiteFault (TooLong name) = ⊥
 IsSuiteFault _ = Unit {0}
@@ -344,17 +347,17 @@ suite_named : (mode : Mode) (files : FilesValue) (r : Request) (c : Contents) (o
 suite_named mode files r c old new fault (inl says) = fault_as mode files says.0 fault says.1
 suite_named mode files r c old new fault (inr unflushed) = subst IsSuiteFault (sym unflushed.named) tt
 
-of_given : {S : Type 0} (r : Reading S) (w : Words) (a b : S) (old new : Device) (fault : Fault) → IsSuiteFault fault → IsFaultOfGiven r w a b old new fault → SaysProgram r w a b old new fault
-of_given r w a b old new (OfRun name f) is h = h
-of_given r w a b old new (Unread status lines) is h = h
-of_given r w a b old new Write is h = h
-of_given r w a b old new Memory is h = inr h
-of_given r w a b old new _ is h = absurd is
+of_given : {S : Type 0} (r : Reading S) (w : Words) (c : Contents) (a b : S) (old new : Device) (fault : Fault) → IsSuiteFault fault → IsFaultOfGiven r w c a b old new fault → SaysRunFrom r w c a b old new fault
+of_given r w c a b old new (OfRun name f) is h = h
+of_given r w c a b old new (Unread status lines) is h = h
+of_given r w c a b old new Write is h = h
+of_given r w c a b old new Memory is h = inr h
+of_given r w c a b old new _ is h = absurd is
 
-pub of_suite : {S : Type 0} (r : Reading S) (w : Words) (a b : S) (files : FilesValue) (old new : Device) (fault : Fault) → AreGiven w files → AreRead r a (files_in_order files) b → AreTaken (variables_given w)
-    → SaysSuite w.mode files (request_of_files w.options files) (contents_given w) old new fault → SaysProgram r w a b old new fault
-of_suite r w a b files old new fault given read taken says =
-    of_given r w a b old new fault (suite_named w.mode files _ _ old new fault says) record { files = files; given = given; read = read; taken = taken; says = says }
+pub of_suite : {S : Type 0} (r : Reading S) (w : Words) (c : Contents) (a b : S) (files : FilesValue) (old new : Device) (fault : Fault) → AreGiven w files → AreRead r a (files_in_order files) b
+    → SaysSuite w.mode files (request_of_files w.options files) c old new fault → SaysRunFrom r w c a b old new fault
+of_suite r w c a b files old new fault given read says =
+    of_given r w c a b old new fault (suite_named w.mode files _ _ old new fault says) record { files = files; given = given; read = read; says = says }
 
 -- ---- the run of the files
 
@@ -385,18 +388,46 @@ put_in w start c variables put new same =
     put ∙ ap (λ s. with_variables s.now (map pair_value variables)) new ∙ ap (λ xs. with_variables nothing_yet (map pair_value xs)) same
 
 pub runs : {S : Type 0} (r : Reading S) (w : Words) (a b : S) (files : FilesValue) (old new : Device) (c : Contents) (result : Result ℕ Fault) → AreGiven w files → AreRead r a (files_in_order files) b
-    → AreTaken (variables_given w) → c ≡ contents_given w → IfOk result (IsFlushedRun w.mode files (request_of_files w.options files) c old new) → IfOk result (IsRun r w a b old new)
-runs r w a b files old new c (Err e) given read taken is run = tt
-runs r w a b files old new c (Ok status) given read taken is run = record {
-  files = files;
-  given = given;
-  read = read;
-  taken = taken;
-  run = subst (λ x. IsFlushedRun w.mode files (request_of_files w.options files) x old new status) is run;
-}
+    → IfOk result (IsFlushedRun w.mode files (request_of_files w.options files) c old new) → IfOk result (IsRunFrom r w c a b old new)
+runs r w a b files old new c (Err e) given read run = tt
+runs r w a b files old new c (Ok status) given read run = record { files = files; given = given; read = read; run = run }
 
 pub fails : {S : Type 0} (r : Reading S) (w : Words) (a b : S) (files : FilesValue) (old new : Device) (c : Contents) (result : Result ℕ Fault) → AreGiven w files → AreRead r a (files_in_order files) b
-    → AreTaken (variables_given w) → c ≡ contents_given w → IfErr result (SaysSuite w.mode files (request_of_files w.options files) c old new) → IfErr result (SaysProgram r w a b old new)
-fails r w a b files old new c (Err e) given read taken is says =
-    of_suite r w a b files old new e given read taken (subst (λ x. SaysSuite w.mode files (request_of_files w.options files) x old new e) is says)
-fails r w a b files old new c (Ok status) given read taken is says = tt
+    → IfErr result (SaysSuite w.mode files (request_of_files w.options files) c old new) → IfErr result (SaysRunFrom r w c a b old new)
+fails r w a b files old new c (Err e) given read says = of_suite r w c a b files old new e given read says
+fails r w a b files old new c (Ok status) given read says = tt
+
+-- ---- the files that are put
+
+-- the files that were put are those that were given
+pub put_from : {S : Type 0} (r : Reading S) (w : Words) (a b : S) (c d : Contents) (files : List (String Global × String Global)) → files ≡ w.world_files.items → c ≡ contents_given w
+    → ArePut r (map pair_value files) a b c d → ArePut r (files_to_put w) a b (contents_given w) d
+put_from r w a b c d files same is put = subst (λ x. ArePut r (files_to_put w) a b x d) is (subst (λ xs. ArePut r (map pair_value xs) a b c d) same put)
+
+pub stops_from : {S : Type 0} (r : Reading S) (w : Words) (a b : S) (d : Device) (files : List (String Global × String Global)) (fault : Fault) → files ≡ w.world_files.items → AreTaken (variables_given w)
+    → StopsPutting r (map pair_value files) a b fault → SaysProgram r w a b d d fault
+stops_from r w a b d files fault same taken stops = inr (inl record {
+  taken = taken;
+  stops = subst (λ xs. StopsPutting r (map pair_value xs) a b fault) same stops;
+  untouched = untouched d;
+})
+
+-- then standard output is not called
+pub calls_of_putting : {S : Type 0} (r : Reading S) (given : List PairValue) (a b : S) (d : Device) (fault : Fault) → StopsPutting r given a b fault → SaysCallsOfRun d d fault
+calls_of_putting r given a b d File stops = untouched d
+calls_of_putting r given a b d (CannotRead name) stops = untouched d
+calls_of_putting r given a b d (NotText name) stops = untouched d
+calls_of_putting r given a b d (TextTooLong name) stops = untouched d
+calls_of_putting r given a b d Memory stops = inl (untouched d)
+calls_of_putting r given a b d _ stops = absurd stops.stops
+
+-- a run from the contents with the files is what was asked for
+pub runs_from : {S : Type 0} (r : Reading S) (w : Words) (a b e : S) (old new : Device) (c : Contents) (result : Result ℕ Fault) → AreTaken (variables_given w) → ArePut r (files_to_put w) a b (contents_given w) c
+    → IfOk result (IsRunFrom r w c b e old new) → IfOk result (IsRun r w a e old new)
+runs_from r w a b e old new c (Err f) taken put run = tt
+runs_from r w a b e old new c (Ok status) taken put run = record { taken = taken; start = b; contents = c; put = put; run = run }
+
+pub fails_from : {S : Type 0} (r : Reading S) (w : Words) (a b e : S) (old new : Device) (c : Contents) (result : Result ℕ Fault) → AreTaken (variables_given w) → ArePut r (files_to_put w) a b (contents_given w) c
+    → IfErr result (SaysRunFrom r w c b e old new) → IfErr result (SaysProgram r w a e old new)
+fails_from r w a b e old new c (Err f) taken put says = inr (inr record { taken = taken; start = b; contents = c; put = put; says = says })
+fails_from r w a b e old new c (Ok status) taken put says = tt

@@ -4,7 +4,7 @@ use Rattle.gk_cli.specs.FaultLine.{fault_line}
 use Rattle.gk_cli.specs.RunFault.{status_of_fault}
 use Rattle.gk_cli.specs.declared.run_fault.RunFault.{RunFault}
 use Rattle.gherkin_run.specs.declared.fault.Fault.{Fault}
-use Rattle.gherkin_run.specs.declared.fault.Fault.TheVariants.{NotUtf8, Usage, Env, CannotRead, TooLong, OfRun, Unread, Write, Memory}
+use Rattle.gherkin_run.specs.declared.fault.Fault.TheVariants.{NotUtf8, Usage, Env, File, NotText, TextTooLong, CannotRead, TooLong, OfRun, Unread, Write, Memory}
 
 -- The text and the status of a fault. There is no text if it is clap's own, or has the faults of all files.
 pub record FaultRow : Type 0 where
@@ -20,6 +20,9 @@ abbrev pub row_of : Fault → FaultRow
 row_of NotUtf8 = says (codes "not UTF-8") 2
 row_of (Usage error) = record { text = None; status = 2 }
 row_of Env = says (codes "bad --env") 2
+row_of File = says (codes "bad --file") 2
+row_of (NotText f) = says (string_bytes f ++ codes ": not UTF-8") 3
+row_of (TextTooLong f) = says (string_bytes f ++ codes ": longer than 1048576 bytes") 3
 row_of (CannotRead f) = says (string_bytes f ++ codes ": cannot read") 3
 row_of (TooLong f) = says (string_bytes f ++ codes ": longer than 16777216 bytes") 3
 row_of (OfRun name fault) = says (fault_line (option_map string_bytes name) fault) (status_of_fault fault)

@@ -2,4 +2,5 @@
 pub mod Fault
 pub mod Files
 pub mod FaultListing
+pub mod WorldFiles
 pub mod Program

@@ -31,7 +31,8 @@ use Rattle.gk_cli.specs.declared.run_fault.RunFault.TheVariants as run
 use Rattle.gherkin_run.specs.FaultListing.{IsListedAs}
 use Rattle.gherkin_run.specs.Files.{AreRead, Reading, StopsReading, files_in_order, names_in_order}
 use Rattle.gherkin_run.specs.declared.fault.Fault.{Fault}
-use Rattle.gherkin_run.specs.declared.fault.Fault.TheVariants.{NotUtf8, Usage, Env, CannotRead, TooLong, OfRun, Write, Memory}
+use Rattle.gherkin_run.specs.WorldFiles.{ArePut, StopsPutting}
+use Rattle.gherkin_run.specs.declared.fault.Fault.TheVariants.{NotUtf8, Usage, Env, File, NotText, TextTooLong, CannotRead, TooLong, OfRun, Write, Memory}
 use Rattle.gherkin_run.specs.declared.program.Asked.{Asked}
 use Rattle.gherkin_run.specs.declared.program.Asked.TheVariants.{Help, Run}
 use Rattle.gherkin_run.specs.declared.program.Manner.{Manner}
@@ -53,6 +54,7 @@ SaysAsked arguments (Ok (Help e)) = IsAskedFor e × IsAmong (kind_of e) (faults_
 SaysAsked arguments (Ok (Run w)) = SaysArguments arguments (Ok w)
 SaysAsked arguments (Err (Usage e)) = (IsAskedFor e → ⊥) × IsAmong (kind_of e) (faults_in arguments)
 SaysAsked arguments (Err Env) = SaysArguments arguments (Err words.Env)
+SaysAsked arguments (Err File) = SaysArguments arguments (Err words.File)
 SaysAsked arguments (Err Memory) = Unit {0}
 SaysAsked arguments (Err _) = ⊥
 
@@ -206,7 +208,7 @@ pub record AreGiven (w : Words) (files : FilesValue) : Type 0 where
 abbrev pub variables_given : Words → List PairValue
 variables_given w = map pair_value w.env.items
 
--- The contents that a run begins with: only the variables.
+-- The contents with the variables alone.
 abbrev pub contents_given : Words → Contents
 contents_given w = with_variables nothing_yet (variables_given w)
 
@@ -224,41 +226,79 @@ IsRunOfFiles manner files contents old new status =
 abbrev pub names_given : Words → List (List ℕ)
 names_given w = names_in_order w.library w.hooks w.files.items
 
--- The variables are taken. The given files, and no others, were read from the system, in order. The output and the status are those of one run of the bytes that it returned.
-pub record IsRun {S : Type 0} (reads : Reading S) (w : Words) (before after : S) (old new : Device) (status : ℕ) : Type 0 where
+-- The files to be put into the world: the name that each gets there, and its path.
+abbrev pub files_to_put : Words → List PairValue
+files_to_put w = map pair_value w.world_files.items
+
+-- The given files, and no others, were read from the system, in order. The output and the status are those of one run of the bytes that it returned, which begins with these contents.
+pub record IsRunFrom {S : Type 0} (reads : Reading S) (w : Words) (contents : Contents) (before after : S) (old new : Device) (status : ℕ) : Type 0 where
   pub files : FilesValue
   pub given : AreGiven w files
   pub read : AreRead reads before (files_in_order files) after
+  pub run : IsFlushedRun w.mode files (request_of_files w.options files) contents old new status
+
+-- The variables are taken. Then each file of `--file` was read from the system and put under its name, in order. The rest is one run that begins with these contents.
+pub record IsRun {S : Type 0} (reads : Reading S) (w : Words) (before after : S) (old new : Device) (status : ℕ) : Type 0 where
   pub taken : AreTaken (variables_given w)
-  pub run : IsFlushedRun w.mode files (request_of_files w.options files) (contents_given w) old new status
+  pub start : S
+  pub contents : Contents
+  pub put : ArePut reads (files_to_put w) before start (contents_given w) contents
+  pub run : IsRunFrom reads w contents start after old new status
 
 -- A file of this name was given.
 abbrev pub IsGiven : Words → List ℕ → Type 0
 IsGiven w name = IsSomeAnd w.library (λ file. name ≡ string_bytes file) ⊎ (IsSomeAnd w.hooks (λ file. name ≡ string_bytes file) ⊎ Any (λ file. name ≡ string_bytes file) w.files.items)
 
--- A fault of the run of the given files, with the bytes that the system returned. The variables are taken.
-pub record IsFaultOfGiven {S : Type 0} (reads : Reading S) (w : Words) (before after : S) (old new : Device) (fault : Fault) : Type 0 where
+-- A fault of the run of the given files, with the bytes that the system returned.
+pub record IsFaultOfGiven {S : Type 0} (reads : Reading S) (w : Words) (contents : Contents) (before after : S) (old new : Device) (fault : Fault) : Type 0 where
   pub files : FilesValue
   pub given : AreGiven w files
   pub read : AreRead reads before (files_in_order files) after
-  pub taken : AreTaken (variables_given w)
-  pub says : SaysSuite w.mode files (request_of_files w.options files) (contents_given w) old new fault
+  pub says : SaysSuite w.mode files (request_of_files w.options files) contents old new fault
 
--- A given file is the first that the system didn't return, and this is its fault. No file was read after it. The variables are taken.
+-- A given file is the first that the system didn't return, and this is its fault. No file was read after it.
 pub record IsFaultOfName {S : Type 0} (reads : Reading S) (w : Words) (before after : S) (name : List ℕ) (fault : Fault) : Type 0 where
   pub given : IsGiven w name
-  pub taken : AreTaken (variables_given w)
   pub stops : StopsReading reads before (names_given w) after fault
 
--- What each fault says of what was asked for. At a bad variable the system is unchanged. A file that can't be read is the first such file. If memory was refused, nothing was written and reading stopped, or all files were read and the fault is the run's.
+-- What each fault of a run from these contents says. A file that can't be read is the first such file. If memory was refused, nothing was written and reading stopped, or all files were read and the fault is the run's.
+abbrev pub SaysRunFrom : {S : Type 0} → Reading S → Words → Contents → S → S → Device → Device → Fault → Type 0
+SaysRunFrom reads w contents before after old new NotUtf8 = ⊥
+SaysRunFrom reads w contents before after old new (Usage e) = ⊥
+SaysRunFrom reads w contents before after old new Env = ⊥
+SaysRunFrom reads w contents before after old new File = ⊥
+SaysRunFrom reads w contents before after old new (NotText name) = ⊥
+SaysRunFrom reads w contents before after old new (TextTooLong name) = ⊥
+SaysRunFrom reads w contents before after old new (CannotRead name) = IsFaultOfName reads w before after (string_bytes name) (CannotRead name)
+SaysRunFrom reads w contents before after old new (TooLong name) = IsFaultOfName reads w before after (string_bytes name) (TooLong name)
+SaysRunFrom reads w contents before after old new Memory = (IsUntouched old new × StopsReading reads before (names_given w) after Memory) ⊎ IsFaultOfGiven reads w contents before after old new Memory
+SaysRunFrom reads w contents before after old new fault = IsFaultOfGiven reads w contents before after old new fault
+
+-- A variable is refused, or memory. The system is unchanged, and standard output was not called.
+abbrev pub IsFaultOfVariables : {S : Type 0} → Words → S → S → Device → Device → Fault → Type 0
+IsFaultOfVariables w before after old new Env = Any IsRefused (variables_given w) × (before ≡ after) × IsUntouched old new
+IsFaultOfVariables w before after old new Memory = (before ≡ after) × IsUntouched old new
+IsFaultOfVariables w before after old new fault = ⊥
+
+-- The variables are taken, a file of `--file` is not put, and standard output was not called.
+pub record IsFaultOfPutting {S : Type 0} (reads : Reading S) (w : Words) (before after : S) (old new : Device) (fault : Fault) : Type 0 where
+  pub taken : AreTaken (variables_given w)
+  pub stops : StopsPutting reads (files_to_put w) before after fault
+  pub untouched : IsUntouched old new
+
+-- The variables are taken, the files of `--file` are put, and then the run has this fault.
+pub record IsFaultOfRunning {S : Type 0} (reads : Reading S) (w : Words) (before after : S) (old new : Device) (fault : Fault) : Type 0 where
+  pub taken : AreTaken (variables_given w)
+  pub start : S
+  pub contents : Contents
+  pub put : ArePut reads (files_to_put w) before start (contents_given w) contents
+  pub says : SaysRunFrom reads w contents start after old new fault
+
+-- What each fault says of what was asked for: it is one of the variables, of the files of `--file`, or of the run.
 abbrev pub SaysProgram : {S : Type 0} → Reading S → Words → S → S → Device → Device → Fault → Type 0
-SaysProgram reads w before after old new NotUtf8 = ⊥
-SaysProgram reads w before after old new (Usage e) = ⊥
-SaysProgram reads w before after old new Env = Any IsRefused (variables_given w) × (before ≡ after)
-SaysProgram reads w before after old new (CannotRead name) = IsFaultOfName reads w before after (string_bytes name) (CannotRead name)
-SaysProgram reads w before after old new (TooLong name) = IsFaultOfName reads w before after (string_bytes name) (TooLong name)
-SaysProgram reads w before after old new Memory = (IsUntouched old new × StopsReading reads before (names_given w) after Memory) ⊎ IsFaultOfGiven reads w before after old new Memory
-SaysProgram reads w before after old new fault = IsFaultOfGiven reads w before after old new fault
+SaysProgram reads w before after old new fault =
+    IsFaultOfVariables w before after old new fault
+    ⊎ (IsFaultOfPutting reads w before after old new fault ⊎ IsFaultOfRunning reads w before after old new fault)
 
 -- What was asked for was done. For help, some text was written and flushed, with status 0, and the system is unchanged. Otherwise there was a run.
 abbrev pub IsDone : {S : Type 0} → Reading S → Asked → S → S → Device → Device → ℕ → Type 0

@@ -16,6 +16,16 @@ pub enum Fault {
     Usage(clap::Error),
     /// An `--env` has no `=`, a bad name, or a text that is too long.
     Env,
+    /// A `--file` has no `=`, or a bad name.
+    File,
+    /// The file of a `--file` isn't UTF-8.
+    NotText {
+        name: String,
+    },
+    /// The file of a `--file` is longer than a text may be.
+    TextTooLong {
+        name: String,
+    },
     /// The file can't be opened or read.
     CannotRead {
         name: String,
@@ -48,8 +58,12 @@ impl Fault {
         ensures { result ≡ (row_of self.now).status }
     {
         match self {
-            Fault::NotUtf8 | Fault::Usage(_) | Fault::Env => 2,
-            Fault::CannotRead { .. } | Fault::TooLong { .. } | Fault::Write => 3,
+            Fault::NotUtf8 | Fault::Usage(_) | Fault::Env | Fault::File => 2,
+            Fault::NotText { .. }
+            | Fault::TextTooLong { .. }
+            | Fault::CannotRead { .. }
+            | Fault::TooLong { .. }
+            | Fault::Write => 3,
             Fault::OfRun { fault, .. } => fault.status(),
             Fault::Unread { status, .. } => *status,
             Fault::Memory => 4,
@@ -96,6 +110,11 @@ impl fmt::Display for Fault {
             Fault::NotUtf8 => f.write_str("gherkin_run: not UTF-8"),
             Fault::Usage(error) => write!(f, "{error}"),
             Fault::Env => f.write_str("gherkin_run: bad --env"),
+            Fault::File => f.write_str("gherkin_run: bad --file"),
+            Fault::NotText { name } => write!(f, "gherkin_run: {name}: not UTF-8"),
+            Fault::TextTooLong { name } => {
+                write!(f, "gherkin_run: {name}: longer than 1048576 bytes")
+            }
             Fault::CannotRead { name } => write!(f, "gherkin_run: {name}: cannot read"),
             Fault::TooLong { name } => {
                 write!(f, "gherkin_run: {name}: longer than 16777216 bytes")

@@ -10,6 +10,7 @@ mod fault;
 mod fault_listing;
 mod files;
 mod program;
+mod world_files;
 
 use fault::Fault;
 use files::Machine;

@@ -8,11 +8,12 @@ ghost use Rattle.gk_cli.specs.Source.{source_value};
 ghost use Rattle.gk_cli.specs.SuiteFiles.{suite_value, request_of_files};
 ghost use Rattle.gk_cli.specs.FaultNotes.{name_at_fault};
 ghost use Rattle.gherkin_run.specs.Fault.{line_of, said_line};
-ghost use Rattle.gherkin_run.specs.Program.{SaysAsked, SaysError, IsTextFault, IsHelpFault, IsArgumentsFault, IsFaultOfVariable, SaysVariables, IsFaultOfRun, IsFaultAs, AreLeft, IsRunOfFiles, IsWrittenAs, SaysFaultAs, SaysRun, SaysCalls, SaysCallsOfRun, SaysProgram, IsRun, IsShown, IsHelp, IsDoneFor, IsFaultFor, IsDoneForSome, IsFaultForSome};
+ghost use Rattle.gherkin_run.specs.Program.{SaysAsked, SaysError, IsTextFault, IsHelpFault, IsArgumentsFault, IsFaultOfVariable, SaysVariables, IsFaultOfRun, IsFaultAs, AreLeft, IsRunOfFiles, IsWrittenAs, SaysFaultAs, SaysRun, SaysCalls, SaysCallsOfRun, SaysProgram, SaysRunFrom, IsRun, IsRunFrom, IsShown, IsHelp, IsDoneFor, IsFaultFor, IsDoneForSome, IsFaultForSome};
 
 use crate::fault::Fault;
 use crate::fault_listing::fault_listed;
 use crate::files::{System, read_run_files};
+use crate::world_files::put_files;
 use gk_cli::{
     Counted, Mode, Options, RunFault, Source, SuiteFiles, Words, WordsFault, explain_suite,
     lint_suite, read_words, report_suite, write_whole,
@@ -49,6 +50,7 @@ fn asked_by(alloc: Global, arguments: &[String]) -> Result<Asked, Fault>
         Ok(words) => Ok(Asked::Run(words)),
         Err(WordsFault::Usage(error)) => asked_for(error),
         Err(WordsFault::Env) => Err(Fault::Env),
+        Err(WordsFault::File) => Err(Fault::File),
         Err(WordsFault::Memory) => Err(Fault::Memory),
     }
 }
@@ -279,8 +281,34 @@ fn run_sources<W: Write>(
     }
 }
 
-// Does what `run_words` does, in a new sandbox: puts in the variables, reads the files, and runs the suite or lists
-// what is found in it.
+// Reads the files, and runs the suite or lists what is found in it.
+fn run_files<S: System, W: Write>(
+    alloc: Global,
+    system: &mut S,
+    sandbox: &mut Sandbox,
+    words: Words,
+    out: &mut Counted<W>,
+) -> Result<u8, Fault>
+    requires room { FailuresCanRise out.old }
+    requires outside { depth sandbox.old ≡ 0 }
+    ensures run { IfOk result (IsRunFrom S.reads words sandbox.old.now system.old system.new
+        (device_of W.contents out.old) (device_of W.contents out.new)) }
+    ensures quiet { OnOk result (failures_of out.new ≡ failures_of out.old) }
+    ensures flushed { OnOk result (flushes_of out.new ≡ one_more (flushes_of out.old)) }
+    ensures fault { IfErr result (SaysRunFrom S.reads words sandbox.old.now system.old system.new
+        (device_of W.contents out.old) (device_of W.contents out.new)) }
+    ensures calls { IfErr result
+        (SaysCallsOfRun (device_of W.contents out.old) (device_of W.contents out.new)) }
+{
+    let files = read_run_files(alloc, system, words.library, words.hooks, words.files)?;
+    let manner = Manner {
+        options: &words.options,
+        mode: words.mode,
+    };
+    run_sources(alloc, sandbox, manner, files, out)
+}
+
+// Does what `run_words` does, in a new sandbox.
 fn run_in<S: System, W: Write>(
     alloc: Global,
     system: &mut S,
@@ -300,16 +328,13 @@ fn run_in<S: System, W: Write>(
         (SaysCallsOfRun (device_of W.contents out.old) (device_of W.contents out.new)) }
 {
     put_variables(sandbox, words.env.as_slice())?;
-    let files = read_run_files(alloc, system, words.library, words.hooks, words.files)?;
-    let manner = Manner {
-        options: &words.options,
-        mode: words.mode,
-    };
-    run_sources(alloc, sandbox, manner, files, out)
+    put_files(alloc, system, sandbox, words.world_files.as_slice())?;
+    run_files(alloc, system, sandbox, words, out)
 }
 
-/// Runs what is asked for: puts the variables into an empty sandbox, reads the library file, the hooks file and the
-/// feature files, and runs the suite, or lists what is found in it. The first fault in this order ends it.
+/// Runs what is asked for: puts the variables and then the files of `--file` into an empty sandbox, reads the library
+/// file, the hooks file and the feature files, and runs the suite, or lists what is found in it. The first fault in
+/// this order ends it.
 fn run_words<S: System, W: Write>(
     alloc: Global,
     system: &mut S,
@@ -323,7 +348,7 @@ fn run_words<S: System, W: Write>(
         (device_of W.contents out.old) (device_of W.contents out.new)) }
     ensures quiet { OnOk result (failures_of out.new ≡ failures_of out.old) }
     ensures flushed { OnOk result (flushes_of out.new ≡ one_more (flushes_of out.old)) }
-    // The fault is that of the first file that the system didn't return, and no file was read after it.
+    // The fault is that of the first variable or file that can't be taken, and no file was read after it; or the run's.
     ensures fault { IfErr result (SaysProgram S.reads words system.old system.new
         (device_of W.contents out.old) (device_of W.contents out.new)) }
     ensures calls { IfErr result

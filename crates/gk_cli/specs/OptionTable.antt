@@ -25,6 +25,7 @@ rule_by name OneText = record (new_rule name) { long = Some name; action = Some 
 rule_by name Texts = record (new_rule name) { long = Some name; action = Some Append; value_names = 1 }
 rule_by name Lines = record (new_rule name) { long = Some name; action = Some Append; parser = Some (Unsigned 1 4294967295); value_names = 1 }
 
+-- The rule of an option, by its row.
 abbrev pub rule_of_option : OptionValue → Rule
 rule_of_option o = rule_by o.name o.takes
 
