@@ -27,7 +27,7 @@ INNER = {"gk_select: TagRule::of_words"}
 UNCALLED = {
     "gk_lint": "lint_feature FindingKind::text in_order Keyword::text Keyword::spelling "
         "lint_library tags_that_stand_nowhere lines_without_scenario StepFault::text "
-        "lint_hook_tags lint_steps lint_hooks".split(),
+        "lint_hook_tags lint_steps lint_hooks scenarios_of column_at entry_lines entry_hint".split(),
     "gk_run": "is_bad dry_feature status_of reason_of Suite::start Suite::start_watched "
         "Suite::feature Suite::feature_watched Suite::finish Suite::finish_watched "
         "run_case_watched".split(),
