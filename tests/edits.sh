@@ -23,7 +23,7 @@ numbers='
 gk_gherkin 5 4
 gk_select 6 9
 gk_steps 6 13
-gk_lint 5 24
+gk_lint 5 20
 gk_world 10 7
 gk_run 9 9
 gk_report 5 10
