@@ -74,7 +74,7 @@ RUNS = [
     (["--hooks", "bad.hooks", "a.feature"], [("bad.hooks", 1)]),
     (["--lint", "--library", "two.steps", "--tags", "@none:1", "--line", "1", "in a folder/lost.feature",
       "in a folder/b c.feature"],
-     [("two.steps", 2)] + [("in a folder/lost.feature", line) for line in (2, 3, 4, 5)]),
+     [("in a folder/lost.feature", line) for line in (2, 3, 4, 5)] + [("two.steps", 2)]),
     (["--lint", "--hooks", "bad.hooks", "bad.feature", "quoted.feature"],
      [("bad.hooks", 1), ("bad.feature", 2), ("quoted.feature", 1)]),
     (["--lint", "in a folder/b c.feature"], []),
