@@ -270,7 +270,7 @@ refused_of_man() {
 refused_of_runs() {
     examples=$home/examples
     for words in "--tags @a" "--line 2" "--library $examples/default.steps" "--hooks $examples/hooks.hooks" "--env A=b" \
-        --dry-run --stop "--format plain" --no-skipped --explain --lint; do
+        "--file A=$examples/first.feature" --dry-run --stop "--format plain" --no-skipped --explain --lint; do
         [ "${words#--}" = "$1" ] || [ "$(status_of "--$1" $words "$examples/first.feature")" -ne 2 ] || echo "${words%% *}"
     done | LC_ALL=C sort
 }
@@ -347,6 +347,7 @@ repeatable() {
         case $option in
         --line) value=3 ;;
         --env) value=A=b ;;
+        --file) value=A=$home/README.md ;;
         --library) value=$home/examples/default.steps ;;
         --format) value=plain ;;
         *) value=$home/examples/hooks.hooks ;;
