@@ -163,7 +163,6 @@ pub record IsClosedWith {R : Type 0} (closes : R → Results → List ℕ → Ty
   pub written : IsWritten old new text
   pub returned : answer ≡ status_of rows around
 
--- The end of the run was told and its last text written, whatever features had been told before, if their counts are these.
 abbrev pub IsClosed : {R : Type 0} → (R → Results → List ℕ → Type 0) → Told R → Status → Device → Device → ℕ → Type 0
 IsClosed closes told around old new answer = (rows : List FeatureRow) → told.summary ≡ summary_of rows → IsClosedWith closes told around old new answer rows
 

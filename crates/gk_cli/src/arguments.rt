@@ -185,8 +185,7 @@ fn command_of<'a>(alloc: Global) -> Result<Command<'a>, AllocError>
 
 // Returns the values of an option, or the files, in order.
 fn values_of<'a>(matches: &'a ArgMatches, name: &str) -> &'a [&'a str]
-    ensures { map (λ text. text.now) result.now
-        ≡ spec.values_of name.now (rows_of (found_of matches.now)) }
+    ensures { map (λ text. text.now) result.now ≡ spec.values_of name.now (rows_of (found_of matches.now)) }
 {
     matches.get_strs(name).unwrap_or(&[])
 }
@@ -337,7 +336,11 @@ fn is_excluded(matches: &ArgMatches, mode: Mode, row: &OptionRow) -> bool
 
 // Returns the name of the first of these options that is among the arguments and may not accompany the output of this
 // mode.
-fn first_excluded(matches: &ArgMatches, mode: Mode, rows: &[OptionRow]) -> Option<&'static str>
+fn first_excluded(
+    matches: &ArgMatches,
+    mode: Mode,
+    rows: &[OptionRow],
+) -> Option<&'static str>
     ensures { is_some result ≡ list_any (spec.is_excluded mode (rows_of (found_of matches.now)))
         (map option_value rows.now) }
 {
@@ -374,8 +377,7 @@ fn clash(
 }
 
 fn options_of(alloc: Global, matches: &ArgMatches, format: Format) -> Result<Options, AllocError>
-    requires lines { All IsLineNumber
-        (spec.values_of (codes "line") (rows_of (found_of matches.now))) }
+    requires lines { All IsLineNumber (spec.values_of (codes "line") (rows_of (found_of matches.now))) }
     requires format { format_name format ≡ format_asked (rows_of (found_of matches.now)) }
     ensures { IfOk result (AreAsked (rows_of (found_of matches.now))) }
 {
@@ -392,8 +394,7 @@ fn options_of(alloc: Global, matches: &ArgMatches, format: Format) -> Result<Opt
 }
 
 fn words_of(alloc: Global, matches: &ArgMatches, format: Format) -> Result<Words, WordsFault>
-    requires lines { All IsLineNumber
-        (spec.values_of (codes "line") (rows_of (found_of matches.now))) }
+    requires lines { All IsLineNumber (spec.values_of (codes "line") (rows_of (found_of matches.now))) }
     requires format { format_name format ≡ format_asked (rows_of (found_of matches.now)) }
     ensures { SaysMatches (rows_of (found_of matches.now)) result }
 {

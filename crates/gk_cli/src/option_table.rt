@@ -31,9 +31,7 @@ pub struct OptionRow {
 }
 
 const CHOICE: &str = "Which scenarios run";
-
 const RUN: &str = "How they run";
-
 const REPORT: &str = "Report";
 
 /// The options, in the order of the help.
