@@ -9,7 +9,7 @@ use Rattle.gk_select.specs.TagGrammar.{one_term, or_terms, one_factor, and_facto
 use Rattle.gk_select.specs.Filling.{filled, filled_from, cell_under}
 use Rattle.gk_steps.specs.declared.action.Action.TheVariants.{FileIs, WriteFiles, FileExists, SetValue, AtCleanup, SkipScenario}
 use Rattle.gk_lint.specs.declared.findings.FindingKind.TheVariants.{NameTwice, OfStep, UnusedEntry, HookOfNoTag}
-use Rattle.gk_lint.specs.declared.step_faults.StepFault.TheVariants.{Undefined, NotAllowed, NoText, NoTable, BadTable, IgnoredText, IgnoredTable}
+use Rattle.gk_lint.specs.declared.step_faults.StepFault.TheVariants.{NotAllowed, NoText, NoTable, BadTable, IgnoredText, IgnoredTable}
 use Rattle.gk_lint.specs.Findings.{at_line, named_once}
 use Rattle.gk_lint.specs.StepFaults.{other_faults}
 use Rattle.gk_lint.specs.declared.step_sites.StepSite.TheVariants.{Cleanup}
