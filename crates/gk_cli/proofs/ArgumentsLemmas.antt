@@ -2,7 +2,7 @@
 use Rattle.std.proofs.Common.{◌≡◌, ◌≢◌, ◌⊎◌, ◌∙◌, ◌<◌, ◌≤◌, ◌&&◌, ◌||◌, ◌==◌, ◌+◌, ◌++◌, ap, ap₂, sym, subst, refl, inl, inr, arith, zero, suc, ℕ, Bool, true, false, not, List, [], ◌∷◌, length, map, codes, drop, fold, take, is_some, get_or, Option, Some, None, Result, Ok, Err}
 use Rattle.std.specs.Prelude.{IsOk, cond, find, if◌then◌else◌, option_map, unwrap_or, IsErrAnd, IsSomeAnd}
 use Rattle.std.specs.Option.{option_map_or}
-use Rattle.std.specs.List.{All, Any, after_first, before_first, slice_index_or, list_all}
+use Rattle.std.specs.List.{All, after_first, before_first, slice_index_or, list_all}
 use Rattle.std.specs.Str.{bytes_eq}
 use Rattle.std.specs.Str.Parse.{ParsesBool, ParsesUnsigned}
 use Rattle.std.specs.Borrow.{Bor}
@@ -13,7 +13,7 @@ use Rattle.std.proofs.lemmas.List.Elements.{All-nil, All-map, All-push}
 use Rattle.std.proofs.lemmas.Bool.Decides.{nat_tests}
 use Rattle.std.proofs.lemmas.Grind.{common_steps}
 use Rattle.std.proofs.lemmas.Slice.Eq.{bytes_eq-Decides}
-use Rattle.clap.specs.Words.{Accepts, AddsArg, App, BuildsOrBreaks, BuildsTo, HasKind, HasMatchesOf, IsAmong, IsParsed, IsParsedFrom, IsPlainArg, IsUnsignedIn, Kinds, ReadsOne, Row, Rule, Text, app_of, args_of, fault_of, first_value, found_of, groups_of, has_subcommand, is_broken, is_present, is_simple, is_simple_and_free, kind_of, matched_of, matches_of, new_app, raw_values, rows_of, rule_of, with_rule}
+use Rattle.clap.specs.Words.{Accepts, AddsArg, App, BuildsOrBreaks, BuildsTo, HasKind, HasMatchesOf, IsAmong, IsParsed, IsParsedFrom, IsPlainArg, IsUnsignedIn, Kinds, ReadsOne, Rule, Text, app_of, args_of, fault_of, first_value, found_of, groups_of, has_subcommand, is_broken, is_present, is_simple, is_simple_and_free, kind_of, matched_of, matches_of, new_app, raw_values, rows_of, rule_of, with_rule}
 use Rattle.clap.specs.Facts.{Entry, EntryPasses, IsFilledEntry, PassesArg, ValuesPass, least_values, parser_of_value, unwrap_or_range}
 use Rattle.clap.specs.Walk.{action_of, is_append, is_empty, is_simple_arg, row_of}
 use Rattle.clap.specs.Kinds.{or_else}
@@ -36,7 +36,7 @@ use Rattle.clap.specs.declared.error.kind.ErrorKind.{ErrorKind}
 use Rattle.clap.specs.declared.error.kind.ErrorKind.TheVariants.{ArgumentConflict, InvalidValue}
 use Rattle.gk_report.specs.declared.report.Format.{Format}
 use Rattle.gk_report.specs.declared.report.Format.TheVariants.{Plain, Progress, Json}
-use Rattle.gk_cli.specs.Arguments.{HasRule, IsAskedBy, IsCommand, IsFaultBy, IsLineNumber, PairValue, SaysArguments, SaysMatches, SaysPair, SaysPairs, command, split_at_equals, faults_in, files_rule, format_asked, format_name, found_in, has_equals, is_format, line_number, values_of, is_clash, is_given, with_version}
+use Rattle.gk_cli.specs.Arguments.{HasRule, IsAskedBy, IsCommand, IsFaultBy, IsLineNumber, PairValue, SaysArguments, SaysMatches, SaysPair, command, split_at_equals, faults_in, files_rule, format_asked, format_name, found_in, has_equals, is_format, line_number, values_of, is_clash, is_given, with_version}
 use Rattle.gk_cli.specs.OptionTable.{option_value, rule_of_option}
 use Rattle.gk_cli.specs.declared.arguments.Words.{Words}
 use Rattle.gk_cli.specs.declared.arguments.WordsFault.{WordsFault}

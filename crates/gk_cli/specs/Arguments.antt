@@ -10,11 +10,10 @@ use Rattle.clap.specs.Kinds.{or_else}
 use Rattle.clap.specs.Lexer.{has_byte, usize_max}
 use Rattle.clap.specs.Walk.{one_of}
 use Rattle.clap.specs.Words.{IsPlainArg, IsUnsignedIn, Kinds, IsAmong, App, IsPlain, Row, Rule, Text, all_of, app_of, fault_of, first_of, kind_of, matches_of, new_app, new_rule, rule_of, with_rule}
-use Rattle.clap.specs.declared.builder.action.ArgAction.TheVariants.{Append, Set, SetTrue}
+use Rattle.clap.specs.declared.builder.action.ArgAction.TheVariants.{Append}
 use Rattle.clap.specs.declared.builder.arg.Arg.{Arg}
 use Rattle.clap.specs.declared.builder.command.Command.{Command}
 use Rattle.clap.specs.declared.builder.command.Command.TheViews.{out-Command as fields_of}
-use Rattle.clap.specs.declared.builder.value_parser.ValueParser.TheVariants.{Unsigned}
 use Rattle.clap.specs.declared.error.Error.{Error}
 use Rattle.clap.specs.declared.error.kind.ErrorKind.TheVariants.{ArgumentConflict, InvalidValue, OutOfMemory}
 use Rattle.gk_cli.specs.OptionTable.{OptionValue, options, rule_of_option}

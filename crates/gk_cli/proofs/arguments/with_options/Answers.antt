@@ -1,5 +1,4 @@
 use Rattle.std.proofs.Common.{◌∙◌}
-use Rattle.clap.specs.Words.{with_rule}
 use Rattle.gk_cli.proofs.ArgumentsLemmas.{adds, one_rule_more}
 use Rattle.gk_cli.proofs.arguments.with_options.Goals as goal
 

@@ -1,4 +1,4 @@
-use Rattle.std.proofs.Common.{◌++◌, ◌∙◌, map, option_map, ap, ap₂, subst, string_bytes}
+use Rattle.std.proofs.Common.{◌++◌, ◌∙◌, map, ap, ap₂, subst, string_bytes}
 use Rattle.gk_gherkin.specs.Feature.{feature_value}
 use Rattle.gk_gherkin.specs.Hooks.{hooks_value}
 use Rattle.gk_select.specs.TagRules.{tag_rule_value}

@@ -1,7 +1,6 @@
-use Rattle.std.proofs.Common.{rules, ◌≡◌, ◌∙◌, false, [], List}
+use Rattle.std.proofs.Common.{rules, ◌≡◌, ◌∙◌, false, []}
 use Rattle.gk_gherkin.specs.Feature.{step_value}
 use Rattle.gk_world.specs.State.{state_of}
-use Rattle.gk_run.specs.Acting.{CleanupValue}
 use Rattle.gk_run.specs.Events.{of_step}
 use Rattle.gk_explain.specs.Explanation.{with_event}
 use Rattle.gk_explain.specs.Explainer.{is_cut, said}
