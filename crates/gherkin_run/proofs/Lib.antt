@@ -1,6 +1,1 @@
 -- Lemmas.
-mod FilesLemmas
-mod FaultListingLemmas
-mod WorldFilesLemmas
-mod ProgramLemmas
-mod WorkedHelp

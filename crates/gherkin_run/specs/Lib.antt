@@ -1,6 +1,2 @@
--- What the program reports and returns, in reading order. A definition whose comment names no source is this project's profile, or a word that the others use.
-pub mod Fault
-pub mod Files
-pub mod FaultListing
-pub mod WorldFiles
-pub mod Program
+-- The program on a machine, in reading order. A definition whose comment names no source is this project's profile, or a word that the others use.
+pub mod Machine

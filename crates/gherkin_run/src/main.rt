@@ -1,51 +1,40 @@
-//! The program. It reads the arguments and the files, runs the scenarios, and writes the report or an explanation. Or
-//! it runs nothing, and writes what it finds in the files.
+//! The program on a machine: with its arguments and its files, its standard output and its standard error.
 #![tactic(auto)]
 
-ghost use Rattle.std.specs.Prelude.{◌≡◌};
 ghost use Rattle.std.specs.Process.{exit_status};
-ghost use Rattle.gherkin_run.specs.Fault.{status_of};
+ghost use Rattle.gk_cli.specs.Counted.{FailuresCanRise};
+ghost use Rattle.gk_cli.specs.Suite.{device_of};
+ghost use Rattle.gherkin_run.specs.Machine.{IsRunOn, reads_some};
 
-mod fault;
-mod fault_listing;
-mod files;
-mod program;
-mod world_files;
+mod machine;
 
-use fault::Fault;
-use files::Machine;
 use gk_cli::Counted;
-use program::run;
+use gk_program::run;
+use machine::{Machine, arguments_of};
+use std::io::Write;
 use std::process::ExitCode;
+use std::rt::{Env, Files};
 
-// Writes a fault to standard error. If that fails too, there is nothing left to write to.
-fn report<R: Eprint>(rt: &R, fault: &Fault) {
-    let _ = match fault {
-        Fault::Usage(error) => rt.eprint(error),
-        // Each of its lines ends with a line feed.
-        Fault::Unread { lines, .. } => rt.eprint(lines),
-        _ => rt.eprintln(fault),
-    };
-}
-
-// Returns what the program ends with: the status of what was done, or that of the fault.
-fn exit_code(done: &Result<u8, Fault>) -> ExitCode
-    ensures { exit_status result ≡ status_of done.now }
+// Runs the program with the arguments and the files of this machine, and returns what it ends with.
+fn run_on<R: Env + Files + AllocGlobal, W: Write, E: Write>(
+    machine: &mut Machine<'_, R>,
+    out: &mut Counted<W>,
+    errors: &mut E,
+) -> ExitCode
+    requires room { FailuresCanRise out.old }
+    ensures { IsRunOn (reads_some R.File.remaining) machine.old machine.new
+        (device_of W.contents out.old) (device_of W.contents out.new)
+        (E.contents errors.old) (E.contents errors.new) (exit_status result) }
 {
-    match done {
-        Ok(status) => ExitCode::from(*status),
-        Err(fault) => ExitCode::from(fault.status()),
-    }
+    let arguments = arguments_of(machine.rt);
+    let ended = run(machine.rt.alloc(), machine, arguments, out, errors);
+    ExitCode::from(ended.status)
 }
 
 fn main(rt: HostRuntime) -> ExitCode {
-    let done = run(
-        &rt,
+    run_on(
         &mut Machine { rt: &rt },
         &mut Counted::new(rt.stdout()),
-    );
-    if let Err(fault) = &done {
-        report(&rt, fault);
-    }
-    exit_code(&done)
+        &mut rt.stderr(),
+    )
 }

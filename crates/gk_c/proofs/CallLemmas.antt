@@ -1,15 +1,15 @@
--- Reading what a call hands over.
-use Rattle.std.proofs.Common.{◌≡◌, ◌∙◌, ◌+◌, ◌<◌, ◌≤◌, ◌++◌, ap, sym, subst, ℕ, List, [], ◌∷◌, length, map, take, drop, get_or, Err, add-one, append-nil, append_assoc}
+-- Reading the arguments of a call, and the files that they ask for.
+use Rattle.std.proofs.Common.{◌≡◌, ◌∙◌, ◌+◌, ◌<◌, ◌≤◌, ◌++◌, ap, sym, subst, refl, ℕ, List, [], ◌∷◌, length, map, take, drop, get_or, Result, Ok, Err, add-one, append-nil, append_assoc}
 use Rattle.std.proofs.lemmas.List.{drop_all, get_or-map, length-map, map_push, take_all}
 use Rattle.std.proofs.lemmas.List.Elements.{All-push}
 use Rattle.std.proofs.Math.Seq.{drop-cons, take-suc}
 use Rattle.std.specs.List.{All, Any}
-use Rattle.gk_cli.specs.declared.run_fault.RunFault.TheVariants.{Memory}
-use Rattle.gk_c.specs.Call.{IsNoText, SaysCopy, SaysSource, SaysSources, SaysTexts, source_named, text_value}
-use Rattle.gk_c.specs.declared.call.Named.{Named}
-use Rattle.gk_c.specs.declared.call.Text.{Text}
-use Rattle.gk_c.specs.declared.call_fault.CallFault.{CallFault}
-use Rattle.gk_c.specs.declared.call_fault.CallFault.TheVariants.{NotUtf8, Run}
+use Rattle.gk_program.specs.Asked.{AreNamesAsked, fault_without}
+use Rattle.gk_program.specs.declared.asked.ArgumentsFault.{ArgumentsFault}
+use Rattle.gk_program.specs.declared.fault.Fault.TheVariants as fault
+use Rattle.gk_program.specs.declared.asked.ArgumentsFault.TheVariants.{NotUtf8, Memory}
+use Rattle.gk_c.specs.Words.{IsNoText, SaysWord, SaysWords, text_value}
+use Rattle.gk_c.specs.declared.words.Text.{Text}
 
 -- what holds of one of some values holds of one of those made of them
 pub bad_here : {X Y : Type 0} (P : Y → Type 0) (f : X → Y) (xs : List X) (i : ℕ) (d : X) → i < length xs → P (f (get_or xs i d)) → Any P (map f xs)
@@ -43,12 +43,11 @@ copied_more g f ys y xs i d all lt same before =
 pub all_copied : {X Y Z : Type 0} (g : Y → Z) (f : X → Z) (ys : List Y) (xs : List X) (i : ℕ) (all : List Z) → length xs ≤ i → map g ys ++ map f (drop i xs) ≡ all → map g ys ≡ all
 all_copied g f ys xs i all le before = sym (append-nil (map g ys)) ∙ (ap (λ l. map g ys ++ map f l) (sym (drop_all i xs le)) ∙ before)
 
-pub bad_text : (texts : List Text) (i : ℕ) (d : Text) (fault : CallFault) → i < length texts → SaysCopy (text_value (get_or texts i d)) (Err fault) → SaysTexts (map text_value texts) (Err fault)
-bad_text texts i d NotUtf8 lt says = bad_here IsNoText text_value texts i d lt says
-bad_text texts i d (Run Memory) lt says = tt
-bad_text texts i d _ lt says = absurd says
+pub bad_word : (arguments : List Text) (i : ℕ) (d : Text) (fault : ArgumentsFault) → i < length arguments → SaysWord (text_value (get_or arguments i d)) (Err fault) → SaysWords (map text_value arguments) (Err fault)
+bad_word arguments i d NotUtf8 lt says = bad_here IsNoText text_value arguments i d lt says
+bad_word arguments i d Memory lt says = tt
 
-pub bad_source : (files : List Named) (i : ℕ) (d : Named) (fault : CallFault) → i < length files → SaysSource (source_named (get_or files i d)) (Err fault) → SaysSources (map source_named files) (Err fault)
-bad_source files i d NotUtf8 lt says = bad_here (λ s. IsNoText s.name) source_named files i d lt says
-bad_source files i d (Run Memory) lt says = tt
-bad_source files i d _ lt says = absurd says
+-- memory may be refused for any arguments, and then no file is asked for
+pub none_asked : (words : Result (List (List ℕ)) ArgumentsFault) → AreNamesAsked words []
+none_asked (Ok words) = (Err fault.Memory, tt, refl)
+none_asked (Err by) = (Err (fault_without by), refl, refl)

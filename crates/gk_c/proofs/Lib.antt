@@ -1,4 +1,3 @@
 -- Lemmas.
 mod AnswerLemmas
 mod CallLemmas
-mod CalledRunLemmas

@@ -1,182 +1,127 @@
-//! The arguments of a call, and reading them.
-ghost use Rattle.std.specs.Prelude.{◌≡◌, map};
-ghost use Rattle.gk_c.specs.Call.{call_value, format_by, given, source_named, text_value, SaysCopy, SaysGiven, SaysOptions, SaysRead, SaysReadIn, SaysSource, SaysSources, SaysText, SaysTexts};
+//! Answering a call.
+ghost use Rattle.std.specs.Prelude.{◌≡◌, ◌++◌, [], Some, codes, map, IfOk, OnOk, string_bytes};
+ghost use Rattle.gk_cli.specs.Counted.{inner_of};
+ghost use Rattle.gk_cli.specs.Suite.{device_of};
+ghost use Rattle.gk_c.specs.Answer.{IsPut, put_over};
+ghost use Rattle.gk_c.specs.Call.{AreFilesPut, IsAnswer, IsAnsweredBy, IsAnsweredWith, IsRefusal, IsRunOver, fresh, listed, one_listed, refusal};
+ghost use Rattle.gk_c.specs.CallerFiles.{file_value};
+ghost use Rattle.gk_c.specs.Words.{text_value};
 
-use crate::call_fault::CallFault;
-use gk_cli::{BorrowedSource, Options, SuiteFiles};
-use gk_report::{Format, Style};
-use std::alloc::Global;
-use std::str;
+use crate::answer::{Answer, put_out};
+use crate::caller_files::{File, InMemory};
+use crate::words::{Text, words_from};
+use gk_cli::Counted;
+use gk_program::{Ended, files_asked, run};
+use std::alloc::{AllocError, Global};
 
-/// A text of the caller.
-#[repr(C)]
-#[derive(Clone, Copy)]
-pub struct Text<'a> {
-    pub bytes: &'a [u8],
-}
-
-/// A file or a variable of the caller: its name and its bytes.
-#[repr(C)]
-#[derive(Clone, Copy)]
-pub struct Named<'a> {
-    pub name: &'a [u8],
-    pub bytes: &'a [u8],
-}
-
-/// The arguments of a call.
-#[repr(C)]
-#[derive(Clone, Copy)]
-pub struct Call<'a> {
-    /// The feature files, run in this order. Faults refer to them by their names, and so does the report in JSON.
-    pub sources: &'a [Named<'a>],
-    /// The texts of `--tags`.
-    pub tags: &'a [Text<'a>],
-    /// The numbers of `--line`, each at least 1.
-    pub lines: &'a [u32],
-    /// The variables of `--env`. If a name occurs more than once, the last one counts.
-    pub variables: &'a [Named<'a>],
-    /// The library file. It counts only if `has_library` is true.
-    pub library: Named<'a>,
-    /// The hooks file. It counts only if `has_hooks` is true.
-    pub hooks: Named<'a>,
-    /// Whether the steps are those of `library` instead of the default library.
-    pub has_library: bool,
-    /// Whether the hooks are those of `hooks`. Otherwise there are none.
-    pub has_hooks: bool,
-    pub dry_run: bool,
-    pub stop: bool,
-    pub no_skipped: bool,
-    /// The format of the report: 0 is plain, 1 is progress, 2 is JSON.
-    pub format: u8,
-}
-
-/// What a call asks for, except its variables.
-#[derive(Drop)]
-pub struct ReadCall<'a> {
-    pub options: Options,
-    pub files: SuiteFiles<BorrowedSource<'a>>,
-}
-
-// Returns the format with this number, if there is one.
-fn format_of_number(number: u8) -> Option<Format>
-    ensures { result ≡ format_by number }
+// Returns a buffer that takes a text as long as the caller's room without growing. If there is no memory for it, returns
+// one that grows.
+fn buffer_for(alloc: Global, room: &[u8]) -> Vec<u8>
+    ensures { result.items ≡ [] }
 {
-    match number {
-        0 => Some(Format::Plain),
-        1 => Some(Format::Progress),
-        2 => Some(Format::Json),
-        _ => None,
+    match Vec::with_capacity(alloc, room.len()) {
+        Ok(buffer) => buffer,
+        Err(_) => Vec::new(alloc),
     }
 }
 
-pub fn text_from(bytes: &[u8]) -> Result<&str, CallFault>
-    ensures { SaysText bytes.now result }
-{
-    match str::from_utf8(bytes) {
-        Ok(text) => Ok(text),
-        Err(_) => Err(CallFault::NotUtf8),
-    }
-}
-
-// Borrows a file of the caller.
-fn source_from<'a>(file: &Named<'a>) -> Result<BorrowedSource<'a>, CallFault>
-    ensures { SaysSource (source_named file.now) result }
-{
-    let name = text_from(file.name)?;
-    Ok(BorrowedSource {
-        name,
-        bytes: file.bytes,
-    })
-}
-
-fn sources_from<'a>(
+// Runs the program on the arguments of a call, over its files.
+fn run_over(
     alloc: Global,
-    files: &[Named<'a>],
-) -> Result<Vec<BorrowedSource<'a>>, CallFault>
-    ensures { SaysSources (map source_named files.now) result }
+    arguments: &[Text],
+    files: &[File],
+    out: &mut Counted<Vec<u8>>,
+    errors: &mut Vec<u8>,
+) -> Ended
+    requires out { device_of (λ buffer. Some buffer.items) out.old ≡ fresh }
+    requires errors { errors.old.items ≡ [] }
+    ensures { IsRunOver (map file_value files.now) (map text_value arguments.now)
+        (inner_of out.new).items errors.new.items
+        (device_of (λ buffer. Some buffer.items) out.new) result }
 {
-    let mut sources = Vec::new(alloc);
-    for file in files {
-        match source_from(file) {
-            Ok(source) => sources.push(source)?,
-            Err(fault) => return Err(fault),
+    let words = words_from(alloc, arguments);
+    let mut system = InMemory { files };
+    run(alloc, &mut system, words, out, errors)
+}
+
+// Answers with what the program wrote to standard error, and how it ended; or that memory was refused, if a buffer
+// didn't take all that it wrote.
+fn answer_with(
+    ended: Ended,
+    out: &Counted<Vec<u8>>,
+    out_length: usize,
+    errors: &[u8],
+    room: &mut [u8],
+) -> Answer
+    ensures out { result.out_length ≡ out_length }
+    ensures answered { IsAnsweredWith (device_of (λ buffer. Some buffer.items) out.now) ended
+        errors.now room.old room.new result }
+{
+    if out.failures() == 0 && ended.is_told {
+        Answer {
+            out_length,
+            errors_length: put_out(errors, room),
+            name_length: ended.place.name_length,
+            line: ended.place.line,
+            status: ended.status,
         }
-    }
-    Ok(sources)
-}
-
-fn copied_from(alloc: Global, text: &Text) -> Result<String, CallFault>
-    ensures { SaysCopy (text_value text.now) result }
-{
-    let text = text_from(text.bytes)?;
-    Ok(String::from_str(alloc, text)?)
-}
-
-fn texts_from(alloc: Global, texts: &[Text]) -> Result<Vec<String>, CallFault>
-    ensures { SaysTexts (map text_value texts.now) result }
-{
-    let mut copies = Vec::new(alloc);
-    for text in texts {
-        match copied_from(alloc, text) {
-            Ok(copy) => copies.push(copy)?,
-            Err(fault) => return Err(fault),
-        }
-    }
-    Ok(copies)
-}
-
-// Borrows the library file or the hooks file, if it is given.
-fn given_from<'a>(is_given: bool, file: &Named<'a>) -> Result<Option<BorrowedSource<'a>>, CallFault>
-    ensures { SaysGiven (given is_given file.now) result }
-{
-    if is_given {
-        Ok(Some(source_from(file)?))
     } else {
-        Ok(None)
+        Answer {
+            out_length,
+            errors_length: put_out(b"gherkin_run: out of memory\n", room),
+            name_length: 0,
+            line: 0,
+            status: 4,
+        }
     }
 }
 
-fn options_from(alloc: Global, call: &Call, format: Format) -> Result<Options, CallFault>
-    ensures { SaysOptions (call_value call.now) format result }
+/// Runs the program, and answers with what it wrote.
+pub fn answer_call(
+    alloc: Global,
+    arguments: &[Text],
+    files: &[File],
+    out: &mut [u8],
+    errors: &mut [u8],
+) -> Answer
+    ensures { IsAnswer (map text_value arguments.now) (map file_value files.now)
+        out.old out.new errors.old errors.new result }
 {
-    Ok(Options {
-        tags: texts_from(alloc, call.tags)?,
-        lines: Vec::from_slice(alloc, call.lines)?,
-        dry_run: call.dry_run,
-        stop: call.stop,
-        style: Style {
-            format,
-            no_skipped: call.no_skipped,
-        },
-    })
+    let mut said = Counted::new(buffer_for(alloc, out));
+    let mut told = buffer_for(alloc, errors);
+    let ended = run_over(alloc, arguments, files, &mut said, &mut told);
+    let out_length = put_out(said.inner().as_slice(), out);
+    answer_with(ended, &said, out_length, told.as_slice(), errors)
 }
 
-fn read_in<'a>(alloc: Global, call: &Call<'a>, format: Format) -> Result<ReadCall<'a>, CallFault>
-    ensures { SaysReadIn (call_value call.now) format result }
+// Adds a name and the zero byte that ends it.
+fn add_name(text: &mut Vec<u8>, name: &str) -> Result<(), AllocError>
+    ensures { OnOk result (text.new.items ≡ text.old.items ++ one_listed name.now) }
 {
-    Ok(ReadCall {
-        options: options_from(alloc, call, format)?,
-        files: SuiteFiles {
-            library: given_from(call.has_library, &call.library)?,
-            hooks: given_from(call.has_hooks, &call.hooks)?,
-            sources: sources_from(alloc, call.sources)?,
-        },
-    })
+    text.extend_from_slice(name.as_bytes())?;
+    text.extend_from_slice(b"\0")?;
+    Ok(())
 }
 
-/// Reads what a call asks for, except its variables. A number of no format is `UnknownFormat`. Otherwise a line 0 is
-/// `LineZero`, because lines begin at 1. Otherwise a file name or a text of `--tags` that isn't UTF-8 is `NotUtf8`.
-/// Refused memory may be returned instead of any other result.
-pub fn read_call<'a>(alloc: Global, call: &Call<'a>) -> Result<ReadCall<'a>, CallFault>
-    ensures { SaysRead (call_value call.now) result }
+// Returns the names, each with a zero byte at its end.
+fn listed_names(alloc: Global, names: &[String]) -> Result<Vec<u8>, AllocError>
+    ensures { IfOk result (λ text. text.items ≡ listed (map string_bytes names.now)) }
 {
-    match format_of_number(call.format) {
-        Some(format) => {
-            if call.lines.contains(&0) {
-                return Err(CallFault::LineZero);
-            }
-            read_in(alloc, call, format)
-        }
-        None => Err(CallFault::UnknownFormat),
+    let mut text = Vec::new(alloc);
+    for name in names {
+        add_name(&mut text, name.as_str())?;
+    }
+    Ok(text)
+}
+
+/// Writes the names of the files that these arguments ask for, each with a zero byte at its end, and returns the length
+/// of them all.
+pub fn put_files(alloc: Global, arguments: &[Text], room: &mut [u8]) -> usize
+    ensures { AreFilesPut (map text_value arguments.now) room.old room.new result }
+{
+    let names = files_asked(alloc, words_from(alloc, arguments));
+    match listed_names(alloc, names.as_slice()) {
+        Ok(text) => put_out(text.as_slice(), room),
+        Err(_) => put_out(b"", room),
     }
 }

@@ -1,36 +1,56 @@
-//! Running feature files from C. A call takes texts with their lengths. It writes the report, as far as there is
-//! room, or one line that says why there is none. Its `Answer` has the status.
+//! The program for callers in C, over files in memory. A call takes the program's arguments and the files that they name.
+//! It writes the output and the errors as far as there is room. Its `Answer` has the status.
 #![tactic(auto)]
 
-ghost use Rattle.std.specs.Prelude.{◌≡◌, length};
+ghost use Rattle.std.specs.Prelude.{◌≡◌, length, map};
 ghost use Rattle.gk_c.specs.Answer.{put_over, version};
-ghost use Rattle.gk_c.specs.Call.{call_value};
-ghost use Rattle.gk_c.specs.CalledRun.{IsAnswer};
+ghost use Rattle.gk_c.specs.Call.{AreFilesPut, IsAnswer};
+ghost use Rattle.gk_c.specs.CallerFiles.{file_value};
+ghost use Rattle.gk_c.specs.Words.{text_value};
 
 mod answer;
 mod call;
-mod call_fault;
-mod called_run;
-mod fault_place;
+mod caller_files;
+mod words;
 
 pub use answer::Answer;
 use answer::put_out;
-pub use call::{Call, Named, Text};
-use called_run::answer_call;
+use call::{answer_call, put_files};
+pub use caller_files::File;
 use std::alloc::Global;
+pub use words::Text;
 
-/// Runs the feature files of a call in a new world. The variables are put into it, and the hooks run around the run,
-/// its features, rules and scenarios. The steps are those of the library, or of the default library if none is given.
+/// Runs the program with these arguments, those after the program's name, over these files, and nothing else.
 ///
-/// The text is the report, or, if there is none, one line without a line feed that says why. As much of the text as
-/// there is room for is written over the beginning of `room`, and the rest of `room` stays as it was.
-/// `Answer::length` is the length of the whole text, so a second call with that much room gets all of it. Nothing of
-/// a call is kept for the next one.
+/// The output and the errors are what the program writes to standard output and to standard error, and the status is the
+/// one that it ends with. As much of each as there is room for is written over the beginning of `out` and of `errors`;
+/// what is behind stays as it was. The `Answer` has the length of both, so a second call with that much room gets all of
+/// them. A name that several files have is that of the first. A file that is not among them is one that can't be read.
+/// Nothing of a call is kept for the next one.
 #[unsafe(no_mangle)]
-pub extern "C" fn gherkin_run(alloc: Global, call: &Call, room: &mut [u8], answer: &mut Answer)
-    ensures { IsAnswer (call_value call.now) room.old room.new answer.new }
+pub extern "C" fn gherkin_run(
+    alloc: Global,
+    arguments: &[Text],
+    files: &[File],
+    out: &mut [u8],
+    errors: &mut [u8],
+    answer: &mut Answer,
+)
+    ensures { IsAnswer (map text_value arguments.now) (map file_value files.now)
+        out.old out.new errors.old errors.new answer.new }
 {
-    *answer = answer_call(alloc, call, room);
+    *answer = answer_call(alloc, arguments, files, out, errors);
+}
+
+/// Writes the names of the files that these arguments ask for, in the order in which the program reads them: those of
+/// `--file`, the library file, the hooks file, the feature files. Each name ends with a zero byte. They are written over the beginning of
+/// `room`, as far as there is room, and the length of them all is returned. There are none if the arguments ask for help
+/// or the version or have a mistake, or if memory was refused.
+#[unsafe(no_mangle)]
+pub extern "C" fn gherkin_run_files(alloc: Global, arguments: &[Text], room: &mut [u8]) -> usize
+    ensures { AreFilesPut (map text_value arguments.now) room.old room.new result }
+{
+    put_files(alloc, arguments, room)
 }
 
 /// Writes the version of the library over the beginning of `room`, as far as there is room, and returns the length of

@@ -1,4 +1,4 @@
-//! The test program in which `tests/refused_inside.sh` refuses one growth of memory after another. With
+//! The test program in which `tests/test_refused_memory.py` refuses one growth of memory after another. With
 //! a feature file, and a hooks file if one is named, it runs `run_suite` in an empty sandbox, and
 //! writes what the sandbox has afterwards. Without arguments it removes a file in a layer, and writes
 //! the result.

@@ -1,8 +1,0 @@
-use Rattle.std.proofs.Common.{◌≡◌, ◌++◌, drop, string_bytes}
-use Rattle.gk_cli.specs.Source.{source_value}
-use Rattle.gk_cli.specs.SuiteFiles.{suite_value}
-use Rattle.gherkin_run.specs.FaultListing.{blocks}
-use Rattle.gherkin_run.proofs.fault_listing.push_blocks.Given as goal
-
-abbrev pub invariant-loop-fault : goal.invariant-loop-fault
-invariant-loop-fault l = string_bytes l.out ++ blocks (suite_value source_value l.files) (drop l.fault-index l.faults) ≡ string_bytes l.initial.out ++ blocks (suite_value source_value l.files) l.faults

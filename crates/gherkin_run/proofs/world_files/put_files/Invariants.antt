@@ -1,8 +1,0 @@
-use Rattle.std.proofs.Common.{drop, map}
-use Rattle.gk_cli.specs.Arguments.{pair_value}
-use Rattle.gherkin_run.proofs.WorldFilesLemmas.{ArePutSoFar}
-use Rattle.gherkin_run.proofs.world_files.put_files.Given as goal
-
--- the files before this one are put, and the others are left
-abbrev pub invariant-loop-file : goal.invariant-loop-file
-invariant-loop-file g l = ArePutSoFar g.S.System.reads (map pair_value l.files) (map pair_value (drop l.file-index l.files)) l.fn.system l.system l.fn.sandbox l.sandbox

@@ -1,0 +1,51 @@
+-- How the program ends.
+use Rattle.std.proofs.Common.{◌≡◌, inr, refl, ℕ, List, Bool, true, false, Option, Result, Ok, Err}
+use Rattle.std.specs.Prelude.{IfErr, IfOk, OnOk, String, string_bytes}
+use Rattle.std.specs.declared.alloc.Global.{Global}
+use Rattle.std.specs.Io.KnownBytes.{Appends}
+use Rattle.clap.specs.Words.{Text}
+use Rattle.gk_cli.specs.Counted.{one_more}
+use Rattle.gk_cli.specs.Suite.{Device}
+use Rattle.gk_cli.specs.declared.arguments.Words.{Words}
+use Rattle.gk_program.specs.Asked.{SaysGiven}
+use Rattle.gk_program.specs.Ended.{IsTold, SaysDone}
+use Rattle.gk_program.specs.Fault.{text_of}
+use Rattle.gk_program.specs.Files.{Reading}
+use Rattle.gk_program.specs.Program.{IsDoneFor, IsFaultFor, IsRun, IsShown, IsTextFault, SaysCalls, SaysCallsOfRun, SaysProgram}
+use Rattle.gk_program.specs.declared.asked.ArgumentsFault.{ArgumentsFault}
+use Rattle.gk_program.specs.declared.asked.Asked.TheVariants.{Help, Run}
+use Rattle.gk_program.specs.declared.fault.Fault.{Fault}
+
+-- help was shown, or why it was not
+pub help_shown : {S : Type 0} (reads : Reading S) (arguments : Result (List Text) ArgumentsFault) (text : String Global) (s : S) (old new : Device) (result : Result ℕ Fault) → SaysGiven arguments (Ok (Help text))
+    → IfOk result (IsShown (string_bytes text) old new) → IfOk result (IsDoneFor reads arguments s s old new)
+help_shown reads arguments text s old new (Ok status) given shown = (Help text, given, (shown, refl))
+help_shown reads arguments text s old new (Err fault) given shown = tt
+
+pub help_fails : {S : Type 0} (reads : Reading S) (arguments : Result (List Text) ArgumentsFault) (text : String Global) (s : S) (old new : Device) (result : Result ℕ Fault) → SaysGiven arguments (Ok (Help text))
+    → IfErr result (IsTextFault (string_bytes text) old new) → IfErr result (SaysCalls old new) → IfErr result (IsFaultFor reads arguments s s old new)
+help_fails reads arguments text s old new (Ok status) given is calls = tt
+help_fails reads arguments text s old new (Err fault) given is calls = inr (Help text, given, (is, calls, refl))
+
+-- a run was done, or why it was not
+pub run_done : {S : Type 0} (reads : Reading S) (arguments : Result (List Text) ArgumentsFault) (w : Words) (before after : S) (old new : Device) (result : Result ℕ Fault) → SaysGiven arguments (Ok (Run w))
+    → IfOk result (IsRun reads w before after old new) → IfOk result (IsDoneFor reads arguments before after old new)
+run_done reads arguments w before after old new (Ok status) given run = (Run w, given, run)
+run_done reads arguments w before after old new (Err fault) given run = tt
+
+pub run_fails : {S : Type 0} (reads : Reading S) (arguments : Result (List Text) ArgumentsFault) (w : Words) (before after : S) (old new : Device) (result : Result ℕ Fault) → SaysGiven arguments (Ok (Run w))
+    → IfErr result (SaysProgram reads w before after old new) → IfErr result (IsFaultFor reads arguments before after old new)
+run_fails reads arguments w before after old new (Ok status) given says = tt
+run_fails reads arguments w before after old new (Err fault) given says = inr (Run w, given, says)
+
+-- what was written for a fault
+pub told_by : (fault : Fault) (old new : Option (List ℕ)) (all : Bool) → (all ≡ true → Appends old new (text_of fault)) → IsTold (Err fault) old new all
+told_by fault old new true says = says refl
+told_by fault old new false says = tt
+
+-- what was done, or why it was not, by what is known of both
+pub says_done : {S : Type 0} (reads : Reading S) (arguments : Result (List Text) ArgumentsFault) (before after : S) (old new : Device) (done : Result ℕ Fault)
+    → IfOk done (IsDoneFor reads arguments before after old new) → OnOk done (new.failures ≡ old.failures) → OnOk done (new.flushes ≡ one_more old.flushes)
+    → IfErr done (IsFaultFor reads arguments before after old new) → IfErr done (SaysCallsOfRun old new) → SaysDone reads arguments before after old new done
+says_done reads arguments before after old new (Ok status) is quiet flushed fault calls = (is, quiet, flushed)
+says_done reads arguments before after old new (Err by) is quiet flushed fault calls = (fault, calls)

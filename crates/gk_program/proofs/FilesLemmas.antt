@@ -1,0 +1,108 @@
+-- Reading names one after the other.
+use Rattle.std.proofs.Common.{◌≡◌, inl, inr, subst, ◌∙◌, ◌++◌, ap, sym, refl, arith, suc, ℕ, List, [], ◌∷◌, length, map, append_assoc, Option, Some, None, Result, Ok, Err}
+use Rattle.std.specs.Prelude.{IfErr, IfSome, IsErrAnd, IsSomeAnd, String, option_map, string_bytes}
+use Rattle.std.specs.declared.alloc.Global.{Global}
+use Rattle.std.specs.List.{Any}
+use Rattle.std.proofs.lemmas.List.{map-append, map_push}
+use Rattle.gk_cli.specs.Source.{SourceValue, source_value}
+use Rattle.gk_cli.specs.declared.source.Source.{Source}
+use Rattle.gk_cli.specs.declared.source.SourceFault.{SourceFault}
+use Rattle.gk_program.specs.Files.{AreRead, IsNotRead, StopsHere, StopsReading, name_of, one_of}
+use Rattle.gk_program.specs.declared.fault.Fault.{Fault}
+use Rattle.gk_program.specs.declared.fault.Fault.TheVariants.{Memory}
+
+pub any_first : {X : Type 0} (P : X → Type 0) (x : X) (xs : List X) → P x → Any P (x ∷ xs)
+any_first P x xs p = (0, x, omega arith, refl, p)
+
+pub any_later : {X : Type 0} (P : X → Type 0) (x : X) (xs : List X) → Any P xs → Any P (x ∷ xs)
+any_later P x xs any = (suc any.0, any.1, omega (arith, any.2), any.3, any.4)
+
+-- one more is read: its name goes from the names that are left to those of the sources
+pub one_source_more : {X Y : Type 0} (f : X → List ℕ) (g : Y → List ℕ) (xs more : List X) (x : X) (left : List Y) (y : Y) (rest : List Y) (all : List (List ℕ))
+    → more ≡ xs ++ x ∷ [] → left ≡ y ∷ rest → f x ≡ g y → map f xs ++ map g left ≡ all → map f more ++ map g rest ≡ all
+one_source_more f g xs more x left y rest all grown step same before =
+    ap (λ l. map f l ++ map g rest) grown
+    ∙ ap (λ l. l ++ map g rest) (map_push f xs x)
+    ∙ append_assoc (map f xs) (f x ∷ []) (map g rest)
+    ∙ ap (λ n. map f xs ++ n ∷ map g rest) same
+    ∙ ap (λ l. map f xs ++ map g l) (sym step)
+    ∙ before
+
+pub nothing_in : {X : Type 0} (xs : List X) → length xs ≡ 0 → xs ≡ []
+nothing_in [] e = refl
+nothing_in (x ∷ xs) e = absurd (omega arith)
+
+-- what holds of the error that a `?` passes on
+pub passed_on : {T E : Type 0} {Q P : E → Type 0} (r : Result T E) → IsErrAnd r Q → ((e : E) → Q e → P e) → IfErr r P
+passed_on (Ok x) h f = absurd h
+passed_on (Err e) h f = f e h
+
+-- a fault that a named file alone has
+pub named_file : {X : Type 0} (P : X → Type 0) (name : Option X) → IfSome name P → (name ≡ None → ⊥) → IsSomeAnd name P
+named_file P None says none = absurd (none refl)
+named_file P (Some n) says none = says
+
+pub err_is_not_ok : {T E : Type 0} (e : E) (x : T) → Err e ≡ Ok x → ⊥
+err_is_not_ok e x h = cc
+
+-- one reading after another
+pub reads_both : {S : Type 0} (r : S → List ℕ → Result (List ℕ) SourceFault → S → Type 0) (a b c : S) (xs ys : List SourceValue) → AreRead r a xs b → AreRead r b ys c → AreRead r a (xs ++ ys) c
+reads_both r a b c [] ys first then = subst (λ s. AreRead r s ys c) (sym first) then
+reads_both r a b c (x ∷ xs) ys first then = (first.0, first.1, reads_both r first.0 b c xs ys first.2 then)
+
+pub reads_one_more : {S : Type 0} (r : S → List ℕ → Result (List ℕ) SourceFault → S → Type 0) (a b c : S) (xs more : List Source) (x : Source) (name : List ℕ)
+    → more ≡ xs ++ x ∷ [] → name_of x ≡ name → AreRead r a (map source_value xs) b → r b name (Ok x.bytes.items) c → AreRead r a (map source_value more) c
+reads_one_more r a b c xs more x name grown same before next =
+    subst (λ l. AreRead r a l c) (sym (map-append source_value xs (x ∷ [])) ∙ ap (map source_value) (sym grown))
+    (reads_both r a b c (map source_value xs) (source_value x ∷ []) before (c, subst (λ n. r b n (Ok x.bytes.items) c) (sym same) next, refl))
+
+pub names_of_values : (xs : List Source) → map (λ file. file.name) (map source_value xs) ≡ map name_of xs
+names_of_values [] = refl
+names_of_values (x ∷ xs) = ap (λ l. name_of x ∷ l) (names_of_values xs)
+
+-- where reading stops, after some files more
+pub stops_later : {S : Type 0} (r : S → List ℕ → Result (List ℕ) SourceFault → S → Type 0) (a b c : S) (files : List SourceValue) (names rest : List (List ℕ)) (fault : Fault)
+    → AreRead r a files b → map (λ file. file.name) files ≡ names → StopsReading r b rest c fault → StopsReading r a (names ++ rest) c fault
+stops_later r a b c files names rest fault before named stops = record {
+  files = files ++ stops.files;
+  left = stops.left;
+  between = stops.between;
+  order = ap (λ l. l ++ stops.left) (map-append (λ file. file.name) files stops.files)
+      ∙ append_assoc (map (λ file. file.name) files) (map (λ file. file.name) stops.files) stops.left
+      ∙ ap (λ l. l ++ (map (λ file. file.name) stops.files ++ stops.left)) named
+      ∙ ap (λ l. names ++ l) stops.order;
+  read = reads_both r a b stops.between files stops.files before stops.read;
+  stops = stops.stops;
+}
+
+pub stops_before : {S : Type 0} (r : S → List ℕ → Result (List ℕ) SourceFault → S → Type 0) (a c : S) (left more : List (List ℕ)) (fault : Fault) → StopsHere r a left c fault → StopsHere r a (left ++ more) c fault
+stops_before r a c [] [] fault stops = stops
+stops_before r a c [] (m ∷ more) fault stops = inr stops
+stops_before r a c (x ∷ left) more fault stops = stops
+
+-- where reading stops, before some files more
+pub stops_sooner : {S : Type 0} (r : S → List ℕ → Result (List ℕ) SourceFault → S → Type 0) (a c : S) (names more : List (List ℕ)) (fault : Fault) → StopsReading r a names c fault → StopsReading r a (names ++ more) c fault
+stops_sooner r a c names more fault stops = record {
+  files = stops.files;
+  left = stops.left ++ more;
+  between = stops.between;
+  order = sym (append_assoc (map (λ file. file.name) stops.files) stops.left more) ∙ ap (λ l. l ++ more) stops.order;
+  read = stops.read;
+  stops = stops_before r stops.between c stops.left more fault stops.stops;
+}
+
+-- the first of some files isn't read
+pub stops_at : {S : Type 0} (r : S → List ℕ → Result (List ℕ) SourceFault → S → Type 0) (a c : S) (name : List ℕ) (rest : List (List ℕ)) (fault : Fault) → IsNotRead r a name c fault → StopsReading r a (name ∷ rest) c fault
+stops_at r a c name rest fault stops = record { files = []; left = name ∷ rest; between = a; order = refl; read = refl; stops = inl stops }
+
+-- memory ran out before the next of some files
+pub stops_for_memory : {S : Type 0} (r : S → List ℕ → Result (List ℕ) SourceFault → S → Type 0) (a : S) (names : List (List ℕ)) (fault : Fault) → fault ≡ Memory → StopsReading r a names a fault
+stops_for_memory r a [] fault is = record { files = []; left = []; between = a; order = refl; read = refl; stops = (refl, is) }
+stops_for_memory r a (name ∷ names) fault is = record { files = []; left = name ∷ names; between = a; order = refl; read = refl; stops = inr (refl, is) }
+
+pub one_named : (source : Option Source) (name : Option (String Global)) → option_map name_of source ≡ option_map string_bytes name
+    → map (λ file. file.name) (one_of (option_map source_value source)) ≡ one_of (option_map string_bytes name)
+one_named None None same = refl
+one_named None (Some n) same = absurd cc
+one_named (Some s) None same = absurd cc
+one_named (Some s) (Some n) same = let e : name_of s ≡ string_bytes n = cc in ap (λ x. x ∷ []) e

@@ -1,0 +1,433 @@
+-- A run whose output is flushed, the program's faults for those of the run, help, and variables one after another.
+use Rattle.std.proofs.Common.{◌≡◌, ◌≢◌, ◌∙◌, ◌+◌, ◌-◌, ◌^◌, ◌<◌, ◌≤◌, ◌++◌, ap, sym, subst, refl, inl, inr, arith, suc, zero, ℕ, List, [], ◌∷◌, length, map, take, drop, get_or, Option, Some, None, Result, Ok, Err, add-one}
+use Rattle.std.specs.Prelude.{◌⊎◌, IfErr, IfOk, IsSome, IsSomeAnd, String, is_some, option_map, slice_get, string_bytes}
+use Rattle.std.specs.declared.alloc.Global.{Global}
+use Rattle.std.specs.List.{All, Any}
+use Rattle.std.specs.Io.KnownBytes.{Appends, Keeps}
+use Rattle.std.proofs.lemmas.Option.{slice_get-map, slice_get_read}
+use Rattle.std.proofs.lemmas.List.{append-nil, drop_all, get_or-map, length-map, map_push, take_all}
+use Rattle.std.proofs.lemmas.List.Elements.{All-push}
+use Rattle.std.proofs.Math.Seq.{drop-cons, take-suc}
+use Rattle.gk_world.specs.State.{Contents, nothing_yet}
+use Rattle.gk_world.specs.Refusals.{IsFault}
+use Rattle.gk_world.specs.Sandbox.{SandboxValue, new_sandbox, with_env}
+use Rattle.gk_world.specs.declared.refusals.WorldFault.{WorldFault}
+use Rattle.gk_world.specs.declared.refusals.WorldFault.TheVariants as world
+use Rattle.gk_cli.specs.Arguments.{PairValue, pair_value}
+use Rattle.gk_cli.specs.Counted.{one_more}
+use Rattle.gk_cli.specs.Inputs.{Request}
+use Rattle.gk_cli.specs.Source.{SourceValue, source_value, names_of}
+use Rattle.gk_cli.specs.declared.source.Source.{Source}
+use Rattle.gk_cli.specs.GrowingReport.{StopsBy}
+use Rattle.gk_cli.specs.Suite.{Device, IsUntouched, SaysFault}
+use Rattle.gk_cli.specs.ExplainedSuite.{SaysExplanationFault}
+use Rattle.gk_cli.specs.SuiteFiles.{FilesValue, HaveSameNames, hooks_name, library_name, request_of_files, suite_value}
+use Rattle.gk_cli.specs.FaultNotes.{name_at_fault}
+use Rattle.gk_cli.specs.declared.suite_files.SuiteFiles.{SuiteFiles}
+use Rattle.gk_cli.specs.LintedSuite.{SaysLintFault}
+use Rattle.gk_cli.specs.declared.arguments.Mode.{Mode}
+use Rattle.gk_cli.specs.declared.arguments.Mode.TheVariants.{Report, Explanation, Findings}
+use Rattle.gk_cli.specs.declared.arguments.Words.{Words}
+use Rattle.gk_cli.specs.declared.run_fault.RunFault.{RunFault}
+use Rattle.gk_cli.specs.declared.run_fault.RunFault.TheVariants as run
+use Rattle.gk_program.specs.Files.{AreRead, IsFaultOfFiles, IsFileFault, Reading, StopsReading, files_in_order, name_of}
+use Rattle.gk_program.specs.Program.{AreGiven, AreLeft, AreTaken, IsFaultAs, IsFaultOfGiven, IsFaultOfRun, IsFaultOfVariable, IsFlushedRun, IsGiven, IsRefused, IsRun, IsShown, IsTextFault, SaysCalls, SaysCallsOfRun, IsWrittenAs, SaysFaultAs, IsStoppedAs, IsRunFrom, SaysProgram, SaysRunFrom, SaysSuite, SaysVariables, contents_given, variables_given, with_variables}
+use Rattle.gk_program.specs.Asked.{files_to_put, names_given}
+use Rattle.gk_program.specs.WorldFiles.{ArePut, StopsPutting}
+use Rattle.gk_program.specs.FaultListing.{IsListedAs}
+use Rattle.gk_program.specs.declared.fault.Fault.{Fault}
+use Rattle.gk_program.specs.declared.fault.Fault.TheVariants.{NotUtf8, Usage, Env, File, NotText, TextTooLong, CannotRead, TooLong, OfRun, Unread, Write, Memory}
+
+-- what holds of a result, by what is known of it
+pub if_ok_both : {T E : Type 0} (P Q : T → Type 0) (r : Result T E) → IfOk r P → IfOk r Q → IfOk r (λ x. P x × Q x)
+if_ok_both P Q (Ok x) h k = (h, k)
+if_ok_both P Q (Err e) h k = h
+
+pub if_err_by : {T E : Type 0} {P Q : E → Type 0} (r : Result T E) → ((e : E) → P e → Q e) → IfErr r P → IfErr r Q
+if_err_by (Ok x) f h = h
+if_err_by (Err e) f h = f e h
+
+-- what is written and what a fault says, in a mode that is known
+pub in_mode : (mode known : Mode) (files : FilesValue) (r : Request) (c : Contents) (old new : Device) (result : Result ℕ RunFault) → mode ≡ known → IfOk result (IsWrittenAs known files r c old new) → IfOk result (IsWrittenAs mode files r c old new)
+in_mode mode known files r c old new result is written = subst (λ (m : Mode). IfOk result (IsWrittenAs m files r c old new)) (sym is) written
+
+pub fault_in_mode : (mode known : Mode) (files : FilesValue) (r : Request) (c : Contents) (old new : Device) (result : Result ℕ RunFault) → mode ≡ known → IfErr result (SaysFaultAs known files r c old new) → IfErr result (SaysFaultAs mode files r c old new)
+fault_in_mode mode known files r c old new result is says = subst (λ (m : Mode). IfErr result (SaysFaultAs m files r c old new)) (sym is) says
+
+-- a device that isn't called
+pub untouched : (d : Device) → IsUntouched d d
+untouched d = record { written = nothing d.bytes; calls = refl; flushes = refl; failures = refl; idle = refl }
+  where
+    nothing : (bytes : Option (List ℕ)) → Appends bytes bytes []
+    nothing None = tt
+    nothing (Some x) = sym (append-nil x)
+
+-- ---- a fault of the run
+
+-- the name of the source that is taken out of a place, or none where there is no such place
+pub name_there : (xs : List Source) (i : ℕ) (x : Source) → i < length xs → x ≡ get_or xs i x → ◌≡◌ {A = Option (List ℕ)} (Some (string_bytes x.name)) (option_map (λ (s : SourceValue). s.name) (slice_get (map source_value xs) i))
+name_there xs i x lt is = sym (ap (option_map (λ (s : SourceValue). s.name)) (slice_get-map source_value xs i ∙ ap (option_map source_value) (slice_get_read xs (length xs) i x refl lt is)))
+
+pub no_name_there : (xs : List Source) (i : ℕ) → length xs ≤ i → ◌≡◌ {A = Option (List ℕ)} None (option_map (λ (s : SourceValue). s.name) (slice_get (map source_value xs) i))
+no_name_there [] i past = refl
+no_name_there (x ∷ xs) zero past = absurd (omega arith)
+no_name_there (x ∷ xs) (suc i) past = no_name_there xs i (omega arith)
+
+-- so a fault is of a file of the same name as before sources gave up their bytes
+named_still : (old new : List SourceValue) (input : ℕ) → names_of new ≡ names_of old → option_map (λ (s : SourceValue). s.name) (slice_get new input) ≡ option_map (λ (s : SourceValue). s.name) (slice_get old input)
+named_still old new input same = sym (slice_get-map (λ (s : SourceValue). s.name) new input) ∙ ap (λ names. slice_get names input) same ∙ slice_get-map (λ (s : SourceValue). s.name) old input
+
+same_name : (old new : FilesValue) (by : RunFault) → HaveSameNames old new → name_at_fault new by ≡ name_at_fault old by
+same_name old new run.Write same = refl
+same_name old new run.Memory same = refl
+same_name old new (run.Read input f) same = named_still old.sources new.sources input same.sources
+same_name old new (run.Library f) same = ap (option_map (λ (s : SourceValue). s.name)) same.library
+same_name old new (run.Hooks f) same = ap (option_map (λ (s : SourceValue). s.name)) same.hooks
+same_name old new (run.Select (Some input) f) same = named_still old.sources new.sources input same.sources
+same_name old new (run.Select None f) same = refl
+
+-- and named as before
+named_as_before : (old new : FilesValue) (by : RunFault) (fault : Fault) → HaveSameNames old new → IsFaultOfRun new by fault → IsFaultOfRun old by fault
+named_as_before old new run.Write fault same is = is
+named_as_before old new run.Memory fault same is = is
+named_as_before old new (run.Read input f) (OfRun name g) same is = (is.0, is.1 ∙ same_name old new (run.Read input f) same)
+named_as_before old new (run.Read input f) _ same is = absurd is
+named_as_before old new (run.Library f) (OfRun name g) same is = (is.0, is.1 ∙ same_name old new (run.Library f) same)
+named_as_before old new (run.Library f) _ same is = absurd is
+named_as_before old new (run.Hooks f) (OfRun name g) same is = (is.0, is.1 ∙ same_name old new (run.Hooks f) same)
+named_as_before old new (run.Hooks f) _ same is = absurd is
+named_as_before old new (run.Select input f) (OfRun name g) same is = (is.0, is.1 ∙ same_name old new (run.Select input f) same)
+named_as_before old new (run.Select input f) _ same is = absurd is
+
+-- what is left of the files, in a mode that is known
+pub left_in_mode : (mode known : Mode) (old new : FilesValue) → mode ≡ known → AreLeft known old new → AreLeft mode old new
+left_in_mode mode known old new is left = subst (λ (m : Mode). AreLeft m old new) (sym is) left
+
+-- so the program's fault is that of the files before
+pub fault_as_before : (mode : Mode) (old new : FilesValue) (by : RunFault) (fault : Fault) → AreLeft mode old new → IsFaultAs mode new by fault → IsFaultAs mode old by fault
+fault_as_before Report old new by fault left is = named_as_before old new by fault left is
+fault_as_before Explanation old new by fault left is = named_as_before old new by fault left is
+fault_as_before Findings old new by fault left is = subst (λ (files : FilesValue). IsFaultAs Findings files by fault) left is
+
+-- what a fault says of a run whose report was asked for, of one whose explanation was, and of what is found before one
+pub of_report : (files : FilesValue) (r : Request) (c : Contents) (old new : Device) (by : RunFault) → SaysFault r c old new by → SaysFaultAs Report files r c old new by
+of_report files r c old new run.Write says = (says.0, (says.1, says.2))
+of_report files r c old new run.Memory (inl nothing) = inl nothing
+of_report files r c old new run.Memory (inr cut) = inr (cut.0, (cut.1, cut.2))
+of_report files r c old new (run.Read input fault) says = says
+of_report files r c old new (run.Library fault) says = says
+of_report files r c old new (run.Hooks fault) says = says
+of_report files r c old new (run.Select input fault) says = says
+
+pub of_explanation : (files : FilesValue) (r : Request) (c : Contents) (old new : Device) (by : RunFault) → SaysExplanationFault r (hooks_name files) c old new by → SaysFaultAs Explanation files r c old new by
+of_explanation files r c old new run.Write says = says
+of_explanation files r c old new run.Memory says = says
+of_explanation files r c old new (run.Read input fault) says = says
+of_explanation files r c old new (run.Library fault) says = says
+of_explanation files r c old new (run.Hooks fault) says = says
+of_explanation files r c old new (run.Select input fault) says = says
+
+pub of_findings : (files : FilesValue) (r : Request) (c : Contents) (old new : Device) (by : RunFault) → SaysLintFault r (library_name files) (hooks_name files) old new by → SaysFaultAs Findings files r c old new by
+of_findings files r c old new run.Write says = says
+of_findings files r c old new run.Memory says = inl says
+of_findings files r c old new (run.Read input fault) says = says
+of_findings files r c old new (run.Library fault) says = says
+of_findings files r c old new (run.Hooks fault) says = says
+of_findings files r c old new (run.Select input fault) says = says
+
+-- why a run was stopped
+stopped_by : (mode : Mode) (files : FilesValue) (r : Request) (c : Contents) (old new : Device) (by : RunFault) → IsStoppedAs mode files r c old new by → StopsBy old new by
+stopped_by Report files r c old new by stopped = stopped.1
+stopped_by Explanation files r c old new by stopped = elim stopped.2 [
+  | inl part ↦ part.stopped.why
+  | inr short ↦ short.stopped.why
+]
+stopped_by Findings files r c old new run.Write stopped = stopped.2.why
+stopped_by Findings files r c old new _ stopped = absurd stopped
+
+pub fewer : (a b : ℕ) → a < 2 ^ 64 - 1 → b ≡ one_more a → a < b
+fewer a b room e = omega (arith, e)
+
+pub calls_of_run : (mode : Mode) (r : Request) (c : Contents) (old new : Device) (files : FilesValue) (by : RunFault) (fault : Fault)
+    → old.failures < 2 ^ 64 - 1 → IsFaultOfRun files by fault → SaysFaultAs mode files r c old new by → SaysCallsOfRun old new fault
+calls_of_run mode r c old new files run.Write fault room is says =
+    let why : StopsBy old new run.Write = stopped_by mode files r c old new run.Write says in
+    subst (SaysCallsOfRun old new) (sym is) (fewer old.failures new.failures room why.0, (let idle = why.1 in omega arith))
+calls_of_run mode r c old new files run.Memory fault room is (inl nothing) = subst (SaysCallsOfRun old new) (sym is) (inl nothing)
+calls_of_run mode r c old new files run.Memory fault room is (inr cut) = subst (SaysCallsOfRun old new) (sym is) (inr (mode, files, r, c, cut))
+calls_of_run mode r c old new files (run.Read input f) (OfRun name g) room is says = says.1
+calls_of_run mode r c old new files (run.Read input f) _ room is says = absurd is
+calls_of_run mode r c old new files (run.Library f) (OfRun name g) room is says = says.1
+calls_of_run mode r c old new files (run.Library f) _ room is says = absurd is
+calls_of_run mode r c old new files (run.Hooks f) (OfRun name g) room is says = says.1
+calls_of_run mode r c old new files (run.Hooks f) _ room is says = absurd is
+calls_of_run mode r c old new files (run.Select input f) (OfRun name g) room is says = says.1
+calls_of_run mode r c old new files (run.Select input f) _ room is says = absurd is
+
+-- with `--lint`, all files that don't read are listed
+pub as_listed : (files : FilesValue) (by : RunFault) (fault : Fault) → by ≢ run.Write → by ≢ run.Memory → IsListedAs files by fault → IsFaultAs Findings files by fault
+as_listed files run.Write fault write memory is = absurd (write refl)
+as_listed files run.Memory fault write memory is = absurd (memory refl)
+as_listed files (run.Read input f) fault write memory is = is
+as_listed files (run.Library f) fault write memory is = is
+as_listed files (run.Hooks f) fault write memory is = is
+as_listed files (run.Select input f) fault write memory is = is
+
+listed_calls : (files : FilesValue) (by : RunFault) (old new : Device) (fault : Fault) → IsListedAs files by fault → IsUntouched old new → SaysCallsOfRun old new fault
+listed_calls files by old new (Unread status place lines) is nothing = nothing
+listed_calls files by old new Memory is nothing = inl nothing
+listed_calls files by old new _ is nothing = absurd is
+
+-- the same, by what is written of the run
+pub calls_as : (mode : Mode) (r : Request) (c : Contents) (old new : Device) (files : FilesValue) (by : RunFault) (fault : Fault)
+    → old.failures < 2 ^ 64 - 1 → IsFaultAs mode files by fault → SaysFaultAs mode files r c old new by → SaysCallsOfRun old new fault
+calls_as Report r c old new files by fault room is says = calls_of_run Report r c old new files by fault room is says
+calls_as Explanation r c old new files by fault room is says = calls_of_run Explanation r c old new files by fault room is says
+calls_as Findings r c old new files run.Write fault room is says = calls_of_run Findings r c old new files run.Write fault room is says
+calls_as Findings r c old new files run.Memory fault room is says = calls_of_run Findings r c old new files run.Memory fault room is says
+calls_as Findings r c old new files (run.Read input f) fault room is says = listed_calls files (run.Read input f) old new fault is says.1
+calls_as Findings r c old new files (run.Library f) fault room is says = listed_calls files (run.Library f) old new fault is says.1
+calls_as Findings r c old new files (run.Hooks f) fault room is says = listed_calls files (run.Hooks f) old new fault is says.1
+calls_as Findings r c old new files (run.Select input f) fault room is says = listed_calls files (run.Select input f) old new fault is says.1
+
+-- ---- what is shown
+
+-- what was appended stays so
+pub kept : (a b c : Option (List ℕ)) (xs : List ℕ) → Appends a b xs → Keeps b c → Appends a c xs
+kept None b c xs wrote same = tt
+kept (Some x) None c xs wrote same = absurd wrote
+kept (Some x) (Some y) None xs wrote same = absurd same
+kept (Some x) (Some y) (Some z) xs wrote same = same ∙ wrote
+
+-- a text that is shown was appended, by no more calls than it has bytes, each of which moved at least one
+pub shown_whole : (text : List ℕ) (old new : Device) (status : ℕ) → IsShown text old new status
+    → Appends old.bytes new.bytes text × (new.calls ≤ old.calls + length text) × (new.idle ≡ old.idle)
+shown_whole text old new status is = (
+  kept old.bytes is.written.bytes new.bytes text is.is.written is.flushed.written,
+  subst (λ n. n ≤ old.calls + length text) (sym is.flushed.calls) is.is.calls,
+  is.flushed.idle ∙ is.is.busy,
+)
+
+-- a text that is not shown has one of two faults
+pub fault_of_text : (text : List ℕ) (old new : Device) (fault : Fault) → IsTextFault text old new fault → (fault ≡ Write) ⊎ (fault ≡ Memory)
+fault_of_text text old new Write says = inl refl
+fault_of_text text old new Memory says = inr refl
+fault_of_text text old new _ says = absurd says
+
+-- and standard output failed, and moved a byte in each call but one at most, or it was not called
+pub calls_of_text : (text : List ℕ) (old new : Device) (fault : Fault) → old.failures < 2 ^ 64 - 1 → IsTextFault text old new fault → SaysCalls old new fault
+calls_of_text text old new Write room (inl stopped) = (fewer old.failures new.failures room stopped.why.0, (let idle = stopped.why.1 in omega arith))
+calls_of_text text old new Write room (inr unflushed) =
+    (fewer old.failures new.failures room unflushed.failed, (let idle = unflushed.flushed.idle ∙ unflushed.is.busy in omega arith))
+calls_of_text text old new Memory room says = says
+calls_of_text text old new _ room says = absurd says
+
+-- ---- variables
+
+pub put_more : {X : Type 0} (f : X → PairValue) (xs : List X) (i : ℕ) (x : X) (old new all : Contents) → i < length xs → x ≡ get_or xs i x → new ≡ with_env old (f x).name (f x).text
+    → with_variables old (map f (drop i xs)) ≡ all → with_variables new (map f (drop (i + 1) xs)) ≡ all
+put_more f xs i x old new all lt is put before =
+    let split : drop i xs ≡ x ∷ drop (i + 1) xs = drop-cons xs i x lt ∙ ap (λ y. y ∷ drop (suc i) xs) (sym is) ∙ ap (λ n. x ∷ drop n xs) (sym (add-one i)) in
+    ap (λ c. with_variables c (map f (drop (i + 1) xs))) put ∙ (sym (ap (λ l. with_variables old (map f l)) split) ∙ before)
+
+pub taken_more : {X : Type 0} (P : PairValue → Type 0) (f : X → PairValue) (xs : List X) (i : ℕ) (x : X) → i < length xs → x ≡ get_or xs i x → P (f x) → All P (map f (take i xs)) → All P (map f (take (i + 1) xs))
+taken_more P f xs i x lt is here before =
+    let more : take (i + 1) xs ≡ take i xs ++ x ∷ [] = ap (λ n. take n xs) (add-one i) ∙ take-suc xs i x lt ∙ ap (λ y. take i xs ++ y ∷ []) (sym is) in
+    subst (λ l. All P (map f l)) (sym more) (subst (All P) (sym (map_push f (take i xs) x)) (All-push P (map f (take i xs)) (f x) before here))
+
+pub all_put : {X : Type 0} (f : X → PairValue) (xs : List X) (i : ℕ) (c all : Contents) → length xs ≤ i → with_variables c (map f (drop i xs)) ≡ all → c ≡ all
+all_put f xs i c all le before = ap (λ l. with_variables c (map f l)) (sym (drop_all i xs le)) ∙ before
+
+pub all_taken : {X : Type 0} (P : PairValue → Type 0) (f : X → PairValue) (xs : List X) (i : ℕ) → length xs ≤ i → All P (map f (take i xs)) → All P (map f xs)
+all_taken P f xs i le good = subst (λ l. All P (map f l)) (take_all i xs le) good
+
+-- what a refusal says of the program's fault
+pub refused : (variables : List PairValue) (old new : SandboxValue) (refusal : Option WorldFault) (by : WorldFault) (fault : Fault) → IsFault refusal by → IsFaultOfVariable by fault
+    → (IsSome refusal → Any IsRefused variables) → SaysVariables variables old new (Err fault)
+refused variables old new refusal world.Memory fault h is any = subst (λ x. SaysVariables variables old new (Err x)) (sym is) tt
+refused variables old new refusal world.Absent fault h is any = subst (λ x. SaysVariables variables old new (Err x)) (sym is) (any (ap is_some h))
+refused variables old new refusal world.TextTooLong fault h is any = subst (λ x. SaysVariables variables old new (Err x)) (sym is) (any (ap is_some h))
+refused variables old new refusal world.BadName fault h is any = subst (λ x. SaysVariables variables old new (Err x)) (sym is) (any (ap is_some h))
+refused variables old new refusal world.OtherLayer fault h is any = subst (λ x. SaysVariables variables old new (Err x)) (sym is) (any (ap is_some h))
+
+pub refused_here : {X : Type 0} (P : PairValue → Type 0) (f : X → PairValue) (xs : List X) (i : ℕ) (x : X) → i < length xs → x ≡ get_or xs i x → P (f x) → Any P (map f xs)
+refused_here P f xs i x lt is here =
+    let less : i < length (map f xs) = rw length-map lt in
+    (i, f x, less, get_or-map f xs i x (f x) lt ∙ ap f (sym is), here)
+
+pub of_variables : {S : Type 0} (r : Reading S) (w : Words) (s : S) (d : Device) (variables : List (String Global × String Global)) (old new : SandboxValue) (fault : Fault) → variables ≡ w.env.items
+    → SaysVariables (map pair_value variables) old new (Err fault) → SaysProgram r w s s d d fault
+of_variables r w s d variables old new Env same says = inl (subst (λ xs. Any IsRefused (map pair_value xs)) same says, refl, untouched d)
+of_variables r w s d variables old new Memory same says = inl (refl, untouched d)
+of_variables r w s d variables old new _ same says = absurd says
+
+pub calls_of_variables : (d : Device) (variables : List PairValue) (old new : SandboxValue) (fault : Fault) → SaysVariables variables old new (Err fault) → SaysCallsOfRun d d fault
+calls_of_variables d variables old new Env says = untouched d
+calls_of_variables d variables old new Memory says = inl (untouched d)
+calls_of_variables d variables old new _ says = absurd says
+
+-- ---- a fault of a file
+
+from_files : {S : Type 0} (r : Reading S) (w : Words) (c : Contents) (a b : S) (d : Device) (fault : Fault) → StopsReading r a (names_given w) b fault
+    → Any (λ name. IsFileFault (string_bytes name) fault) w.files.items → SaysRunFrom r w c a b d d fault
+from_files r w c a b d (CannotRead other) stops h = record { given = inr (inr h); stops = stops }
+from_files r w c a b d (TooLong other) stops h = record { given = inr (inr h); stops = stops }
+from_files r w c a b d Memory stops h = inl (untouched d, stops)
+from_files r w c a b d _ stops h = absurd h.4
+
+no_file : (name : Option (String Global)) → IsSomeAnd name (λ n. ⊥) → ⊥
+no_file None says = says
+no_file (Some n) says = says
+
+-- a fault of the library file or of the hooks file
+from_named : {S : Type 0} (r : Reading S) (w : Words) (c : Contents) (a b : S) (d : Device) (name : Option (String Global)) (fault : Fault) → ((file : List ℕ) → IsSomeAnd name (λ n. file ≡ string_bytes n) → IsGiven w file)
+    → StopsReading r a (names_given w) b fault → IsSomeAnd name (λ n. IsFileFault (string_bytes n) fault) → SaysRunFrom r w c a b d d fault
+from_named r w c a b d name (CannotRead other) given stops says = record { given = given (string_bytes other) says; stops = stops }
+from_named r w c a b d name (TooLong other) given stops says = record { given = given (string_bytes other) says; stops = stops }
+from_named r w c a b d name Memory given stops says = inl (untouched d, stops)
+from_named r w c a b d name _ given stops says = absurd (no_file name says)
+
+-- a fault of one of the files
+pub from_run_files : {S : Type 0} (r : Reading S) (w : Words) (c : Contents) (a b : S) (d : Device) (fault : Fault) → StopsReading r a (names_given w) b fault
+    → IsFaultOfFiles w.library w.hooks w.files.items fault → SaysRunFrom r w c a b d d fault
+from_run_files r w c a b d fault stops (inl h) = from_named r w c a b d w.library fault (λ file is. inl is) stops h
+from_run_files r w c a b d fault stops (inr (inl h)) = from_named r w c a b d w.hooks fault (λ file is. inr (inl is)) stops h
+from_run_files r w c a b d fault stops (inr (inr h)) = from_files r w c a b d fault stops h
+
+-- then standard output is not called
+pub calls_of_files : (library hooks : Option (String Global)) (names : List (String Global)) (d : Device) (fault : Fault) → IsFaultOfFiles library hooks names fault → SaysCallsOfRun d d fault
+calls_of_files library hooks names d (CannotRead other) h = untouched d
+calls_of_files library hooks names d (TooLong other) h = untouched d
+calls_of_files library hooks names d Memory h = inl (untouched d)
+calls_of_files library hooks names d _ (inl h) = absurd (no_file library h)
+calls_of_files library hooks names d _ (inr (inl h)) = absurd (no_file hooks h)
+calls_of_files library hooks names d _ (inr (inr h)) = absurd h.4
+
+-- ---- a fault of the run of the files
+
+abbrev IsSuiteFault : Fault → Type 0
+IsSuiteFault NotUtf8 = ⊥
+IsSuiteFault (Usage e) = ⊥
+IsSuiteFault Env = ⊥
+IsSuiteFault File = ⊥
+IsSuiteFault (NotText name) = ⊥
+IsSuiteFault (TextTooLong name) = ⊥
+IsSuiteFault (CannotRead name) = ⊥
+IsSuiteFault (TooLong name) = ⊥
+IsSuiteFault _ = Unit {0}
+
+suite_fault : (files : FilesValue) (by : RunFault) (fault : Fault) → IsFaultOfRun files by fault → IsSuiteFault fault
+suite_fault files run.Write fault is = subst IsSuiteFault (sym is) tt
+suite_fault files run.Memory fault is = subst IsSuiteFault (sym is) tt
+suite_fault files (run.Read input f) (OfRun name g) is = tt
+suite_fault files (run.Read input f) _ is = absurd is
+suite_fault files (run.Library f) (OfRun name g) is = tt
+suite_fault files (run.Library f) _ is = absurd is
+suite_fault files (run.Hooks f) (OfRun name g) is = tt
+suite_fault files (run.Hooks f) _ is = absurd is
+suite_fault files (run.Select input f) (OfRun name g) is = tt
+suite_fault files (run.Select input f) _ is = absurd is
+
+listed_fault : (files : FilesValue) (by : RunFault) (fault : Fault) → IsListedAs files by fault → IsSuiteFault fault
+listed_fault files by (Unread status place lines) is = tt
+listed_fault files by Memory is = tt
+listed_fault files by _ is = absurd is
+
+fault_as : (mode : Mode) (files : FilesValue) (by : RunFault) (fault : Fault) → IsFaultAs mode files by fault → IsSuiteFault fault
+fault_as Report files by fault is = suite_fault files by fault is
+fault_as Explanation files by fault is = suite_fault files by fault is
+fault_as Findings files run.Write fault is = suite_fault files run.Write fault is
+fault_as Findings files run.Memory fault is = suite_fault files run.Memory fault is
+fault_as Findings files (run.Read input f) fault is = listed_fault files (run.Read input f) fault is
+fault_as Findings files (run.Library f) fault is = listed_fault files (run.Library f) fault is
+fault_as Findings files (run.Hooks f) fault is = listed_fault files (run.Hooks f) fault is
+fault_as Findings files (run.Select input f) fault is = listed_fault files (run.Select input f) fault is
+
+suite_named : (mode : Mode) (files : FilesValue) (r : Request) (c : Contents) (old new : Device) (fault : Fault) → SaysSuite mode files r c old new fault → IsSuiteFault fault
+suite_named mode files r c old new fault (inl says) = fault_as mode files says.0 fault says.1
+suite_named mode files r c old new fault (inr unflushed) = subst IsSuiteFault (sym unflushed.named) tt
+
+of_given : {S : Type 0} (r : Reading S) (w : Words) (c : Contents) (a b : S) (old new : Device) (fault : Fault) → IsSuiteFault fault → IsFaultOfGiven r w c a b old new fault → SaysRunFrom r w c a b old new fault
+of_given r w c a b old new (OfRun name f) is h = h
+of_given r w c a b old new (Unread status place lines) is h = h
+of_given r w c a b old new Write is h = h
+of_given r w c a b old new Memory is h = inr h
+of_given r w c a b old new _ is h = absurd is
+
+pub of_suite : {S : Type 0} (r : Reading S) (w : Words) (c : Contents) (a b : S) (files : FilesValue) (old new : Device) (fault : Fault) → AreGiven w files → AreRead r a (files_in_order files) b
+    → SaysSuite w.mode files (request_of_files w.options files) c old new fault → SaysRunFrom r w c a b old new fault
+of_suite r w c a b files old new fault given read says =
+    of_given r w c a b old new fault (suite_named w.mode files _ _ old new fault says) record { files = files; given = given; read = read; says = says }
+
+-- ---- the run of the files
+
+their_names : (xs : List Source) → names_of (map source_value xs) ≡ map name_of xs
+their_names [] = refl
+their_names (x ∷ xs) = ap (λ l. name_of x ∷ l) (their_names xs)
+
+name_given : (file : Option Source) → option_map (λ s. s.name) (option_map source_value file) ≡ option_map name_of file
+name_given None = refl
+name_given (Some x) = refl
+
+pub are_given : (w : Words) (files : SuiteFiles Source) → option_map name_of files.library ≡ option_map string_bytes w.library → option_map name_of files.hooks ≡ option_map string_bytes w.hooks
+    → map name_of files.sources.items ≡ map string_bytes w.files.items → AreGiven w (suite_value source_value files)
+are_given w files l h s = record {
+  sources = their_names files.sources.items ∙ s;
+  library = name_given files.library ∙ l;
+  hooks = name_given files.hooks ∙ h;
+}
+
+-- the variables that were put are those that were given
+pub taken_in : (w : Words) (variables : List (String Global × String Global)) → AreTaken (map pair_value variables) → variables ≡ w.env.items → AreTaken (variables_given w)
+taken_in w variables taken same = subst (λ xs. AreTaken (map pair_value xs)) same taken
+
+-- the contents after the variables are put into a new sandbox
+pub put_in : (w : Words) (start : SandboxValue) (c : Contents) (variables : List (String Global × String Global)) → c ≡ with_variables start.now (map pair_value variables) → start ≡ new_sandbox → variables ≡ w.env.items
+    → c ≡ contents_given w
+put_in w start c variables put new same =
+    put ∙ ap (λ s. with_variables s.now (map pair_value variables)) new ∙ ap (λ xs. with_variables nothing_yet (map pair_value xs)) same
+
+pub runs : {S : Type 0} (r : Reading S) (w : Words) (a b : S) (files : FilesValue) (old new : Device) (c : Contents) (result : Result ℕ Fault) → AreGiven w files → AreRead r a (files_in_order files) b
+    → IfOk result (IsFlushedRun w.mode files (request_of_files w.options files) c old new) → IfOk result (IsRunFrom r w c a b old new)
+runs r w a b files old new c (Err e) given read run = tt
+runs r w a b files old new c (Ok status) given read run = record { files = files; given = given; read = read; run = run }
+
+pub fails : {S : Type 0} (r : Reading S) (w : Words) (a b : S) (files : FilesValue) (old new : Device) (c : Contents) (result : Result ℕ Fault) → AreGiven w files → AreRead r a (files_in_order files) b
+    → IfErr result (SaysSuite w.mode files (request_of_files w.options files) c old new) → IfErr result (SaysRunFrom r w c a b old new)
+fails r w a b files old new c (Err e) given read says = of_suite r w c a b files old new e given read says
+fails r w a b files old new c (Ok status) given read says = tt
+
+-- ---- the files that are put
+
+-- the files that were put are those that were given
+pub put_from : {S : Type 0} (r : Reading S) (w : Words) (a b : S) (c d : Contents) (files : List (String Global × String Global)) → files ≡ w.world_files.items → c ≡ contents_given w
+    → ArePut r (map pair_value files) a b c d → ArePut r (files_to_put w) a b (contents_given w) d
+put_from r w a b c d files same is put = subst (λ x. ArePut r (files_to_put w) a b x d) is (subst (λ xs. ArePut r (map pair_value xs) a b c d) same put)
+
+pub stops_from : {S : Type 0} (r : Reading S) (w : Words) (a b : S) (d : Device) (files : List (String Global × String Global)) (fault : Fault) → files ≡ w.world_files.items → AreTaken (variables_given w)
+    → StopsPutting r (map pair_value files) a b fault → SaysProgram r w a b d d fault
+stops_from r w a b d files fault same taken stops = inr (inl record {
+  taken = taken;
+  stops = subst (λ xs. StopsPutting r (map pair_value xs) a b fault) same stops;
+  untouched = untouched d;
+})
+
+-- then standard output is not called
+pub calls_of_putting : {S : Type 0} (r : Reading S) (given : List PairValue) (a b : S) (d : Device) (fault : Fault) → StopsPutting r given a b fault → SaysCallsOfRun d d fault
+calls_of_putting r given a b d File stops = untouched d
+calls_of_putting r given a b d (CannotRead name) stops = untouched d
+calls_of_putting r given a b d (NotText name) stops = untouched d
+calls_of_putting r given a b d (TextTooLong name) stops = untouched d
+calls_of_putting r given a b d Memory stops = inl (untouched d)
+calls_of_putting r given a b d _ stops = absurd stops.stops.1
+
+-- a run from the contents with the files is what was asked for
+pub runs_from : {S : Type 0} (r : Reading S) (w : Words) (a b e : S) (old new : Device) (c : Contents) (result : Result ℕ Fault) → AreTaken (variables_given w) → ArePut r (files_to_put w) a b (contents_given w) c
+    → IfOk result (IsRunFrom r w c b e old new) → IfOk result (IsRun r w a e old new)
+runs_from r w a b e old new c (Err f) taken put run = tt
+runs_from r w a b e old new c (Ok status) taken put run = record { taken = taken; start = b; contents = c; put = put; run = run }
+
+pub fails_from : {S : Type 0} (r : Reading S) (w : Words) (a b e : S) (old new : Device) (c : Contents) (result : Result ℕ Fault) → AreTaken (variables_given w) → ArePut r (files_to_put w) a b (contents_given w) c
+    → IfErr result (SaysRunFrom r w c b e old new) → IfErr result (SaysProgram r w a e old new)
+fails_from r w a b e old new c (Err f) taken put says = inr (inr record { taken = taken; start = b; contents = c; put = put; says = says })
+fails_from r w a b e old new c (Ok status) taken put says = tt

@@ -1,0 +1,16 @@
+use Rattle.std.proofs.Common.{◌≡◌, ◌++◌, length, map, string_bytes}
+use Rattle.std.specs.List.{Any}
+use Rattle.std.specs.Vec.Iter.{into_iter_items, into_iter_len}
+use Rattle.gk_cli.specs.Source.{source_value}
+use Rattle.gk_program.specs.Files.{AreRead, IsFileFault, name_of}
+use Rattle.gk_program.specs.declared.fault.Fault.{Fault}
+use Rattle.gk_program.proofs.files.read_files.Given as goal
+
+-- the sources so far and the names that are left have all the names; a fault of a name that is left is one of a name
+abbrev pub invariant-loop-name : goal.invariant-loop-name
+invariant-loop-name g l = record {
+  named : map name_of l.sources.items ++ map string_bytes (into_iter_items l.name-iterator) ≡ map string_bytes l.fn.names.items;
+  read : AreRead g.S.System.reads l.fn.system (map source_value l.sources.items) l.system;
+  among : (fault : Fault) → Any (λ name. IsFileFault (string_bytes name) fault) (into_iter_items l.name-iterator) → Any (λ name. IsFileFault (string_bytes name) fault) l.fn.names.items;
+  counted : length (into_iter_items l.name-iterator) ≡ into_iter_len l.name-iterator;
+}

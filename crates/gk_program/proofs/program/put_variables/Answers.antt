@@ -1,0 +1,34 @@
+use Rattle.std.proofs.Common.{◌≡◌, ◌∙◌, ap₂, map, sym, None, subst}
+use Rattle.gk_world.specs.Refusals.{put_refusal}
+use Rattle.gk_world.specs.Sandbox.{with_env}
+use Rattle.gk_cli.specs.Arguments.{pair_value}
+use Rattle.gk_program.specs.Program.{IsRefused}
+use Rattle.std.specs.Prelude.{IsSome}
+use Rattle.gk_program.proofs.ProgramLemmas.{all_taken, all_put, refused_here, taken_more, put_more, refused}
+use Rattle.gk_program.proofs.program.put_variables.Goals as goal
+
+pub returns-in-Err : goal.returns-in-Err
+returns-in-Err c =
+    let name = c.as_str.ensures.value in
+    let text = c.as_str-in-loop-variable.ensures.value in
+    refused (map pair_value c.args.variables.now) c.args.sandbox.now c.put_env.new.self (put_refusal c.as_str.result.now c.as_str-in-loop-variable.result.now) c.in-Err.fault c.fault_of_variable.result c.in-Err.ensures.answer c.fault_of_variable.ensures
+    (λ some. refused_here IsRefused pair_value c.args.variables.now c.loop-variable.variable-index c.variable-item.result c.loop-variable-test.true c.variable-item.is (subst IsSome (ap₂ put_refusal name text) some))
+
+pub loop-variable-preserved : goal.loop-variable-preserved
+loop-variable-preserved c =
+    let name = c.as_str.ensures.value in
+    let text = c.as_str-in-loop-variable.ensures.value in
+    let put = c.in-Ok.ensures.ok.contents ∙ ap₂ (with_env c.loop-variable.sandbox.now) name text in
+    record {
+      put = put_more pair_value c.args.variables.now c.loop-variable.variable-index c.variable-item.result _ _ _ c.loop-variable-test.true c.variable-item.is put c.loop-variable.invariant.put;
+      layers = c.in-Ok.ensures.ok.layers ∙ c.loop-variable.invariant.layers;
+      taken = taken_more (λ v. put_refusal v.name v.text ≡ None) pair_value c.args.variables.now c.loop-variable.variable-index c.variable-item.result c.loop-variable-test.true c.variable-item.is
+          (sym (ap₂ put_refusal name text) ∙ c.in-Ok.ensures.answer) c.loop-variable.invariant.taken;
+    }
+
+pub returns : goal.returns
+returns c = (
+  all_put pair_value c.args.variables.now c.loop-variable.variable-index _ _ c.loop-variable-test.false c.loop-variable.invariant.put,
+  c.loop-variable.invariant.layers,
+  all_taken (λ v. put_refusal v.name v.text ≡ None) pair_value c.args.variables.now c.loop-variable.variable-index c.loop-variable-test.false c.loop-variable.invariant.taken,
+)

@@ -1,0 +1,276 @@
+-- What the program returns and writes.
+use Rattle.std.specs.Prelude.{◌≡◌, ◌⊎◌, ◌<◌, ◌≤◌, ◌+◌, ℕ, List, [], ◌∷◌, map, None, Result, Ok, Err, IsSome, IsSomeAnd, option_map, string_bytes}
+use Rattle.std.specs.Io.KnownBytes.{Keeps}
+use Rattle.std.specs.List.{All, Any}
+use Rattle.clap.specs.Words.{Text}
+use Rattle.gk_world.specs.State.{Contents, nothing_yet}
+use Rattle.gk_world.specs.Refusals.{put_refusal}
+use Rattle.gk_world.specs.Sandbox.{SandboxValue, with_env}
+use Rattle.gk_world.specs.declared.refusals.WorldFault.{WorldFault}
+use Rattle.gk_world.specs.declared.refusals.WorldFault.TheVariants as world
+use Rattle.gk_cli.specs.Arguments.{PairValue, pair_value}
+use Rattle.gk_cli.specs.Counted.{one_more}
+use Rattle.gk_cli.specs.Inputs.{Request}
+use Rattle.gk_cli.specs.GrowingReport.{IsStopped, IsWritten, StopsBy}
+use Rattle.gk_cli.specs.RunFault.{IsUnread}
+use Rattle.gk_cli.specs.Suite.{CutShort, Device, IsUntouched, JudgedReport, OnlyReport}
+use Rattle.gk_cli.specs.ExplainedSuite.{Explained, ExplainedInPart}
+use Rattle.gk_cli.specs.LintedSuite.{Linted, LintedInPart}
+use Rattle.gk_cli.specs.FaultNotes.{name_at_fault}
+use Rattle.gk_cli.specs.SuiteFiles.{FilesValue, HaveSameNames, hooks_name, library_name, request_of_files}
+use Rattle.gk_cli.specs.declared.arguments.Mode.{Mode}
+use Rattle.gk_cli.specs.declared.arguments.Mode.TheVariants.{Report, Explanation, Findings}
+use Rattle.gk_cli.specs.declared.arguments.Words.{Words}
+use Rattle.gk_cli.specs.declared.run_fault.RunFault.{RunFault}
+use Rattle.gk_cli.specs.declared.run_fault.RunFault.TheVariants as run
+use Rattle.gk_program.specs.Asked.{SaysGiven, files_to_put, names_given}
+use Rattle.gk_program.specs.FaultListing.{IsListedAs}
+use Rattle.gk_program.specs.Files.{AreRead, Reading, StopsReading, files_in_order}
+use Rattle.gk_program.specs.declared.fault.Fault.{Fault}
+use Rattle.gk_program.specs.WorldFiles.{ArePut, StopsPutting}
+use Rattle.gk_program.specs.declared.fault.Fault.TheVariants.{NotUtf8, Usage, Env, File, NotText, TextTooLong, CannotRead, TooLong, OfRun, Write, Memory}
+use Rattle.gk_program.specs.declared.asked.ArgumentsFault.{ArgumentsFault}
+use Rattle.gk_program.specs.declared.asked.Asked.{Asked}
+use Rattle.gk_program.specs.declared.asked.Asked.TheVariants.{Help, Run}
+use Rattle.gk_program.specs.declared.program.Manner.{Manner}
+
+-- Standard output failed, and moved a byte in each call except the one that failed, or it was not called at all.
+abbrev pub SaysCalls : Device → Device → Fault → Type 0
+SaysCalls old new Write = (old.failures < new.failures) × (new.idle ≤ old.idle + 1)
+SaysCalls old new _ = IsUntouched old new
+
+-- What was written if this fault ended a run: a prefix of its report, of its explanation, or of what is found before the run. Standard output failed, and moved a byte in each other call. Or it didn't fail, and moved one in each call.
+abbrev pub IsStoppedAs : Mode → FilesValue → Request → Contents → Device → Device → RunFault → Type 0
+IsStoppedAs Report files request contents old new by = CutShort request contents old new × StopsBy old new by
+IsStoppedAs Explanation files request contents old new by = ExplainedInPart request (hooks_name files) contents old new by
+IsStoppedAs Findings files request contents old new run.Write = LintedInPart request (library_name files) (hooks_name files) old new run.Write
+IsStoppedAs Findings files request contents old new by = ⊥
+
+-- A prefix of the output of some run was written, and then memory was refused.
+abbrev pub IsCutShortForSome : Device → Device → Type 0
+IsCutShortForSome old new = (mode : Mode) × (files : FilesValue) × (request : Request) × (contents : Contents) × IsStoppedAs mode files request contents old new run.Memory
+
+-- Standard output failed, or it was not called at all, or memory was refused after a prefix of a run's output was written.
+abbrev pub SaysCallsOfRun : Device → Device → Fault → Type 0
+SaysCallsOfRun old new Memory = IsUntouched old new ⊎ IsCutShortForSome old new
+SaysCallsOfRun old new fault = SaysCalls old new fault
+
+-- Standard output was flushed once, and took nothing more.
+pub record IsFlushed (old new : Device) : Type 0 where
+  pub written : Keeps old.bytes new.bytes
+  pub calls : new.calls ≡ old.calls
+  pub idle : new.idle ≡ old.idle
+  pub flushes : new.flushes ≡ one_more old.flushes
+
+-- This text, and no more, was written to standard output, by calls that each moved at least one byte, and was flushed once. No call failed, and the status is 0.
+pub record IsShown (text : List ℕ) (old new : Device) (status : ℕ) : Type 0 where
+  pub written : Device
+  pub is : IsWritten old written text
+  pub flushed : IsFlushed written new
+  pub quiet : new.failures ≡ old.failures
+  pub well : status ≡ 0
+
+-- All of this text was written, and then the flush failed.
+pub record FailsToFlushText (text : List ℕ) (old new : Device) : Type 0 where
+  pub written : Device
+  pub is : IsWritten old written text
+  pub flushed : IsFlushed written new
+  pub failed : new.failures ≡ one_more old.failures
+
+-- Why this text was not shown, and which part of it was written. If a write failed, a prefix was written, and nothing was flushed. If the flush failed, all of it was written. If memory was refused, nothing was written, and standard output was not called.
+abbrev pub IsTextFault : List ℕ → Device → Device → Fault → Type 0
+IsTextFault text old new Write = IsStopped old new text run.Write ⊎ FailsToFlushText text old new
+IsTextFault text old new Memory = IsUntouched old new
+IsTextFault text old new _ = ⊥
+
+-- Contents with some variables put in, in order. If several have the same name, the last one counts.
+abbrev pub with_variables : Contents → List PairValue → Contents
+with_variables c [] = c
+with_variables c (v ∷ vs) = with_variables (with_env c v.name v.text) vs
+
+-- A variable that no sandbox takes: a bad name, or a text that is too long.
+abbrev pub IsRefused : PairValue → Type 0
+IsRefused v = IsSome (put_refusal v.name v.text)
+
+-- A sandbox takes each of these variables.
+abbrev pub AreTaken : List PairValue → Type 0
+AreTaken variables = All (λ v. put_refusal v.name v.text ≡ None) variables
+
+-- A variable that the sandbox refuses is a mistake in the arguments, unless memory was refused.
+abbrev pub IsFaultOfVariable : WorldFault → Fault → Type 0
+IsFaultOfVariable world.Memory fault = fault ≡ Memory
+IsFaultOfVariable _ fault = fault ≡ Env
+
+-- The variables are in the sandbox, and its layers are unchanged; or one of them is refused. Nothing is said of refused memory.
+abbrev pub SaysVariables : List PairValue → SandboxValue → SandboxValue → Result (Unit {0}) Fault → Type 0
+SaysVariables variables old new (Ok u) = (new.now ≡ with_variables old.now variables) × (new.saved ≡ old.saved) × AreTaken variables
+SaysVariables variables old new (Err Env) = Any IsRefused variables
+SaysVariables variables old new (Err Memory) = Unit {0}
+SaysVariables variables old new (Err _) = ⊥
+
+-- The program's fault for a fault of the run: the same fault, with a file's name in place of its number.
+abbrev pub IsFaultOfRun : FilesValue → RunFault → Fault → Type 0
+IsFaultOfRun files run.Write fault = fault ≡ Write
+IsFaultOfRun files run.Memory fault = fault ≡ Memory
+IsFaultOfRun files by (OfRun name same) = (same ≡ by) × (option_map string_bytes name ≡ name_at_fault files by)
+IsFaultOfRun files by other = ⊥
+
+-- The program's fault for a fault of the run, by the mode. With `--lint`, all invalid files are listed.
+abbrev pub IsFaultAs : Mode → FilesValue → RunFault → Fault → Type 0
+IsFaultAs Findings files run.Write fault = IsFaultOfRun files run.Write fault
+IsFaultAs Findings files run.Memory fault = IsFaultOfRun files run.Memory fault
+IsFaultAs Findings files by fault = IsListedAs files by fault
+IsFaultAs mode files by fault = IsFaultOfRun files by fault
+
+-- The output of a run was written, and its status is returned. The output is the report of a judged list, which at each status other than 4 is the one that plain maps give; or the explanation of a run with judged results; or all that is found before a run.
+abbrev pub IsWrittenAs : Mode → FilesValue → Request → Contents → Device → Device → ℕ → Type 0
+IsWrittenAs Report files request contents old new status = JudgedReport request contents old new status × OnlyReport request contents old new status
+IsWrittenAs Explanation files request contents old new status = Explained request (hooks_name files) contents old new status
+IsWrittenAs Findings files request contents old new status = Linted request (library_name files) (hooks_name files) old new status
+
+-- What each fault of a run says. At `Write`, a prefix of the run's output was written; at `Memory`, such a prefix or nothing. At any other fault nothing was written, and the request is invalid.
+abbrev pub SaysFaultAs : Mode → FilesValue → Request → Contents → Device → Device → RunFault → Type 0
+SaysFaultAs mode files request contents old new run.Write = IsStoppedAs mode files request contents old new run.Write
+SaysFaultAs mode files request contents old new run.Memory = IsUntouched old new ⊎ IsStoppedAs mode files request contents old new run.Memory
+SaysFaultAs mode files request contents old new by = IsUnread request by × IsUntouched old new
+
+-- The files of a run after it. With `--lint` they are unchanged. Otherwise sources may have dropped their bytes, and the names are unchanged.
+abbrev pub AreLeft : Mode → FilesValue → FilesValue → Type 0
+AreLeft Findings old new = new ≡ old
+AreLeft mode old new = HaveSameNames old new
+
+-- The output of a run was written and flushed, and its status is returned.
+pub record IsFlushedRun (mode : Mode) (files : FilesValue) (request : Request) (contents : Contents) (old new : Device) (status : ℕ) : Type 0 where
+  pub written : Device
+  pub is : IsWrittenAs mode files request contents old written status
+  pub flushed : IsFlushed written new
+
+-- The output of a run was written, and then the flush failed.
+pub record FailsToFlush (mode : Mode) (files : FilesValue) (request : Request) (contents : Contents) (old new : Device) (fault : Fault) : Type 0 where
+  pub named : fault ≡ Write
+  pub status : ℕ
+  pub written : Device
+  pub is : IsWrittenAs mode files request contents old written status
+  pub flushed : IsFlushed written new
+  pub failed : new.failures ≡ one_more old.failures
+
+-- A fault after the files are read: that of the run, or of the flush.
+abbrev pub SaysSuite : Mode → FilesValue → Request → Contents → Device → Device → Fault → Type 0
+SaysSuite mode files request contents old new fault =
+    ((by : RunFault) × IsFaultAs mode files by fault × SaysFaultAs mode files request contents old new by)
+    ⊎ FailsToFlush mode files request contents old new fault
+
+-- The sources have the names of the given files, in order. There is a library file if and only if one was given, and it has the given name; the same holds for the hooks file.
+pub record AreGiven (w : Words) (files : FilesValue) : Type 0 where
+  pub sources : map (λ s. s.name) files.sources ≡ map string_bytes w.files.items
+  pub library : option_map (λ s. s.name) files.library ≡ option_map string_bytes w.library
+  pub hooks : option_map (λ s. s.name) files.hooks ≡ option_map string_bytes w.hooks
+
+-- The variables that were given.
+abbrev pub variables_given : Words → List PairValue
+variables_given w = map pair_value w.env.items
+
+-- The contents with the variables alone.
+abbrev pub contents_given : Words → Contents
+contents_given w = with_variables nothing_yet (variables_given w)
+
+-- A fault of the run of these files, or of the flush.
+abbrev pub SaysRun : Manner → FilesValue → Contents → Device → Device → Fault → Type 0
+SaysRun manner files contents old new fault =
+    SaysSuite manner.mode files (request_of_files manner.options.now files) contents old new fault
+
+-- The output of a run of these files was written and flushed.
+abbrev pub IsRunOfFiles : Manner → FilesValue → Contents → Device → Device → ℕ → Type 0
+IsRunOfFiles manner files contents old new status =
+    IsFlushedRun manner.mode files (request_of_files manner.options.now files) contents old new status
+
+-- The given files, and no others, were read from the system, in order. The output and the status are those of one run of the bytes that it returned, which begins with these contents.
+pub record IsRunFrom {S : Type 0} (reads : Reading S) (w : Words) (contents : Contents) (before after : S) (old new : Device) (status : ℕ) : Type 0 where
+  pub files : FilesValue
+  pub given : AreGiven w files
+  pub read : AreRead reads before (files_in_order files) after
+  pub run : IsFlushedRun w.mode files (request_of_files w.options files) contents old new status
+
+-- The variables are taken. Then each file of `--file` was read from the system and put under its name, in order. The rest is one run that begins with these contents.
+pub record IsRun {S : Type 0} (reads : Reading S) (w : Words) (before after : S) (old new : Device) (status : ℕ) : Type 0 where
+  pub taken : AreTaken (variables_given w)
+  pub start : S
+  pub contents : Contents
+  pub put : ArePut reads (files_to_put w) before start (contents_given w) contents
+  pub run : IsRunFrom reads w contents start after old new status
+
+-- A file of this name was given.
+abbrev pub IsGiven : Words → List ℕ → Type 0
+IsGiven w name = IsSomeAnd w.library (λ file. name ≡ string_bytes file) ⊎ (IsSomeAnd w.hooks (λ file. name ≡ string_bytes file) ⊎ Any (λ file. name ≡ string_bytes file) w.files.items)
+
+-- A fault of the run of the given files, with the bytes that the system returned.
+pub record IsFaultOfGiven {S : Type 0} (reads : Reading S) (w : Words) (contents : Contents) (before after : S) (old new : Device) (fault : Fault) : Type 0 where
+  pub files : FilesValue
+  pub given : AreGiven w files
+  pub read : AreRead reads before (files_in_order files) after
+  pub says : SaysSuite w.mode files (request_of_files w.options files) contents old new fault
+
+-- A given file is the first that the system didn't return, and this is its fault. No file was read after it.
+pub record IsFaultOfName {S : Type 0} (reads : Reading S) (w : Words) (before after : S) (name : List ℕ) (fault : Fault) : Type 0 where
+  pub given : IsGiven w name
+  pub stops : StopsReading reads before (names_given w) after fault
+
+-- What each fault of a run from these contents says. A file that can't be read is the first such file. If memory was refused, nothing was written and reading stopped, or all files were read and the fault is the run's.
+abbrev pub SaysRunFrom : {S : Type 0} → Reading S → Words → Contents → S → S → Device → Device → Fault → Type 0
+SaysRunFrom reads w contents before after old new NotUtf8 = ⊥
+SaysRunFrom reads w contents before after old new (Usage text) = ⊥
+SaysRunFrom reads w contents before after old new Env = ⊥
+SaysRunFrom reads w contents before after old new File = ⊥
+SaysRunFrom reads w contents before after old new (NotText name) = ⊥
+SaysRunFrom reads w contents before after old new (TextTooLong name) = ⊥
+SaysRunFrom reads w contents before after old new (CannotRead name) = IsFaultOfName reads w before after (string_bytes name) (CannotRead name)
+SaysRunFrom reads w contents before after old new (TooLong name) = IsFaultOfName reads w before after (string_bytes name) (TooLong name)
+SaysRunFrom reads w contents before after old new Memory = (IsUntouched old new × StopsReading reads before (names_given w) after Memory) ⊎ IsFaultOfGiven reads w contents before after old new Memory
+SaysRunFrom reads w contents before after old new fault = IsFaultOfGiven reads w contents before after old new fault
+
+-- A variable is refused, or memory. The system is unchanged, and standard output was not called.
+abbrev pub IsFaultOfVariables : {S : Type 0} → Words → S → S → Device → Device → Fault → Type 0
+IsFaultOfVariables w before after old new Env = Any IsRefused (variables_given w) × (before ≡ after) × IsUntouched old new
+IsFaultOfVariables w before after old new Memory = (before ≡ after) × IsUntouched old new
+IsFaultOfVariables w before after old new fault = ⊥
+
+-- The variables are taken, a file of `--file` is not put, and standard output was not called.
+pub record IsFaultOfPutting {S : Type 0} (reads : Reading S) (w : Words) (before after : S) (old new : Device) (fault : Fault) : Type 0 where
+  pub taken : AreTaken (variables_given w)
+  pub stops : StopsPutting reads (files_to_put w) before after fault
+  pub untouched : IsUntouched old new
+
+-- The variables are taken, the files of `--file` are put, and then the run has this fault.
+pub record IsFaultOfRunning {S : Type 0} (reads : Reading S) (w : Words) (before after : S) (old new : Device) (fault : Fault) : Type 0 where
+  pub taken : AreTaken (variables_given w)
+  pub start : S
+  pub contents : Contents
+  pub put : ArePut reads (files_to_put w) before start (contents_given w) contents
+  pub says : SaysRunFrom reads w contents start after old new fault
+
+-- What each fault says of what was asked for: it is one of the variables, of the files of `--file`, or of the run.
+abbrev pub SaysProgram : {S : Type 0} → Reading S → Words → S → S → Device → Device → Fault → Type 0
+SaysProgram reads w before after old new fault =
+    IsFaultOfVariables w before after old new fault
+    ⊎ (IsFaultOfPutting reads w before after old new fault ⊎ IsFaultOfRunning reads w before after old new fault)
+
+-- What was asked for was done. For help, its text was written and flushed, with status 0, and the system is unchanged. Otherwise there was a run.
+abbrev pub IsDone : {S : Type 0} → Reading S → Asked → S → S → Device → Device → ℕ → Type 0
+IsDone reads (Help text) before after old new status = IsShown (string_bytes text) old new status × (before ≡ after)
+IsDone reads (Run w) before after old new status = IsRun reads w before after old new status
+
+-- Why what was asked for was not done, and which part of its output was written.
+abbrev pub IsFaultOfAsked : {S : Type 0} → Reading S → Asked → S → S → Device → Device → Fault → Type 0
+IsFaultOfAsked reads (Help text) before after old new fault = IsTextFault (string_bytes text) old new fault × SaysCalls old new fault × (before ≡ after)
+IsFaultOfAsked reads (Run w) before after old new fault = SaysProgram reads w before after old new fault
+
+-- What these arguments ask for was done.
+abbrev pub IsDoneFor : {S : Type 0} → Reading S → Result (List Text) ArgumentsFault → S → S → Device → Device → ℕ → Type 0
+IsDoneFor reads arguments before after old new status =
+    (asked : Asked) × SaysGiven arguments (Ok asked) × IsDone reads asked before after old new status
+
+-- These arguments are at fault, standard output was not called, and the system is unchanged; or what they ask for was not done.
+abbrev pub IsFaultFor : {S : Type 0} → Reading S → Result (List Text) ArgumentsFault → S → S → Device → Device → Fault → Type 0
+IsFaultFor reads arguments before after old new fault =
+    (SaysGiven arguments (Err fault) × IsUntouched old new × (before ≡ after))
+    ⊎ ((asked : Asked) × SaysGiven arguments (Ok asked) × IsFaultOfAsked reads asked before after old new fault)

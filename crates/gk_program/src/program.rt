@@ -1,0 +1,323 @@
+//! What the program does, from its arguments to its output.
+ghost use Rattle.std.specs.Prelude.{◌≡◌, map, IfOk, IfErr, OnOk, Some, option_map, slice_get, string_bytes};
+ghost use Rattle.gk_world.specs.Sandbox.{depth, new_sandbox};
+ghost use Rattle.gk_cli.specs.Arguments.{pair_value};
+ghost use Rattle.gk_cli.specs.Counted.{FailuresCanRise, flushes_of, failures_of, one_more};
+ghost use Rattle.gk_cli.specs.Suite.{device_of};
+ghost use Rattle.gk_cli.specs.Source.{source_value};
+ghost use Rattle.gk_cli.specs.SuiteFiles.{suite_value, request_of_files};
+ghost use Rattle.gk_cli.specs.FaultNotes.{name_at_fault};
+ghost use Rattle.gk_program.specs.Asked.{given_value};
+ghost use Rattle.gk_program.specs.Fault.{said_line, text_of};
+ghost use Rattle.gk_program.specs.Program.{IsTextFault, IsFaultOfVariable, SaysVariables, IsFaultOfRun, IsFaultAs, AreLeft, IsRunOfFiles, IsWrittenAs, SaysFaultAs, SaysRun, SaysCalls, SaysCallsOfRun, SaysProgram, SaysRunFrom, IsRun, IsRunFrom, IsShown, IsDoneFor, IsFaultFor};
+
+use crate::asked::{ArgumentsFault, Asked, asked_with};
+use crate::fault::Fault;
+use crate::fault_listing::fault_listed;
+use crate::files::{System, read_run_files};
+use crate::world_files::put_files;
+use gk_cli::{
+    Counted, Mode, Options, RunFault, Source, SuiteFiles, Words, explain_suite, lint_suite,
+    report_suite, write_whole,
+};
+use gk_world::{Sandbox, WorldFault};
+use std::alloc::Global;
+use std::io::Write;
+
+/// Writes a text, and flushes. `Write` comes in two cases. If a write failed, a prefix of the text was written, and
+/// nothing was flushed. If the flush failed, all of the text was written.
+fn show_text<W: Write>(text: &str, out: &mut Counted<W>) -> Result<u8, Fault>
+    requires room { FailuresCanRise out.old }
+    ensures shown { IfOk result
+        (IsShown text.now (device_of W.contents out.old) (device_of W.contents out.new)) }
+    ensures quiet { OnOk result (failures_of out.new ≡ failures_of out.old) }
+    ensures flushed { OnOk result (flushes_of out.new ≡ one_more (flushes_of out.old)) }
+    ensures fault { IfErr result (IsTextFault text.now
+        (device_of W.contents out.old) (device_of W.contents out.new)) }
+    ensures calls { IfErr result
+        (SaysCalls (device_of W.contents out.old) (device_of W.contents out.new)) }
+{
+    match write_whole(out, text.as_bytes()) {
+        Ok(()) => match out.flush() {
+            Ok(()) => Ok(0),
+            Err(_) => Err(Fault::Write),
+        },
+        Err(_) => Err(Fault::Write),
+    }
+}
+
+fn fault_of_variable(fault: WorldFault) -> Fault
+    ensures { IsFaultOfVariable fault result }
+{
+    match fault {
+        WorldFault::Memory => Fault::Memory,
+        _ => Fault::Env,
+    }
+}
+
+/// Puts the variables into the sandbox, in order. If several have the same name, the last one counts. A bad name or a
+/// text that is too long is `Env`.
+fn put_variables(sandbox: &mut Sandbox, variables: &[(String, String)]) -> Result<(), Fault>
+    ensures { SaysVariables (map pair_value variables.now) sandbox.old sandbox.new result }
+{
+    for variable in variables {
+        match sandbox.put_env(variable.0.as_str(), variable.1.as_str()) {
+            Ok(()) => {}
+            Err(fault) => return Err(fault_of_variable(fault)),
+        }
+    }
+    Ok(())
+}
+
+// Returns the name of a file, if one is given.
+fn name_given(file: Option<Source>) -> Option<String>
+    ensures { option_map string_bytes result
+        ≡ option_map (λ source. source.name) (option_map source_value file) }
+{
+    match file {
+        Some(source) => Some(source.name),
+        None => None,
+    }
+}
+
+// Returns the name of the source at index `input`, if there is one.
+#[tactic(auto, using(crate::proofs::ProgramLemmas::name_there, crate::proofs::ProgramLemmas::no_name_there))]
+fn name_at(sources: Vec<Source>, input: usize) -> Option<String>
+    ensures { option_map string_bytes result
+        ≡ option_map (λ source. source.name) (slice_get (map source_value sources.items) input) }
+{
+    let mut sources = sources;
+    if input < sources.len() {
+        Some(sources.swap_remove(input).name)
+    } else {
+        None
+    }
+}
+
+// Returns the name of the file that has a fault of the run, if a file has it.
+fn name_of_fault(fault: RunFault, files: SuiteFiles<Source>) -> Option<String>
+    ensures { option_map string_bytes result
+        ≡ name_at_fault (suite_value source_value files) fault }
+{
+    match fault {
+        RunFault::Read { input, .. } => name_at(files.sources, input),
+        RunFault::Library(_) => name_given(files.library),
+        RunFault::Hooks(_) => name_given(files.hooks),
+        RunFault::Select { input, .. } => match input {
+            Some(input) => name_at(files.sources, input),
+            None => None,
+        },
+        RunFault::Write | RunFault::Memory => None,
+    }
+}
+
+// Returns the program's fault for a fault of the run. Files are named instead of numbered.
+fn fault_of_run(fault: RunFault, files: SuiteFiles<Source>) -> Fault
+    ensures named { IsFaultOfRun (suite_value source_value files) fault result }
+    // This is the line that is printed.
+    ensures line { text_of result
+        ≡ said_line (name_at_fault (suite_value source_value files) fault) fault }
+{
+    match fault {
+        RunFault::Write => Fault::Write,
+        RunFault::Memory => Fault::Memory,
+        _ => Fault::OfRun {
+            name: name_of_fault(fault, files),
+            fault,
+        },
+    }
+}
+
+// Returns the program's fault for a fault of the run, by the mode. With `--lint`, all invalid files are listed.
+fn fault_as(alloc: Global, mode: Mode, fault: RunFault, files: SuiteFiles<Source>) -> Fault
+    ensures { IsFaultAs mode (suite_value source_value files) fault result }
+{
+    match mode {
+        Mode::Report => fault_of_run(fault, files),
+        Mode::Explanation => fault_of_run(fault, files),
+        Mode::Findings => match fault {
+            RunFault::Write => Fault::Write,
+            RunFault::Memory => Fault::Memory,
+            _ => fault_listed(alloc, &files, fault),
+        },
+    }
+}
+
+/// The options of a run, and what is written for it or in place of it.
+#[derive(Clone, Copy)]
+pub struct Manner<'a> {
+    options: &'a Options,
+    mode: Mode,
+}
+
+// Runs the suite, and writes its report or its explanation; or runs nothing, and writes what is found in it. Sources
+// that are run drop their bytes once they are read.
+fn write_run<W: Write>(
+    alloc: Global,
+    sandbox: &mut Sandbox,
+    manner: Manner<'_>,
+    files: &mut SuiteFiles<Source>,
+    out: &mut Counted<W>,
+) -> Result<u8, RunFault>
+    requires room { FailuresCanRise out.old }
+    requires outside { depth sandbox.old ≡ 0 }
+    // Files whose findings are written keep their bytes. The names stay in every mode.
+    ensures left { AreLeft manner.entry.mode
+        (suite_value source_value files.old) (suite_value source_value files.new) }
+    ensures quiet { OnOk result (failures_of out.new ≡ failures_of out.old) }
+    ensures written { IfOk result (IsWrittenAs manner.entry.mode
+        (suite_value source_value files.old)
+        (request_of_files manner.entry.options.now (suite_value source_value files.old))
+        sandbox.old.now
+        (device_of W.contents out.old) (device_of W.contents out.new)) }
+    ensures fault { IfErr result (SaysFaultAs manner.entry.mode (suite_value source_value files.old)
+        (request_of_files manner.entry.options.now (suite_value source_value files.old))
+        sandbox.old.now
+        (device_of W.contents out.old) (device_of W.contents out.new)) }
+{
+    let options = manner.options;
+    match manner.mode {
+        Mode::Report => report_suite(alloc, sandbox, options, files, out),
+        Mode::Explanation => explain_suite(alloc, sandbox, options, files, out),
+        Mode::Findings => lint_suite(alloc, options, files, out),
+    }
+}
+
+/// Does what `write_run` does, and flushes the output. A fault names the file that it comes from. `Write` comes if a
+/// write or the flush failed; a prefix of the output, or all of it, was written then. At `Memory`, nothing or a prefix
+/// of it was written. At any other fault nothing was written. With `--lint`, such a fault includes that of each invalid
+/// file.
+fn run_sources<W: Write>(
+    alloc: Global,
+    sandbox: &mut Sandbox,
+    manner: Manner<'_>,
+    files: SuiteFiles<Source>,
+    out: &mut Counted<W>,
+) -> Result<u8, Fault>
+    requires room { FailuresCanRise out.old }
+    requires outside { depth sandbox.old ≡ 0 }
+    // The output and the status are those of one run of these inputs, or of what is found in them.
+    ensures run { IfOk result (IsRunOfFiles manner.entry (suite_value source_value files)
+        sandbox.old.now (device_of W.contents out.old) (device_of W.contents out.new)) }
+    // A status comes only if the writer did not fail, and was flushed once.
+    ensures quiet { OnOk result (failures_of out.new ≡ failures_of out.old) }
+    ensures flushed { OnOk result (flushes_of out.new ≡ one_more (flushes_of out.old)) }
+    // A fault is that of the run, or the flush failed.
+    ensures fault { IfErr result (SaysRun manner.entry (suite_value source_value files)
+        sandbox.old.now (device_of W.contents out.old) (device_of W.contents out.new)) }
+    // If standard output isn't at fault, it was not called, or memory was refused after a prefix of the run's output.
+    ensures calls { IfErr result
+        (SaysCallsOfRun (device_of W.contents out.old) (device_of W.contents out.new)) }
+{
+    let mut files = files;
+    match write_run(alloc, sandbox, manner, &mut files, out) {
+        Ok(status) => match out.flush() {
+            Ok(()) => Ok(status),
+            Err(_) => Err(Fault::Write),
+        },
+        Err(fault) => Err(fault_as(alloc, manner.mode, fault, files)),
+    }
+}
+
+// Reads the files, and runs the suite or lists what is found in it.
+fn run_files<S: System, W: Write>(
+    alloc: Global,
+    system: &mut S,
+    sandbox: &mut Sandbox,
+    words: Words,
+    out: &mut Counted<W>,
+) -> Result<u8, Fault>
+    requires room { FailuresCanRise out.old }
+    requires outside { depth sandbox.old ≡ 0 }
+    ensures run { IfOk result (IsRunFrom S.reads words sandbox.old.now system.old system.new
+        (device_of W.contents out.old) (device_of W.contents out.new)) }
+    ensures quiet { OnOk result (failures_of out.new ≡ failures_of out.old) }
+    ensures flushed { OnOk result (flushes_of out.new ≡ one_more (flushes_of out.old)) }
+    ensures fault { IfErr result (SaysRunFrom S.reads words sandbox.old.now system.old system.new
+        (device_of W.contents out.old) (device_of W.contents out.new)) }
+    ensures calls { IfErr result
+        (SaysCallsOfRun (device_of W.contents out.old) (device_of W.contents out.new)) }
+{
+    let files = read_run_files(alloc, system, words.library, words.hooks, words.files)?;
+    let manner = Manner {
+        options: &words.options,
+        mode: words.mode,
+    };
+    run_sources(alloc, sandbox, manner, files, out)
+}
+
+// Does what `run_words` does, in a new sandbox.
+fn run_in<S: System, W: Write>(
+    alloc: Global,
+    system: &mut S,
+    sandbox: &mut Sandbox,
+    words: Words,
+    out: &mut Counted<W>,
+) -> Result<u8, Fault>
+    requires room { FailuresCanRise out.old }
+    requires empty { sandbox.old ≡ new_sandbox }
+    ensures run { IfOk result (IsRun S.reads words system.old system.new
+        (device_of W.contents out.old) (device_of W.contents out.new)) }
+    ensures quiet { OnOk result (failures_of out.new ≡ failures_of out.old) }
+    ensures flushed { OnOk result (flushes_of out.new ≡ one_more (flushes_of out.old)) }
+    ensures fault { IfErr result (SaysProgram S.reads words system.old system.new
+        (device_of W.contents out.old) (device_of W.contents out.new)) }
+    ensures calls { IfErr result
+        (SaysCallsOfRun (device_of W.contents out.old) (device_of W.contents out.new)) }
+{
+    put_variables(sandbox, words.env.as_slice())?;
+    put_files(alloc, system, sandbox, words.world_files.as_slice())?;
+    run_files(alloc, system, sandbox, words, out)
+}
+
+/// Runs what is asked for: puts the variables and then the files of `--file` into an empty sandbox, reads the library
+/// file, the hooks file and the feature files, and runs the suite, or lists what is found in it. The first fault in
+/// this order ends it.
+fn run_words<S: System, W: Write>(
+    alloc: Global,
+    system: &mut S,
+    words: Words,
+    out: &mut Counted<W>,
+) -> Result<u8, Fault>
+    requires room { FailuresCanRise out.old }
+    // The files were read from the system under their names, in order, and no others were. The output and the status
+    // are those of one run of the bytes that it returned, or of what is found in them.
+    ensures run { IfOk result (IsRun S.reads words system.old system.new
+        (device_of W.contents out.old) (device_of W.contents out.new)) }
+    ensures quiet { OnOk result (failures_of out.new ≡ failures_of out.old) }
+    ensures flushed { OnOk result (flushes_of out.new ≡ one_more (flushes_of out.old)) }
+    // The fault is that of the first variable or file that can't be taken, and no file was read after it; or the run's.
+    ensures fault { IfErr result (SaysProgram S.reads words system.old system.new
+        (device_of W.contents out.old) (device_of W.contents out.new)) }
+    ensures calls { IfErr result
+        (SaysCallsOfRun (device_of W.contents out.old) (device_of W.contents out.new)) }
+{
+    let mut sandbox = Sandbox::new(alloc);
+    run_in(alloc, system, &mut sandbox, words, out)
+}
+
+/// Does what the arguments ask for, with the files of this system, and returns the status to end with. A fault is that
+/// of the arguments, or says why what they ask for was not done.
+pub fn run_given<S: System, W: Write>(
+    alloc: Global,
+    system: &mut S,
+    arguments: Result<Vec<String>, ArgumentsFault>,
+    out: &mut Counted<W>,
+) -> Result<u8, Fault>
+    requires room { FailuresCanRise out.old }
+    ensures done { IfOk result (IsDoneFor S.reads (given_value arguments) system.old system.new
+        (device_of W.contents out.old) (device_of W.contents out.new)) }
+    ensures quiet { OnOk result (failures_of out.new ≡ failures_of out.old) }
+    ensures flushed { OnOk result (flushes_of out.new ≡ one_more (flushes_of out.old)) }
+    ensures fault { IfErr result (IsFaultFor S.reads (given_value arguments) system.old system.new
+        (device_of W.contents out.old) (device_of W.contents out.new)) }
+    // If standard output isn't at fault, it was not called, or memory was refused after a prefix of the run's output.
+    ensures calls { IfErr result
+        (SaysCallsOfRun (device_of W.contents out.old) (device_of W.contents out.new)) }
+{
+    match asked_with(alloc, arguments) {
+        Ok(Asked::Help { text }) => show_text(text.as_str(), out),
+        Ok(Asked::Run(words)) => run_words(alloc, system, words, out),
+        Err(fault) => Err(fault),
+    }
+}
