@@ -19,7 +19,7 @@ from types import SimpleNamespace
 
 HOME = os.path.dirname(os.path.dirname(os.path.realpath(__file__)))
 MACHINERY = "Proof machinery"
-# At the beginning of a line, or indented below a common parameter, as in tests/documents.py; or several that need each other.
+# At the beginning of a line, or indented below a common parameter, as in tests/test_documents.py; or several that need each other.
 DEFINITION = re.compile(r"(?:\s*(?:(?:abbrev|unfoldable) )+pub |pub (?!mod\b|use\b)|\s+pub (?=record |data ))(?:record |data )?(\S+)|abbrev mutual")
 OWNER = re.compile(r"(?:pub )?(?:(trait)|impl(?:<.*?>)?(?: ([\w:]+)(?:<.*?>)? for)?) (\w+)")
 FUNCTION = re.compile(r'(\s*)(pub )?(?:extern "C" )?fn (\w+)')

@@ -1,7 +1,7 @@
 #!/usr/bin/env python3
 """Draws a terminal in which a run fails and is explained: docs/pictures/failing_run.py PROGRAM > docs/pictures/failing_run.svg
 
-The text is what the program prints. tests/documents.py compares the picture with it.
+The text is what the program prints. tests/test_documents.py compares the picture with it.
 """
 
 import html

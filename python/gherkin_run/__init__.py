@@ -9,22 +9,29 @@ A shared library does the work. It is loaded at the first call, which raises `Im
 """
 
 from gherkin_run.data import FeatureData, ReportData, RuleData, ScenarioData, StepData
-from gherkin_run.runs import Fault, FaultError, File, Format, Report, RunFailedError, Source, run, version
+from gherkin_run.library import version
+from gherkin_run.runs import Explanation, Failed, Fault, File, Findings, Format, Report, Result, Source, World, WorldFile, explain, lint, run
 
 __version__ = "0"
 __all__ = [
+    "Explanation",
+    "Failed",
     "Fault",
-    "FaultError",
     "FeatureData",
     "File",
+    "Findings",
     "Format",
     "Report",
     "ReportData",
+    "Result",
     "RuleData",
-    "RunFailedError",
     "ScenarioData",
     "Source",
     "StepData",
+    "World",
+    "WorldFile",
+    "explain",
+    "lint",
     "run",
     "version",
 ]

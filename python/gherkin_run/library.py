@@ -1,4 +1,4 @@
-"""The shared library and its two functions, as include/gherkin_run.h declares them."""
+"""The shared library: the program over files in memory, as include/gherkin_run.h declares it."""
 
 from __future__ import annotations
 
@@ -6,15 +6,11 @@ import ctypes
 import functools
 import mmap
 import os
-from typing import NamedTuple, Optional, Sequence, Tuple
+from typing import Mapping, NamedTuple, Sequence
 
-NO_INPUT, LIBRARY, HOOKS, SOURCE = range(4)
-# Most reports fit into this number of bytes, and this number more for each byte of the sources.
+# Most outputs fit into this number of bytes, and this number more for each byte of the files.
 FIRST_ROOM = 1 << 16
 ROOM_FOR_EACH = 8
-
-# A file or a variable: its name and its text.
-Named = Tuple[bytes, bytes]
 
 
 class Text(ctypes.Structure):
@@ -24,107 +20,66 @@ class Text(ctypes.Structure):
 
 
 class NamedText(ctypes.Structure):
-    """`gherkin_named`."""
+    """`gherkin_file`."""
 
     _fields_ = [("name", Text), ("bytes", Text)]
-
-
-class Call(ctypes.Structure):
-    """`gherkin_call`."""
-
-    _fields_ = [
-        ("sources", ctypes.POINTER(NamedText)),
-        ("source_count", ctypes.c_size_t),
-        ("tags", ctypes.POINTER(Text)),
-        ("tag_count", ctypes.c_size_t),
-        ("lines", ctypes.POINTER(ctypes.c_uint32)),
-        ("line_count", ctypes.c_size_t),
-        ("variables", ctypes.POINTER(NamedText)),
-        ("variable_count", ctypes.c_size_t),
-        ("library", NamedText),
-        ("hooks", NamedText),
-        ("has_library", ctypes.c_bool),
-        ("has_hooks", ctypes.c_bool),
-        ("dry_run", ctypes.c_bool),
-        ("stop", ctypes.c_bool),
-        ("no_skipped", ctypes.c_bool),
-        ("format", ctypes.c_uint8),
-    ]
 
 
 class Answer(ctypes.Structure):
     """`gherkin_answer`."""
 
     _fields_ = [
-        ("length", ctypes.c_size_t),
-        ("source", ctypes.c_size_t),
+        ("out_length", ctypes.c_size_t),
+        ("errors_length", ctypes.c_size_t),
+        ("name_length", ctypes.c_size_t),
         ("line", ctypes.c_uint32),
-        ("input", ctypes.c_uint8),
         ("status", ctypes.c_uint8),
-        ("has_report", ctypes.c_bool),
     ]
 
 
-class Request(NamedTuple):
-    """The arguments of a call, as values of Python."""
+class Ended(NamedTuple):
+    """How the program ended: its status, and what it wrote to standard output and to standard error.
 
-    sources: Sequence[Named]
-    tags: Sequence[bytes]
-    lines: Sequence[int]
-    variables: Sequence[Named]
-    library: Optional[Named]
-    hooks: Optional[Named]
-    dry_run: bool
-    stop: bool
-    no_skipped: bool
-    format: int
+    If a file is at fault, the errors have its name after `gherkin_run: `. `name_length` is the number of bytes of that
+    name, and `line` the line of the fault, if it has one. Otherwise both are 0.
+    """
+
+    status: int
+    output: bytes
+    errors: bytes
+    name_length: int
+    line: int
+
+
+def built(name: str) -> str:
+    """Returns the path of the program or of the library: beside this module if it is installed, otherwise in `dist/`."""
+    here = os.path.dirname(os.path.abspath(__file__))
+    beside = os.path.join(here, name)
+    return beside if os.path.exists(beside) else os.path.join(here, "..", "..", "dist", name)
 
 
 @functools.lru_cache(maxsize=None)
-def _loaded() -> ctypes.CDLL:
+def loaded() -> ctypes.CDLL:
     """Loads the shared library, once."""
-    beside = os.path.join(os.path.dirname(os.path.abspath(__file__)), "libgherkin_run.so")
-    path = os.environ.get("GHERKIN_RUN_LIBRARY") or beside
-    room = [ctypes.c_char_p, ctypes.c_size_t]
+    path = os.environ.get("GHERKIN_RUN_LIBRARY") or built("libgherkin_run.so")
+    words = ctypes.POINTER(Text), ctypes.c_size_t
+    files = ctypes.POINTER(NamedText), ctypes.c_size_t
+    room = ctypes.c_char_p, ctypes.c_size_t
     try:
-        loaded = ctypes.CDLL(path)
-        loaded.gherkin_run.argtypes = [ctypes.POINTER(Call), *room, ctypes.POINTER(Answer)]
-        loaded.gherkin_run.restype = None
-        loaded.gherkin_run_version.argtypes = room
-        loaded.gherkin_run_version.restype = ctypes.c_size_t
+        library = ctypes.CDLL(path)
+        library.gherkin_run.argtypes = [*words, *files, *room, *room, ctypes.POINTER(Answer)]
+        library.gherkin_run.restype = None
+        library.gherkin_run_version.argtypes = room
+        library.gherkin_run_version.restype = ctypes.c_size_t
     except (OSError, AttributeError) as error:
         raise ImportError(f"cannot load the library of gherkin_run: {error}", path=path) from error
-    return loaded
+    return library
 
 
-def _text(value: bytes) -> Text:
-    return Text(value, len(value))
-
-
-def _named(value: Named) -> NamedText:
-    return NamedText(_text(value[0]), _text(value[1]))
-
-
-def _call(request: Request) -> Call:
-    """Builds the call of a request. Each array has one element more than it needs, so no pointer is null."""
-    return Call(
-        (NamedText * (len(request.sources) + 1))(*map(_named, request.sources)),
-        len(request.sources),
-        (Text * (len(request.tags) + 1))(*map(_text, request.tags)),
-        len(request.tags),
-        (ctypes.c_uint32 * (len(request.lines) + 1))(*request.lines),
-        len(request.lines),
-        (NamedText * (len(request.variables) + 1))(*map(_named, request.variables)),
-        len(request.variables),
-        _named(request.library or (b"", b"")),
-        _named(request.hooks or (b"", b"")),
-        request.library is not None,
-        request.hooks is not None,
-        request.dry_run,
-        request.stop,
-        request.no_skipped,
-        request.format,
-    )
+def text_of(value: str) -> Text:
+    """Returns an argument or a name as UTF-8. Bytes that were no UTF-8 are single surrogates, and become bytes again."""
+    encoded = value.encode("utf-8", "surrogateescape")
+    return Text(encoded, len(encoded))
 
 
 def _room(size: int) -> ctypes.Array[ctypes.c_char]:
@@ -135,19 +90,22 @@ def _room(size: int) -> ctypes.Array[ctypes.c_char]:
         raise MemoryError from None
 
 
-def called(request: Request) -> Tuple[Answer, bytes]:
-    """Makes a call, again if the text doesn't fit, and returns the answer and the whole text."""
-    library, call, answer = _loaded(), _call(request), Answer()
-    size = FIRST_ROOM + ROOM_FOR_EACH * sum(len(text) for _, text in request.sources)
+def call(arguments: Sequence[str], files: Mapping[str, bytes]) -> Ended:
+    """Runs the program with these arguments over these files, again if what it writes doesn't fit into the room."""
+    words = (Text * len(arguments))(*map(text_of, arguments))
+    held = (NamedText * len(files))(*(NamedText(text_of(name), Text(text, len(text))) for name, text in files.items()))
+    size, errors_size, answer = FIRST_ROOM + ROOM_FOR_EACH * sum(map(len, files.values())), FIRST_ROOM, Answer()
     while True:
-        room = _room(size)
-        library.gherkin_run(call, room, size, answer)
-        if answer.length <= size:
-            return answer, ctypes.string_at(room, answer.length)
-        size = answer.length
+        out, errors = _room(size), _room(errors_size)
+        loaded().gherkin_run(words, len(words), held, len(held), out, size, errors, errors_size, answer)
+        if answer.out_length <= size and answer.errors_length <= errors_size:
+            break
+        size, errors_size = max(size, answer.out_length), max(errors_size, answer.errors_length)
+    output, written = ctypes.string_at(out, answer.out_length), ctypes.string_at(errors, answer.errors_length)
+    return Ended(answer.status, output, written, answer.name_length, answer.line)
 
 
-def version() -> bytes:
-    """Returns the version of the library."""
+def version() -> str:
+    """Returns the version of the shared library."""
     room = ctypes.create_string_buffer(FIRST_ROOM)
-    return ctypes.string_at(room, _loaded().gherkin_run_version(room, FIRST_ROOM))
+    return ctypes.string_at(room, loaded().gherkin_run_version(room, FIRST_ROOM)).decode("utf-8")

@@ -12,3 +12,8 @@ _SHORT = {"\n": r"\n", "\r": r"\r", "\t": r"\t"}
 def printable(text: str) -> str:
     r"""Escapes control characters: a line feed is `\n`, an escape `\u{1b}`."""
     return _CONTROLS.sub(lambda found: _SHORT.get(found[0]) or f"\\u{{{ord(found[0]):x}}}", text)
+
+
+def printable_lines(text: str) -> str:
+    """Escapes control characters, except the line feeds."""
+    return "\n".join(map(printable, text.split("\n")))

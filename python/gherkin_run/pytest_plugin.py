@@ -1,29 +1,58 @@
-"""Lets pytest collect feature files: each scenario, and each row of an outline, is a test.
+"""Lets pytest collect feature files: each scenario, and each row of an outline, is a test. Its tags are marks.
 
 The setting `gherkin_files` has the patterns of the files, `gherkin_library` and `gherkin_hooks` the paths of a library file
-and a hooks file from the folder of the settings. The chosen scenarios of a file run together, before the first of them.
+and a hooks file from the folder of the settings. The fixture `gherkin_world` gives what the steps of a scenario find. The
+chosen scenarios of a file run together, before the first of them, unless each has a world of its own.
 """
 
 from __future__ import annotations
 
-import bisect
 import collections
+import dataclasses
 import os
 import pathlib
 import re
-from typing import Any, Dict, Iterable, Iterator, List, NamedTuple, Optional
+from typing import Any, Dict, FrozenSet, Iterable, Iterator, List, Optional, Set, Tuple
 
 import pytest
 
-from gherkin_run.data import Ending, FeatureData, ReportData, RuleData, ScenarioData, StepData
-from gherkin_run.printing import printable
-from gherkin_run.runs import LONGEST_FILE, FaultError, Source, run
+from gherkin_run.data import ReportData, ScenarioData
+from gherkin_run.printing import printable, printable_lines
+from gherkin_run.runs import LONGEST_FILE, Explanation, Failed, Fault, Source, World, explain, run
 
-# Verdicts, the best first.
-VERDICTS = ("passed", "skipped", "untested", "failed", "memory")
-HOOKS = "(hooks and cleanups)"
 # The library file and the hooks file of a session.
-SETTINGS = pytest.StashKey[Dict[str, Optional[Source]]]()
+SETTINGS = pytest.StashKey[Tuple[Optional[Source], Optional[Source]]]()
+# The names that a mark can have.
+MARK = re.compile(r"[^\W_][\w.+/-]*")
+EMPTY = World()
+
+
+@dataclasses.dataclass(frozen=True)
+class GherkinScenario:
+    """The scenario of a test: its name, its tags that are marks, the path of its file, and its line."""
+
+    name: str
+    tags: FrozenSet[str]
+    path: pathlib.Path
+    line: int
+
+
+@pytest.fixture
+def gherkin_scenario(request: pytest.FixtureRequest) -> GherkinScenario:
+    """The scenario of this test."""
+    item: Scenario = request.node
+    return GherkinScenario(item.name, frozenset(item.tags), item.path, item.line)
+
+
+@pytest.fixture
+def gherkin_world() -> World:
+    """The files and variables that the steps of a scenario find: none. A `conftest.py` can replace this fixture."""
+    return EMPTY
+
+
+def judge(request: pytest.FixtureRequest, gherkin_world: World) -> None:
+    """Runs the scenario of a test in its world."""
+    request.node.judge(gherkin_world)
 
 
 def as_id(text: str) -> str:
@@ -39,12 +68,12 @@ def read(config: pytest.Config, path: pathlib.Path) -> Source:
     return Source(as_id(os.path.relpath(path, config.invocation_params.dir)), text)
 
 
-def files_of_settings(config: pytest.Config) -> Dict[str, Optional[Source]]:
+def files_of_settings(config: pytest.Config) -> Tuple[Optional[Source], Optional[Source]]:
     """Returns the library file and the hooks file, which the first call of a session reads."""
     if SETTINGS not in config.stash:
         folder = config.inipath.parent if config.inipath else config.rootpath
-        names = {kind: config.getini(f"gherkin_{kind}") for kind in ("library", "hooks")}
-        config.stash[SETTINGS] = {kind: read(config, folder / name) if name else None for kind, name in names.items()}
+        library, hooks = (read(config, folder / name) if name else None for name in map(config.getini, ("gherkin_library", "gherkin_hooks")))
+        config.stash[SETTINGS] = library, hooks
     return config.stash[SETTINGS]
 
 
@@ -59,64 +88,26 @@ def distinct(names: List[str]) -> Iterator[str]:
         yield unlike
 
 
-class Outcome(NamedTuple):
-    """The outcome of a scenario, with those of the hooks and cleanups around its rule, its feature and the run."""
-
-    scenario: ScenarioData
-    rule: Optional[RuleData]
-    feature: FeatureData
-    run: Ending
-
-    def around(self) -> List[str]:
-        """Returns how the hooks and cleanups of the feature and the rule ended."""
-        return [self.feature["around"], self.rule["around"] if self.rule else "passed"]
-
-    def verdict(self) -> str:
-        """Returns the verdict of a run of this scenario alone."""
-        return max(self.scenario["status"], self.run, *self.around(), key=VERDICTS.index)
-
-    def lines(self) -> Iterator[str]:
-        """Yields the lines of a plain report of this scenario alone, without the counts."""
-        scenario = self.scenario
-        verdict = max(scenario["status"], *self.around(), key=VERDICTS.index)
-        yield f"Feature: {self.feature['name']} ... {verdict}"
-        yield f"  {scenario['keyword']}: {scenario['name']} ... {scenario['status']}"
-        for step in scenario["steps"]:
-            yield f"    {step['keyword']} {step['text']} ... {described(step)}"
-        if scenario["around"] != "passed":
-            yield f"    {HOOKS} ... {scenario['around']}"
-        if self.rule and self.rule["around"] != "passed":
-            yield f"  (rule, line {self.rule['line']}: hooks and cleanups) ... {self.rule['around']}"
-        if self.feature["around"] != "passed":
-            yield f"  {HOOKS} ... {self.feature['around']}"
-        if self.run != "passed":
-            yield f"{HOOKS} ... {self.run}"
-
-    def place(self) -> str:
-        """Returns the place of the first step that failed, or else of the scenario, and what happened there."""
-        for step in self.scenario["steps"]:
-            if step["status"] in ("failed", "undefined", "memory"):
-                return f"{self.feature['source']}:{step['line']}: {described(step)}"
-        return f"{self.feature['source']}:{self.scenario['line']}: {self.verdict()}"
+def words_with_at(source: Source) -> Set[str]:
+    """Returns what can be a tag and a mark, without its @: words of lines that begin with an @."""
+    text = source.text.decode("utf-8-sig", "replace") if isinstance(source.text, bytes) else source.text
+    words = {word for line in text.split("\n") if line.lstrip().startswith("@") for word in line.split()}
+    return {word[1:] for word in words if word.startswith("@") and MARK.fullmatch(word, 1)}
 
 
-def described(step: StepData) -> str:
-    """Returns the status of a step, with its reason."""
-    return f"{step['status']}: {step['reason']}" if "reason" in step else step["status"]
+def scenarios_of(report: ReportData) -> List[ScenarioData]:
+    return [scenario for feature in report["features"] for scenario in feature["scenarios"]]
 
 
-def outcomes(report: ReportData) -> Iterator[Outcome]:
-    """Yields the outcome of each scenario of a report."""
-    for feature in report["features"]:
-        rules: List[Optional[RuleData]] = [None, *feature.get("rules", [])]
-        lines = [rule["line"] for rule in rules if rule]
-        for scenario in feature["scenarios"]:
-            rule = rules[bisect.bisect(lines, scenario["line"])]
-            yield Outcome(scenario, rule, feature, report["run"])
+def statuses(report: ReportData, lines: Iterable[int]) -> Dict[int, str]:
+    """Returns the status of each chosen scenario, in a report without what is skipped.
 
-
-class ScenarioFailed(Exception):
-    """A scenario that failed, or hooks or cleanups around it. The message is its plain report and the place."""
+    If a hook or cleanup around scenarios failed, it is unclear which of the scenarios that passed it fails.
+    """
+    sections = [section for feature in report["features"] for section in (feature, *feature.get("rules", []))]
+    passed = "passed" if {report["run"], *(it["around"] for it in sections)} == {"passed"} else "unclear"
+    ended = {it["line"]: passed if it["status"] == "passed" else it["status"] for it in scenarios_of(report)}
+    return {line: ended.get(line, "skipped") for line in lines}
 
 
 def pytest_addoption(parser: pytest.Parser) -> None:
@@ -137,7 +128,7 @@ def pytest_collect_file(file_path: pathlib.Path, parent: pytest.Collector) -> Op
 def pytest_collection_finish(session: pytest.Session) -> None:
     for item in session.items:
         if isinstance(item, Scenario):
-            item.file.chosen.append(item.line)
+            item.file.chosen.add(item.line)
 
 
 def pytest_runtest_makereport(item: pytest.Item, call: pytest.CallInfo[None]) -> Optional[pytest.TestReport]:
@@ -156,54 +147,72 @@ class FeatureFile(pytest.File):
     def __init__(self, **options: Any) -> None:
         super().__init__(**options)
         self.source = Source("", "")
-        # The lines of the scenarios that are going to be run, and the outcomes of those that were.
-        self.chosen: List[int] = []
-        self.outcomes: Dict[int, Outcome] = {}
+        # The lines of the scenarios that are going to run, and the statuses of those that ran.
+        self.chosen: Set[int] = set()
+        self.statuses: Dict[int, str] = {}
+        # The world of those that ran.
+        self.world = EMPTY
 
-    def run(self, lines: Iterable[int] = (), *, dry_run: bool = False) -> Iterator[Outcome]:
-        """Runs the scenarios in these lines, or all of them."""
-        files = files_of_settings(self.config)
-        report = run(self.source, files["library"], files["hooks"], format="json", lines=lines, dry_run=dry_run)
-        return outcomes(report.data)
+    def run(self, **options: Any) -> ReportData:
+        return run(self.source, *files_of_settings(self.config), format="json", no_skipped=True, **options).data
 
-    def outcome(self, line: int) -> Outcome:
-        """Returns the outcome of a scenario. The first call runs all that are chosen."""
-        if line not in self.outcomes:
-            lines = {line, *self.chosen}
-            self.outcomes.update({it.scenario["line"]: it for it in self.run(lines) if it.scenario["line"] in lines})
-        return self.outcomes[line]
+    def explain(self, line: int, world: World) -> Explanation:
+        return explain(self.source, *files_of_settings(self.config), line=line, files=world.files, env=world.env)
+
+    def status(self, line: int, world: World) -> str:
+        """Returns the status of a scenario. Another world than that of the call before has a run of this scenario alone."""
+        lines = {line, *self.chosen} if world is self.world else {line}
+        if world is not self.world:
+            self.world, self.statuses = world, {}
+        if line not in self.statuses:
+            self.statuses.update(statuses(self.run(line=lines, files=world.files, env=world.env), lines))
+        return self.statuses[line]
+
+    def tags(self) -> Dict[str, Set[int]]:
+        """Returns the tags that some scenarios have, each with the lines of these scenarios."""
+        chosen = {it: scenarios_of(self.run(dry_run=True, tags=f"@{it}")) for it in sorted(words_with_at(self.source))}
+        return {tag: {it["line"] for it in scenarios} for tag, scenarios in chosen.items() if scenarios}
 
     def collect(self) -> Iterator[Scenario]:
         try:
             self.source = read(self.config, self.path)
-            scenarios = [it.scenario for it in self.run(dry_run=True)]
-        except (FaultError, ImportError, OSError) as error:
+            scenarios, tags = scenarios_of(self.run(dry_run=True)), self.tags()
+        except (Fault, ImportError, OSError) as error:
             raise self.CollectError(str(error)) from None
+        for tag in tags:
+            self.config.addinivalue_line("markers", f"{tag}: a tag of {self.source.name}")
         names = [as_id(it["name"] or it["keyword"]) for it in scenarios]
+        # Some versions of pytest give this function no types.
+        make: Any = Scenario.from_parent
         for name, scenario in zip(distinct(names), scenarios):
-            yield Scenario.from_parent(self, name=name, file=self, line=scenario["line"])
+            own = {tag for tag in tags if scenario["line"] in tags[tag]}
+            yield make(self, name=name, callobj=judge, file=self, line=scenario["line"], tags=own)
 
 
-class Scenario(pytest.Item):
+class Scenario(pytest.Function):
     """A scenario, or a row of an outline."""
 
-    def __init__(self, *, file: FeatureFile, line: int, **options: Any) -> None:
+    def __init__(self, *, file: FeatureFile, line: int, tags: Set[str], **options: Any) -> None:
         super().__init__(**options)
         self.file = file
         self.line = line
+        self.tags = tags
+        for tag in sorted(tags):
+            self.add_marker(tag)
 
-    def runtest(self) -> None:
-        outcome = self.file.outcome(self.line)
-        verdict = outcome.verdict()
-        if verdict == "skipped":
+    def judge(self, world: World) -> None:
+        status = self.file.status(self.line, world)
+        if status == "passed":
+            return
+        self.file.explain(self.line, world).check()
+        if status == "skipped":
             pytest.skip("the scenario skipped itself")
-        if verdict != "passed":
-            raise ScenarioFailed("\n".join(map(printable, [*outcome.lines(), "", outcome.place()])))
 
     def repr_failure(self, excinfo: Any, style: Any = None) -> Any:
-        if isinstance(excinfo.value, ScenarioFailed):
-            return str(excinfo.value)
-        return super().repr_failure(excinfo, style)
+        if isinstance(excinfo.value, Failed):
+            # The rest is the list of what failed, and the counts.
+            return printable_lines(excinfo.value.result.text.rsplit("\n\n", 2)[0])
+        return super().repr_failure(excinfo)
 
     def reportinfo(self) -> Any:
         # pytest replaces each period by :: in a text that ends the test's id, so this text begins with the file's name.

@@ -1,4 +1,4 @@
-"""Runs, their reports and their faults."""
+"""Runs, explanations and findings of feature files."""
 
 from __future__ import annotations
 
@@ -6,17 +6,16 @@ import dataclasses
 import functools
 import json
 import os
-from typing import Any, Iterable, List, Literal, Mapping, Optional, Tuple, Union, get_args
+from typing import Any, Dict, Iterable, Iterator, List, Literal, Mapping, Optional, Tuple, Union
 
 from gherkin_run import library as calls
 from gherkin_run.data import ReportData
-from gherkin_run.printing import printable
+from gherkin_run.printing import printable_lines
 
 Format = Literal["plain", "progress", "json"]
-FORMATS: Tuple[Format, ...] = get_args(Format)
-LAST_LINE = (1 << 32) - 1
 # The bytes that a file may have.
 LONGEST_FILE = 16_777_216
+PROGRAM = "gherkin_run: "
 
 
 @dataclasses.dataclass(frozen=True)
@@ -24,39 +23,47 @@ class Source:
     """A file in memory: the name that reports and faults have for it, and its text."""
 
     name: str
-    text: Union[str, bytes, bytearray]
+    text: Union[str, bytes]
 
     def __post_init__(self) -> None:
-        if not isinstance(self.name, str):
-            raise TypeError(f"the name of a source is a str, not {self.name!r}")
-        if not isinstance(self.text, str):
-            object.__setattr__(self, "text", _bytes(self.text))
+        if not isinstance(self.name, str) or not isinstance(self.text, (str, bytes)):
+            raise TypeError("the name of a source is a str, and its text is a str or bytes")
 
 
 # The path of a file, or a file in memory.
 File = Union[str, bytes, "os.PathLike[str]", Source]
+# A file that steps find: its text, or its path as a `pathlib.Path`.
+WorldFile = Union[str, bytes, "os.PathLike[str]"]
 
 
 @dataclasses.dataclass(frozen=True)
-class Report:
-    """The report of a run.
+class World:
+    """What steps find when a run begins: files and variables, by their names."""
 
-    `status` is the program's: 0 if nothing failed, 1 if something did, 4 if memory ran out in a step, a hook or a
-    cleanup. `text` is the whole report.
-    """
+    files: Mapping[str, WorldFile] = dataclasses.field(default_factory=dict)
+    env: Mapping[str, str] = dataclasses.field(default_factory=dict)
+
+
+@dataclasses.dataclass(frozen=True)
+class Result:
+    """What the program writes, and its status: 0 if nothing failed or was found, 1 if something was, 4 if memory ran out."""
 
     status: int
     text: str
 
     @property
     def passed(self) -> bool:
-        """Whether nothing failed and no step was undefined."""
+        """Whether the status is 0."""
         return self.status == 0
 
     def check(self) -> None:
-        """Raises `RunFailedError` unless the run passed."""
+        """Raises `Failed` unless the status is 0."""
         if not self.passed:
-            raise RunFailedError(self)
+            raise Failed(self)
+
+
+class Report(Result):
+    """The report of a run."""
 
     @functools.cached_property
     def data(self) -> ReportData:
@@ -68,110 +75,123 @@ class Report:
         return data
 
 
-class RunFailedError(Exception):
-    """A run that failed. Its message has the whole report, with control characters escaped."""
-
-    def __init__(self, report: Report) -> None:
-        shown = "\n".join(map(printable, report.text.rstrip("\n").split("\n")))
-        super().__init__(f"the run ended with status {report.status}\n{shown}")
-        self.report = report
-
-    def __reduce__(self) -> Any:
-        return RunFailedError, (self.report,)
+class Explanation(Result):
+    """What happened in each scenario that failed."""
 
 
-class FaultError(Exception):
-    """The fault that kept a run from beginning, or from ending with a report.
+class Findings(Result):
+    """The lines of what is ignored, can't work or isn't used."""
+
+
+class Failed(AssertionError):
+    """A result whose status isn't 0. The message has its whole text, with control characters escaped."""
+
+    def __init__(self, result: Result) -> None:
+        super().__init__(result)
+        self.result = result
+
+    def __str__(self) -> str:
+        return f"the status is {self.result.status}\n{printable_lines(self.result.text)}".rstrip("\n")
+
+
+class Fault(Exception):
+    """The fault for which the program ended without a result.
 
     `file` is the name of the faulty file and `line` the line in it, from 1. Each is None if the fault has none.
-    `reason` says what is wrong. `status` is the program's: 2 for a wrong call, 3 for a wrong file, 4 if memory ran
-    out. The message is the program's line, without the program's name.
+    `reason` says what is wrong. `status` is the program's: 2 for wrong arguments, 3 for a wrong file, 4 if memory ran
+    out. The message is what the program writes, without its name and the last line feed.
     """
 
-    def __init__(self, text: str, status: int, file: Optional[str], line: Optional[int]) -> None:
-        super().__init__(text)
-        self.status = status
-        self.file = file
-        self.line = line
+    def __init__(self, text: str, status: int, file: Optional[str] = None, line: Optional[int] = None) -> None:
+        super().__init__(text, status, file, line)
+        self.status, self.file, self.line = status, file, line
         place = "" if file is None else f"{file}: " if line is None else f"{file}:{line}: "
         self.reason = text[len(place):]
 
-    def __reduce__(self) -> Any:
-        return FaultError, (str(self), self.status, self.file, self.line)
+    def __str__(self) -> str:
+        return str(self.args[0])
 
 
-# The shorter name.
-Fault = FaultError
+def _fault(ended: calls.Ended) -> Fault:
+    """Builds the fault of what the program wrote to standard error."""
+    written = ended.errors[len(PROGRAM):] if ended.errors.startswith(PROGRAM.encode()) else ended.errors
+    file = written[:ended.name_length].decode("utf-8") if ended.name_length else None
+    return Fault(written.decode("utf-8").rstrip("\n"), ended.status, file, ended.line or None)
 
 
-def _bytes(text: Union[str, bytes, bytearray]) -> bytes:
-    if isinstance(text, str):
-        return text.encode("utf-8", "surrogateescape")
-    try:
-        return bytes(memoryview(text))
-    except TypeError:
-        raise TypeError(f"a name or a text is str or bytes, not {text!r}") from None
+def _words(options: Mapping[str, Any]) -> Iterator[str]:
+    """Yields the program's arguments for options: of `no_skipped=True` the flag `--no-skipped`, of `line=[2, 3]` two lines."""
+    for name, value in options.items():
+        option = "--" + name.replace("_", "-")
+        if value is True:
+            yield option
+        elif value is not None and value is not False:
+            yield from (f"{option}={text}" for text in _texts(name, value))
 
 
-def _read(file: File) -> calls.Named:
+def _texts(name: str, value: Any) -> Iterator[str]:
+    """Yields the texts of an option: those of one value, of several, or of variables by their names."""
+    if isinstance(value, Mapping):
+        if any("=" in it for it in value):
+            raise ValueError(f"{name}: a name has no equals sign")
+        yield from map("=".join, value.items())
+        return
+    for it in [value] if isinstance(value, (str, bytes, int)) else value:
+        if not isinstance(it, (str, int)) or isinstance(it, bool):
+            raise TypeError(f"{name}: {it!r} is neither a text nor a number")
+        yield str(it)
+
+
+def _read(file: File) -> Tuple[str, bytes]:
+    """Returns the name and the text of a file. A path is opened."""
     if isinstance(file, Source):
-        return _bytes(file.name), _bytes(file.text)
-    name = _bytes(os.fspath(file))
-    try:
-        with open(file, "rb") as opened:
-            text = opened.read(LONGEST_FILE + 1)
-    except OSError as error:
-        # The error of a read names no file.
-        error.filename = name.decode("utf-8", "surrogateescape")
-        raise
-    if len(text) > LONGEST_FILE:
-        shown = name.decode("utf-8", "surrogateescape")
-        raise FaultError(f"{shown}: longer than {LONGEST_FILE} bytes", 3, shown, None)
-    return name, text
+        return file.name, file.text.encode("utf-8", "surrogateescape") if isinstance(file.text, str) else file.text
+    name = os.fspath(file)
+    with open(file, "rb") as opened:
+        # The program refuses a file that is longer.
+        text = opened.read(LONGEST_FILE + 1)
+    return name if isinstance(name, str) else name.decode("utf-8", "surrogateescape"), text
 
 
-def _files(features: Union[File, Iterable[File]]) -> List[File]:
-    return [features] if isinstance(features, (str, bytes, os.PathLike, Source)) else list(features)
+def _named(files: Iterable[File], held: Dict[str, bytes]) -> List[str]:
+    """Returns the names of files. Adds their texts to those that are held."""
+    names = []
+    for name, text in map(_read, files):
+        if held.setdefault(name, text) != text:
+            raise ValueError(f"two files have the name {name}")
+        names.append(name)
+    return names
 
 
-def _tags(tags: Union[str, Iterable[str], None]) -> List[bytes]:
-    texts = [tags] if isinstance(tags, str) else tags
-    return [_bytes(text) for text in texts or ()]
+def _world(files: Mapping[str, WorldFile], held: Dict[str, bytes]) -> Iterator[str]:
+    """Yields the arguments for files that steps find. Adds their texts to those that are held."""
+    if not isinstance(files, Mapping):
+        raise TypeError("files are given by their names, in a mapping")
+    for name, file in files.items():
+        if "=" in name:
+            raise ValueError("files: a name has no equals sign")
+        path, = _named([file if isinstance(file, os.PathLike) else Source(name, file)], held)
+        yield f"--file={name}={path}"
 
 
-def _line(number: object) -> int:
-    if not isinstance(number, int) or isinstance(number, bool):
-        raise TypeError(f"a line is an int, not {number!r}")
-    if not 1 <= number <= LAST_LINE:
-        raise ValueError(f"a line is a number from 1 to {LAST_LINE}, not {number}")
-    return number
-
-
-def _lines(lines: Union[int, Iterable[int], None]) -> List[int]:
-    if lines is None:
-        return []
-    return [_line(number) for number in ([lines] if isinstance(lines, (int, str)) else lines)]
-
-
-def _format(name: Format) -> int:
-    if name not in FORMATS:
-        raise ValueError(f"a format is one of {', '.join(FORMATS)}, not {name}")
-    return FORMATS.index(name)
-
-
-def _flag(name: str, value: bool) -> bool:
-    if not isinstance(value, bool):
-        raise TypeError(f"{name} is True or False, not {value!r}")
-    return value
-
-
-def _fault(request: calls.Request, answer: calls.Answer, text: str) -> FaultError:
-    """Builds the fault of an answer, with the name of the faulty file."""
-    named = {calls.LIBRARY: request.library, calls.HOOKS: request.hooks}.get(answer.input)
-    if answer.input == calls.SOURCE:
-        named = request.sources[answer.source]
-    file = None if named is None else named[0].decode("utf-8")
-    return FaultError(text, answer.status, file, answer.line or None)
+def _called(
+    features: Union[File, Iterable[File]],
+    library: Optional[File],
+    hooks: Optional[File],
+    files: Optional[Mapping[str, WorldFile]] = None,
+    **options: Any,
+) -> Tuple[int, str]:
+    """Calls the program. Returns its status and its output, and raises what it writes to standard error."""
+    held: Dict[str, bytes] = {}
+    # The program reads the files in this order.
+    words = [*_words(options), *_world(files or {}, held)]
+    for name, file in (("library", library), ("hooks", hooks)):
+        words += _words({name: _named([file], held)}) if file is not None else ()
+    several = [features] if isinstance(features, (str, bytes, os.PathLike, Source)) else features
+    ended = calls.call([*words, "--", *_named(several, held)], held)
+    if ended.errors:
+        raise _fault(ended)
+    return ended.status, ended.output.decode("utf-8")
 
 
 def run(
@@ -179,44 +199,50 @@ def run(
     library: Optional[File] = None,
     hooks: Optional[File] = None,
     *,
-    format: Format = "plain",
     tags: Union[str, Iterable[str], None] = None,
-    lines: Union[int, Iterable[int], None] = None,
+    line: Union[int, Iterable[int], None] = None,
     env: Optional[Mapping[str, str]] = None,
+    files: Optional[Mapping[str, WorldFile]] = None,
+    format: Format = "plain",
     dry_run: bool = False,
     stop: bool = False,
     no_skipped: bool = False,
 ) -> Report:
     """Runs one or more feature files, in their order, and returns the report.
 
-    A file is a path, which is opened, or a `Source`. Without a library the steps are the built-in ones; without a
-    hooks file there are no hooks. The other arguments are the program's options: `tags` is a text of `--tags` or
-    several, `lines` a number of `--line` or several, and `env` has the variables of `--env`.
+    A file is a path, which is opened, or a `Source`. `files` has the files that steps find, by their names: each is a
+    text, or a `pathlib.Path`, which is opened. The other arguments are the program's options of the same names. `tags`
+    and `line` take one value or several.
 
-    Raises `FaultError` if there is no report, and `OSError` if a file can't be opened or read. A wrong argument raises
-    `TypeError` or `ValueError`, a shared library that can't be loaded `ImportError`. A run keeps nothing, so several
-    threads may run at once.
+    Raises `Fault` for a wrong file or option, and `OSError` if a file can't be opened or read. An argument that can't
+    be one of the program raises `TypeError` or `ValueError`, a shared library that can't be loaded `ImportError`. A call
+    keeps nothing, so several threads may make calls at once.
     """
-    request = calls.Request(
-        tags=_tags(tags),
-        lines=_lines(lines),
-        variables=[(_bytes(name), _bytes(text)) for name, text in (env or {}).items()],
-        format=_format(format),
-        dry_run=_flag("dry_run", dry_run),
-        stop=_flag("stop", stop),
-        no_skipped=_flag("no_skipped", no_skipped),
-        # The files are read last, in the program's order.
-        library=None if library is None else _read(library),
-        hooks=None if hooks is None else _read(hooks),
-        sources=[_read(file) for file in _files(features)],
-    )
-    answer, written = calls.called(request)
-    text = written.decode("utf-8")
-    if not answer.has_report:
-        raise _fault(request, answer, text)
-    return Report(answer.status, text)
+    return Report(*_called(**locals()))
 
 
-def version() -> str:
-    """Returns the version of the shared library."""
-    return calls.version().decode("utf-8")
+def explain(
+    features: Union[File, Iterable[File]],
+    library: Optional[File] = None,
+    hooks: Optional[File] = None,
+    *,
+    tags: Union[str, Iterable[str], None] = None,
+    line: Union[int, Iterable[int], None] = None,
+    env: Optional[Mapping[str, str]] = None,
+    files: Optional[Mapping[str, WorldFile]] = None,
+    stop: bool = False,
+) -> Explanation:
+    """Runs feature files as `run` does, and returns what happened in each scenario that failed."""
+    return Explanation(*_called(explain=True, **locals()))
+
+
+def lint(
+    features: Union[File, Iterable[File]],
+    library: Optional[File] = None,
+    hooks: Optional[File] = None,
+    *,
+    tags: Union[str, Iterable[str], None] = None,
+    line: Union[int, Iterable[int], None] = None,
+) -> Findings:
+    """Runs nothing, and returns what in the files is ignored, can't work or isn't used. Raises what `run` raises."""
+    return Findings(*_called(lint=True, **locals()))

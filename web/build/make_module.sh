@@ -23,6 +23,6 @@ $clang $to -c -x ir "$room/heap64.ll" -o "$room/heap.o"
 $clang $to -ffreestanding -nostdinc -c "$here/allocator.c" -o "$room/allocator.o"
 $clang $to -ffreestanding -fno-builtin -nostdinc -fwrapv -c "$here/helpers.c" -o "$room/helpers.o"
 "$kit/toolchain/bin/ld.lld" -flavor wasm -mwasm64 --no-entry --strip-all --stack-first -z stack-size=1048576 --gc-sections \
-    --export=gherkin_run --export=gherkin_run_version --export=malloc \
+    --export=gherkin_run --export=malloc \
     "$room/library.o" "$room/heap.o" "$room/allocator.o" "$room/helpers.o" -o "$room/wide.wasm"
 wasm-opt --enable-memory64 --enable-sign-ext --enable-mutable-globals --memory64-lowering -O2 "$room/wide.wasm" -o "$2"

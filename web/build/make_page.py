@@ -12,9 +12,6 @@ import re
 import sys
 
 HOME = os.path.dirname(os.path.dirname(os.path.dirname(os.path.realpath(__file__))))
-FLAGS = {"--dry-run": "dryRun", "--stop": "stop", "--no-skipped": "noSkipped"}
-TEXTS = {"--tags": "tags", "--line": "lines", "--env": "variables"}
-FILES = {"--library": "library", "--hooks": "hooks"}
 
 
 def read(*path):
@@ -23,37 +20,16 @@ def read(*path):
         return file.read()
 
 
-def inputs_of(words):
-    """Returns the fields of the page for a command line."""
-    made = {"files": [], "tags": "", "lines": "", "variables": ""}
-    words = iter(words)
-    for word in words:
-        if word in FLAGS:
-            made[FLAGS[word]] = True
-        elif word in TEXTS:
-            made[TEXTS[word]] = "\n".join(filter(None, [made[TEXTS[word]], next(words)]))
-        elif word in FILES:
-            name = next(words)
-            made[FILES[word]], made[f"{FILES[word]}Name"] = read(name), name
-        elif word == "--format":
-            made["format"] = next(words)
-        elif word.startswith("--"):
-            sys.exit(f"make_page.py: the page has no field for {word}")
-        else:
-            made["files"].append([word, read(word)])
-    made["lines"] = made["lines"].replace("\n", " ")
-    return made
-
-
 def examples():
-    """Returns the inputs of each example by its name, as JSON."""
+    """Returns the arguments of each example, and the texts of the files that they name, by the example's name, as JSON."""
     found = {}
     for name in sorted(os.listdir(os.path.join(HOME, "examples"))):
         stem, ending = os.path.splitext(name)
         if ending == ".feature":
             own = os.path.join("examples", f"{stem}.arguments")
             words = read(own).splitlines() if os.path.exists(os.path.join(HOME, own)) else []
-            found[name] = inputs_of([*words, f"examples/{name}"])
+            words.append(f"examples/{name}")
+            found[name] = {"words": words, "texts": {it: read(it) for it in words if os.path.isfile(os.path.join(HOME, it))}}
     return json.dumps(found, ensure_ascii=False).replace("<", "\\u003c")
 
 

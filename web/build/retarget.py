@@ -17,7 +17,7 @@ TRIPLES = {"x86_64-unknown-linux-gnu"}
 REMOVED = {"probe-stack", "stack-probe-size", "target-cpu", "target-features", "tune-cpu"}
 KEPT = {"min-legal-vector-width", "no-builtins", "no-trapping-math", "stack-protector-buffer-size"}
 INTRINSICS = {
-    "llvm.ctlz.i64", "llvm.cttz.i32", "llvm.cttz.i64", "llvm.memmove.p0.p0.i64", "llvm.memset.p0.i64", "llvm.trap",
+    "llvm.arithmetic.fence.f64", "llvm.ctlz.i64", "llvm.cttz.i32", "llvm.cttz.i64", "llvm.memmove.p0.p0.i64", "llvm.memset.p0.i64", "llvm.trap",
     "llvm.vector.reduce.or.v8i1", "llvm.x86.ssse3.pshuf.b.128",
 }
 # Metadata about the origin of a module, or about which pointers may alias.
@@ -59,7 +59,7 @@ def unknown(text):
     found += sorted(set(re.findall(r"@(llvm\.[\w.]+)", bare)) - INTRINSICS)
     found += sorted(set(re.findall(r"^!([A-Za-z_.]+) =", bare, re.MULTILINE)) - METADATA)
     found += sorted(set(re.findall(r"^declare [^@\n]*@(?!llvm\.)([\w.]+)", bare, re.MULTILINE)) - CALLED)
-    found += sorted(set(it if isinstance(it, str) else it[0] for it in FOREIGN.findall(bare)))
+    found += sorted(set(it if isinstance(it, str) else it[0] for it in FOREIGN.findall(re.sub(r"@llvm\.[\w.]+", "", bare))))
     return found
 
 

@@ -1,17 +1,14 @@
 // Calls gherkin_run.wasm as include/gherkin_run.h describes, with pointers and lengths of 64 bits.
-const FORMATS = ["plain", "progress", "json"];
-const INPUTS = [null, "library", "hooks", "source"];
-// Most reports fit into this many bytes, and this many more for each byte of the sources.
+
+// Most outputs fit into this many bytes, and this many more for each byte of the files.
 const FIRST_ROOM = 1 << 18;
 const ROOM_FOR_EACH = 8;
-const LAST_LINE = 4294967295;
-const SIZES = { call: 136, named: 32, text: 16, line: 4, answer: 24 };
+// The name of the file that has a fault follows this in the errors.
+const BEFORE_NAME = "gherkin_run: ".length;
+const SIZES = { text: 16, file: 32, answer: 32 };
 
-// Returns a line, or throws if it doesn't fit into 32 bits.
-function checkedLine(value) {
-    if (!Number.isInteger(value) || value < 0 || value > LAST_LINE) throw new RangeError(`not a line number: ${value}`);
-    return value;
-}
+const asBytes = (text) => (typeof text === "string" ? new TextEncoder().encode(text) : text);
+const asText = (bytes) => new TextDecoder("utf-8", { ignoreBOM: true }).decode(bytes);
 
 // One instance of the module, and its memory.
 export class Instance {
@@ -35,78 +32,66 @@ export class Instance {
     }
 
     // Copies a text into the memory, and puts its place and length at `at`.
-    putText(at, value) {
-        const given = typeof value === "string" ? new TextEncoder().encode(value) : value;
+    putText(at, text) {
+        const given = asBytes(text);
         const room = this.room(given.length);
         this.bytes(room, given.length).set(given);
-        this.putPair(at, room, given.length);
+        this.view(at, 16).setBigUint64(0, BigInt(room), true);
+        this.view(at, 16).setBigUint64(8, BigInt(given.length), true);
     }
 
-    putPair(at, first, second) {
-        this.view(at, 16).setBigUint64(0, BigInt(first), true);
-        this.view(at, 16).setBigUint64(8, BigInt(second), true);
-    }
-
-    putNamed(at, [name, value]) {
-        this.putText(at, name);
-        this.putText(at + SIZES.text, value);
-    }
-
-    // Copies a list into the memory, and puts its place and length at `at`.
-    putList(at, values, size, put) {
+    // Copies a list into the memory, and returns its place and length.
+    list(values, size, put) {
         const room = this.room(values.length * size);
         values.forEach((value, n) => put(room + n * size, value));
-        this.putPair(at, room, values.length);
+        return [room, values.length];
     }
 
-    call({ sources = [], tags = [], lines = [], variables = [], library, hooks, dryRun, stop, noSkipped, format = "plain" }) {
-        const at = this.room(SIZES.call);
-        const named = (place, value) => this.putNamed(place, value);
-        this.putList(at, sources, SIZES.named, named);
-        this.putList(at + 16, tags, SIZES.text, (place, value) => this.putText(place, value));
-        this.putList(at + 32, lines, SIZES.line, (place, value) => this.view(place, 4).setUint32(0, checkedLine(value), true));
-        this.putList(at + 48, variables, SIZES.named, named);
-        this.putNamed(at + 64, library ?? ["", ""]);
-        this.putNamed(at + 96, hooks ?? ["", ""]);
-        const flags = [library !== undefined, hooks !== undefined, dryRun, stop, noSkipped].map((it) => (it ? 1 : 0));
-        this.bytes(at + 128, 6).set([...flags, FORMATS.indexOf(format)]);
-        return at;
+    // Copies a call into the memory, with room for an output and errors of these lengths.
+    prepared(words, files, lengths) {
+        return {
+            inputs: [
+                ...this.list(words, SIZES.text, (at, word) => this.putText(at, word)),
+                ...this.list(files, SIZES.file, (at, [name, text]) => {
+                    this.putText(at, name);
+                    this.putText(at + SIZES.text, text);
+                }),
+            ],
+            rooms: lengths.map((length) => [this.room(length), length]),
+            answer: this.room(SIZES.answer),
+        };
     }
 
-    // Copies a request into the memory, with room for a text of this length.
-    prepared(request, length) {
-        return { call: this.call(request), room: this.room(length), length, answer: this.room(SIZES.answer) };
-    }
-
-    // Runs a prepared request. Returns its result, with as much of the text as there was room for.
-    called({ call, room, length, answer }) {
-        this.exports.gherkin_run(BigInt(call), BigInt(room), BigInt(length), BigInt(answer));
+    // Makes a prepared call. Returns its result, with as much of the texts as there was room for.
+    called({ inputs, rooms, answer }) {
+        this.exports.gherkin_run(...[...inputs, ...rooms.flat(), answer].map(BigInt));
         const said = this.view(answer, SIZES.answer);
-        const wanted = Number(said.getBigUint64(0, true));
+        const [outputLength, errorsLength, nameLength] = [0, 8, 16].map((at) => Number(said.getBigUint64(at, true)));
+        const wanted = [outputLength, errorsLength];
+        const [output, errors] = rooms.map(([at, length], n) => this.bytes(at, Math.min(wanted[n], length)));
         return {
             wanted,
-            text: new TextDecoder("utf-8", { ignoreBOM: true }).decode(this.bytes(room, Math.min(wanted, length))),
-            hasReport: said.getUint8(22) === 1,
-            status: said.getUint8(21),
-            input: INPUTS[said.getUint8(20)],
-            source: Number(said.getBigUint64(8, true)),
-            line: said.getUint32(16, true),
+            status: said.getUint8(28),
+            output: asText(output),
+            errors: asText(errors),
+            file: nameLength === 0 ? null : asText(errors.subarray(BEFORE_NAME, BEFORE_NAME + nameLength)),
+            line: said.getUint32(24, true),
         };
     }
 }
 
-// Returns a function that runs requests. In a request, `library` and `hooks` are pairs of a name and a text, and `sources` and
-// `variables` are lists of such pairs; each text is a string or bytes. The result has the text, whether it is a report, the
-// status, and the place of a fault. Each run has a new instance, so it keeps nothing of earlier runs, even failed ones.
+// Returns a function that runs the program: it takes the arguments, and the files as pairs of a name and a text. Each text is
+// a string or bytes. The result has the status, the output, the errors, and the file and the line of a fault. Each run has
+// a new instance, so it keeps nothing of earlier runs, even failed ones.
 export async function load(bytes) {
     const module = await WebAssembly.compile(bytes);
-    return (request) => {
-        const run = (length) => {
+    return (words, files = []) => {
+        const run = (lengths) => {
             const instance = new Instance(module);
-            return instance.called(instance.prepared(request, length));
+            return instance.called(instance.prepared(words, files, lengths));
         };
-        const first = (request.sources ?? []).reduce((sum, [, text]) => sum + ROOM_FOR_EACH * text.length, FIRST_ROOM);
-        const found = run(first);
-        return found.wanted <= first ? found : run(found.wanted);
+        const lengths = [files.reduce((sum, [, text]) => sum + ROOM_FOR_EACH * text.length, FIRST_ROOM), FIRST_ROOM];
+        const found = run(lengths);
+        return found.wanted.every((length, n) => length <= lengths[n]) ? found : run(found.wanted);
     };
 }

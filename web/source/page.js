@@ -1,18 +1,37 @@
-// The page: runs in a worker what the fields hold, as it is typed, and shows the report.
+// The page: runs in a worker what the fields hold, as it is typed, and shows the result.
 const $ = (id) => document.getElementById(id);
-const EXAMPLES = JSON.parse($("examples").textContent);
 const FIRST_EXAMPLE = "paint.feature";
+// What each tab adds to the arguments, and what its statuses 0 and 1 say.
+const TABS = {
+    report: { words: [], verdicts: ["Nothing failed", "Failed"] },
+    explanation: { words: ["--explain"], verdicts: ["Nothing failed", "Failed"] },
+    findings: { words: ["--lint"], verdicts: ["Nothing found", "Something found"] },
+};
+// The program's options. Each has a field, and the tabs on which the program takes it. A text is one argument for each of its
+// parts, a flag is one if it is checked. A file is its name if the field of its text isn't empty, and one that steps find is
+// put under that name.
+const OPTIONS = [
+    { option: "--library", field: "library", kind: "file", tabs: ["report", "explanation", "findings"] },
+    { option: "--hooks", field: "hooks", kind: "file", tabs: ["report", "explanation", "findings"] },
+    { option: "--tags", field: "tags", kind: "text", between: "\n", tabs: ["report", "explanation", "findings"] },
+    { option: "--line", field: "lines", kind: "text", between: /[\s,]+/, tabs: ["report", "explanation", "findings"] },
+    { option: "--env", field: "variables", kind: "text", between: "\n", tabs: ["report", "explanation"] },
+    { option: "--file", field: "written", kind: "put", tabs: ["report", "explanation"] },
+    { option: "--stop", field: "stop", kind: "flag", tabs: ["report", "explanation"] },
+    { option: "--dry-run", field: "dryRun", kind: "flag", tabs: ["report"] },
+    { option: "--no-skipped", field: "noSkipped", kind: "flag", tabs: ["report"] },
+    { option: "--format", field: "format", kind: "text", between: "\n", tabs: ["report"] },
+];
 // The fields with a text, and what they hold at first.
-const TEXTS = { library: "", libraryName: "own.steps", hooks: "", hooksName: "own.hooks", tags: "", lines: "", variables: "", format: "plain" };
-const FLAGS = ["dryRun", "stop", "noSkipped"];
-const FORMATS = [...$("format").options].map((it) => it.value);
+const TEXTS = { library: "", libraryName: "own.steps", hooks: "", hooksName: "own.hooks", written: "", writtenName: "out.txt", tags: "", lines: "", variables: "", format: "plain" };
+const FLAGS = OPTIONS.filter((it) => it.kind === "flag").map((it) => it.field);
+// The texts that only some values can be.
+const CHOICES = { format: [...$("format").options].map((it) => it.value), tab: Object.keys(TABS) };
 const WORKER = URL.createObjectURL(new Blob([$("worker").textContent], { type: "text/javascript" }));
-const VERDICTS = { 0: "Nothing failed", 1: "Failed", 4: "Memory ran out" }; // of a report, by its status
 const PAUSE = 150; // milliseconds from the last key to a run
 const SLOW = 300; // milliseconds until the page says that a run goes on
-const LAST_LINE = 4294967295;
 const LONGEST_LINK = 1000000; // characters; a browser may take no more than 1,048,576 in an address
-const PIECE = 16384; // characters of a report that are laid out together, up to the next line feed
+const PIECE = 16384; // characters that are laid out together, up to the next line feed
 
 let worker;
 let asked = 0; // the number of the last request
@@ -20,6 +39,7 @@ let answered = 0; // the number of the last one that is over
 let timer; // of the next run
 let slow; // of the message that a run goes on
 let replaced; // the inputs before the last example, link or removal
+let tab = "report"; // the one that is selected
 
 // ---- fields
 
@@ -64,7 +84,7 @@ function freshName() {
 }
 
 function inputs() {
-    const found = { files: [...$("files").children].map((it) => [it.querySelector(".name").value, it.querySelector(".text").value]) };
+    const found = { tab, files: [...$("files").children].map((it) => [it.querySelector(".name").value, it.querySelector(".text").value]) };
     for (const name of Object.keys(TEXTS)) found[name] = $(name).value;
     for (const name of FLAGS) found[name] = $(name).checked;
     return found;
@@ -78,8 +98,32 @@ function show(given) {
     for (const name of FLAGS) $(name).checked = given[name] ?? false;
     $("libraryPart").open = $("library").value !== "";
     $("hooksPart").open = $("hooks").value !== "";
+    $("writtenPart").open = $("written").value !== "";
     $("choicePart").open = ["tags", "lines", "variables"].some((name) => $(name).value !== "");
-    $("report").scrollTop = 0;
+    $("text").scrollTop = 0;
+    select(given.tab ?? "report");
+    runNow();
+}
+
+// Selects a tab, and shows the options that the program takes there.
+function select(name) {
+    tab = name;
+    for (const it of Object.keys(TABS)) {
+        $(it).setAttribute("aria-selected", String(it === tab));
+        $(it).tabIndex = it === tab ? 0 : -1;
+    }
+    $("text").setAttribute("aria-labelledby", tab);
+    for (const { field, tabs } of OPTIONS) {
+        const control = $(field).closest(".option");
+        if (control) control.hidden = !tabs.includes(tab);
+    }
+}
+
+// Selects a tab by the user, and runs.
+function changeTab(name) {
+    forgetLink();
+    select(name);
+    $(name).focus();
     runNow();
 }
 
@@ -95,35 +139,43 @@ function replaceBy(given) {
     show(given);
 }
 
-// ---- requests
+// ---- the program's arguments
 
-const rows = (text) => text.split("\n").filter((it) => it !== "");
-const words = (text) => text.split(/[\s,]+/).filter((it) => it !== "");
-const isLine = (it) => /^[+]?[0-9]+$/.test(it) && Number(it) >= 1 && Number(it) <= LAST_LINE;
-
-// Returns what is wrong with the fields, by their names; an empty text if nothing is.
-function mistakesOf({ lines, variables }) {
-    const line = words(lines).find((it) => !isLine(it));
-    const variable = rows(variables).find((it) => !it.includes("="));
-    return {
-        lines: line === undefined ? "" : `${JSON.stringify(line)} is not a line number: lines are whole numbers from 1 to ${LAST_LINE}.`,
-        variables: variable === undefined ? "" : `${JSON.stringify(variable)} is not a variable: it needs a name, "=" and a text.`,
-    };
+// Returns the arguments for some inputs.
+function wordsOf(given) {
+    const options = OPTIONS.filter(({ tabs }) => tabs.includes(given.tab)).flatMap(({ option, field, kind, between }) => {
+        const value = given[field];
+        if (kind === "flag") return value ? [option] : [];
+        const name = given[`${field}Name`];
+        if (name !== undefined) return value === "" ? [] : [`${option}=${kind === "put" ? `${name}=${name}` : name}`];
+        return value.split(between).filter((it) => it !== "").map((it) => `${option}=${it}`);
+    });
+    return [...TABS[given.tab].words, ...options, "--", ...given.files.map(([name]) => name)];
 }
 
-function requestOf(given) {
-    return {
-        sources: given.files,
-        tags: rows(given.tags),
-        lines: words(given.lines).map(Number),
-        variables: rows(given.variables).map((it) => [it.slice(0, it.indexOf("=")), it.slice(it.indexOf("=") + 1)]),
-        library: given.library === "" ? undefined : [given.libraryName, given.library],
-        hooks: given.hooks === "" ? undefined : [given.hooksName, given.hooks],
-        dryRun: given.dryRun,
-        stop: given.stop,
-        noSkipped: given.noSkipped,
-        format: given.format,
-    };
+// Returns the names and texts of all files of some inputs.
+function filesOf(given) {
+    const own = OPTIONS.filter(({ field }) => given[`${field}Name`] !== undefined && given[field] !== "");
+    return [...own.map(({ field }) => [given[`${field}Name`], given[field]]), ...given.files];
+}
+
+// Returns the inputs for some arguments, each option and its value as two words, and the texts of their files.
+function inputsOf({ words, texts }) {
+    const given = { files: [] };
+    const left = words.values();
+    for (const word of left) {
+        const { field, kind, between } = OPTIONS.find((it) => it.option === word) ?? { kind: "none" };
+        const named = Object.keys(TABS).find((it) => TABS[it].words.includes(word));
+        if (named) given.tab = named;
+        else if (kind === "none") given.files.push([word, texts[word]]);
+        else if (kind === "flag") given[field] = true;
+        else if (kind === "text") given[field] = [given[field] ?? [], left.next().value].flat().join(typeof between === "string" ? between : " ");
+        else {
+            given[`${field}Name`] = left.next().value.split("=").at(-1);
+            given[field] = texts[given[`${field}Name`]];
+        }
+    }
+    return given;
 }
 
 // ---- runs
@@ -142,40 +194,54 @@ function say(state, text, kind = "", time = "") {
     $("status").textContent = text;
     $("status").className = kind;
     $("time").textContent = time;
-    $("halt").setAttribute("aria-disabled", String(state !== "running"));
+    if (state !== "running" && document.activeElement === $("halt")) $("run").focus();
+    $("halt").hidden = state !== "running";
 }
 
-// Puts a text into the report, in pieces that end with a line feed.
-function print(text, isFault) {
+// Returns a text in pieces that end with a line feed.
+function piecesOf(text, kind) {
     const pieces = [];
     for (let from = 0; from < text.length;) {
         const to = text.indexOf("\n", from + PIECE) + 1 || text.length;
         const piece = document.createElement("div");
+        piece.className = kind;
         piece.textContent = text.slice(from, to);
         pieces.push(piece);
         from = to;
     }
-    $("report").replaceChildren(...pieces);
-    $("report").dataset.fault = String(isFault);
+    return pieces;
 }
 
-// Shows a message in place of a report.
+function print(errors, output) {
+    $("text").replaceChildren(...piecesOf(errors, "wrong"), ...piecesOf(output, ""));
+}
+
+// Shows a message in place of a result.
 function refuse(message) {
-    print(message, true);
+    print(message, "");
     say("failed", "Not run", "bad");
 }
 
 function ended({ number, answer, error, time }) {
     answered = number;
-    if (number !== asked) return;
+    // Of inputs that have changed since, nothing is shown.
+    if (number !== asked || document.body.dataset.state === "waiting") return;
     if (error !== undefined) {
         refuse(`The run couldn't end: ${error}`);
         return;
     }
-    const verdict = answer.hasReport ? VERDICTS[answer.status] : "Fault";
-    print(answer.text, !answer.hasReport);
-    say("done", `${verdict}, status ${answer.status}`, answer.status === 0 ? "good" : "bad", `${time.toFixed(1)} ms`);
-    document.body.dataset.status = answer.status;
+    const { status, output, errors } = answer;
+    const verdict = TABS[tab].verdicts[status] ?? (status === 4 ? "Memory ran out" : "Fault");
+    print(errors, output);
+    say("done", `${verdict}, status ${status}`, status === 0 ? "good" : "bad", `${time.toFixed(1)} ms`);
+    document.body.dataset.status = status;
+}
+
+// Marks the fields with a name that two files have, and returns that name, if there is one.
+function repeatedName(files) {
+    const repeated = files.map(([name]) => name).find((name, n, names) => names.indexOf(name) !== n);
+    for (const field of document.querySelectorAll(".name")) field.setAttribute("aria-invalid", String(field.value === repeated));
+    return repeated;
 }
 
 // Ends the current run, if there is one, and begins one with the current fields.
@@ -183,26 +249,23 @@ function runNow() {
     clearTimeout(timer);
     if (answered < asked) halt();
     const given = inputs();
-    const mistakes = mistakesOf(given);
-    for (const [name, text] of Object.entries(mistakes)) {
-        $(`${name}Wrong`).textContent = text;
-        $(name).setAttribute("aria-invalid", String(text !== ""));
-    }
-    const mistake = Object.values(mistakes).find((it) => it !== "");
-    if (mistake !== undefined) {
-        refuse(mistake);
+    const files = filesOf(given);
+    const repeated = repeatedName(files);
+    if (repeated !== undefined) {
+        refuse(`Two files have the name ${JSON.stringify(repeated)}.`);
         return;
     }
     asked += 1;
     document.body.dataset.state = "running";
     slow = setTimeout(() => say("running", "Running .."), SLOW);
-    worker.postMessage({ number: asked, request: requestOf(given) });
+    worker.postMessage({ number: asked, words: wordsOf(given), files });
 }
 
 // Runs what the fields hold once nothing was typed for a while.
 function later() {
     forgetLink();
     clearTimeout(timer);
+    clearTimeout(slow);
     document.body.dataset.state = "waiting";
     timer = setTimeout(runNow, PAUSE);
 }
@@ -230,7 +293,7 @@ function isInputs(given) {
     const has = (name, holds) => given[name] === undefined || holds(given[name]);
     return Array.isArray(given?.files) && given.files.length > 0 && given.files.every(isFile)
         && Object.keys(TEXTS).every((name) => has(name, isText)) && FLAGS.every((name) => has(name, (it) => typeof it === "boolean"))
-        && has("format", (it) => FORMATS.includes(it));
+        && Object.entries(CHOICES).every(([name, values]) => has(name, (it) => values.includes(it)));
 }
 
 // Returns the inputs of a link, or nothing if it holds none.
@@ -268,8 +331,9 @@ async function makeLink() {
 
 // ---- the page begins
 
+const EXAMPLES = JSON.parse($("examples").textContent);
 for (const name of Object.keys(EXAMPLES)) $("example").append(new Option(name, name, false, name === FIRST_EXAMPLE));
-$("open").onclick = () => replaceBy(EXAMPLES[$("example").value]);
+$("open").onclick = () => replaceBy({ tab, ...inputsOf(EXAMPLES[$("example").value]) });
 $("undo").onclick = () => replaceBy(replaced);
 $("add").onclick = () => {
     addFile(freshName(), "").querySelector(".text").focus();
@@ -278,10 +342,18 @@ $("add").onclick = () => {
 $("halt").onclick = () => {
     if (answered === asked) return;
     halt();
-    print("", false);
+    print("", "");
     say("stopped", "Stopped");
 };
 $("link").onclick = makeLink;
+for (const [n, name] of Object.keys(TABS).entries()) {
+    $(name).onclick = () => changeTab(name);
+    // The arrow keys go round.
+    $(name).onkeydown = ({ key }) => {
+        const step = { ArrowLeft: -1, ArrowRight: 1 }[key];
+        if (step) changeTab(Object.keys(TABS).at((n + step) % 3));
+    };
+}
 $("inputs").addEventListener("input", (event) => {
     if (event.target !== $("example")) later();
 });
@@ -302,5 +374,5 @@ window.onhashchange = () => {
 };
 begin();
 const given = location.hash === "" ? undefined : linked(location.hash);
-show(given ?? EXAMPLES[FIRST_EXAMPLE]);
+show(given ?? inputsOf(EXAMPLES[FIRST_EXAMPLE]));
 if (given === undefined && location.hash !== "") $("notice").textContent = "The link in the address can't be used. The page shows its example.";

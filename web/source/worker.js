@@ -1,4 +1,4 @@
-// Runs the page's requests one after another. The first message is the module, as base64.
+// Runs the program for the page, one run after another. The first message is the module, as base64.
 let running;
 
 onmessage = async ({ data }) => {
@@ -10,7 +10,7 @@ onmessage = async ({ data }) => {
     try {
         const run = await running;
         const begun = performance.now();
-        const answer = run(data.request);
+        const answer = run(data.words, data.files);
         postMessage({ number: data.number, answer, time: performance.now() - begun });
     } catch (error) {
         postMessage({ number: data.number, error: String(error) });
