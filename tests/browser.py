@@ -13,7 +13,8 @@ PATIENCE = 30  # seconds
 WORDS = ["--headless=new", "--no-sandbox", "--disable-gpu", "--disable-dev-shm-usage", "--no-first-run",
          "--remote-debugging-pipe"]
 # The keys that tests press: the name, the code, the number, and the text that they type.
-KEYS = {"Tab": (9, ""), "Enter": (13, "\r"), " ": (32, " "), "ArrowDown": (40, ""), "ArrowUp": (38, "")}
+KEYS = {"Tab": (9, ""), "Enter": (13, "\r"), " ": (32, " "), "ArrowDown": (40, ""), "ArrowUp": (38, ""),
+        "ArrowLeft": (37, ""), "ArrowRight": (39, "")}
 SHIFT = 8
 
 

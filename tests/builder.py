@@ -16,6 +16,21 @@ Row = collections.namedtuple("Row", "keyword line text status")
 Case = collections.namedtuple("Case", "keyword name line status steps")
 
 FAILING = Step("it fails", "failed: fail step")
+# What --lint says of a fault, below its line.
+HINTS = {
+    "unexpected line": "write the keyword exactly, and look at the line above, too: a description ends at the first step, "
+                       "and a step has one block",
+    "bad tag": "write an @ before each tag, and a # before remarks",
+    "language not known": "write the keywords in English, and take this comment out",
+    "row without closing bar": "close the row with a bar",
+    "row with another number of cells": "give each row as many cells as the first; write \\| for a bar inside a cell",
+    "doc string without end": "close it with a line of the same three characters alone",
+    "bad hook heading": "write before_ or after_, and then all:, feature:, rule:, scenario: or tag @NAME:, each heading once",
+    "bad step type": "begin the line with given, when, then or step, in lower case",
+    "bad pattern": "write PATTERN => ACTION, with {{ and }} for braces, and a name of its own for each field",
+    "unknown action": "take a name of the table of actions, in lower case",
+    "missing field": "name the fields as the action does",
+}
 
 
 def table_row(cells):

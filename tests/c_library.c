@@ -4,6 +4,7 @@
  * another. Closes with one line 'N passed, M failed'. */
 #define _GNU_SOURCE
 #include "gherkin_run.h"
+#include <stdbool.h>
 #include <stdio.h>
 #include <stdlib.h>
 #include <string.h>
@@ -40,166 +41,216 @@ static void expect(bool holds, const char *what, long number) {
     if (!holds) printf("%s, at %ld\n", what, number);
 }
 
-static uint8_t bytes[LARGEST], room[LARGEST + EDGE], whole[LARGEST];
-static gherkin_named source;
-static gherkin_call call = GHERKIN_CALL;
+static uint8_t bytes[LARGEST], room[LARGEST + EDGE], errors[LARGEST + EDGE], whole[LARGEST], whole_errors[LARGEST];
+static gherkin_text arguments[8];
+static gherkin_file files[4];
+static size_t argument_count, file_count;
 static gherkin_answer answer;
 
-/* Calls with each size of room: what fits is written, and nothing else. */
-static void rooms(size_t length) {
-    for (size_t size = 0; size <= length + 2; size++) {
-        memset(room, 0xAA, size + EDGE);
-        gherkin_run(&call, room, size, &answer);
-        size_t count = size < length ? size : length;
-        bool holds = answer.length == length && memcmp(room, whole, count) == 0;
-        for (size_t place = count; place < size + EDGE; place++) holds = holds && room[place] == 0xAA;
-        expect(holds, "another text, length or byte with room", (long)size);
-    }
-}
-
-/* Refuses each growth: the text is the whole report, one with a mark of memory, or a line; and no block is left. */
-static void refusals(size_t length, uint8_t status) {
-    growths = 0;
-    gherkin_run(&call, room, LARGEST, &answer);
-    long most = growths;
-    for (long number = 1; number <= most; number++) {
-        growths = 0, blocks = 0, refused = number;
-        gherkin_run(&call, room, LARGEST, &answer);
-        refused = 0;
-        bool same = answer.has_report && answer.status == status && answer.length == length && memcmp(room, whole, length) == 0;
-        bool marked = answer.has_report && answer.status == GHERKIN_OUT_OF_MEMORY;
-        bool line = !answer.has_report && answer.status == GHERKIN_OUT_OF_MEMORY && answer.length == 13 && memcmp(room, "out of memory", 13) == 0;
-        expect((same || marked || line) && blocks == 0, "another end with a refused growth", number);
-    }
-}
-
-/* Makes a call that is refused with this line, status and place. */
-static void refuses_at(const char *line, uint8_t status, uint8_t input, size_t place, uint32_t number) {
-    long before = blocks;
-    gherkin_run(&call, room, LARGEST, &answer);
-    expect(blocks == before, "memory is kept at a fault", number);
-    expect(!answer.has_report && answer.status == status && answer.length == strlen(line) && memcmp(room, line, answer.length) == 0, line, 0);
-    expect(answer.input == input && answer.source == place && answer.line == number, "another place of the fault", number);
-}
-
-static void refuses(const char *line) {
-    refuses_at(line, GHERKIN_BAD_CALL, GHERKIN_NO_INPUT, 0, 0);
-}
-
-static gherkin_named named(const char *name, const char *text) {
-    gherkin_named made = {{(const uint8_t *)name, strlen(name)}, {(const uint8_t *)text, strlen(text)}};
+static gherkin_text text_of(const char *text) {
+    gherkin_text made = {(const uint8_t *)text, strlen(text)};
     return made;
 }
 
+static gherkin_file file_of(const char *name, const char *text) {
+    gherkin_file made = {text_of(name), text_of(text)};
+    return made;
+}
+
+/* Takes the words as the arguments, up to a null pointer. */
+static void asks(const char *const *words) {
+    for (argument_count = 0; words[argument_count]; argument_count++) arguments[argument_count] = text_of(words[argument_count]);
+}
+#define ASKS(...) asks((const char *const[]){__VA_ARGS__, NULL})
+
+/* Whether two calls have the same answer, without the bytes between its fields. */
+static bool is_same(const gherkin_answer *one, const gherkin_answer *other) {
+    return one->out_length == other->out_length && one->errors_length == other->errors_length &&
+           one->name_length == other->name_length && one->line == other->line && one->status == other->status;
+}
+
+static void call_with(size_t out_room, size_t errors_room) {
+    gherkin_run(arguments, argument_count, files, file_count, room, out_room, errors, errors_room, &answer);
+}
+
+static void call(void) { call_with(LARGEST, LARGEST); }
+
+/* Whether a room has the beginning of the text, and nothing is written behind it. */
+static bool is_filled(const uint8_t *place, size_t size, const uint8_t *text, size_t length) {
+    size_t count = size < length ? size : length;
+    bool holds = memcmp(place, text, count) == 0;
+    for (size_t at = count; at < size + EDGE; at++) holds = holds && place[at] == 0xAA;
+    return holds;
+}
+
+/* Calls with each size of room for the output and for the errors: what fits is written, and nothing else. */
+static void rooms(const char *what) {
+    call();
+    size_t length = answer.out_length, told = answer.errors_length, most = length > told ? length : told;
+    memcpy(whole, room, length), memcpy(whole_errors, errors, told);
+    for (size_t size = 0; size <= most + 2; size++) {
+        memset(room, 0xAA, size + EDGE), memset(errors, 0xAA, size + EDGE);
+        call_with(size, size);
+        bool holds = answer.out_length == length && answer.errors_length == told;
+        holds = holds && is_filled(room, size, whole, length) && is_filled(errors, size, whole_errors, told);
+        expect(holds, what, (long)size);
+    }
+}
+
+static bool says(const char *text) {
+    return answer.errors_length == strlen(text) && memcmp(errors, text, answer.errors_length) == 0;
+}
+
+/* Refuses each growth: the output is the whole one, or one with a mark of memory, or memory ran out; no block is left. */
+static void refusals(const char *what) {
+    growths = 0;
+    call();
+    gherkin_answer well = answer;
+    long most = growths;
+    memcpy(whole, room, well.out_length), memcpy(whole_errors, errors, well.errors_length);
+    for (long number = 1; number <= most; number++) {
+        growths = 0, blocks = 0, refused = number;
+        call();
+        refused = 0;
+        bool same = is_same(&answer, &well) && memcmp(room, whole, well.out_length) == 0;
+        same = same && memcmp(errors, whole_errors, well.errors_length) == 0;
+        bool marked = answer.status == GHERKIN_OUT_OF_MEMORY && answer.errors_length == 0 && answer.out_length > 0;
+        bool ran_out = answer.status == GHERKIN_OUT_OF_MEMORY && says("gherkin_run: out of memory\n") && answer.name_length == 0;
+        expect((same || marked || ran_out) && blocks == 0, what, number);
+    }
+}
+
+/* Expects an end with this text on standard error, this status and this place. */
+static void refuses_at(const char *text, uint8_t status, const char *name, uint32_t line) {
+    long before = blocks;
+    call();
+    expect(blocks == before, "memory is kept at a fault", line);
+    expect(answer.out_length == 0 && answer.status == status && says(text), text, 0);
+    bool placed = answer.name_length == strlen(name) && answer.line == line;
+    placed = placed && memcmp(errors + GHERKIN_NAME_AT, name, answer.name_length) == 0;
+    expect(placed || (*name == 0 && answer.name_length == 0 && answer.line == line), "another place of the fault", line);
+}
+
+static void refuses(const char *text) { refuses_at(text, GHERKIN_BAD_ARGUMENTS, "", 0); }
+
 /* Finds the place of a fault in each file. The names contain colons. */
 static void places(void) {
-    gherkin_named three[3] = {source, named("b:7: c", "Feature: F\n\nFeature: G\n"), source};
-    gherkin_named bad_library = named("a:1", "\ngiven a => none\n"), bad_hooks = named("a:2", "@never\n");
-    gherkin_text tag = {(const uint8_t *)"@a and", 6};
-    gherkin_call before = call;
-    call.sources = three, call.source_count = 3;
-    refuses_at("b:7: c:3: unexpected line", GHERKIN_BAD_FILE, GHERKIN_SOURCE, 1, 3);
-    call.hooks = bad_hooks, call.has_hooks = true;
-    refuses_at("a:2:1: unexpected line", GHERKIN_BAD_FILE, GHERKIN_HOOKS, 0, 1);
-    call.library = bad_library, call.has_library = true;
-    refuses_at("a:1:2: unknown action", GHERKIN_BAD_FILE, GHERKIN_LIBRARY, 0, 2);
-    call.tags = &tag, call.tag_count = 1;
-    refuses("bad tag expression");
-    call = before;
-    gherkin_run(&call, room, LARGEST, &answer);
-    expect(answer.has_report && answer.input == GHERKIN_NO_INPUT && answer.source == 0 && answer.line == 0, "a report has a place", 0);
+    files[1] = file_of("b:7: c", "Feature: F\n\nFeature: G\n"), files[2] = file_of("a:2", "@never\n");
+    files[3] = file_of("a:1", "\ngiven a => none\n"), file_count = 4;
+    ASKS("x", "b:7: c", "x");
+    refuses_at("gherkin_run: b:7: c:3: unexpected line\n", GHERKIN_BAD_FILE, "b:7: c", 3);
+    ASKS("x", "missing", "b:7: c");
+    refuses_at("gherkin_run: missing: cannot read\n", GHERKIN_BAD_FILE, "missing", 0);
+    ASKS("x", "b:7: c", "--hooks=a:2");
+    refuses_at("gherkin_run: a:2:1: unexpected line\n", GHERKIN_BAD_FILE, "a:2", 1);
+    ASKS("x", "--hooks=a:2", "--library=a:1");
+    refuses_at("gherkin_run: a:1:2: unknown action\n", GHERKIN_BAD_FILE, "a:1", 2);
+    ASKS("x", "--library=a:1", "--tags", "@a and");
+    refuses("gherkin_run: bad tag expression\n");
+    ASKS("--lint", "x", "--library=a:1", "--hooks=a:2", "b:7: c");
+    call();
+    expect(answer.status == GHERKIN_BAD_FILE && answer.name_length == 3 && answer.line == 2, "another first fault of --lint", 0);
+    expect(memmem(errors, answer.errors_length, "b:7: c:3: ", 10) != NULL, "--lint leaves a fault out", 0);
+    ASKS("x");
+    call();
+    expect(answer.errors_length == 0 && answer.name_length == 0 && answer.line == 0, "a report has a place", 0);
+    file_count = 1;
+}
+
+/* Of files of one name, the first counts. A file that nothing asks for is not read. */
+static void names(void) {
+    ASKS("y");
+    files[1] = file_of("y", "Feature: first\n"), files[2] = file_of("y", "\xff"), files[3] = file_of("z", "\xff"), file_count = 4;
+    call();
+    expect(answer.status == GHERKIN_PASSED && memmem(room, answer.out_length, "first", 5) != NULL, "another file of the name", 0);
+    file_count = 1;
 }
 
 static void hostile(void) {
-    static const gherkin_text bad = {(const uint8_t *)"\xff", 1}, good = {(const uint8_t *)"x", 1};
-    gherkin_named variable = {GHERKIN_NO_TEXT, GHERKIN_NO_TEXT}, two[2] = {source, {bad, GHERKIN_NO_TEXT}};
-    gherkin_call before = call;
-    uint32_t zero = 0;
-    call.format = 3, refuses("unknown format"), call = before;
-    call.format = 255, refuses("unknown format"), call = before;
-    call.lines = &zero, call.line_count = 1, refuses("line 0"), call = before;
-    call.tags = &bad, call.tag_count = 1, refuses("not UTF-8"), call = before;
-    call.sources = two, call.source_count = 2, refuses("not UTF-8"), call = before;
-    source.name = bad, refuses("not UTF-8"), source.name = good;
-    call.variables = &variable, call.variable_count = 1, refuses("bad variable");
-    variable.name = bad, refuses("not UTF-8");
-    variable.name = good, variable.bytes = bad, refuses("not UTF-8"), call = before;
-    call.has_library = true, call.library.name = bad, refuses("not UTF-8"), call = before;
-    call.source_count = 0;
-    gherkin_run(&call, room, LARGEST, &answer);
-    expect(answer.has_report && answer.status == GHERKIN_PASSED, "no source", 0);
-    call = before;
+    static const gherkin_text bad = {(const uint8_t *)"\xff", 1};
+    ASKS("x", "x");
+    arguments[0] = bad, refuses("gherkin_run: not UTF-8\n");
+    arguments[0] = text_of("x"), arguments[1] = bad, refuses("gherkin_run: not UTF-8\n");
+    ASKS("--env", "A", "x"), refuses("gherkin_run: bad --env\n");
+    ASKS("--env", "=b", "x"), refuses("gherkin_run: bad --env\n");
+    files[1].name = bad, files[1].bytes = bad, file_count = 2;
+    ASKS("x"), call();
+    expect(answer.status == GHERKIN_FAILED, "a file that isn't asked for counts", 0);
+    file_count = 1;
+    static const char *const wrong[] = {"--unknown", "--format=xml", "--line=0", "--line=x", "--stop=1"};
+    for (size_t word = 0; word < sizeof wrong / sizeof *wrong; word++) {
+        ASKS(wrong[word], "x"), call();
+        expect(answer.status == GHERKIN_BAD_ARGUMENTS && answer.out_length == 0 && answer.errors_length > 0 && answer.name_length == 0, wrong[word], 0);
+    }
+    argument_count = 0, call();
+    expect(answer.status == GHERKIN_BAD_ARGUMENTS && answer.errors_length > 0, "no argument", 0);
 }
 
 /* Makes the call as it is, and again with a null pointer at this place: nothing else may change. */
 static void null_at(void *place, const char *what) {
     char pointer[sizeof(void *)];
-    gherkin_answer other;
-    gherkin_run(&call, whole, LARGEST, &other);
+    call();
+    gherkin_answer other = answer;
+    memcpy(whole, room, other.out_length), memcpy(whole_errors, errors, other.errors_length);
     memcpy(pointer, place, sizeof pointer);
     memset(place, 0, sizeof pointer);
-    gherkin_run(&call, room, LARGEST, &answer);
-    bool same = answer.length == other.length && memcmp(room, whole, other.length) == 0;
-    same = same && answer.has_report == other.has_report && answer.status == other.status;
-    same = same && answer.input == other.input && answer.source == other.source && answer.line == other.line;
-    expect(same, what, 0);
+    call();
+    bool same = is_same(&answer, &other) && memcmp(room, whole, other.out_length) == 0;
+    expect(same && memcmp(errors, whole_errors, other.errors_length) == 0, what, 0);
     memcpy(place, pointer, sizeof pointer);
 }
 
-/* Null pointers in the call itself. An empty library file has no steps, and isn't the default library. */
-static void nulls_in_call(void) {
-    gherkin_call before = call;
-    null_at(&call.tags, "null for no tags");
-    null_at(&call.lines, "null for no lines");
-    null_at(&call.variables, "null for no variables");
-    null_at(&call.library.bytes.bytes, "null in a library that isn't used");
-    call.has_library = true, call.library = named("", "no library\n");
-    null_at(&call.library.name.bytes, "null for the name of a library with a fault");
-    call.library = before.library;
-    null_at(&call.library.name.bytes, "null for a library's name");
-    null_at(&call.library.bytes.bytes, "null for an empty library");
-    expect(answer.has_report && memmem(room, answer.length, "0 steps passed", 14), "an empty library has steps", 0);
-    call.has_hooks = true;
-    null_at(&call.hooks.name.bytes, "null for a hooks file's name");
-    null_at(&call.hooks.bytes.bytes, "null for an empty hooks file");
-    call = before, call.source_count = 0;
-    null_at(&call.sources, "null for no sources");
-    gherkin_call nothing = {0};
-    call = nothing;
-    gherkin_run(&call, NULL, 0, &answer);
-    expect(answer.has_report && answer.status == GHERKIN_PASSED && answer.length > 0, "null for everything", 0);
-    call = before;
-}
-
-/* Null pointers in the texts of a list, also of a file that has a fault. */
-static void nulls_in_lists(void) {
-    gherkin_named files[2] = {named("", "no feature\n"), GHERKIN_NO_FILE}, variable = GHERKIN_NO_FILE;
-    gherkin_text tag = GHERKIN_NO_TEXT;
-    gherkin_call before = call;
-    call.sources = files, call.source_count = 2;
-    null_at(&files[0].name.bytes, "null for the name of a file with a fault");
-    call.sources = files + 1, call.source_count = 1;
-    null_at(&files[1].name.bytes, "null for the name of an empty file");
+/* Null pointers in texts of no bytes, and for lists of no items. */
+static void nulls(void) {
+    files[1] = file_of("empty", ""), file_count = 2;
+    ASKS("x", "--hooks", "empty", "--library", "empty");
     null_at(&files[1].bytes.bytes, "null for an empty file");
-    call = before, call.tags = &tag, call.tag_count = 1;
-    null_at(&tag.bytes, "null for an empty text of tags");
-    call = before, call.variables = &variable, call.variable_count = 1;
-    null_at(&variable.name.bytes, "null for a variable's name");
-    variable = named("x", "");
-    null_at(&variable.bytes.bytes, "null for a variable's text");
-    call = before;
+    expect(memmem(room, answer.out_length, "0 steps passed", 14) != NULL, "an empty library has steps", 0);
+    files[1] = file_of("", "no feature\n");
+    ASKS("x", "--hooks", "");
+    null_at(&files[1].name.bytes, "null for the name of a file with a fault");
+    null_at(&arguments[2].bytes, "null for an empty argument");
+    gherkin_run(NULL, 0, NULL, 0, NULL, 0, NULL, 0, &answer);
+    expect(answer.status == GHERKIN_BAD_ARGUMENTS && answer.errors_length > 0, "null for everything", 0);
+    file_count = 1;
 }
 
-/* The names of the formats. */
-static void formats(void) {
-    static const struct { uint8_t format; const char *begins; } rows[] = {
-        {GHERKIN_PLAIN, "Feature: "}, {GHERKIN_PROGRESS, "x "}, {GHERKIN_JSON, "{"}};
-    for (size_t row = 0; row < 3; row++) {
-        call.format = rows[row].format;
-        gherkin_run(&call, room, LARGEST, &answer);
-        expect(memcmp(room, rows[row].begins, strlen(rows[row].begins)) == 0, "another format", (long)row);
+/* Which files arguments ask for. */
+static void asked(void) {
+    static const char wanted[] = "l\0h\0b\0a\0b";
+    ASKS("--hooks=h", "b", "--library", "l", "a", "--", "b");
+    size_t length = gherkin_run_files(arguments, argument_count, NULL, 0);
+    expect(length == sizeof wanted, "another length of names", 0);
+    for (size_t size = 0; size <= sizeof wanted + 2; size++) {
+        memset(room, 0xAA, size + EDGE);
+        bool same = gherkin_run_files(arguments, argument_count, room, size) == length;
+        expect(same && is_filled(room, size, (const uint8_t *)wanted, sizeof wanted), "other names", (long)size);
     }
-    call.format = GHERKIN_PLAIN;
+    ASKS("--help", "a");
+    expect(gherkin_run_files(arguments, argument_count, room, LARGEST) == 0, "help asks for files", 0);
+    ASKS("--unknown", "a");
+    expect(gherkin_run_files(arguments, argument_count, room, LARGEST) == 0, "a mistake asks for files", 0);
+    expect(gherkin_run_files(NULL, 0, NULL, 0) == 0, "nothing asks for files", 0);
+    ASKS("a", "b");
+    growths = 0, gherkin_run_files(arguments, argument_count, room, LARGEST);
+    long most = growths;
+    for (long number = 1; number <= most; number++) {
+        growths = 0, blocks = 0, refused = number;
+        length = gherkin_run_files(arguments, argument_count, room, LARGEST);
+        refused = 0;
+        expect((length == 0 || length == 4) && blocks == 0, "other names with a refused growth", number);
+    }
+}
+
+/* What the program writes in place of a plain report. */
+static void outputs(void) {
+    static const struct { const char *word, *begins; } rows[] = {
+        {"--format=plain", "Feature: "}, {"--format=progress", "x "}, {"--format=json", "{"}, {"--explain", "x:"}, {"--version", "gherkin_run " GHERKIN_RUN_VERSION},
+        {"--help", "Runs "}};
+    for (size_t row = 0; row < sizeof rows / sizeof *rows; row++) {
+        ASKS(rows[row].word, "x"), call();
+        expect(answer.errors_length == 0 && memcmp(room, rows[row].begins, strlen(rows[row].begins)) == 0, rows[row].word, (long)row);
+    }
 }
 
 static void versions(void) {
@@ -212,21 +263,23 @@ static void versions(void) {
 int main(int count, char **words) {
     FILE *file = count == 2 ? fopen(words[1], "rb") : NULL;
     if (!file) return 2;
-    source.name.bytes = (const uint8_t *)"x", source.name.length = 1;
-    source.bytes.bytes = bytes, source.bytes.length = fread(bytes, 1, sizeof bytes, file);
+    files[0] = file_of("x", "");
+    files[0].bytes.bytes = bytes, files[0].bytes.length = fread(bytes, 1, sizeof bytes, file);
     fclose(file);
-    call.sources = &source, call.source_count = 1;
-    gherkin_run(&call, whole, LARGEST, &answer);
-    size_t length = answer.length;
-    uint8_t status = answer.status;
-    expect(answer.has_report && length <= LARGEST && status == GHERKIN_FAILED, "no failing report", 0);
-    rooms(length);
-    refusals(length, status);
+    file_count = 1;
+    ASKS("x"), call();
+    expect(answer.errors_length == 0 && answer.out_length <= LARGEST && answer.status == GHERKIN_FAILED, "no failing report", 0);
+    rooms("another text, length or byte with room");
+    refusals("another end with a refused growth");
+    ASKS("--explain", "x"), rooms("another explanation with room"), refusals("another explanation with a refused growth");
+    ASKS("--lint", "x", "none"), rooms("another fault with room"), refusals("another fault with a refused growth");
+    ASKS("--unknown", "x"), rooms("another mistake with room"), refusals("another mistake with a refused growth");
     hostile();
     places();
-    nulls_in_call();
-    nulls_in_lists();
-    formats();
+    names();
+    nulls();
+    asked();
+    outputs();
     versions();
     printf("%d passed, %d failed\n", passed, failed);
     return failed != 0;

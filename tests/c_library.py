@@ -18,7 +18,6 @@ import driver
 HOME = driver.HOME
 HEADER = os.path.join(HOME, "include", "gherkin_run.h")
 CHANGED = 300
-PREFIX = b"gherkin_run: "
 GHERKIN_OUT_OF_MEMORY = 4
 # Counts of arguments around powers of two, and more files than may be open at once.
 BAD_WORDS = [], ["--stop"], ["--line"], ["ten", "--line"], ["--env", "AB", "ten"], ["--unknown", "8", "ten"], ["-x", "ten"], ["--format", "xml", "ten"]
@@ -33,7 +32,7 @@ def ended(command, folder, environment=None):
     """Returns a command's status and what it writes."""
     done = subprocess.run(command, cwd=folder, stdin=subprocess.DEVNULL, capture_output=True, timeout=60, check=False,
                           env={**os.environ, **ENVIRONMENT, **(environment or {})})
-    return done.returncode, done.stdout, done.stderr.removeprefix(PREFIX)
+    return done.returncode, done.stdout, done.stderr
 
 
 def changed(source, lines, rng):
@@ -74,15 +73,13 @@ class Comparisons(driver.Tests):
         wanted, got = ended([self.program, *words], folder), ended([self.main, *words], folder)
         self.add(driver.trouble(what, got, wanted))
 
-    def refuse(self, words):
-        """Expects both to refuse a command line and to print no report."""
-        for name in self.program, self.main:
-            self.add(driver.trouble(f"{name} {words}", ended([name, *words], self.room)[:2], (2, b"")))
-
     def examples(self):
-        """Runs the examples, and names that can't be read."""
+        """Runs, explains and lints the examples, and runs names that can't be read."""
         for words in driver.examples():
-            self.compare(words, words[-1])
+            for options in [], ["--explain"], ["--lint"]:
+                self.compare([*options, *words], f"{options} {words}")
+        for word in "--help", "--version", "-h", "-V":
+            self.compare([word], word)
         self.compare(["examples"], "a folder")
         self.compare(["examples/missing.feature"], "a missing file")
 
@@ -95,7 +92,8 @@ class Comparisons(driver.Tests):
             (["--hooks", "bad.hooks", "good"], "@never\n"),
             (["--library", "bad.library", "good"], "given b => none\n"),
             (["large"], ""),
-            (["--tags", "and", "good"], ""),
+            (["--tags", "@a and", "good"], ""),
+            (["--lint", "good", "bad.feature", "--hooks", "bad.hooks"], "@never\n"),
         ):
             wanted = ended([self.program, *words], self.room)
             got = ended([self.main, "--show", *words], self.room)
@@ -110,7 +108,7 @@ class Comparisons(driver.Tests):
         for line in GOOD_LINES:
             self.compare(["--line", line, "ten"], f"line {line}", self.room)
         for words in [*(["--line", line, "ten"] for line in BAD_LINES), *BAD_WORDS]:
-            self.refuse(words)
+            self.compare(words, f"a bad command line {words}", self.room)
         for count in COUNTS:
             self.compare(["ten"] * count, f"{count} files", self.room)
             for option in (["--line", "8"], ["--tags", "not @a"], ["--env", "A=b"]):
@@ -170,8 +168,8 @@ class Comparisons(driver.Tests):
 
     def header(self):
         """Compiles the header in C and in C++."""
-        body = "int main(void) { const gherkin_call call = GHERKIN_CALL; gherkin_answer answer; " \
-               "gherkin_run(&call, 0, 0, &answer); return answer.status; }\n"
+        body = "int main(void) { const gherkin_text word = {0, 0}; gherkin_answer answer; " \
+               "gherkin_run(&word, 1, 0, 0, 0, 0, 0, 0, &answer); return answer.status; }\n"
         self.compile("cc", "header.c", body, "-std=c11")
         self.compile("c++", "header.cc", body, "-std=c++11", "-Wold-style-cast")
         if shutil.which("c++"):
@@ -187,8 +185,8 @@ class Comparisons(driver.Tests):
         got = ended([os.path.join(self.room, "bakery")], HOME)
         self.add(driver.trouble("docs/guide/from_c.md", got, (1, printed.encode(), b"")))
         piece = re.search(r"^```c\n(.*?)^```$", text, re.MULTILINE | re.DOTALL)[1]
-        head = "int f(gherkin_call call, uint8_t *room, size_t size, gherkin_answer answer)"
-        self.compile("cc", "piece.c", f"#include <stdlib.h>\n{head} {{\n{piece}return 0; }}\n", "-std=c11")
+        head = "int f(gherkin_text *arguments, size_t count, gherkin_file *files, size_t file_count, uint8_t *out, size_t size, gherkin_answer answer)"
+        self.compile("cc", "piece.c", f"#include <stdlib.h>\n{head} {{\nuint8_t errors[64];\n{piece}return 0; }}\n", "-std=c11")
 
     def shared_library(self):
         """Loads the shared library by its versioned name, and from Python, and looks at its names."""
@@ -203,7 +201,7 @@ class Comparisons(driver.Tests):
         self.add(not ctypes.CDLL(built).gherkin_run_version(None, 0) and "ctypes gets no version")
         if shutil.which("nm"):
             names = ended(["nm", "-D", "--defined-only", built], HOME)[1].split()[2::3]
-            self.add(names != [b"gherkin_run", b"gherkin_run_version"] and f"the shared library exports {names}")
+            self.add(names != [b"gherkin_run", b"gherkin_run_files", b"gherkin_run_version"] and f"the shared library exports {names}")
 
     def made_elsewhere(self):
         """Returns the shared library that tools/shared_library.sh makes without ARCHIVE, called from another folder."""

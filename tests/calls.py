@@ -1,19 +1,17 @@
-#!/usr/bin/env python3
-"""Looks for a call of each public function of the libraries in the crates of tests: tests/calls.py
+"""Looks for a call of each public function of the libraries in the crates of tests.
 
 No proof says that a call succeeds if memory is ample. So a test calls each public function: one
-that the root of a library crate exports, or a public method of a type that it exports. This script
-only reads the sources. A function is one test, which fails if no crate of tests calls it, or if one
+that the root of a library crate exports, or a public method of a type that it exports. This only
+reads the sources. A function is one check, which fails if no crate of tests calls it, or if one
 calls it though it is listed below as not called yet.
 
 Laws aren't looked for: functions that return nothing and change nothing. A method is called by its
 name after a dot, or by its type. Only a call by the type counts if several types have a method of
-that name, or the standard library has one. Closes with one line 'N passed, M failed'.
+that name, or the standard library has one.
 """
 import collections
 import os
 import re
-import sys
 
 HOME = os.path.dirname(os.path.dirname(os.path.abspath(__file__)))
 LIBRARIES = ("gk_gherkin gk_select gk_steps gk_lint gk_world gk_run gk_report gk_explain "
@@ -27,7 +25,7 @@ INNER = {"gk_select: TagRule::of_words"}
 UNCALLED = {
     "gk_lint": "lint_feature FindingKind::text in_order Keyword::text Keyword::spelling "
         "lint_library tags_that_stand_nowhere lines_without_scenario StepFault::text "
-        "lint_hook_tags lint_steps lint_hooks scenarios_of column_at entry_lines entry_hint".split(),
+        "lint_hook_tags lint_steps lint_hooks".split(),
     "gk_run": "is_bad dry_feature status_of reason_of Suite::start Suite::start_watched "
         "Suite::feature Suite::feature_watched Suite::finish Suite::finish_watched "
         "run_case_watched".split(),
@@ -104,27 +102,16 @@ def is_called(function, tests, shared):
     return function.name not in shared and any(re.search(rf"\.{name}", it) for it in tests)
 
 
-def main():
-    """Prints each function that no test calls, and how many are called."""
+def troubles():
+    """For each function what is wrong, or nothing."""
     found = [it for crate in LIBRARIES for it in functions(crate)]
     assert {it.crate for it in found} == set(LIBRARIES), "a library without public functions"
     counts = collections.Counter(it.name for it in found if it.type)
     shared = COMMON | {name for name, count in counts.items() if count > 1}
     tests = [text for crate in TESTS for text in sources(crate).values()]
-    passed, failed = 0, 0
     for function in found:
         name = "::".join(filter(None, function[1:]))
-        if f"{function.crate}: {name}" in INNER:
-            continue
-        is_listed = name in UNCALLED.get(function.crate, ())
-        if is_called(function, tests, shared) != is_listed:
-            passed += 1
-        else:
-            failed += 1
-            print(f"{function.crate}: {name}: {'a test calls it: drop it from UNCALLED' if is_listed else 'no test calls it'}")
-    print(f"{passed} passed, {failed} failed")
-    return 1 if failed else 0
-
-
-if __name__ == "__main__":
-    sys.exit(main())
+        if f"{function.crate}: {name}" not in INNER:
+            is_listed = name in UNCALLED.get(function.crate, ())
+            said = "a test calls it: drop it from UNCALLED" if is_listed else "no test calls it"
+            yield "" if is_called(function, tests, shared) != is_listed else f"{function.crate}: {name}: {said}"

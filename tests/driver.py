@@ -1,10 +1,10 @@
-"""What the drivers of tests/ share: running the program, saying what differs, counting tests.
+"""What the tests share: running the program, saying what differs, counting what the old scripts check.
 
-A driver runs the program many times, in folders below a room of its own, which tests/setup.sh
-makes and removes. Each test has a trouble, a text that says what is wrong, or none.
+A check has a trouble, a text that says what is wrong, or none.
 """
 
 import concurrent.futures
+import functools
 import os
 import resource
 import select
@@ -17,9 +17,10 @@ PATIENCE = 60  # seconds
 SHOWN = 1200  # characters of a text that are shown whole
 STREAMS = ("stdout", "stderr")
 
-# A driver may take longer than any run of tests/setup.sh: each of its own runs has its patience.
+# Tests may take longer than tests/setup.sh allows: each of their runs has its patience. None may leave a core dump.
 _most = resource.getrlimit(resource.RLIMIT_CPU)[1]
 resource.setrlimit(resource.RLIMIT_CPU, (_most, _most))
+resource.setrlimit(resource.RLIMIT_CORE, (0, resource.getrlimit(resource.RLIMIT_CORE)[1]))
 
 
 # ---- files
@@ -38,17 +39,18 @@ def write(folder, files):
             file.write(text if isinstance(text, bytes) else text.encode())
 
 
-def arguments_in(text):
-    """The arguments in the bytes of a file, one a line."""
-    return text.split(b"\n")[:-1]
+def write_program(path, text):
+    """Writes a script that can be run."""
+    write(os.path.dirname(path), {os.path.basename(path): text})
+    os.chmod(path, 0o755)
 
 
 def examples():
-    """The arguments of each example, its feature file last, as tests/examples.sh gives them."""
+    """The arguments of each example, its feature file last. Its own are in NAME.arguments, one a line."""
     for name in sorted(os.listdir(EXAMPLES)):
         if name.endswith(".feature"):
             arguments = os.path.join(EXAMPLES, name.removesuffix(".feature") + ".arguments")
-            own = arguments_in(read(arguments)) if os.path.exists(arguments) else []
+            own = read(arguments).split(b"\n")[:-1] if os.path.exists(arguments) else []
             yield [os.fsdecode(it) for it in own] + [os.path.join("examples", name)]
 
 
@@ -74,11 +76,19 @@ LONG_RUN = ["--no-skipped", "--tags", "~@b", "--hooks", "h.hooks", "a.feature"]
 
 # ---- running the program
 
+@functools.cache
+def program():
+    """The path of the program that is tested: GHERKIN_RUN of the environment, or the one that ./run runs."""
+    named = os.environ.get("GHERKIN_RUN") or subprocess.run(
+        [os.path.join(HOME, "run"), "--which"], stdin=subprocess.DEVNULL, stdout=subprocess.PIPE, check=True, text=True).stdout[:-1]
+    return os.path.abspath(named)
+
+
 def start(program, arguments, folder=HOME, environment=None, *, patience=PATIENCE,
           stdout=subprocess.PIPE, stderr=subprocess.PIPE, before=None):
     """Runs the program, with nothing on its standard input.
 
-    Answers its status, and what was read of its standard output and standard error. The status of
+    Returns its status, and what was read of its standard output and standard error. The status of
     a run that doesn't end is a text. `before` is called in the new process, before the program."""
     end = time.monotonic() + patience
     with subprocess.Popen([program, *arguments], cwd=folder, stdin=subprocess.DEVNULL, stdout=stdout,
@@ -129,8 +139,14 @@ def milliseconds_to(end):
     return max(0, 1000 * (end - time.monotonic()))
 
 
+def build_shim(room):
+    """Builds the library of tests/refuse.c, which refuses memory and fails calls, in a folder."""
+    source = os.path.join(HOME, "tests", "refuse.c")
+    subprocess.run(["cc", "-shared", "-fPIC", "-O2", "-o", os.path.join(room, "refuse.so"), source], check=True)
+
+
 def limited(room, **limits):
-    """The environment in which the library of tests/refuse.c limits the program."""
+    """The environment in which that library limits the program."""
     return {**os.environ, **{name: str(limit) for name, limit in limits.items()},
             "LD_PRELOAD": os.path.join(room, "refuse.so")}
 
@@ -141,14 +157,13 @@ def processors():
 
 
 def on_all_processors(work, items):
-    """What `work` answers for each item, in order. Several items are worked on at a time."""
+    """What `work` returns for each item, in order. Several items are worked on at a time."""
     with concurrent.futures.ThreadPoolExecutor(processors()) as pool:
         yield from pool.map(work, items)
 
 
 def in_processes(work, items):
-    """The same in processes of their own, for work whose time Python itself takes. `work`, the items and
-    the answers are handed over as copies."""
+    """The same in processes, for work whose time Python itself takes. `work`, the items and the results are copied."""
     with concurrent.futures.ProcessPoolExecutor(processors()) as pool:
         yield from pool.map(work, items)
 
@@ -195,24 +210,28 @@ def trouble(name, ended, wanted):
     return "\n".join([f"{name}:", *found]) if found else ""
 
 
+def unless(claim, holds, *shown):
+    """A trouble if a claim doesn't hold."""
+    return "" if holds else "\n".join([claim, *(f"  {it}" for it in shown)])
+
+
 # ---- counting tests
 
 class Tests:
-    """Counts the tests that passed and failed."""
+    """Counts the tests that passed and failed. Of many troubles only the first ones are printed."""
 
-    def __init__(self, most_shown=None):
-        """No tests yet. Of many failures only the first so many are shown."""
+    def __init__(self, most_shown=1000):
         self.passed = self.failed = 0
         self.most_shown = most_shown
 
     def add(self, found):
-        """Counts a test, which has passed where its trouble is empty, and prints that trouble."""
-        if not found:
+        """Counts a test, which has passed if its trouble is empty, and prints that trouble."""
+        if found:
+            self.failed += 1
+            if self.failed <= self.most_shown:
+                print(found)
+        else:
             self.passed += 1
-            return
-        self.failed += 1
-        if self.most_shown is None or self.failed <= self.most_shown:
-            print(found)
 
     def add_all(self, troubles):
         """Counts a test for each of these troubles."""

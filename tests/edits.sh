@@ -23,14 +23,15 @@ numbers='
 gk_gherkin 5 4
 gk_select 6 9
 gk_steps 6 13
-gk_lint 5 20
+gk_lint 5 25
 gk_world 10 7
 gk_run 9 9
 gk_report 5 10
 gk_explain 6 20
 gk_cli 8 19
-gherkin_run 5 5
-gk_c 4 4
+gk_program 7 6
+gherkin_run 1 1
+gk_c 5 4
 '
 crates=$(echo "$numbers" | awk 'NF { print $1 }')
 

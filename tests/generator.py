@@ -5,8 +5,11 @@ block is one part, and what is left is read as well as before.
 """
 
 import collections
+import os
 import random
 import re
+
+import driver
 
 TAGS = ["@a", "@b", "@c"]
 FILES = ["f", "g"]
@@ -20,29 +23,8 @@ KEYWORDS = ("Given", "When", "Then", "And", "But", "*")
 # The sections from the run inwards, as hooks call them.
 SECTIONS = ["all", "feature", "rule", "scenario"]
 
-# The steps of the built-in library, by what they do, and below those of one that a suite may have.
-BUILT_IN = {
-    "write_file": 'a file named "{file}" containing "{text}"', "write_block": 'a file named "{file}" with:',
-    "write_files": "these files:", "append_file": 'the file "{file}" is extended with "{text}"',
-    "remove_file": 'the file "{file}" is removed', "rename_file": 'the file "{file}" is renamed to "{to}"',
-    "file_exists": 'the file "{file}" should exist', "file_absent": 'the file "{file}" should not exist',
-    "file_is": 'the file "{file}" should be "{text}"', "file_contains": 'the file "{file}" should contain "{text}"',
-    "set_env": 'the variable "{key}" is set to "{text}"', "unset_env": 'the variable "{key}" is unset',
-    "env_is": 'the variable "{key}" should be "{text}"', "env_absent": 'the variable "{key}" should be unset',
-    "set_value": 'the value "{key}" is set to "{text}"', "delete_value": 'the value "{key}" is deleted',
-    "value_is": 'the value "{key}" should be "{text}"', "value_absent": 'the value "{key}" should be absent',
-    "set_number": 'the number "{key}" is set to {number}', "add_number": 'the number "{key}" grows by {number}',
-    "number_is": 'the number "{key}" should be {number}', "pass": "it passes", "fail": "it fails",
-    "skip_scenario": "the scenario is skipped", "at_cleanup": "at cleanup {step}", "nothing": "nothing knows {file}",
-}
-OWN = {
-    "write_file": "put {file} as {text}", "write_block": "put {file}", "write_files": "files",
-    "append_file": "put {text} on {file}", "remove_file": "drop {file}", "file_exists": "see {file}",
-    "file_absent": "no {file}", "file_is": "see {file} as {text}", "set_value": "keep {key} {text}",
-    "delete_value": "lose {key}", "value_is": "held {key} {text}", "set_number": "count {key} {number}",
-    "add_number": "more {key} {number}", "number_is": "count {key} {number}", "pass": "ok", "fail": "bad",
-    "skip_scenario": "leave", "at_cleanup": "later {step}", "nothing": "what {file}",
-}
+# The built-in library, and one that a suite may have.
+DEFAULT = driver.read(os.path.join(driver.EXAMPLES, "default.steps")).decode()
 LIBRARY = """given put {name} as {text} => write_file
 step put {name} as {text} => write_file
 step put {text} on {name} => append_file
@@ -63,6 +45,24 @@ step leave => skip_scenario
 step ok => pass
 when bad => fail
 """
+
+
+def entries(library):
+    """The actions of a library's entries, each with the text of its steps, in order.
+
+    A text has `{file}` in place of a file's name, `{key}` for that of a variable or a value, and `{number}`."""
+    for line in library.splitlines():
+        text, action = line.partition(" ")[2].split(" => ")
+        yield action, text.replace("{name}", "{file}" if "file" in action else "{key}").replace("{n:d}", "{number}")
+
+
+def table(library, unknown):
+    """The texts of steps by their actions, with `write_block` for a file's text in a block, and one that is undefined."""
+    is_block = {text: action == "write_file" and "{text}" not in text for action, text in entries(library)}
+    return {"write_block" if is_block[text] else action: text for action, text in entries(library)} | {"nothing": unknown}
+
+
+BUILT_IN, OWN = table(DEFAULT, "nothing knows {file}"), table(LIBRARY, "what {file}")
 WITH_BLOCKS = ("write_block", "write_files")
 # Steps that usually pass, and make what others work on.
 CHANGING = ("write_file", "set_env", "set_value", "set_number", "pass", "file_exists", "at_cleanup")

@@ -1,17 +1,16 @@
-#!/usr/bin/env python3
-"""Runs the program on files that nobody would write: hostile_bytes.py PROGRAM ROOM [OPTIONS].
+"""Runs the program on files that nobody would write.
 
 - Random bytes, and random lines that look like Gherkin, like a library or like a hooks file.
-- The lines of all examples, libraries and hooks files mixed: two files' lines in turn, and random
-  lines of all of them.
+- The lines of all examples, libraries and hooks files mixed: two files' lines in turn, and random lines of all of them.
 - Random options.
-- Each example whole; each prefix of its feature file, of its library and of its hooks file; each of
-  these files with one byte changed, at every place, to a byte of a list, in turn. These aren't
-  random, and run only without --count and --seconds.
+- Each example whole; each prefix of its feature file, of its library and of its hooks file; each of these files with
+  one byte changed, at every place, to a byte of a list, in turn. These aren't random, and run only without --count and
+  --seconds.
 
-Each of these runs is made with a report of one format, plain, as progress or as JSON, and some
-with --no-skipped, --dry-run or --stop. Called by tests/hostile_bytes.sh, which says how they have
-to end.
+Each of these runs is made with a report of one format, plain, as progress or as JSON, and some with --no-skipped,
+--dry-run or --stop. It has to end with status 0 or 1, a report whose closing lines are the counts of its rows, and
+nothing on standard error; or with status 3, nothing on standard output and one line on standard error; or, if options
+are hostile, with status 2 and nothing on standard output.
 """
 
 import collections
@@ -19,7 +18,6 @@ import functools
 import itertools
 import os
 import re
-import sys
 
 import driver
 import search
@@ -31,12 +29,12 @@ COUNT = 2400  # random cases
 OWN_STYLE = {"--format", "--no-skipped", "--dry-run", "--stop"}
 STYLES = [[("--format", it)] for it in FORMATS] + [[]]
 RUN_OPTIONS = [["--no-skipped"], [], ["--dry-run"], [], ["--stop"], ["--no-skipped", "--dry-run", "--stop"], []]
+# Words of options: those of the program that print a report or the help, and others.
 OPTIONS = [
     *VALUED, *(it for it in FLAGS if it not in ("--explain", "--lint")), *FORMATS, *(f"--format={it}" for it in FORMATS),
-    "--hooks=h.hooks", "h.hooks", "--", "-",
-    "@a", "~@a,b", "@", ",", "a b", "0", "1", "4294967295", "4294967296", "A=b", "=", "A", "A=a.feature",
-    "a.feature", "l.steps", "no", "", "--tags=@a", "--tags=", "--env=A=b=c", "--line=3", "--help",
-    "--x", "\u00e9", "--library=l.steps", "\udcff", "xml", "--format=", "--stop=x",
+    "--hooks=h.hooks", "h.hooks", "--", "-", "@a", "~@a,b", "@", ",", "a b", "0", "1", "4294967295", "4294967296",
+    "A=b", "=", "A", "A=a.feature", "a.feature", "l.steps", "no", "", "--tags=@a", "--tags=", "--env=A=b=c", "--line=3",
+    "--help", "--x", "\u00e9", "--library=l.steps", "\udcff", "xml", "--format=", "--stop=x",
 ]
 # What the random options and the random hooks run.
 OPTION_FILES = {
@@ -194,5 +192,4 @@ def troubles(case, runs):
     yield "" if has_ended_well(case, arguments, status, out, err) else f"status {status}\n  {out}\n  {err}"
 
 
-if __name__ == "__main__":
-    sys.exit(search.main(search.Tester(keys, case, troubles), sys.argv[1:]))
+TESTER = search.Tester(keys, case, troubles)

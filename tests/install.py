@@ -32,7 +32,7 @@ HOME = os.path.dirname(os.path.dirname(os.path.realpath(__file__)))
 LIST = "share/gherkin_run/installed"
 COPIES = (".gherkin_run-new", ".gherkin_run-old")
 # The commands that change files, and those that only read.
-CHANGING = ["chmod", "cp", "mkdir", "mv", "rm", "rmdir"]
+CHANGING = ["chmod", "cp", "ln", "mkdir", "mv", "rm", "rmdir"]
 READING = ["awk", "cat", "dirname", "find", "flock", "grep", "readlink", "sed", "sort", "tac"]
 # Those at which each test stops. A kill at one that only reads leaves what a kill at the next one leaves.
 STEPS = {"fails": "all", "ends": "changing", "dies": "changing"}
@@ -105,7 +105,7 @@ def make_repository(folder, version):
     write(folder, "run", '#!/bin/sh\necho "${0%/*}/program"\n', 0o755)
     write(folder, "program", f"#!/bin/sh\necho {version}\n", 0o755)
     only = "examples/more/new.feature" if version == "second" else "examples/less/old.feature"
-    for name in ["LICENSE-APACHE", "LICENSE-MIT", "docs/FAULTS.md", "docs/guide/start.md", "examples/my file.feature",
+    for name in ["LICENSE-APACHE", "LICENSE-MIT", "include/gherkin_run.h", "dist/libgherkin_run.so", "dist/libgherkin_run.a", "docs/FAULTS.md", "docs/guide/start.md", "examples/my file.feature",
                  *(f"share/{it}" for it in os.listdir(os.path.join(HOME, "share"))), only]:
         write(folder, name, f"{name} {version}\n")
 
@@ -118,14 +118,17 @@ def make_steps(folder, names, step=STEP):
 
 
 def files_in(folder):
-    """The files below a folder: mode and contents of each, by its path."""
-    found = {}
-    for at, _, names in os.walk(folder):
-        for name in names:
-            path = os.path.join(at, name)
-            with open(path, "rb") as file:
-                found[os.path.relpath(path, folder)] = (stat.filemode(os.lstat(path).st_mode), file.read())
-    return found
+    """The files below a folder: mode and contents of each, or the target of a link, by its path."""
+    return {os.path.relpath(path, folder): (stat.filemode(os.lstat(path).st_mode), contents_of(path))
+            for path in (os.path.join(at, name) for at, _, names in os.walk(folder) for name in names)}
+
+
+def contents_of(path):
+    """The bytes of a file, or of the target of a link."""
+    if os.path.islink(path):
+        return os.readlink(os.fsencode(path))
+    with open(path, "rb") as file:
+        return file.read()
 
 
 def folders_in(folder):
@@ -163,7 +166,7 @@ class Trial:
         """A folder to install into, with a copy of what is installed in another one."""
         folder = os.path.join(self.room, "places", name, "prefix")
         if earlier:
-            shutil.copytree(earlier, folder)
+            shutil.copytree(earlier, folder, symlinks=True)
         else:
             os.makedirs(os.path.dirname(folder))
         return folder
@@ -316,7 +319,9 @@ def modes(trial):
             wrong.append("an installed file is the repository's own")
     found = files_in(trial.earlier)
     programs = [it for it in found if found[it][0] == "-rwxr-xr-x"]
-    if programs != ["bin/gherkin_run"] or {found[it][0] for it in set(found) - set(programs)} != {"-rw-r--r--"}:
+    links = {it for it in found if found[it][0] == "lrwxrwxrwx"}
+    if programs != ["bin/gherkin_run"] or links != {"lib/libgherkin_run.so"} or (
+            {found[it][0] for it in set(found) - links - set(programs)} != {"-rw-r--r--"}):
         wrong.append("not only the program can be run, or something can't be read")
     return wrong
 

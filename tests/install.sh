@@ -54,6 +54,10 @@ it_is_all_there() (
     cd "$1"
     cmp bin/gherkin_run "$("$home/run" --which)" &&
         [ -x bin/gherkin_run ] &&
+        cmp include/gherkin_run.h "$home/include/gherkin_run.h" &&
+        cmp lib/libgherkin_run.so "$home/dist/libgherkin_run.so" &&
+        cmp lib/libgherkin_run.a "$home/dist/libgherkin_run.a" &&
+        cmp lib/pkgconfig/gherkin_run.pc "$home/share/gherkin_run.pc" &&
         cmp share/man/man1/gherkin_run.1 "$home/share/gherkin_run.1" &&
         cmp share/bash-completion/completions/gherkin_run "$home/share/gherkin_run.bash" &&
         cmp share/zsh/site-functions/_gherkin_run "$home/share/_gherkin_run" &&
@@ -68,6 +72,18 @@ it_is_all_there() (
 an_example_runs() (
     cd "$1/share/doc/gherkin_run"
     "$1/bin/gherkin_run" examples/first.feature > "$room/report" && cmp "$room/report" examples/first.report
+)
+
+# Compiles the program of docs/guide/from_c.md against each installed library, with the flags that pkg-config prints.
+c_programs_run() (
+    export PKG_CONFIG_PATH="$room/place/lib/pkgconfig"
+    "$home/install" "$room/place" && cd "$room/top" || exit
+    sed -n '/^```c bakery.c$/,/^```$/{/^```/!p}' "$home/docs/guide/from_c.md" > bakery.c
+    sed -n '/^Feature: Bakery ... failed$/,/^```$/{/^```/!p}' "$home/docs/guide/from_c.md" > wanted
+    flags=$(pkg-config --cflags --libs gherkin_run) && cc -o shared bakery.c $flags &&
+        cc -o static bakery.c $(pkg-config --cflags gherkin_run) "$room/place/lib/libgherkin_run.a" || exit
+    ! LD_LIBRARY_PATH=$room/place/lib ./shared > shared.said && cmp wanted shared.said || exit
+    ! ./static > static.said && cmp wanted static.said && "$home/install" --remove "$room/place"
 )
 
 # Installs into a folder, looks at what is there, and takes it out: the folder 'place' is as it was.
@@ -115,9 +131,9 @@ twice() {
 
 # Where all folders were there before, the list has none of them.
 over_empty_folders() {
-    "$home/install" "$room/place" && find "$room/place" -type f -delete && "$home/install" "$room/place" &&
+    "$home/install" "$room/place" && find "$room/place" ! -type d -delete && "$home/install" "$room/place" &&
         echo old > "$room/place/bin/gherkin_run" && "$home/install" "$room/place" && it_is_all_there "$room/place" &&
-        "$home/install" --remove "$room/place" && [ -z "$(find "$room/place" -type f)" ]
+        "$home/install" --remove "$room/place" && [ -z "$(find "$room/place" ! -type d)" ]
 }
 
 # Who stands in a folder of the installation still stands in it after the next one.
@@ -577,6 +593,13 @@ holds "a folder with a line feed is refused" refuses "line feed" "$room/place/a
 b"
 holds "removing where nothing is installed is refused" refuses "there is no installation" --remove "$room/place"
 
+clear
+mkdir "$room/top"
+if command -v cc > /dev/null && command -v pkg-config > /dev/null; then
+    holds "a C program is built with pkg-config's flags" c_programs_run
+else
+    left_out="$left_out cc or pkg-config,"
+fi
 holds "the man page lists the options of the help" lists_as options_of_man options_of_help
 holds "the man page says what is refused with --explain and --lint" man_says_what_is_refused
 holds "each status of the man page is that of runs" lists_as statuses_of_man statuses_of_runs

@@ -17,11 +17,12 @@ import time
 
 import browser as chromium
 import driver
+import stored_cases
+import tables
 from c_library import changed
 
 CHANGED = 300
 PATIENCE = 60  # seconds
-PREFIX = b"gherkin_run: "
 WEB = os.path.join(driver.HOME, "web")
 GUIDE = os.path.join(driver.HOME, "docs", "guide", "in_your_browser.md")
 PAGE = "file://" + os.path.join(WEB, "try.html")
@@ -34,13 +35,16 @@ FULL = {"files": [["ä \"1\".feature", "Feature: ü <&> ~~~~~ ????? \U0001f600\n
                   ["b.feature", "Feature: b\n"]],
         "library": "step the lamp => pass\n", "libraryName": "my.steps",
         "hooks": "before_all:\n  Given the lamp\n", "hooksName": "my.hooks",
+        "written": "made\n", "writtenName": "made.txt",
         "tags": "~@a\n@b,~@c", "lines": "1 2, 3", "variables": "A=1\nB==\n",
-        "format": "json", "dryRun": True, "stop": True, "noSkipped": True}
+        "format": "json", "dryRun": True, "stop": True, "noSkipped": True, "tab": "report"}
+FLAGS = ("--dry-run", "--stop", "--no-skipped")
+TABS = {"report": [], "explanation": ["--explain"], "findings": ["--lint"]}
 AT_FIRST = "The link in the address can't be used. The page shows its example."
 LATER = "The link in the address can't be used. The fields are as they were."
 POLICY = "default-src 'none'; style-src 'sha256-?'; script-src 'sha256-?' 'wasm-unsafe-eval'; worker-src blob:; " \
          "form-action 'none'; base-uri 'none'"
-CONTROLS = {"textbox", "combobox", "button", "checkbox", "DisclosureTriangle", "region", "form"}
+CONTROLS = {"textbox", "combobox", "button", "checkbox", "DisclosureTriangle", "region", "form", "tab", "tablist", "tabpanel"}
 # Pairs of a part of an element that is seen, and its contrast with what is around it, in parts of the least: 4.5 for a text, 3 for
 # a border and for the ring around what has the focus.
 CONTRAST = """(() => {
@@ -70,16 +74,15 @@ CONTRAST = """(() => {
     });
 })()"""
 # The names of the colors of some parts: red, green or gray.
-COLORS = """["status.color", "report.color", "linesWrong.color", "lines.borderTopColor", "variables.borderTopColor"].map((it) => {
-    const [id, part] = it.split(".");
-    const [red, green] = getComputedStyle($(id))[part].match(/[0-9]+/g).map(Number);
+COLORS = """[[$("status"), "color"], [$("text").firstChild, "color"], [document.querySelector("#files .name"), "borderTopColor"]].map(([it, part]) => {
+    const [red, green] = getComputedStyle(it)[part].match(/[0-9]+/g).map(Number);
     return Math.abs(red - green) < 20 ? "gray" : red > green ? "red" : "green";
 })"""
-# How many elements of each kind there are, apart from the feature files and the pieces of the report.
+# How many elements of each kind there are, apart from the feature files and the pieces of the result.
 ELEMENTS = """(() => {
     const found = {};
     for (const it of document.querySelectorAll("*")) {
-        if (!it.closest(".file") && !it.matches("#report > div")) found[it.tagName] = (found[it.tagName] ?? 0) + 1;
+        if (!it.closest(".file") && !it.matches("#text > div")) found[it.tagName] = (found[it.tagName] ?? 0) + 1;
     }
     return found;
 })()"""
@@ -111,9 +114,14 @@ ENDED_WORKER = """new Promise((done) => {
     const older = worker;
     halt();
     older.onmessage = () => done("it runs");
-    older.postMessage({ number: 0, request: {} });
+    older.postMessage({ number: 0, words: [], files: [] });
     setTimeout(() => done("nothing"), 500);
 })"""
+# The state, the status, and the texts of the pieces of the output and of the errors.
+SHOWN = """(() => {
+    const all = (selector) => [...document.querySelectorAll(selector)].map((it) => it.textContent).join("");
+    return [document.body.dataset.state, document.body.dataset.status, all("#text > div:not(.wrong)"), all("#text > div.wrong")];
+})()"""
 # What the policy has to refuse, each an expression that gives something if it isn't refused.
 REFUSED = {
     "an inline script": """(() => {
@@ -166,10 +174,8 @@ LONG_RUN = {"files": [[f"{number}.feature", MILLION_STEPS] for number in range(5
 
 
 def wanted_of(program, arguments, folder=driver.HOME):
-    """What a request has to give, by the program: its status, whether there is a report, and the text."""
-    status, stdout, stderr = driver.start(program, arguments, folder)
-    text = stderr.removeprefix(PREFIX).removesuffix(b"\n")
-    return (status, False, text) if stderr else (status, True, stdout)
+    """What a run has to give, by the program: its status, the output and the errors."""
+    return driver.start(program, arguments, folder)
 
 
 # ---- Node
@@ -179,43 +185,34 @@ def encoded(value):
     return base64.b64encode(value if isinstance(value, bytes) else os.fsencode(value)).decode()
 
 
-def request_of(arguments):
-    """The request of a command line, for tests/page.mjs."""
-    made = {"sources": [], "tags": [], "lines": [], "variables": [], "format": "plain"}
-    flags = {"--dry-run": "dryRun", "--stop": "stop", "--no-skipped": "noSkipped"}
-    words = iter(arguments)
-    for word in words:
-        if word in flags:
-            made[flags[word]] = True
-        elif not word.startswith("--"):
-            made["sources"].append([encoded(word), encoded(driver.read(os.path.join(driver.HOME, word)))])
-        elif word in ("--library", "--hooks"):
-            name = next(words)
-            made[word[2:]] = [encoded(name), encoded(driver.read(os.path.join(driver.HOME, name)))]
-        elif word == "--format":
-            made["format"] = next(words)
-        elif word == "--tags":
-            made["tags"].append(encoded(next(words)))
-        elif word == "--line":
-            made["lines"].append(int(next(words)))
-        elif word == "--env":
-            made["variables"].append([encoded(it) for it in next(words).split("=", 1)])
-        else:
-            raise ValueError(f"no request has {word}")
-    return made
+def call_of(arguments, files):
+    """A call for tests/page.mjs: the arguments, and the names and texts of the files."""
+    return [[encoded(it) for it in arguments], [[encoded(name), encoded(text)] for name, text in files.items()]]
+
+
+def files_of(arguments):
+    """The texts of the files that the arguments of an example name."""
+    names = [it for it in arguments if os.path.isfile(os.path.join(driver.HOME, it))]
+    return {it: driver.read(os.path.join(driver.HOME, it)) for it in names}
+
+
+def stored():
+    """The stored runs whose files and streams are nothing but files."""
+    for it in stored_cases.cases():
+        if not it.link and not any(it.targets) and not any(b"/dev/" in word for word in it.arguments):
+            yield f"{it.page}: {it.name}", call_of(it.arguments, it.files), (it.status, it.stdout, it.stderr)
 
 
 def changed_cases(program, room, sources):
-    """Some changed features: names, requests, and what has to come out."""
+    """Some changed features: names, calls, and what has to come out."""
     lines = [line for source in sources for line in source.split(b"\n")]
     rng = random.Random(9)
     for number in range(CHANGED):
         text = changed(rng.choice(sources), lines, rng)
-        form = rng.choice(["plain", "progress", "json"])
+        options = rng.choice([["--format", "plain"], ["--format", "progress"], ["--format", "json"], ["--explain"], ["--lint"]])
         driver.write(room, {"changed.feature": text})
-        wanted = wanted_of(program, ["--format", form, "changed.feature"], room)
-        request = {"sources": [[encoded("changed.feature"), encoded(text)]], "format": form}
-        yield f"changed file {number}", request, wanted
+        arguments = [*options, "changed.feature"]
+        yield f"changed file {number}", call_of(arguments, {"changed.feature": text}), wanted_of(program, arguments, room)
 
 
 def large_cases(program, room):
@@ -224,39 +221,37 @@ def large_cases(program, room):
     for name, text, runs in (("long.feature", long_feature(99, 999), 1), ("large.feature", large, 5)):
         driver.write(room, {name: text})
         wanted = wanted_of(program, [name], room)
-        yield from [(name, {"sources": [[encoded(name), encoded(text)]]}, wanted)] * runs
+        yield from [(name, call_of([name], {name: text}), wanted)] * runs
 
 
 def node_cases(program, room):
-    """Each example, some changed features, and large ones."""
-    cases = [(arguments[-1], request_of(arguments), wanted_of(program, arguments)) for arguments in driver.examples()]
+    """Each example, the stored runs, some changed features, and large ones."""
+    cases = [(arguments[-1], call_of(arguments, files_of(arguments)), wanted_of(program, arguments)) for arguments in driver.examples()]
     # The first is run with refused memory, too.
     cases.sort(key=lambda it: it[0] != FIRST)
     sources = [driver.read(os.path.join(driver.HOME, name)) for name, _, _ in cases]
-    return [*cases, *faulty_cases(program, room), *changed_cases(program, room, sources), *large_cases(program, room)]
+    return [*cases, *stored(), *faulty_cases(program, room), *changed_cases(program, room, sources), *large_cases(program, room)]
 
 
 def faulty_cases(program, room):
     """The same with a fault in the second source, in the library and in the hooks."""
     files = {"good": SMALL, "bad": f"{SMALL}\nFeature: g\n", "own.steps": "step a => pass\nstep b => none\n", "own.hooks": "\n\n@never\n",
              "far": "\n" * 70000 + "Feature: f\nFeature: g\n"}
+    # A byte order mark at the begin of an output or of errors is a part of the file's name.
+    files |= {"\ufeffgood": files["good"], "\ufeffbad": files["bad"]}
     driver.write(room, files)
-    for words, sources in ((["good", "bad"], ["good", "bad"]), (["far"], ["far"]), (["--library", "own.steps", "good"], ["good"]), (["--hooks", "own.hooks", "good"], ["good"])):
-        request = {"sources": [[encoded(it), encoded(files[it])] for it in sources]}
-        if words[0].startswith("--"):
-            request[words[0][2:]] = [encoded(words[1]), encoded(files[words[1]])]
-        yield " ".join(words), request, wanted_of(program, words, room)
-    # A byte order mark at the begin of a report or a fault is a part of the file's name.
-    driver.write(room, {"\ufeffgood": files["good"], "\ufeffbad": files["bad"]})
-    for name in ("good", "bad"):
-        request = {"sources": [[encoded(f"\ufeff{name}"), encoded(files[name])]], "format": "progress"}
-        yield f"a byte order mark before {name}", request, wanted_of(program, ["--format", "progress", f"\ufeff{name}"], room)
+    for words in ("good bad", "far", "--library own.steps good", "--hooks own.hooks good", "--format progress \ufeffgood",
+                  "--format progress \ufeffbad", "good missing", "--lint bad far"):
+        yield words, call_of(words.split(), files), wanted_of(program, words.split(), room)
 
 
-def faulty_place(request, answer):
-    """Where a fault is, as its text begins: the name of the file and the line."""
-    files = request["sources"][answer["source"]:] if answer["input"] == "source" else [request.get(answer["input"], [""])]
-    return b"".join(base64.b64decode(name) for name, *_ in files[:1]) + b":%d: " % answer["line"]
+def is_placed(answer, errors):
+    """Whether errors begin with the file and the line that a result names, if it names any."""
+    if answer["file"] is None:
+        return answer["line"] == 0
+    line = b"%d:" % answer["line"] if answer["line"] else b""
+    return errors.startswith(b"gherkin_run: " + base64.b64decode(answer["file"]) + b":" + line + b" ")
+
 
 def in_node(program, room):
     """Each of these, by the module in Node."""
@@ -265,17 +260,16 @@ def in_node(program, room):
     command = ["node", os.path.join(driver.HOME, "tests", "page.mjs"), os.path.join(WEB, "source", "gherkin_run.js"),
                os.path.join(WEB, "gherkin_run.wasm"), os.path.join(room, "cases.json")]
     done = subprocess.run(command, capture_output=True, timeout=4 * PATIENCE, check=False)
-    answers, refused, lines, unknown, made, large = json.loads(done.stdout) if done.returncode == 0 else ([], [], [], {"status": None, "text": ""}, 0, "")
+    answers, refused, made, large = json.loads(done.stdout) if done.returncode == 0 else ([], [], 0, "")
     yield same(f"Node says {done.stderr.decode()}", (done.returncode, len(answers)), (0, len(cases)))
     yield holds("runs in Node share a memory, which none gives back", made >= len(cases))
-    for (name, request, wanted), answer in zip(cases, answers):
-        text = base64.b64decode(answer["text"])
-        yield same(f"{name} in Node", (answer["status"], answer["hasReport"], text), wanted)
-        if answer["line"] or name == "good bad":
-            yield holds(f"the place of a fault in {name} in Node: {answer}", text.startswith(faulty_place(request, answer)))
-    yield same("an unknown format in Node", (unknown["status"], base64.b64decode(unknown["text"])), (2, b"unknown format"))
+    for (name, _, wanted), answer in zip(cases, answers):
+        output, errors = (base64.b64decode(answer[it]) for it in ("output", "errors"))
+        yield same(f"{name} in Node", (answer["status"], output, errors), wanted)
+        yield holds(f"the place of a fault in {name} in Node: {answer}", is_placed(answer, errors))
+    placed = {name for (name, *_), answer in zip(cases, answers) if answer["file"]}
+    yield holds(f"{placed} have the place of a fault in Node", placed >= {"good bad", "far", "--library own.steps good", "--hooks own.hooks good"})
     yield from without_memory(refused, cases[0][2])
-    yield same("lines in Node", lines, ["line 0", "Feature: f ... skipped", *["RangeError"] * 7])
     yield same("a text for which there is no memory in Node", large, "RangeError: out of memory")
     yield from guide_in_node(room)
     if answers:
@@ -283,13 +277,12 @@ def in_node(program, room):
 
 
 def without_memory(refused, wanted):
-    """When memory is refused: the whole report, one with a mark of memory, or the fault. The first and the last occur."""
+    """When memory is refused: the whole report, a part or all of one with a mark of memory, or the fault."""
     for answer in refused:
-        text = base64.b64decode(answer["text"])
-        whole = (answer["status"], answer["hasReport"], text) == wanted
-        marked = answer["status"] == 4 and answer["hasReport"] and b"memory" in text
-        fault = answer["status"] == 4 and not answer["hasReport"] and text == b"out of memory"
-        yield holds(f"with refused memory in Node: {answer}", whole or marked or fault)
+        output, errors = (base64.b64decode(answer[it]) for it in ("output", "errors"))
+        whole = (answer["status"], output, errors) == wanted
+        marked = answer["status"] == 4 and (b"memory" in output or b"out of memory" in errors)
+        yield holds(f"with refused memory in Node: {answer}", whole or marked)
     yield holds("no memory was refused in Node, or always", {it["status"] for it in refused} >= {4, wanted[0]})
 
 
@@ -341,12 +334,11 @@ class Page:
         return self.browser.wait(f"document.querySelector('{selector}').textContent === {json.dumps(text)}", patience)
 
     def shown(self):
-        """What the page shows once its run is over: the status, whether it is a report, and the text."""
+        """What the page shows once its run is over: the status, the output and the errors."""
         if not self.settle():
             return "no run ended"
-        state, status, fault = self.value("[document.body.dataset.state, document.body.dataset.status, $('report').dataset.fault]")
-        text = self.text("#report")
-        return (int(status), fault == "false", text.encode()) if state == "done" else (state, self.text("#status"), text)
+        state, status, output, errors = self.value(SHOWN)
+        return (int(status), output.encode(), errors.encode()) if state == "done" else (state, self.text("#status"), output + errors)
 
     def wanted(self, text, *options):
         """What the program says of a feature with the name of the page's first file."""
@@ -396,12 +388,26 @@ def link_to(given):
     return "#" + base64.urlsafe_b64encode(data).decode().rstrip("=")
 
 
+def taken(tab, arguments):
+    """The arguments that the program takes on a tab."""
+    refused = {"report": [], "explanation": ["--dry-run", "--no-skipped", "--format"]}
+    refused["findings"] = [*refused["explanation"], "--stop", "--env"]
+    words = iter(arguments)
+    for word in words:
+        value = [next(words)] if word.startswith("--") and word not in FLAGS else []
+        if word not in refused[tab]:
+            yield from [word, *value]
+
+
 def example(page):
-    """Each example, opened from the list, gives what the program gives."""
-    page.load()
-    for arguments in driver.examples():
-        page.open_example(os.path.basename(arguments[-1]))
-        yield same(f"{arguments[-1]} on the page", page.shown(), wanted_of(page.program, arguments))
+    """Each example, opened from the list, gives on each tab what the program gives."""
+    for tab, words in TABS.items():
+        page.load()
+        page.click(f"#{tab}")
+        for arguments in driver.examples():
+            page.open_example(os.path.basename(arguments[-1]))
+            wanted = wanted_of(page.program, [*words, *taken(tab, arguments)])
+            yield same(f"{tab} of {arguments[-1]} on the page", page.shown(), wanted)
 
 
 def guide(page):
@@ -419,21 +425,51 @@ def guide(page):
 def verdict(page):
     """The status says in words how a run ended. The time isn't a part of it: it would be read out each time."""
     page.load()
-    cases = (("Given it passes", "Nothing failed, status 0", "good", "false"), ("Given it fails", "Failed, status 1", "bad", "false"),
-             ("Given it passes\n\"\"\"", "Fault, status 3", "bad", "true"))
-    for step, *wanted in cases:
+    cases = (("report", "Given it passes", "Nothing failed, status 0", "good"), ("report", "Given it fails", "Failed, status 1", "bad"),
+             ("report", "Given it passes\n\"\"\"", "Fault, status 3", "bad"), ("explanation", "Given it passes", "Nothing failed, status 0", "good"),
+             ("explanation", "Given it fails", "Failed, status 1", "bad"), ("findings", "Given it passes", "Nothing found, status 0", "good"),
+             ("findings", "Given it", "Something found, status 1", "bad"), ("findings", "Given it passes\n\"\"\"", "Fault, status 3", "bad"))
+    for tab, step, *wanted in cases:
+        page.click(f"#{tab}")
         page.fill("#files .text", driver.feature(step))
         page.settle()
-        found = [page.text("#status"), page.one("#status", "className"), page.one("#report", "dataset.fault")]
-        yield same(f"'{step}' on the page", found, wanted)
+        yield same(f"'{step}' on the tab {tab}", [page.text("#status"), page.one("#status", "className")], wanted)
+        yield same(f"the result of '{step}'", page.shown(), page.wanted(driver.feature(step), *TABS[tab]))
     yield holds(f"the page says no time: {page.text('#time')}", re.fullmatch(r"[0-9]+\.[0-9] ms", page.text("#time")))
-    page.value("ended({ number: asked, answer: { hasReport: true, status: 4, text: 'memory' }, time: 1 })")
+    page.value("ended({ number: asked, answer: { status: 4, output: 'memory', errors: '' }, time: 1 })")
     yield same("out of memory on the page", page.text("#status"), "Memory ran out, status 4")
-    page.value("asked += 1; worker.postMessage({ number: asked, request: { lines: [-1] } })")
+    page.value("asked += 1; worker.postMessage({ number: asked })")
     page.state("failed")
-    yield same("a run with an exception", page.shown(), ("failed", "Not run", "The run couldn't end: RangeError: not a line number: -1"))
+    yield holds(f"a run with an exception: {page.shown()}", page.shown()[2].startswith("The run couldn't end: TypeError: "))
+    page.click("#report")
     page.fill("#files .text", SMALL)
     yield same("a run after an exception", page.shown(), page.wanted(SMALL))
+
+
+def tabs(page):
+    """A tab is chosen by the mouse or the arrow keys, and has only the options that the program takes with it."""
+    shown = "[...document.querySelectorAll('.option')].filter((it) => it.checkVisibility()).map((it) => it.querySelector('input, select, textarea').id)"
+    chosen = "[...document.querySelectorAll('[role=tab]')].map((it) => [it.ariaSelected, it.tabIndex])"
+    options = {"report": ["format", "dryRun", "stop", "noSkipped", "writtenName", "variables"], "explanation": ["stop", "writtenName", "variables"],
+               "findings": []}
+    page.load(link_to({**FULL, "tab": "findings"}))
+    yield same("the tab of a link", (page.inputs()["tab"], page.text("#status")), ("findings", "Something found, status 1"))
+    page.load()
+    page.value("$('choicePart').open = true")
+    page.focus("#report")
+    for key, tab in (("ArrowRight", "explanation"), ("ArrowRight", "findings"), ("ArrowRight", "report"), ("ArrowLeft", "findings"),
+                     ("ArrowLeft", "explanation"), ("ArrowLeft", "report")):
+        page.press(key)
+        page.settle()
+        yield same(f"the tab after {key}", (page.focused(), page.inputs()["tab"], page.one("#text", "getAttribute('aria-labelledby')")), (tab, tab, tab))
+        yield same(f"the options of {tab}", page.value(shown), options[tab])
+        yield same(f"the states of the tabs, of which {tab} is chosen", page.value(chosen), [["true", 0] if it == tab else ["false", -1] for it in TABS])
+    page.fill("#variables", "A=1")
+    page.click("#findings")
+    yield same("the result with an option that the program doesn't take", page.shown()[2], b"")
+    yield same("that option later", page.inputs()["variables"], "A=1")
+    page.open_example("undefined.feature")
+    yield same("the tab of an example", page.inputs()["tab"], "findings")
 
 
 # ---- links
@@ -461,12 +497,12 @@ def link(page):
     yield holds("fields that a link fills aren't open", page.value("[...document.querySelectorAll('details')].every((it) => it.open)"))
     page.load(link_to({"files": [["a.feature", SMALL]]}))
     yield same("a link to a file alone", (page.shown(), page.text("#notice")), (page.wanted(SMALL), ""))
-    for field, part in (("library", "library"), ("hooks", "hooks"), ("tags", "choice"), ("lines", "choice"), ("variables", "choice")):
+    for field, part in (("library", "library"), ("hooks", "hooks"), ("written", "written"), ("tags", "choice"), ("lines", "choice"), ("variables", "choice")):
         page.load(link_to({"files": [["a.feature", SMALL]], field: FULL[field]}))
         found = page.value("[...document.querySelectorAll('details[open]')].map((it) => it.id)")
         yield same(f"what a link with {field} opens", found, [f"{part}Part"])
     page.load(link_to({"files": [["a.feature", SMALL]]}))
-    names = {"libraryName": "own.steps", "hooksName": "own.hooks", "format": "plain"}
+    names = {"libraryName": "own.steps", "hooksName": "own.hooks", "writtenName": "out.txt", "format": "plain", "tab": "report"}
     wanted = {name: names.get(name, type(value)()) for name, value in FULL.items()}
     yield same("the other fields then", page.inputs(), {**wanted, "files": [["a.feature", SMALL]]})
     page.value(f"location.hash = {json.dumps(link_to(FULL))}")
@@ -475,7 +511,7 @@ def link(page):
     page.browser.wait("inputs().format === 'plain'", 5)
     yield same("a link to a file alone after one to all", page.inputs(), {**wanted, "files": [["b.feature", ""]]})
     yield same("the parts that it leaves open", page.value("document.querySelectorAll('details[open]').length"), 0)
-    unnamed = {**FULL, "libraryName": "", "hooksName": ""}
+    unnamed = {**FULL, "libraryName": "", "hooksName": "", "writtenName": ""}
     page.load(link_to(unnamed))
     yield same("the inputs of a link with empty names", page.inputs(), unnamed)
 
@@ -509,6 +545,7 @@ def address(page):
         "a removed file": lambda: page.click(".remove"),
         "an example": lambda: page.click("#open"),
         "Undo": lambda: page.click("#undo"),
+        "a tab": lambda: page.click("#explanation"),
     }
     page.load(link_to(FULL))
     for name, change in changes.items():
@@ -543,7 +580,7 @@ def wrong_fragments():
         yield link_to({"files": files})
     yield from (link_to({"files": [good], name: {}}) for name in FULL if name != "files")
     for name, value in (("tags", []), ("tags", None), ("tags", 1), ("tags", True), ("stop", []), ("stop", None), ("stop", 1),
-                        ("stop", "true"), ("format", ""), ("format", "xml"), ("format", MARKUP)):
+                        ("stop", "true"), ("format", ""), ("format", "xml"), ("format", MARKUP), ("tab", ""), ("tab", "toString"), ("tab", None)):
         yield link_to({"files": [good], name: value})
 
 
@@ -637,7 +674,7 @@ def removed(page):
     for _ in range(2):
         page.click(".remove")
     yield same("the last file", (page.names(), page.focused(), page.one(".remove", "hidden")), (names[2:], "Feature file", True))
-    page.browser.wait("$('report').textContent.startsWith('examples/progress')", 5)
+    page.browser.wait("$('text').textContent.startsWith('examples/progress')", 5)
     yield same("the last file runs", page.shown(), page.wanted(before["files"][2][1], "--format", "progress"))
 
 
@@ -657,39 +694,66 @@ def added(page):
     page.browser.type(SMALL)
     for number in (1, 2, 3):
         page.fill(f".file:nth-child({number}) .text", SMALL)
-    good = page.browser.wait("$('report').textContent.includes('4 features passed')", 5)
+    good = page.browser.wait("$('text').textContent.includes('4 features passed')", 5)
     yield holds(f"four added files: {page.shown()}", good)
 
 
 def wrong_field(page):
-    """A wrong line or variable is said in the report and at its field, until it is right."""
-    line = '"{}" is not a line number: lines are whole numbers from 1 to 4294967295.'
-    variable = '"{}" is not a variable: it needs a name, "=" and a text.'
-    cases = (("lines", "1 4x 2", line.format("4x"), "2 3", ["--line=2", "--line=3"]),
-             ("lines", "\u0007\"", line.format("\\u0007\\\""), "", []),
-             ("lines", "0", line.format("0"), "+2,\t4294967295", ["--line=2", "--line=4294967295"]),
-             ("lines", "4294967296", line.format("4294967296"), "", []),
-             ("variables", "A=1\nB\u0007", variable.format("B\\u0007"), "A=1\nB=C=", ["--env=A=1", "--env=B=C="]))
+    """A wrong line or variable gives the program's own words. Two files of one name aren't run."""
+    cases = (("lines", "1 4x 2", ["--line=1", "--line=4x", "--line=2"]), ("lines", "\u0007\"", ["--line=\u0007\""]), ("lines", "0", ["--line=0"]),
+             ("lines", "4294967296", ["--line=4294967296"]), ("lines", "2, 3", ["--line=2", "--line=3"]), ("lines", "+2,\t4294967295", ["--line=+2", "--line=4294967295"]),
+             ("variables", "A=1\nB\u0007", ["--env=A=1", "--env=B\u0007"]), ("variables", "A=1\nB=C=", ["--env=A=1", "--env=B=C="]),
+             ("variables", "B= x ", ["--env=B= x "]), ("variables", "=x", ["--env==x"]), ("tags", "--\n@a ,", ["--tags=--", "--tags=@a ,"]))
     text = "Feature: f\n  Scenario: s\n    Then the variable \"B\" should be \"C=\"\n  Scenario: t\n    Given it fails\n"
-    for field, wrong, said, right, options in cases:
+    for field, value, options in cases:
         page.load()
         page.fill("#files .text", text)
-        page.type("#" + field, wrong)
-        page.state("failed")
-        found = (page.shown(), page.one("#report", "dataset.fault"), page.one("#" + field, "ariaInvalid"), page.text(f"#{field}Wrong"), page.text("#time"))
-        yield same(f"{field} '{wrong}'", found, (("failed", "Not run", said), "true", "true", said, ""))
-        read_out = [it.get("description", {}).get("value") for it in page.tree("textbox")
-                    if it["name"]["value"].lower().startswith(field)]
-        yield same(f"what is read out at the {field}", read_out, [said])
-        page.fill("#" + field, right)
-        found = (page.shown(), page.one("#" + field, "ariaInvalid"), page.text(f"#{field}Wrong"))
-        yield same(f"{field} '{right}'", found, (page.wanted(text, *options), "false", ""))
-    text = driver.feature('Then the variable "B" should be " x "')
-    page.fill("#files .text", text)
-    page.fill("#variables", "B= x ")
-    yield same("a variable with spaces around its text", page.shown(), page.wanted(text, "--env=B= x "))
-    page.fill("#variables", "=x")
-    yield same("a variable without a name", page.shown(), (2, False, b"bad variable"))
+        page.settle()
+        page.type("#" + field, value)
+        page.settle()
+        yield same(f"{field} '{value}'", page.shown(), page.wanted(text, *options))
+    invalid = "[...document.querySelectorAll('.name')].map((it) => it.ariaInvalid)"
+    page.load()
+    page.click("#add")
+    page.fill(".file:nth-child(2) .name", "x\u0007")
+    page.fill(".file:nth-child(1) .name", "x\u0007")
+    page.state("failed")
+    found = (page.shown(), page.value(invalid), page.text("#time"))
+    yield same("two files of one name", found, (("failed", "Not run", 'Two files have the name "x\\u0007".'), ["true", "true", "false", "false", "false"], ""))
+    page.fill(".file:nth-child(1) .name", "own.hooks")
+    page.settle()
+    yield same("another name", (page.text("#status"), page.value(invalid)), ("Failed, status 1", ["false"] * 5))
+    page.fill("#hooks", "before_all:\n")
+    page.state("failed")
+    yield same("a feature file with the name of the hooks", page.value(invalid), ["true", "false", "false", "true", "false"])
+    for name in ("--stop", "-", "", "a b"):
+        page.load(link_to({"files": [[name, SMALL]]}))
+        driver.write(page.room, {name or "empty": SMALL})
+        status, output, errors = page.shown()
+        yield same(f"a file with the name '{name}'", (status, errors), (0, b""))
+        yield same(f"the report of a file with the name '{name}'", output, wanted_of(page.program, [os.path.join(page.room, name or "empty")])[1])
+
+
+def written(page):
+    """Steps find the text that is written into the page, under its name. Findings don't need it."""
+    text = 'Feature: f\n  Scenario: s\n    Then the file "x y" should be "b"\n  Scenario: t\n    Then the file "x y" should be "c"\n'
+    driver.write(page.room, {"written": "b"})
+    for tab, words in TABS.items():
+        page.load(link_to({"files": [["a.feature", text]], "written": "b", "writtenName": "x y", "tab": tab}))
+        words = words if tab == "findings" else [*words, f"--file=x y={page.room}/written"]
+        yield same(f"a file that steps find, on the tab {tab}", page.shown(), page.wanted(text, *words))
+    page.load(link_to({"files": [["a.feature", SMALL]], "written": "\ud800", "writtenName": "=", "tab": "report"}))
+    yield same("a file with a wrong name", page.shown(), (2, b"", b"gherkin_run: bad --file\n"))
+
+
+def options(page):
+    """The page has the options of the program's table, on the tabs on which the program takes them."""
+    page.load()
+    found = page.value("Object.fromEntries(OPTIONS.map(({ option, tabs }) => [option, tabs]))")
+    wanted = {f"--{it.name}": ["report", *["explanation"] * it.beside_explain, *["findings"] * it.beside_lint]
+              for it in tables.OPTIONS if it.name not in ("explain", "lint")}
+    yield same("the options of the page", found, wanted)
+    yield same("the formats of the page", page.value("CHOICES.format"), list(tables.FORMATS))
 
 
 def order(page):
@@ -704,8 +768,8 @@ def order(page):
             break
         found.append(page.focused())
         rings.add(page.value("(({ outlineStyle, outlineWidth }) => `${outlineStyle} ${outlineWidth}`)(getComputedStyle(document.activeElement))"))
-    wanted = ["example", "open", "undo", "link", "Name of feature file", "Feature file", "add", "Run", "halt", "report", "format", "dryRun",
-              "stop", "noSkipped", "Own steps, in place of the built-in steps", "libraryName", "library", "Hooks", "Tags, lines and variables"]
+    wanted = ["example", "open", "undo", "link", "Name of feature file", "Feature file", "add", "run", "report", "text", "format", "dryRun",
+              "stop", "noSkipped", "Own steps, in place of the built-in steps", "libraryName", "library", "Hooks", "A file that steps find", "Tags, lines and variables"]
     yield same("the Tab key", found, wanted)
     yield same("the rings around what has the focus", rings, {"solid 2px"})
     tops = [page.one(it, "getBoundingClientRect().top") for it in ("h1", "#example", "#files .text", "#add", "#format", "#library", "footer")]
@@ -715,11 +779,12 @@ def order(page):
 def label(page):
     """Each control has a name for a screen reader, and no two of them the same."""
     page.load(link_to(FULL))
-    names = collections.Counter(it["name"]["value"] for it in page.tree(*CONTROLS))
-    good = len(names) >= 28 and "" not in names and set(names.values()) == {1}
+    names = collections.Counter((it["role"]["value"], it["name"]["value"]) for it in page.tree(*CONTROLS))
+    good = len(names) >= 28 and all(name for _, name in names) and set(names.values()) == {1}
     yield holds(f"controls without a name, or with the same: {names}", good)
     yield same("the parts that are read out when they change", len(page.tree("status")), 2)
-    yield same("the regions of the page", [it["name"]["value"] for it in page.tree("region")], ["Report", "Text of the report"])
+    found = {role: [it["name"]["value"] for it in page.tree(role)] for role in ("region", "tablist", "tab", "tabpanel")}
+    yield same("the parts of the result", found, {"region": ["Result"], "tablist": ["What is shown"], "tab": ["Report", "Explanation", "Findings"], "tabpanel": ["Report"]})
     unlabeled = page.value("[...document.querySelectorAll('input, textarea, select')]"
                            ".filter((it) => !it.labels.length && !it.ariaLabel).length")
     yield same("fields without a label", unlabeled, 0)
@@ -729,7 +794,7 @@ def label(page):
     yield same("fields with a spelling checker", checked, 0)
     yield same("whether the browser fills the fields", page.one("#inputs", "autocomplete"), "off")
     found = {role: [it["name"]["value"] for it in page.tree(role)] for role in ("banner", "main", "contentinfo", "heading")}
-    yield same("the parts and headings of the page", found, {"banner": [""], "main": [""], "contentinfo": [""], "heading": ["Try gherkin_run", "Report"]})
+    yield same("the parts and headings of the page", found, {"banner": [""], "main": [""], "contentinfo": [""], "heading": ["Try gherkin_run"]})
     sizes = page.value("[...new Set([...document.querySelectorAll('textarea')].map((it) => getComputedStyle(it).resize))]")
     yield same("how fields can be made larger", sizes, ["vertical"])
     boxes = page.value("Object.fromEntries(FLAGS.map((it) => [it, $(it).labels[0].textContent.trim()]))")
@@ -745,18 +810,16 @@ def label(page):
 def stopped(page):
     """A long run can be stopped, by the keyboard too, and another one begun."""
     page.load()
-    page.focus("#halt")
-    before = page.shown()
-    page.press(" ")
-    yield same("Stop when nothing runs", (page.shown(), page.focused()), (before, "halt"))
+    offered = "$('halt').checkVisibility({ visibilityProperty: true })"
+    yield holds("Stop is offered when nothing runs", not page.value(offered))
     for stop in (lambda: page.click("#halt"), lambda: (page.focus("#halt"), page.press("Enter"))):
         page.value(f"show({json.dumps(LONG_RUN)})")
-        yield holds("Stop isn't offered", page.browser.wait("$('halt').ariaDisabled === 'false'"))
+        yield holds("Stop isn't offered", page.browser.wait(offered))
         yield same("the status of a long run", page.text("#status"), "Running ..")
         stop()
         yield holds("a long run isn't stopped", page.state("stopped"))
-        found = (page.text("#status"), page.text("#report"), page.focused(), page.one("#halt", "ariaDisabled"))
-        yield same("after Stop", found, ("Stopped", "", "halt", "true"))
+        found = (page.text("#status"), page.text("#text"), page.focused(), page.value(offered))
+        yield same("after Stop", found, ("Stopped", "", "run", False))
         time.sleep(0.5)
         yield same("some time after Stop", page.text("#status"), "Stopped")
         page.click("button[type=submit]")
@@ -773,7 +836,7 @@ def overtaken(page):
     yield holds("a new text waits for an older run", page.value("worker !== olderWorker"))
     time.sleep(0.5)
     yield same("a run after one that it ended", page.shown(), page.wanted(SMALL))
-    page.value("ended({ number: asked - 1, answer: { hasReport: true, status: 1, text: 'old' }, time: 1 })")
+    page.value("ended({ number: asked - 1, answer: { status: 1, output: 'old', errors: '' }, time: 1 })")
     yield same("the report after that of an older run", page.shown(), page.wanted(SMALL))
     before = page.value("asked")
     page.value("for (let n = 0; n < 5; n += 1) $('tags').dispatchEvent(new Event('input', { bubbles: true }))")
@@ -787,9 +850,8 @@ def overtaken(page):
     yield same("the runs after a key and Run", page.value("asked") - before, 1)
     page.settle()
     page.value(f"show({json.dumps(LONG_RUN)})")
-    page.fill("#lines", "x")
-    yield holds("a run goes on after a wrong line", page.state("failed") and page.value("answered === asked"))
-    page.fill("#lines", "")
+    page.fill(".file:nth-child(2) .name", "0.feature")
+    yield holds("a run goes on after a mistake", page.state("failed") and page.value("answered === asked"))
     page.value(f"show({json.dumps({'files': [['a', SMALL]]})})")
     page.settle()
     page.value("runNow(); halt()")
@@ -801,10 +863,10 @@ def overtaken(page):
 def entered(page):
     """Enter in a field runs, without leaving the page."""
     page.load()
-    page.value("$('report').textContent = ''")
+    page.value("$('text').textContent = ''")
     page.focus("#files .name")
     page.press("Enter")
-    yield holds("Enter in a field runs nothing", page.browser.wait("$('report').textContent !== ''", 5))
+    yield holds("Enter in a field runs nothing", page.browser.wait("$('text').textContent !== ''", 5))
     yield same("the address and the files after Enter in a field", (page.value("location.href"), page.names()), (PAGE, [FIRST]))
 
 
@@ -814,16 +876,16 @@ def long_report(page):
     page.load()
     page.fill("#files .text", text)
     yield same("a long report", page.shown(), page.wanted(text))
-    found = page.value("[...$('report').children].map((it) => [getComputedStyle(it).contentVisibility, it.textContent.length])")
+    found = page.value("[...$('text').children].map((it) => [getComputedStyle(it).contentVisibility, it.textContent.length])")
     good = len(found) > 800 and all(kind == "auto" and size < 17000 for kind, size in found)
     yield holds(f"a long report has {len(found)} pieces, such as {found[0]}", good)
-    page.value("$('report').scrollTop = 1e9")
-    seen = "$('report').lastChild.getBoundingClientRect().bottom <= $('report').getBoundingClientRect().bottom"
+    page.value("$('text').scrollTop = 1e9")
+    seen = "$('text').lastChild.getBoundingClientRect().bottom <= $('text').getBoundingClientRect().bottom"
     yield holds("the end of a long report can't be seen", page.browser.wait(seen, 10))
     page.fill("#files .text", driver.feature(*["Given it passes"] * 900))
     page.settle()
-    chosen = page.value("(() => { getSelection().selectAllChildren($('report')); return getSelection().toString(); })()")
-    yield same("a report that is copied by hand", chosen.rstrip(), page.text("#report").rstrip())
+    chosen = page.value("(() => { getSelection().selectAllChildren($('text')); return getSelection().toString(); })()")
+    yield same("a report that is copied by hand", chosen.rstrip(), page.text("#text").rstrip())
 
 
 def scrolled(page):
@@ -832,16 +894,16 @@ def scrolled(page):
     text = driver.feature(*["Given it passes"] * 300)
     page.fill("#files .text", text)
     page.settle()
-    page.value("$('report').scrollTop = 2000")
+    page.value("$('text').scrollTop = 2000")
     page.fill("#files .text", text + "Given it fails\n")
     page.settle()
-    yield same("the place in the report after a change", page.one("#report", "scrollTop"), 2000)
+    yield same("the place in the report after a change", page.one("#text", "scrollTop"), 2000)
     page.fill("#files .text", driver.feature("Given it passes", name="long " * 300))
     page.settle()
-    yield holds("a long line of the report is out of sight", page.value("[...$('report').children].every((it) => it.scrollWidth <= it.clientWidth)"))
+    yield holds("a long line of the report is out of sight", page.value("[...$('text').children].every((it) => it.scrollWidth <= it.clientWidth)"))
     page.value(f"show({json.dumps({'files': [['a', text]]})})")
     page.settle()
-    yield same("the place in the report of an example", page.one("#report", "scrollTop"), 0)
+    yield same("the place in the report of an example", page.one("#text", "scrollTop"), 0)
 
 
 # ---- text is never markup, and nothing is fetched
@@ -851,15 +913,15 @@ def markup(page):
     page.load()
     page.type("#files .name", MARKUP)
     fields = {"#files .text": f"Feature: {MARKUP}\u0000\u202e\n  Scenario: {MARKUP}\n    Given it passes <b>\n", "#library": MARKUP,
-              "#libraryName": MARKUP, "#hooks": MARKUP, "#hooksName": MARKUP, "#tags": MARKUP, "#variables": MARKUP, "#lines": MARKUP}
+              "#libraryName": f"{MARKUP}1", "#hooks": MARKUP, "#hooksName": f"{MARKUP}2", "#written": MARKUP, "#writtenName": f"{MARKUP}3", "#tags": MARKUP, "#variables": MARKUP, "#lines": MARKUP}
     wanted = [page.value(ELEMENTS), MARKUP, "Try gherkin_run"]
     for selector, text in fields.items():
         page.type(selector, text)
         page.settle()
         yield same(f"markup in {selector}", [page.value(ELEMENTS), page.names()[0], page.value("document.title")], wanted)
-        yield holds(f"markup in {selector} leaves no report", page.text("#report") != "")
-    said = '"</textarea></pre><script>document.title" is not a line number'
-    yield holds(f"a wrong line shows {page.text('#linesWrong')}", page.text("#linesWrong").startswith(said))
+        yield holds(f"markup in {selector} leaves no report", page.text("#text") != "")
+    wrong = page.shown()[2].decode()
+    yield holds(f"a wrong line shows {wrong}", "</textarea></pre><script>document.title" in wrong)
     page.click("#add")
     page.click("#link")
     before = page.inputs()
@@ -901,7 +963,7 @@ def layout(page):
     """The report begins in view, in one column and in two, and its verdict stays there."""
     for width, height, lowest in ((320, 640, 700), (400, 800, 600), (1280, 800, 160), (1920, 1000, 160)):
         page.load(width=width, height=height)
-        top, wide = page.one("#report", "getBoundingClientRect().top"), page.value("document.documentElement.scrollWidth")
+        top, wide = page.one("#text", "getBoundingClientRect().top"), page.value("document.documentElement.scrollWidth")
         yield holds(f"at {width} pixels the report begins at {top} and the page is {wide} wide", top <= lowest and wide <= width)
         page.open_example("progress.feature")
         for place in (0, 1e9):
@@ -910,7 +972,7 @@ def layout(page):
             yield holds(f"at {width} pixels, scrolled to {place}, the verdict is at {edges}", 0 <= edges[0] < edges[1] <= height)
         padding = page.value("getComputedStyle(document.documentElement).scrollPaddingBottom")
         yield same(f"at {width} pixels, what is kept free for the verdict", padding, "64px" if width < 960 else "auto")
-    sides = [page.one("#files", "getBoundingClientRect().right"), page.one("#report", "getBoundingClientRect().left")]
+    sides = [page.one("#files", "getBoundingClientRect().right"), page.one("#text", "getBoundingClientRect().left")]
     yield holds(f"at 1920 pixels the report isn't beside the feature: {sides}", sides[0] < sides[1])
 
 
@@ -920,15 +982,16 @@ def contrast(page):
         page.browser.ask("Emulation.setEmulatedMedia", features=[{"name": "prefers-color-scheme", "value": scheme}])
         found = []
         good, bad = ({"files": [["a", driver.feature(it)]]} for it in ("Given it passes", "Given it fails"))
-        for given, colors in (({**FULL, "lines": "x"}, "red red red red gray"), (FULL, "green gray red gray gray"),
-                              (good, "green gray red gray gray"), (bad, "red gray red gray gray")):
+        repeated = {**FULL, "files": [FULL["files"][0]] * 2}
+        for given, colors in ((repeated, "red red red"), ({**FULL, "lines": "x"}, "red red gray"), ({**FULL, "tab": "findings"}, "red gray gray"),
+                              (good, "green gray gray"), (bad, "red gray gray")):
             page.load(link_to(given))
             yield same(f"{scheme}: the colors of {colors}", " ".join(page.value(COLORS)), colors)
             page.press("Tab")
             found += page.value(CONTRAST)
         weak = [it for it in found if it[1] < 1]
         rings = [it for it in found if it[0].startswith("the ring of ")]
-        yield holds(f"{scheme}: too little contrast: {weak}", len(found) > 100 and len(rings) == 4 and not weak)
+        yield holds(f"{scheme}: too little contrast: {weak}", len(found) > 100 and len(rings) == 5 and not weak)
         grounds = page.value("['.bar', 'body'].map((it) => getComputedStyle(document.querySelector(it)).backgroundColor)")
         yield same(f"{scheme}: the background of the verdict, over which the report scrolls", *grounds)
         red = int(page.value("getComputedStyle(document.body).backgroundColor.match(/[0-9]+/)[0]"))
@@ -936,7 +999,7 @@ def contrast(page):
     page.browser.ask("Emulation.setEmulatedMedia", features=[])
 
 
-CHECKS = [example, guide, verdict, link, copied, address, wrong_link, later_link, long_link, example_key, removed, added, wrong_field, order,
+CHECKS = [example, guide, verdict, tabs, link, copied, address, wrong_link, later_link, long_link, example_key, removed, added, wrong_field, written, options, order,
           label, stopped, overtaken, entered, long_report, scrolled, markup, layout, contrast, quiet, locked]
 
 

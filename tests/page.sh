@@ -3,8 +3,9 @@
 #
 # PROGRAM is the built program; without it, the one that ./run runs. MODULE is the output of web/build/capture_module.sh. If it is
 # given, and the tools are those that built web/gherkin_run.wasm, that file is rebuilt and compared. web/try.html has to be
-# what its parts make. Then tests/page.py runs the examples and some changed ones with the module in Node, and uses the page by
-# mouse and keyboard in headless Chromium: examples, links, files, long runs, markup. Says which of these tools are missing.
+# what its parts make. Then tests/page.py runs the examples, the stored runs and some changed files with the module in Node, and
+# uses the page by mouse and keyboard in headless Chromium: examples, tabs, links, files, long runs, markup. Says which of
+# these tools are missing.
 # If PICTURES in the environment is a folder, pictures of the page are left there; with TIMES, the script says how long
 # each part takes. The last line is 'N passed, M failed'.
 set -eu
@@ -37,7 +38,7 @@ refuses_unknown() {
 holds "web/made.sha256 doesn't have the sums of the files of web/; ./release renews them" has_its_sums
 python3 "$web/build/make_page.py" "$web/gherkin_run.wasm" > "$room/try.html"
 holds "web/try.html isn't what its parts make; web/build/make.sh renews it" cmp "$room/try.html" "$web/try.html"
-holds "web/gherkin_run.wasm has more than 350,000 bytes" [ "$(wc -c < "$web/gherkin_run.wasm")" -le 350000 ]
+holds "web/gherkin_run.wasm has more than 1,500,000 bytes" [ "$(wc -c < "$web/gherkin_run.wasm")" -le 1500000 ]
 holds "retarget.py accepts a call that it doesn't know" refuses_unknown
 if [ -z "$module" ]; then
     echo "web/gherkin_run.wasm isn't rebuilt: no module of the library is given"

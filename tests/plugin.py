@@ -1,7 +1,7 @@
 #!/usr/bin/env python3
 """Tests the pytest plugin of python/: each function yields a trouble for each test, empty if it passed.
 
-tests/python.py calls `tests`, which runs pytest in folders below a room. `plugin.py alone` compares the outcomes of scenarios
+tests/python.py calls `tests`, which runs pytest in folders below a room. `plugin.py alone` compares the statuses of scenarios
 that run together with those of each one alone; it runs in another process, since perhaps only another Python has pytest.
 """
 
@@ -18,9 +18,8 @@ import gherkin_run
 import random_runs
 
 SUITES = 480
-# The fewest scenarios of these suites with each status, and the verdict of the test.
-FEWEST = {("passed", "passed"): 100, ("passed", "failed"): 50, ("failed", "failed"): 400, ("untested", "failed"): 100,
-          ("skipped", "skipped"): 10, ("skipped", "failed"): 3}
+# The fewest scenarios of these suites with each status together, and the status of a run alone.
+FEWEST = {("passed", 0): 100, ("unclear", 1): 50, ("failed", 1): 400, ("untested", 1): 100, ("skipped", 0): 10, ("skipped", 1): 3}
 SETTINGS = "[pytest]\ngherkin_files = *.feature\n"
 PYTHON_TEST = {"test_python.py": "def test_of_python():\n    pass\n"}
 SUITE = {
@@ -36,20 +35,15 @@ RESULTS = {"fails": "failure", "skips": "skipped", "is misspelt": "failure", "on
            "row 2 -- @1.2": "passed"}
 FAILURES = """
 ______________________________ bad.feature: fails ______________________________
-Feature: bad ... failed
-  Scenario: fails ... failed
-    Given it passes ... passed
-    Given it fails ... failed: fail step
-    * own step ... skipped
-
-bad.feature:5: failed: fail step
+bad.feature:4: Scenario: fails ... failed
+  bad.feature:3: Given it passes ... passed
+  bad.feature:5: Given it fails ... failed: fail step
+  bad.feature:6: * own step ... skipped
 ___________________________ bad.feature: is misspelt ___________________________
-Feature: bad ... failed
-  Scenario: is misspelt ... failed
-    Given it passes ... passed
-    Given it pases ... undefined
-
-bad.feature:11: undefined
+bad.feature:10: Scenario: is misspelt ... failed
+  bad.feature:3: Given it passes ... passed
+  bad.feature:11: Given it pases ... undefined
+      the nearest entry is: step it passes
 =========================== short test summary info ============================
 SKIPPED [1] bad.feature:7: the scenario skipped itself
 ==="""
@@ -60,37 +54,75 @@ HOOKED = {
     "pytest.ini": f"{SETTINGS}gherkin_hooks = own.hooks\n",
 }
 HOOKED_FAILURE = """
-Feature: hooked ... failed
-  Scenario: second ... untested
-    Given it passes ... untested
-  (rule, line 6: hooks and cleanups) ... failed
-
-hooked.feature:7: failed
-==="""
-# Hooks whose failure fails each scenario, and what the first failure ends with.
+hooked.feature:6: Rule: (hooks and cleanups) ... failed
+  own.hooks:4: before: Given it fails ... failed: fail step
+"""
+# Hooks whose failure fails each scenario, and what the explanation of the first failure has.
 AROUND = {
-    "after_feature": "    Given the file \"made\" should exist ... passed\n  (hooks and cleanups) ... failed\n\nhooked.feature:3: failed\n",
-    "after_all": "    Given the file \"made\" should exist ... passed\n(hooks and cleanups) ... failed\n\nhooked.feature:3: failed\n",
-    "after_scenario": "    Given the file \"made\" should exist ... passed\n    (hooks and cleanups) ... failed\n\nhooked.feature:3: failed\n",
+    "after_feature": "\nhooked.feature:1: Feature: hooked (hooks and cleanups) ... failed\n  own.hooks:4: after: Given it fails ... failed: fail step\n",
+    "after_all": "\nRun: (hooks and cleanups) ... failed\n  own.hooks:4: after: Given it fails ... failed: fail step\n",
+    "after_scenario": "\nhooked.feature:3: Scenario: first ... failed\n  own.hooks:2: before: Given a file named \"made\" containing \"x\" ... passed\n"
+                      "  hooked.feature:4: Given the file \"made\" should exist ... passed\n  own.hooks:4: after: Given it fails ... failed: fail step\n",
 }
+# Tags that can be marks, and tags that can't.
+TAGGED = {
+    "tagged.feature": "@all @slow-1\nFeature: tagged\n  @a @\u00fc\n  Scenario: one\n    Given it passes\n  @b @a:b @_c @not @x(y)\n  Scenario: two\n    Given it passes\n"
+                      "  @rows\n  Scenario Outline: rows\n    Given a file named \"f\" with:\n      \"\"\"\n      @text\n      \"\"\"\n    @first\n"
+                      "    Examples:\n      | x |\n      | 1 |\n    Examples:\n      | x |\n      | 2 |\n  @rule\n  Rule: r\n    @skip\n    Scenario: left out\n      Given it fails\n",
+    "other.feature": "@a\nFeature: other\n  @xfail\n  Scenario: bad\n    Given it fails\n",
+    "pytest.ini": f"{SETTINGS}addopts = --strict-markers -W error\n",
+}
+# What is chosen by expressions over marks.
+MARKED = {
+    "a": ["bad", "one"], "a and not all": ["bad"], "slow-1 and b": ["two"], "\u00fc": ["one"], "all and not (a or b or rule)": ["rows -- @1.1", "rows -- @2.1"],
+    "first": ["rows -- @1.1"], "rows and not first": ["rows -- @2.1"], "text": [], "rule": ["left out"],
+}
+# Scenarios that use a world, and the fixtures that give one.
+WORLD_FEATURE = """\
+Feature: world
+  Scenario: one
+    Then the file "f" should be "one"
+  Scenario: two
+    Then the variable "V" should be "v"
+  Scenario: three
+    Then the file "f" should be "three"
+"""
+WORLDS = """
+import pytest
+from gherkin_run import World
+
+@pytest.fixture(scope=%r)
+def gherkin_world():
+    return World({"f": "one"}, {"V": "v"})
+"""
+BROKEN_WORLDS = """
+import pytest
+from gherkin_run import World
+
+@pytest.fixture
+def gherkin_world(gherkin_scenario):
+    assert gherkin_scenario.path.name == "bill.feature" and gherkin_scenario.name
+    return World({"out": b"\\xff"}) if gherkin_scenario.line > 8 else 1 / 0
+"""
 NAMES = ["twice", "twice", "twice (2)", "twice", "", "", "a::b", ":::", "x [1]"]
 IDS = ["twice", "twice (3)", "twice (2)", "twice (4)", "Scenario", "Scenario (2)", "a: :b", ": : :", "x [1]"]
-# Prints the number of lines of each run, or that it was dry, and how often files of a suite are opened.
+# Prints the number of lines of each run, or that it was dry or an explanation, and how often files of a suite are opened.
 COUNTING = """\
 import sys
 import gherkin_run.library
 
-calls, opened, called = [], [], gherkin_run.library.called
+calls, opened, real = [], [], gherkin_run.library.call
 
-def counted(request):
-    calls.append("dry" if request.dry_run else len(request.lines))
-    return called(request)
+def counted(words, files):
+    kinds = [it[2:] for it in ("--dry-run", "--explain") if it in words]
+    calls.append(*kinds or [sum(it.startswith("--line=") for it in words)])
+    return real(words, files)
 
 def audit(event, words):
     if event == "open" and str(words[0]).endswith((".feature", ".hooks", ".steps")):
         opened.append(words[0])
 
-gherkin_run.library.called = counted
+gherkin_run.library.call = counted
 sys.addaudithook(audit)
 
 def pytest_sessionfinish(session):
@@ -109,24 +141,16 @@ def pytest_collection_modifyitems(items):
 def pytest_collection_finish(session):
     session.items.extend(late)
 """
-# Memory runs out in each step that fails, and hooks of the feature fail. For good.feature Python itself has none.
+# For good.feature Python has no memory.
 SHORT = """\
-import dataclasses
-import json
 from gherkin_run import pytest_plugin
 
 real = pytest_plugin.run
 
-def run(source, *files, dry_run, **options):
+def run(source, *files, dry_run=False, **options):
     if source.name == "good.feature" and not dry_run:
         raise MemoryError
-    report = real(source, *files, dry_run=dry_run, **options)
-    for feature in report.data["features"]:
-        feature["around"] = "failed"
-        for it in [step for scenario in feature["scenarios"] for step in scenario["steps"]] + feature["scenarios"]:
-            if it["status"] == "failed" and it.pop("reason", "") != "undefined":
-                it["status"] = "memory"
-    return dataclasses.replace(report, text=json.dumps(report.data))
+    return real(source, *files, dry_run=dry_run, **options)
 
 pytest_plugin.run = run
 """
@@ -138,16 +162,6 @@ def run(*words, **options):
     raise MemoryError
 
 pytest_plugin.run = run
-"""
-SHORT_FAILURE = """
-Feature: bad ... memory
-  Scenario: fails ... memory
-    Given it passes ... passed
-    Given it fails ... memory
-    * own step ... skipped
-  (hooks and cleanups) ... failed
-
-bad.feature:5: memory
 """
 # Two sessions in one process, with another library file in the second one.
 SESSIONS = """\
@@ -233,18 +247,27 @@ def suite(python, room):
     yield differs("tests with -x", pytest.results("-x"), {"fails": "failure"})
     yield differs("a folder below", pytest.results(below="below"), {"low": "failure"})
     yield differs("another --rootdir", pytest.results("--rootdir=below", "good.feature"), dict(list(RESULTS.items())[3:]))
-    yield from lacks("a failure in a folder below", pytest("below")[1], "\nbelow/low.feature:4: failed: fail step\n")
-    yield from lacks("a failure of a run there", pytest(below="below")[1], "\nlow.feature:4: failed: fail step\n")
-    driver.write(pytest.folder, {"two.feature": "Feature: f\n  Scenario: two\n    Given it fails\n    Given nobody knows this\n"})
-    yield from lacks("a failure before an undefined step", pytest("two.feature")[1], "\ntwo.feature:3: failed: fail step\n")
-    os.remove(os.path.join(pytest.folder, "two.feature"))
+    step = "low.feature:4: Then it fails ... failed: fail step\n"
+    yield from lacks("a failure in a folder below", pytest("below")[1], f"\n  below/{step}")
+    yield from lacks("a failure of a run there", pytest(below="below")[1], f"\n  {step}")
     moved = Pytest(python, os.path.join(room, "moved"), {**SUITE, "conftest.py": "import os\nos.chdir('below')\n"})
-    yield from lacks("a failure after another folder is entered", moved("bad.feature", "below")[1], "\nbad.feature:5: failed: fail step\n",
-                     "\nbelow/low.feature:4: failed: fail step\n")
+    yield from lacks("a failure after another folder is entered", moved("bad.feature", "below")[1], "\n  bad.feature:5: Given it fails ... failed: fail step\n",
+                     f"\n  below/{step}")
     pytest()
     yield differs("tests with --lf", pytest.results("--lf"), {"fails": "failure", "is misspelt": "failure", "low": "failure"})
-    if driver.start(python, ["-c", "import xdist"])[0] == 0:
-        yield differs("results of two processes", pytest.results("-n", "2", "--ignore=below", f"--basetemp={room}/workers"), RESULTS)
+    if driver.start(python, ["-c", "import xdist"])[0]:
+        print(f"no tests run in two processes: {python} has no pytest-xdist")
+        return
+    yield differs("results of two processes", pytest.results("-n", "2", "--ignore=below", f"--basetemp={room}/workers"), RESULTS)
+
+
+def marks(python, room):
+    """Tags are marks: registered, and chosen by -m. Those of pytest mean there what they mean to pytest."""
+    pytest = Pytest(python, os.path.join(room, "tagged"), TAGGED)
+    yield differs("results with tags", pytest.results(), {"bad": "skipped", "one": "passed", "two": "passed", "rows -- @1.1": "passed",
+                                                         "rows -- @2.1": "passed", "left out": "skipped"})
+    for words, wanted in MARKED.items():
+        yield differs(f"tests by -m {words}", list(pytest.results("-m", words)), wanted)
 
 
 def faults(python, room):
@@ -289,10 +312,9 @@ def hooks(python, room):
 
 
 def memory(python, room):
-    """What is said if memory runs out: in a step, or in Python."""
+    """What is said if memory runs out in Python."""
     pytest = Pytest(python, os.path.join(room, "short"), {**SUITE, "conftest.py": SHORT})
-    yield from lacks("a step without memory", pytest("bad.feature")[1], SHORT_FAILURE)
-    yield from lacks("a run without memory", pytest("good.feature")[1], "\nconftest.py:9: MemoryError\n", "\nFAILED good.feature::one - MemoryError\n")
+    yield from lacks("a run without memory", pytest("good.feature")[1], "\nconftest.py:7: MemoryError\n", "\nFAILED good.feature::one - MemoryError\n")
     pytest = Pytest(python, os.path.join(room, "none"), {**SUITE, "conftest.py": SHORT_COLLECTION})
     yield from lacks("a collection without memory", pytest("good.feature")[1], "\nE   MemoryError\n", "\nERROR good.feature - MemoryError\n")
 
@@ -322,13 +344,15 @@ def settings(python, room):
 
 
 def costs(python, room):
-    """Each file is read once, and runs once beside its dry run, with the chosen lines only."""
+    """Each file is read once. It runs once for each tag, dry, and once with the chosen lines only; what failed is explained."""
     files = {**SUITE, "own.hooks": "", "pytest.ini": f"{SUITE['pytest.ini']}gherkin_hooks = own.hooks\n", "conftest.py": COUNTING}
     pytest = Pytest(python, os.path.join(room, "counted"), files)
-    for words, wanted in [([], "calls ['dry', 'dry', 'dry', 3, 3, 1] opened 5"), (["-k", "one or row"], "calls ['dry', 'dry', 'dry', 3] opened 5"),
-                          (["-k", "one"], "calls ['dry', 'dry', 'dry', 1] opened 5"),
-                          (["good.feature::one"], "calls ['dry', 1] opened 3"), (["--collect-only"], "calls ['dry', 'dry', 'dry'] opened 5")]:
-        yield from lacks(f"pytest {words}", pytest(*words)[1], wanted)
+    dry = ["dry-run"] * 3
+    for words, wanted, opened in [([], [*dry, 3, *["explain"] * 3, 3, 1, "explain"], 5), (["-k", "one or row"], [*dry, 3], 5), (["-k", "one"], [*dry, 1], 5),
+                                  (["good.feature::one"], ["dry-run", 1], 3), (["--collect-only"], dry, 5)]:
+        yield from lacks(f"pytest {words}", pytest(*words)[1], f"calls {wanted} opened {opened}")
+    pytest = Pytest(python, os.path.join(room, "tags"), {**TAGGED, "conftest.py": COUNTING})
+    yield from lacks("pytest of tags", pytest("other.feature", "--collect-only")[1], f"calls {dry} opened 1")
 
 
 def late(python, room):
@@ -336,6 +360,24 @@ def late(python, room):
     pytest = Pytest(python, os.path.join(room, "late"), {**SUITE, "conftest.py": LATE})
     for name, wanted in (("good.feature", ["passed"] * 3), ("bad.feature", ["failure", "skipped", "failure"])):
         yield differs(f"results of {name}", list(pytest.results(name).values()), wanted)
+
+
+def worlds(python, room):
+    """The fixture `gherkin_world` of a conftest.py gives what steps find. Scenarios that share a world run together, after the first."""
+    files = {it: driver.read(os.path.join(driver.EXAMPLES, "pytest", it)) for it in os.listdir(os.path.join(driver.EXAMPLES, "pytest"))
+             if not it.startswith("__")}
+    example = Pytest(python, os.path.join(room, "example"), files)
+    yield differs("results of examples/pytest", example.results(), {"Prices are added": "passed", "A line without a price is named": "passed"})
+    wrong = Pytest(python, os.path.join(room, "wrong"), {**files, "breakfast.txt": "bread 180\n"})
+    yield from lacks("a wrong program", wrong()[1], 'bill.feature:4: Then the file "out" should be: ... failed: differs\n      expected "total 5.05"\n',
+                     '      found    "total 1.80"\n')
+    for scope, wanted in (("function", ["dry-run", 1, 1, 1, "explain"]), ("session", ["dry-run", 1, 3, "explain"])):
+        made = {"world.feature": WORLD_FEATURE, "pytest.ini": SETTINGS, "conftest.py": COUNTING + WORLDS % scope}
+        pytest = Pytest(python, os.path.join(room, f"worlds_of_{scope}"), made)
+        yield from lacks(f"worlds of a {scope}", pytest()[1], f"calls {wanted} opened 1", "2 passed", "1 failed")
+    broken = Pytest(python, os.path.join(room, "broken"), {**files, "bill.py": "", "breakfast.txt": "", "conftest.py": BROKEN_WORLDS})
+    yield differs("results of a broken fixture", broken.results(), {"Prices are added": "error", "A line without a price is named": "failure"})
+    yield from lacks("a broken fixture", broken()[1], "ZeroDivisionError", "out: not UTF-8")
 
 
 def controls(python, room):
@@ -347,36 +389,25 @@ def controls(python, room):
     yield differs("control characters", found, set())
     yield differs("lines that are commands", [it for it in text.split("\n") if it.startswith("::")], [])
     shown = rf"a{SHOWN}\t\rb"
-    yield from lacks("escapes", text, rf"evil.feature::{shown} -- @1.2 FAILED", rf"    Given it fails {shown} ... undefined",
+    yield from lacks("escapes", text, rf"evil.feature::{shown} -- @1.2 FAILED", rf"Given it fails {shown} ... undefined",
                      r"evil.feature::x\n: :error: :pwned -- @1.1 FAILED", r"Outline: x\n::error::pwned -- @1.1 ... failed",
                      r"\n: :error: :fault\u{1b}.feature:2: unexpected line", r"SKIPPED [1] \n: :error: :evil\u{1b}[1m.feature:2: ", r"evil\u{dcff}.feature::bytes",
-                     "\nevil\\u{dcff}.feature:3: failed: fail step\n", "\n: :error: :plain.feature:2: unexpected line\n")
+                     "\n  evil\\u{dcff}.feature:3: Given it fails ... failed: fail step\n", "\n: :error: :plain.feature:2: unexpected line\n")
 
 
 def installed(python, room):
-    """A wheel has the whole package, and pytest finds the plugin of an installed one."""
-    build = "from setuptools import build_meta; import wheel; build_meta.build_wheel(\"..\")"
-    if driver.start(python, ["-c", "import setuptools, wheel"])[0]:
-        print(f"no wheel is built: {python} has no setuptools or no wheel")
-        return
-    shutil.copytree(os.path.join(driver.HOME, "python"), os.path.join(room, "wheel", "python"))
-    status, _, stderr = driver.start(python, ["-c", build], os.path.join(room, "wheel", "python"))
-    found = [it for it in os.listdir(os.path.join(room, "wheel")) if it.endswith(".whl")]
-    yield differs(f"wheels, after {stderr.decode()}", (status, found), (0, [f"gherkin_run-{gherkin_run.__version__}-py3-none-any.whl"]))
-    site = os.path.join(room, "wheel", "site")
-    shutil.unpack_archive(os.path.join(room, "wheel", found[0]), site, "zip")
-    files = sorted(os.listdir(os.path.join(driver.HOME, "python", "gherkin_run")))
-    yield differs("files of the wheel", sorted(os.listdir(os.path.join(site, "gherkin_run"))), [it for it in files if it != "__pycache__"])
-    said = driver.read(os.path.join(site, f"gherkin_run-{gherkin_run.__version__}.dist-info", "METADATA")).decode()
-    yield from lacks("what the wheel asks for", said, "\nRequires-Python: >=3.9\n", "\nProvides-Extra: pytest\n")
+    """pytest finds the plugin of an unpacked wheel."""
+    site = os.path.join(room, "site")
+    os.makedirs(site)
+    wheel = driver.start(python, [os.path.join(driver.HOME, "python", "make_wheel.py"), room])[1].decode().strip()
+    shutil.unpack_archive(wheel, site, "zip")
     pytest = Pytest(python, os.path.join(room, "installed"), SUITE)
-    path = {"PYTHONPATH": site}
-    status, stdout, _ = driver.start(python, ["-m", "pytest", "-q", "good.feature"], pytest.folder, {**os.environ, **path})
+    status, stdout, _ = driver.start(python, ["-m", "pytest", "-q", "good.feature"], pytest.folder, {**os.environ, "PYTHONPATH": site})
     yield differs("the installed plugin", (status, b"3 passed" in stdout), (0, True))
 
 
 def together(python):
-    """Scenarios that run together have the outcomes that they have alone."""
+    """Scenarios that run together have the statuses that they have alone."""
     status, stdout, stderr = driver.start(python, [__file__, "alone"], patience=300)
     *troubles, count = stdout.decode().splitlines() or ["0"]
     yield from troubles
@@ -395,36 +426,21 @@ def made_suite(seed):
     return {kind: gherkin_run.Source(kind, text) for kind, text in files.items()}
 
 
-def chosen_outcomes(files, chance):
-    """Returns the outcomes of some scenarios that run together."""
-    def outcomes(**options):
-        return pytest_plugin.outcomes(gherkin_run.run(**files, **options, format="json").data)
-
-    lines = [it.scenario["line"] for it in outcomes(dry_run=True) if chance.random() < 0.8]
-    return [it for it in outcomes(lines=lines) if it.scenario["line"] in lines]
-
-
-def printed(outcome):
-    """Returns the lines of an outcome in a report without what is skipped."""
-    head, *lines = outcome.lines()
-    if outcome.scenario["status"] == "skipped":
-        lines = [it for it in lines if not it.startswith(("  Scenario", "    "))]
-    return lines if head.endswith(" ... skipped") else [head, *lines]
-
-
 def compared():
-    """Prints a trouble for each scenario whose outcome isn't the one that it has alone, and then the number of scenarios."""
+    """Prints a trouble for each scenario whose status isn't the one that it has alone, and then the number of scenarios."""
     chance, verdicts = random.Random(11), collections.Counter()
     for seed in range(SUITES):
         files = made_suite(seed)
-        for outcome in chosen_outcomes(files, chance):
-            line = outcome.scenario["line"]
-            alone = gherkin_run.run(**files, lines=[line], no_skipped=True)
-            wanted = alone.passed, [it for it in alone.text.split("\n")[:-4] if it]
-            found = outcome.verdict() in ("passed", "skipped"), printed(outcome)
-            if found != wanted:
-                print(f"suite {seed}, line {line}: {found}, and alone {wanted}")
-            verdicts[outcome.scenario["status"], outcome.verdict()] += 1
+        options = {**files, "format": "json", "no_skipped": True}
+        lines = [it["line"] for it in pytest_plugin.scenarios_of(gherkin_run.run(**options, dry_run=True).data) if chance.random() < 0.8]
+        for line, found in pytest_plugin.statuses(gherkin_run.run(**options, line=lines).data, lines).items() if lines else ():
+            alone = gherkin_run.run(**options, line=line)
+            wanted = [it["status"] for it in pytest_plugin.scenarios_of(alone.data)] or ["skipped"]
+            if wanted != [found.replace("unclear", "passed")] or (found in ("failed", "untested") and alone.passed) or (found == "passed" and not alone.passed):
+                print(f"suite {seed}, line {line}: {found}, and alone {wanted} with {alone.status}")
+            if alone.passed != gherkin_run.explain(**files, line=line).passed:
+                print(f"suite {seed}, line {line}: another status explained")
+            verdicts[found, alone.status] += 1
     if any(verdicts[it] < count for it, count in FEWEST.items()):
         print(f"only these verdicts: {verdicts}")
     print(sum(verdicts.values()))
@@ -437,7 +453,7 @@ def tests(room):
         print("the pytest plugin isn't tested: there is no python3 with pytest")
         return
     folder = os.path.join(room, "pytest")
-    for part in (suite, faults, hooks, memory, sessions, settings, costs, late, controls, installed):
+    for part in (suite, marks, faults, hooks, memory, sessions, settings, costs, late, worlds, controls, installed):
         yield from part(python, folder)
     yield from together(python)
 

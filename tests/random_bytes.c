@@ -3,11 +3,15 @@
  * Linked with --wrap=malloc, --wrap=realloc and --wrap=free, so that a block that is left is seen. Closes with one line
  * 'N passed, M failed'; a call is one test. The bytes of a call that fails are printed. */
 #include "gherkin_run.h"
+#include <stdbool.h>
 #include <stdio.h>
 #include <stdlib.h>
 #include <string.h>
 
 enum { LARGEST = 1 << 16, MOST_PIECES = 24, EDGE = 16 };
+
+/* What the random bytes are. */
+enum { SOURCE, HOOKS, LIBRARY };
 
 void *__real_malloc(size_t size);
 void *__real_realloc(void *place, size_t size);
@@ -49,7 +53,7 @@ static size_t below(size_t bound) {
     return (size_t)((state * 0x2545F4914F6CDD1Dull) >> 33) % bound;
 }
 
-static uint8_t made[LARGEST], room[LARGEST + EDGE], again[LARGEST + EDGE];
+static uint8_t made[LARGEST], room[LARGEST + EDGE], errors[LARGEST + EDGE], again[LARGEST + EDGE], errors_again[LARGEST + EDGE];
 static size_t made_length;
 
 static void add(const char *piece) {
@@ -64,7 +68,7 @@ static void make(uint8_t input) {
         for (size_t left = below(200); left > 0; left--) made[made_length++] = (uint8_t)below(256);
         return;
     }
-    if (below(2)) add(input == GHERKIN_SOURCE ? "Feature: f\nScenario: s\n" : input == GHERKIN_HOOKS ? "before_all:\n" : "step x => pass\n");
+    if (below(2)) add(input == SOURCE ? "Feature: f\nScenario: s\n" : input == HOOKS ? "before_all:\n" : "step x => pass\n");
     for (size_t left = 1 + below(1 + below(MOST_PIECES)); left > 0; left--) {
         add(pieces[below(PIECES)]);
         if (below(2)) add("\n");
@@ -108,26 +112,64 @@ static bool ends_with(const uint8_t *text, size_t length, const char *end) {
     return length >= size && memcmp(text + length - size, end, size) == 0;
 }
 
+static gherkin_text text_of(const char *text) {
+    gherkin_text named = {(const uint8_t *)text, strlen(text)};
+    return named;
+}
+
+static gherkin_text arguments[5];
+static size_t argument_count;
+static gherkin_file files[2];
+
+static void call(uint8_t *out, uint8_t *told, size_t size, gherkin_answer *answer) {
+    gherkin_run(arguments, argument_count, files, 2, out, size, told, size, answer);
+}
+
 /* A report, or a fault of the file that was made, at a line of it; bytes that aren't UTF-8 are that fault, at their line. */
-static bool is_well(const gherkin_answer *answer, uint8_t input) {
+static bool is_well(const gherkin_answer *answer) {
     uint32_t bad = bad_line();
-    if (answer->length > LARGEST) return false;
-    if (answer->has_report)
-        return bad == 0 && answer->status <= 1 && answer->input == GHERKIN_NO_INPUT && answer->line == 0 && room[answer->length - 1] == '\n';
-    if (answer->status != 3 || answer->input != input || answer->line == 0 || answer->line > line_count()) return false;
-    bool says_bad = ends_with(room, answer->length, ": not UTF-8");
+    if (answer->out_length > LARGEST || answer->errors_length > LARGEST) return false;
+    if (answer->errors_length == 0)
+        return bad == 0 && answer->status <= 1 && answer->name_length == 0 && answer->line == 0 && room[answer->out_length - 1] == '\n';
+    if (answer->status != 3 || answer->out_length != 0 || answer->line == 0 || answer->line > line_count()) return false;
+    if (answer->name_length != 4 || memcmp(errors + GHERKIN_NAME_AT, "made", 4) != 0) return false;
+    bool says_bad = ends_with(errors, answer->errors_length, ": not UTF-8\n");
     return says_bad == (bad != 0) && (bad == 0 || answer->line == bad);
 }
 
-/* The same call with another room writes the beginning of the same text, and neither writes after its text. */
-static bool is_same(const gherkin_call *call, const gherkin_answer *answer) {
-    gherkin_answer other;
-    size_t size = below(answer->length + 2), count = size < answer->length ? size : answer->length;
-    memset(again, 0xAA, size + EDGE);
-    gherkin_run(call, again, size, &other);
+/* Whether this room has the beginning of the same text as the other, and nothing is written after either text. */
+static bool is_beginning(const uint8_t *begun, size_t size, const uint8_t *text, size_t length) {
     for (size_t place = 0; place < EDGE; place++)
-        if (again[size + place] != 0xAA || room[answer->length + place] != 0xAA) return false;
-    return other.length == answer->length && other.status == answer->status && other.line == answer->line && memcmp(room, again, count) == 0;
+        if (begun[size + place] != 0xAA || text[length + place] != 0xAA) return false;
+    return memcmp(begun, text, size < length ? size : length) == 0;
+}
+
+/* The same call with other rooms writes the beginning of the same texts. */
+static bool is_same(const gherkin_answer *answer) {
+    gherkin_answer other;
+    size_t size = below(answer->out_length + answer->errors_length + 2);
+    memset(again, 0xAA, size + EDGE), memset(errors_again, 0xAA, size + EDGE);
+    call(again, errors_again, size, &other);
+    bool same = other.out_length == answer->out_length && other.errors_length == answer->errors_length;
+    same = same && other.name_length == answer->name_length && other.line == answer->line && other.status == answer->status;
+    return same && is_beginning(again, size, room, answer->out_length) &&
+           is_beginning(errors_again, size, errors, answer->errors_length);
+}
+
+/* Clears what a call wrote. */
+static void clear(uint8_t *place, size_t length) {
+    memset(place, 0xAA, length < LARGEST ? length : LARGEST);
+}
+
+/* Asks for a run in which the file that was made is the feature file, the hooks file or the library. */
+static void ask(uint8_t input) {
+    static const char *const formats[] = {"--format=plain", "--format=progress", "--format=json"};
+    argument_count = 0;
+    arguments[argument_count++] = text_of(input == SOURCE ? "made" : "other");
+    if (input != SOURCE) arguments[argument_count++] = text_of(input == HOOKS ? "--hooks=made" : "--library=made");
+    arguments[argument_count++] = text_of(formats[below(3)]);
+    if (below(8) == 0) arguments[argument_count++] = text_of("--dry-run");
+    if (below(8) == 0) arguments[argument_count++] = text_of("--stop");
 }
 
 static void show(uint8_t input) {
@@ -139,24 +181,20 @@ static void show(uint8_t input) {
 int main(int count, char **words) {
     static const char feature[] = "@t\nFeature: f\n  Rule: r\n    Scenario: s\n      Given it passes\n      Then x\n";
     long calls = count == 3 ? atol(words[2]) : 0, failed = 0;
-    gherkin_named file = GHERKIN_NO_FILE, other = {GHERKIN_NO_TEXT, {(const uint8_t *)feature, sizeof feature - 1}};
     state = 0x9E3779B97F4A7C15ull ^ (uint64_t)(count == 3 ? atol(words[1]) : 0);
-    file.bytes.bytes = made;
-    memset(room, 0xAA, sizeof room);
+    files[0].name = text_of("made"), files[0].bytes.bytes = made;
+    files[1].name = text_of("other"), files[1].bytes = text_of(feature);
+    memset(room, 0xAA, sizeof room), memset(errors, 0xAA, sizeof errors);
     for (long number = 0; number < calls; number++) {
-        gherkin_call call = GHERKIN_CALL;
         gherkin_answer answer;
-        uint8_t input = number % 3 == 0 ? GHERKIN_SOURCE : number % 3 == 1 ? GHERKIN_HOOKS : GHERKIN_LIBRARY;
+        uint8_t input = (uint8_t)(number % 3);
         make(input);
-        file.bytes.length = made_length;
-        call.sources = input == GHERKIN_SOURCE ? &file : &other, call.source_count = 1;
-        if (input == GHERKIN_HOOKS) call.hooks = file, call.has_hooks = true;
-        if (input == GHERKIN_LIBRARY) call.library = file, call.has_library = true;
-        call.format = (uint8_t)below(3), call.dry_run = below(8) == 0, call.stop = below(8) == 0;
+        files[0].bytes.length = made_length;
+        ask(input);
         blocks = 0;
-        gherkin_run(&call, room, LARGEST, &answer);
-        bool holds = is_well(&answer, input) && is_same(&call, &answer) && blocks == 0;
-        memset(room, 0xAA, answer.length < LARGEST ? answer.length : LARGEST);
+        call(room, errors, LARGEST, &answer);
+        bool holds = is_well(&answer) && is_same(&answer) && blocks == 0;
+        clear(room, answer.out_length), clear(errors, answer.errors_length);
         failed += !holds;
         if (!holds) show(input);
     }

@@ -1,17 +1,19 @@
-#!/usr/bin/env python3
-"""Compares random changes with plain maps: random_changes.py PROGRAM ROOM [OPTIONS].
+"""Compares random changes of files, variables and values with plain maps.
 
-Called by tests/random_changes.sh, which says what is compared.
+After each change in a scenario every name is checked against maps that a few lines of Python keep, and the report has
+to be the one that these maps give. Other cases change some 40 names in the layers of the run, a feature, a rule and a
+scenario; after the end of each layer all is as before. Then the same with a random growth of memory refused: a run has
+to end in one of the three ways of test_refused_memory.py.
 """
 
 import collections
 import random
-import sys
 
 import driver
 import search
 from generator import BAD_NAME, BUILT_IN, LONG_TEXTS, NAMES
-from reports import FORMATS, PLAIN, Ample, Feature, Report, Scenario, verdict
+from reports import PLAIN, Ample, Feature, Report, Scenario, verdict
+from tables import FORMATS
 
 COUNT = 132  # cases
 LAYERED = 11  # each case of so many changes four layers
@@ -24,7 +26,7 @@ BETWEEN_CHECKS = 20  # changes
 MANY_NAMES = [*NAMES, *(f"name {number}" for number in range(40 - len(NAMES)))]
 OUTSIDE = {"a": "from outside", "name 0": "0", "name 39": "x=y", "left": "alone"}
 PUTS = {"write_file": "files", "write_block": "files", "set_env": "env", "set_value": "values"}
-TAKES = {"remove_file": "files", "unset_env": "env", "delete_value": "values"}
+TAKES = {"remove_file": "files", "remove_env": "env", "delete_value": "values"}
 ACTIONS = ["write_file", "set_env", "set_value", *PUTS, *TAKES, "append_file", "rename_file", "write_files", "add_number"]
 
 # A change: what is done, the name, and the text, the other name, the number or the rows that it takes.
@@ -126,7 +128,7 @@ def random_change(chance, world):
         rows = [(chance.choice([*names, *names[:2]] + [BAD_NAME] * (chance.random() < 0.1)), chance.choice(LONG_TEXTS))
                 for _ in range(chance.randrange(4))]
         return Change(action, "", rows)
-    maps = world.env if action == "unset_env" else world.values if action in ("delete_value", "add_number") else world.files
+    maps = world.env if action == "remove_env" else world.values if action in ("delete_value", "add_number") else world.files
     may_exist = action not in PUTS and maps and chance.random() < 0.97
     name = chance.choice(sorted(maps) if may_exist else names)
     if action == "rename_file":
@@ -323,5 +325,4 @@ def troubles(case, runs):
         yield "" if ample.ending(ended) else f"{name}, growth {number} refused: {ended[0]}, {ended[2]}"
 
 
-if __name__ == "__main__":
-    sys.exit(search.main(search.Tester(keys, case, troubles), sys.argv[1:]))
+TESTER = search.Tester(keys, case, troubles)

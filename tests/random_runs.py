@@ -1,13 +1,23 @@
-#!/usr/bin/env python3
-"""Makes random suites and compares runs of them with each other: random_runs.py PROGRAM ROOM [OPTIONS].
+"""Makes random suites and compares runs of them with each other.
 
-Called by tests/random_runs.sh, which says what is compared.
+A suite has some feature files, with tags, backgrounds, rules and outlines, and maybe hooks of all kinds, a library, a
+variable and a choice by tags. Nothing but the program says what has to come out:
+
+- a scenario has the same rows alone, chosen by its line, as in the suite, and so have the hooks of its rule, its
+  feature and the run;
+- the scenarios and the rules of a file in another order have the same rows;
+- the rules of a feature have the rows of features, if each hook is moved out by one section;
+- a run over several files has the rows, counts and status of the runs over each of them;
+- a dry run calls undefined what the run does, and nothing that the run carried out;
+- a run that stops has the rows of the whole run up to the first failure, and after it none;
+- texts of tags choose the scenarios of whose tags they hold;
+- an explanation has the headings, steps, statuses and counts of what failed in the report;
+- the formats say the same, with --no-skipped and without, and each counts its own rows.
 """
 
 import json
 import random
 import re
-import sys
 
 import search
 from generator import LIBRARY, TAGS, Maker, Part, Scenario, first_given, text_of, text_of_hooks  # LIBRARY for plugin.py
@@ -421,5 +431,4 @@ def troubles(suite, runs):
         yield next(Comparison(suite, runs).differences(), "")
 
 
-if __name__ == "__main__":
-    sys.exit(search.main(search.Tester(keys, case, troubles), sys.argv[1:]))
+TESTER = search.Tester(keys, case, troubles)

@@ -1,8 +1,8 @@
 #!/usr/bin/env python3
 """Runs ./release in a copy of the repository. Called by tests/release.sh.
 
-A stand-in for the toolchain builds a program and a library in a moment. Whatever fails, dist/, python/ and web/ have to
-be either as they were or as a whole release makes them, with nothing left in out/ or TMPDIR; one line says why.
+A stand-in for the toolchain builds a program and the libraries in a moment. Whatever fails, dist/ and web/ have to be
+either as they were or as a whole release makes them, with nothing left in out/ or TMPDIR; one line says why.
 """
 
 import glob
@@ -16,7 +16,8 @@ import tempfile
 from install import STEP, make_steps, write
 from ready import COMMANDS, Clone
 
-RELEASED = ("dist", "python", "web")
+RELEASED = ("dist", "web")
+WHEEL = "dist/gherkin_run-0-py3-none-manylinux_2_34_x86_64.whl"
 RATTLE = """#!/bin/sh
 echo "rattle $*" >> "$CALLS.toolchain"
 [ -z "${LIBRARY_FAILS:-}" ] || exit 1
@@ -34,6 +35,12 @@ while [ "$1" != -o ]; do
     shift
 done
 echo a new library > "$2"
+"""
+LIBRARIAN = """#!/bin/sh
+[ -z "${LIBRARIAN_FAILS:-}" ] || exit 1
+read -r _ out
+echo a new archive > "$out"
+while read -r _; do :; done
 """
 # The commands that ./release and what it calls change files with, and those that read.
 CHANGING = ["chmod", "cp", "ln", "mkdir", "mktemp", "mv", "rm"]
@@ -80,6 +87,7 @@ class Released:
         write(kit, "bin/rattle", RATTLE, 0o755)
         write(kit, "toolchain/bin/clang", "#!/bin/sh\n", 0o755)
         write(kit, "toolchain/bin/ld.lld", LINKER, 0o755)
+        write(kit, "toolchain/bin/llvm-ar", LIBRARIAN, 0o755)
         os.rename(os.path.join(commands, "rt"), os.path.join(kit, "bin/rt"))
         os.symlink(os.path.join(kit, "bin/rt"), os.path.join(commands, "rt"))
         return commands
@@ -89,7 +97,7 @@ class Released:
         return os.path.join(self.clone.room, "new", name)
 
     def state(self):
-        """The files of the three folders, with their permissions."""
+        """The files of both folders, with their permissions."""
         found = {}
         for name in RELEASED:
             for at, folders, names in os.walk(self.clone.path(name)):
@@ -101,7 +109,7 @@ class Released:
         return found
 
     def put_back(self):
-        """Makes the three folders as they were before the first release."""
+        """Makes both folders as they were before the first release."""
         for name in RELEASED:
             shutil.rmtree(self.clone.path(name), ignore_errors=True)
             shutil.copytree(os.path.join(self.kept, name), self.clone.path(name))
@@ -137,7 +145,7 @@ def a_release_renews_everything(released):
     # Without wasm-opt, the module and what it was made with stay.
     return (status, said, sums) == (0, "", [0, 0]) and set(released.after) == set(released.before) and changed == {
         "dist/gherkin_run", "dist/gherkin_run.sha256", "dist/gherkin_run.kit", "dist/gherkin_run.sources",
-        "python/gherkin_run/libgherkin_run.so", "web/try.html", "web/made.sha256"}
+        "dist/libgherkin_run.so", "dist/libgherkin_run.a", WHEEL, "web/try.html", "web/made.sha256"}
 
 
 def a_link_releases_the_same(released):
@@ -152,11 +160,12 @@ def a_link_releases_the_same(released):
 def what_is_released_is_new(released):
     after = {name: text for name, (_, text) in released.after.items()}
     return after["dist/gherkin_run"].endswith(b"echo built here\n") and b"another page" in after["web/try.html"] and (
-        after["python/gherkin_run/libgherkin_run.so"] == b"a new library\n")
+        after["dist/libgherkin_run.so"] == b"a new library\n" and after["dist/libgherkin_run.a"] == b"a new archive\n") and (
+        b"echo built here\n" in after[WHEEL] and b"a new library\n" in after[WHEEL])
 
 
 def it_names_the_sum_and_the_kit(released):
-    after = {name: text.decode() for name, (_, text) in released.after.items() if name.startswith("dist/gherkin_run.")}
+    after = {name: released.after[name][1].decode() for name in ("dist/gherkin_run.sha256", "dist/gherkin_run.kit")}
     sums, kit = after["dist/gherkin_run.sha256"].split()[0], after["dist/gherkin_run.kit"].strip()
     return released.first_printed.splitlines()[-1] == f"dist/gherkin_run: {sums}, built with {kit}"
 
@@ -177,8 +186,7 @@ def anybody_may_read_it(released):
     released.run(umask=0o077)
     modes = {name: mode for name, (mode, _) in released.state().items()}
     released.put_back()
-    programs = ("dist/gherkin_run", "python/gherkin_run/libgherkin_run.so")
-    return all(mode[1:] in ("rwxr-xr-x", "rw-r--r--") for mode in modes.values()) and modes[programs[0]] == "-rwxr-xr-x"
+    return all(mode[1:] in ("rwxr-xr-x", "rw-r--r--") for mode in modes.values()) and modes["dist/gherkin_run"] == "-rwxr-xr-x"
 
 
 def a_library_that_is_not_proved_changes_nothing(released):
@@ -186,17 +194,30 @@ def a_library_that_is_not_proved_changes_nothing(released):
 
 
 def a_linker_that_fails_changes_nothing(released):
-    return released.is_as_before("the library for Python can't be made", LINKER_FAILS="1")
+    return released.is_as_before("the library can't be built", LINKER_FAILS="1")
+
+
+def an_archive_that_cannot_be_made_changes_nothing(released):
+    return released.is_as_before("the library can't be built", LIBRARIAN_FAILS="1")
+
+
+def is_as_before_without(released, name, words):
+    """Whether ./release changes nothing when a file that it needs is missing."""
+    path = released.clone.path(name)
+    os.rename(path, f"{path}.away")
+    released.before = released.state()
+    is_right = released.is_as_before(words)
+    os.rename(f"{path}.away", path)
+    released.before = released.state()
+    return is_right
+
+
+def a_wheel_that_cannot_be_made_changes_nothing(released):
+    return is_as_before_without(released, "python/make_wheel.py", "the wheel can't be made")
 
 
 def a_page_that_cannot_be_made_changes_nothing(released):
-    page = released.clone.path("web/build/make_page.py")
-    os.rename(page, f"{page}.away")
-    released.before = released.state()
-    is_right = released.is_as_before("the page can't be made")
-    os.rename(f"{page}.away", page)
-    released.before = released.state()
-    return is_right
+    return is_as_before_without(released, "web/build/make_page.py", "the page can't be made")
 
 
 def other_sources_change_nothing(released):
@@ -261,9 +282,8 @@ def what_was_missing_stays_missing(released):
     """A release makes the files that are missing. If it fails at one of the last steps it leaves none of them."""
     wrong = []
     whole = {name: it for name, it in released.after.items() if name != "dist/README.md"}
-    for at in (0, *range(released.first[2] - 17, released.first[2] - 4)):
+    for at in (0, *range(released.first[2] - 19, released.first[2] - 4)):
         shutil.rmtree(released.clone.path("dist"))
-        os.remove(released.clone.path("python/gherkin_run/libgherkin_run.so"))
         before = released.state()
         status = released.run(at=at)[0]
         if released.state() != (before if status else whole) or (status and not at):
@@ -278,7 +298,7 @@ def files_that_are_put_back_keep_their_times(released):
         return {it: os.stat(released.clone.path(it)).st_mtime_ns for it in released.before}
 
     before, wrong = times(), []
-    for at in range(released.first[2] - 12, released.first[2] - 4):
+    for at in range(released.first[2] - 14, released.first[2] - 4):
         status = released.run(at=at)[0]
         if status and times() != before:
             wrong.append(at)
@@ -288,7 +308,8 @@ def files_that_are_put_back_keep_their_times(released):
 
 TESTS = [
     a_release_renews_everything, a_link_releases_the_same, what_is_released_is_new, it_names_the_sum_and_the_kit, with_wasm_opt_the_module_is_renewed, anybody_may_read_it, a_library_that_is_not_proved_changes_nothing,
-    a_linker_that_fails_changes_nothing, a_page_that_cannot_be_made_changes_nothing, other_sources_change_nothing,
+    a_linker_that_fails_changes_nothing, an_archive_that_cannot_be_made_changes_nothing, a_wheel_that_cannot_be_made_changes_nothing,
+    a_page_that_cannot_be_made_changes_nothing, other_sources_change_nothing,
     another_program_changes_nothing, no_program_changes_nothing, a_failure_at_any_step_changes_nothing,
     an_end_at_any_step_changes_nothing, files_that_are_put_back_keep_their_times, what_was_missing_stays_missing,
 ]

@@ -1,15 +1,20 @@
-"""What the random testers share: their options, the runs of a case, and the smallest case that fails.
+#!/usr/bin/env python3
+"""What the random testers share: the runs of a case, and the smallest case that fails, as commands of a shell.
 
-A case that fails is made smaller as long as it still fails, and printed as commands of a shell.
+tests/search.py TESTER [--seed N] [--count N] [--seconds N] tries cases of random_runs, random_changes or hostile_bytes.
+GHERKIN_RUN of the environment is the program, or without it the one that ./run runs.
 """
 
 import argparse
 import collections
 import concurrent.futures
+import importlib
 import itertools
 import os
 import shlex
 import shutil
+import sys
+import tempfile
 import time
 
 import driver
@@ -59,7 +64,8 @@ def without(items, fails):
 
 
 def shrunk(value, fails):
-    """A value without the parts that it doesn't need to fail. Parts are items of a list or a dict, and fields, outside in."""
+    """A value without the parts that it doesn't need to fail. Parts are items of a list or a dict, and fields, outside
+    in."""
     if isinstance(value, dict):
         value = {it: value[it] for it in without(list(value), lambda names: fails({it: value[it] for it in names}))}
         for name in value:
@@ -163,22 +169,19 @@ class Search:
         shutil.rmtree(runs.folder, ignore_errors=True)
         return next(filter(None, self.troubles(case, runs)), ""), runs
 
+    def fails(self, case):
+        """Whether something is wrong with a case."""
+        return self.first_trouble(case)[0] != ""
+
+    def smallest_case(self, key):
+        """The smallest case that fails and is a part of that of a key."""
+        return smallest(self.tester.case(key), self.fails)
+
     def smallest_failure(self, key):
-        """What is wrong with the smallest case that fails and is a part of that of a key, with its files and commands."""
-        case = smallest(self.tester.case(key), lambda less: self.first_trouble(less)[0])
+        """What is wrong with that case, with its files and commands."""
+        case = self.smallest_case(key)
         found, runs = self.first_trouble(case)
         return f"case {key}, made as small as it fails: {found}\n{as_shell(runs.folder, runs.commands)}"
-
-
-def options_of(words):
-    """The options of a random tester."""
-    parser = argparse.ArgumentParser()
-    parser.add_argument("program")
-    parser.add_argument("room")
-    parser.add_argument("--seed", type=int, default=1, help="the seed of the first case (default: 1)")
-    parser.add_argument("--count", type=int, help="how many cases")
-    parser.add_argument("--seconds", type=float, help="how long to make cases")
-    return parser.parse_args(words)
 
 
 def seeds(options, count):
@@ -188,18 +191,37 @@ def seeds(options, count):
     return range(options.seed, options.seed + (count if options.count is None else options.count))
 
 
-def main(tester, words):
-    """Tries the cases of a tester, and prints the failures and the counts."""
-    options = options_of(words)
+def parser():
+    """The reader of the options."""
+    options = argparse.ArgumentParser()
+    options.add_argument("--seed", type=int, default=1, help="the seed of the first case (default: 1)")
+    options.add_argument("--count", type=int, help="how many cases")
+    options.add_argument("--seconds", type=float, help="how long to make cases")
+    return options
+
+
+def tried(tester, room, options):
+    """For each test of the cases of a tester what is wrong, or nothing. Of the first few failures that is the
+    smallest."""
     end = time.monotonic() + (options.seconds or float("inf"))
-    search, tests = Search(tester, options.program, options.room, end), driver.Tests(most_shown=0)
-    runs, failed = 0, []
-    print(f"seed {options.seed}", flush=True)
-    for key, troubles, count in search.all_tried(iter(tester.keys(options))):
-        tests.add_all(troubles)
-        runs += count
+    search, failed = Search(tester, driver.program(), room, end), 0
+    for key, troubles, _ in search.all_tried(iter(tester.keys(options))):
         if any(troubles):
-            failed.append(key)
-            print(search.smallest_failure(key) if len(failed) <= SHRUNK else f"case {key} fails, too", flush=True)
-    print(f"{runs} runs")
+            failed += 1
+            troubles[troubles.index(next(filter(None, troubles)))] = (
+                search.smallest_failure(key) if failed <= SHRUNK else f"case {key} fails, too")
+        yield from troubles
+
+
+def main():
+    options = parser()
+    options.add_argument("tester", choices=("random_runs", "random_changes", "hostile_bytes"))
+    options, tests = options.parse_args(), driver.Tests()
+    with tempfile.TemporaryDirectory() as room:
+        driver.build_shim(room)
+        tests.add_all(tried(importlib.import_module(options.tester).TESTER, room, options))
     return tests.close()
+
+
+if __name__ == "__main__":
+    sys.exit(main())

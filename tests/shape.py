@@ -1,16 +1,15 @@
 #!/usr/bin/env python3
-"""Holds the shape of the crates against stored limits: shape.py [--list]. Called by tests/shape.sh.
+"""What the sources should have less of: tests/shape.py prints the places, and test_sources.py compares their counts.
 
 CHECKS names what is counted, and the function of each check says which places it counts. The file
 tests/shape.limits has the limit of each count, a name and a number a line. A count has to be the
-limit: one that is above it has to come down again, and one that is below it earns a lower limit.
+limit: one that is above it has to come down again, and one that is below it lowers the limit.
 """
 
 import collections
 import itertools
 import os
 import re
-import sys
 
 import driver
 
@@ -246,33 +245,20 @@ def limits():
 
 
 def trouble(name, count, limit):
-    """What is to be done where a count isn't its limit, or nothing."""
+    """What is to be done if a count isn't its limit, or nothing."""
     file = os.path.relpath(LIMITS, driver.HOME)
     if limit is None:
         return f"{name}: {count}, and {file} has no limit: give it one"
     if count > limit:
-        return (f"{name}: {count}, and the limit is {limit}: mend what is new; "
-                "tests/shape.sh --list names all places")
-    if count < limit:
-        return f"{name}: {count}, and the limit is {limit}: lower it to {count} in {file}"
-    return ""
+        return f"{name}: {count}, and the limit is {limit}: fix what is new; tests/shape.py prints all places"
+    return driver.unless(f"{name}: {count}, and the limit is {limit}: lower it to {count} in {file}", count == limit)
 
 
 def main():
-    if sys.argv[1:] not in ([], ["--list"]):
-        print("shape.py [--list]", file=sys.stderr)
-        return 2
-    tests, stored = driver.Tests(), limits()
     for check in CHECKS:
         places = list(check())
-        if "--list" in sys.argv:
-            print(f"{check.__name__}: {len(places)}")
-            print(*(f"  {it.path}:{it.line}: {it.text}" for it in places), sep="\n")
-        tests.add(trouble(check.__name__, len(places), stored.pop(check.__name__, None)))
-    for name in stored:
-        tests.add(f"{name}: nothing is counted under this name: remove its limit")
-    return tests.close()
+        print(f"{check.__name__}: {len(places)}", *(f"  {it.path}:{it.line}: {it.text}" for it in places), sep="\n")
 
 
 if __name__ == "__main__":
-    sys.exit(main())
+    main()

@@ -1,15 +1,9 @@
-#!/usr/bin/env python3
-"""The stored runs, as the pages of tests/runs/ show them. tests/runs/README.md describes their form.
-
-Called by tests/with_jq.sh: stored_cases.py ROOM lays out each run whose output is a JSON report, in a folder of ROOM
-with a file `arguments`.
-"""
+"""The stored runs, as the pages of tests/runs/ show them. tests/runs/README.md describes their form."""
 
 import collections
 import os
 import re
 import shlex
-import sys
 
 import blocks
 import driver
@@ -59,14 +53,3 @@ def lay(found, folder):
     if found.link:
         os.symlink(found.link, os.path.join(folder, "link.feature"))
 
-
-def main():
-    reports = [it for it in cases() if it.stdout.startswith(b"{")]
-    for number, found in enumerate(reports):
-        folder = os.path.join(sys.argv[1], f"{number}.{found.page}")
-        lay(found, folder)
-        driver.write(folder, {"arguments": b"".join(it + b"\n" for it in found.arguments)})
-
-
-if __name__ == "__main__":
-    main()

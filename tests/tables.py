@@ -1,16 +1,10 @@
-#!/usr/bin/env python3
-"""The tables of the sources, for the tests; and whether what tools/tables.py writes from them is up to date: tables.py
-
-Closes with one line 'N passed, M failed', and with status 0 only if M is 0.
-"""
+"""The tables of the sources, and whether what tools/tables.py writes from them is up to date."""
 
 import importlib.util
 import os
 import re
 import sys
 import tempfile
-
-sys.dont_write_bytecode = True  # nothing is left in the repository
 
 import driver
 
@@ -73,15 +67,3 @@ def unseen(path, old, new, text, files):
         statuses = [call(it)[0] for it in ("--check", "--write", "--check", "--json")]
         found = [it for it in written.texts() if text in read(it, folder)]
     return "" if (statuses, len(found)) == ([1, 0, 0, 0], files) else f"{new!r}: statuses {statuses}, seen in {found}"
-
-
-def main():
-    tests = driver.Tests()
-    tests.add_all(unread())
-    tests.add_all(not_up_to_date())
-    tests.add_all(unseen(*it) for it in CHANGES)
-    return tests.close()
-
-
-if __name__ == "__main__":
-    sys.exit(main())

@@ -1,0 +1,181 @@
+"""Files that can't be opened or read, and which files are opened.
+
+A library, hooks and two feature files, of which each in turn can't be opened, for each of some reasons, and whose
+reading fails at call 1, 2, 3, .. The run ends with status 3 and names that file; where opening one is refused memory,
+with status 4. Files that give one byte a call, or seven, are read as always, and a file ends where a call gives no
+byte.
+
+The files that are opened are the library, the hooks and the feature files, in this order and each as often as it is
+named, and none after the first that can't be read. A file outside of the run's own folder doesn't count.
+"""
+
+import errno
+import os
+import tempfile
+
+import driver
+from checks import Refusing
+from tables import FORMATS
+
+PIECE = 16_384  # bytes, as the program reads them
+STEP = "    Given it passes\n"
+# The files, in the order in which the program reads them.
+FILES = {
+    "l.steps": "given it passes => pass\n# the last line\n",
+    "h.hooks": "before_all:\nGiven it passes\nafter_feature:\nGiven it passes\n",
+    "a.feature": "Feature: one\n  Scenario: first\n" + STEP * (2 * PIECE // len(STEP)),
+    "b.feature": "Feature: two\n  Scenario: second\n" + STEP + "  Scenario: third\n" + STEP,
+}
+SUITE = ["--library", "l.steps", "--hooks", "h.hooks"]
+ARGUMENTS = [*SUITE, "a.feature", "b.feature"]
+OPEN_REASONS = (errno.EPERM, errno.ENOENT, errno.EIO, errno.ENXIO, errno.EACCES, errno.EBUSY,
+                errno.ENODEV, errno.ENOTDIR, errno.EISDIR, errno.EINVAL, errno.ENFILE, errno.EMFILE,
+                errno.ETXTBSY, errno.ENAMETOOLONG, errno.ELOOP, errno.EOVERFLOW, errno.ESTALE,
+                errno.EAGAIN, errno.ETIMEDOUT, errno.ENOSPC, errno.EROFS, errno.EDQUOT, errno.EFBIG)
+READ_REASONS = (errno.EIO, errno.EINTR, errno.EAGAIN, errno.EISDIR, errno.ENOMEM)
+OUT_OF_MEMORY = (4, b"", b"gherkin_run: out of memory\n")
+# More files of the runs below.
+OTHER_FILES = {
+    "bad.steps": "dance\n",
+    "bad.hooks": "before_everything:\n",
+    "bad.feature": "Feature: f\nFeature: g\n",
+    "fails.feature": "Feature: three\n  Scenario: fourth\n    Given nothing fits\n",
+    "empty.feature": "",
+    "too_long": "#" * 16_777_217,
+}
+# Arguments, the status of the run, and the files that it opens, in this order.
+OPENED = [
+    # Whatever the order of the arguments, and what is asked for.
+    (["a.feature"], 0, ["a.feature"]),
+    (["b.feature", "a.feature"], 0, ["b.feature", "a.feature"]),
+    (["b.feature", "--hooks", "h.hooks"], 0, ["h.hooks", "b.feature"]),
+    (["--library=l.steps", "b.feature"], 0, ["l.steps", "b.feature"]),
+    (["b.feature", "--hooks=h.hooks", "a.feature", "--library", "l.steps"], 0,
+     ["l.steps", "h.hooks", "b.feature", "a.feature"]),
+    ([*SUITE, "--", "b.feature", "empty.feature"], 0, ["l.steps", "h.hooks", "b.feature", "empty.feature"]),
+    *(([*options, *ARGUMENTS], 0, list(FILES)) for options in (
+        ["--dry-run"], ["--stop"], ["--no-skipped"], ["--explain"], ["--lint"], *(["--format", it] for it in FORMATS),
+        ["--tags", "@none"], ["--line", "99"], ["--env", "A=b"])),
+    # The files of --file come first, in their order, and each as often as it is named.
+    ([*ARGUMENTS, "--file", "f=bad.feature", "--file=g=l.steps", "--file", "f=bad.feature"], 0,
+     ["bad.feature", "l.steps", "bad.feature", *FILES]),
+    (["--dry-run", "--file", "f=fails.feature", *ARGUMENTS], 0, ["fails.feature", *FILES]),
+    (["--stop", "fails.feature", "b.feature"], 1, ["fails.feature", "b.feature"]),
+    (["--lint", "fails.feature", "b.feature"], 1, ["fails.feature", "b.feature"]),
+    # A file is opened as often as it is named, and under the name that is given.
+    (["b.feature", "a.feature", "b.feature"], 0, ["b.feature", "a.feature", "b.feature"]),
+    (["--lint", "b.feature", "b.feature"], 0, ["b.feature", "b.feature"]),
+    (["--library", "l.steps", "--hooks", "l.steps", "l.steps"], 3, ["l.steps", "l.steps", "l.steps"]),
+    (["./b.feature", ".//b.feature"], 0, ["./b.feature", ".//b.feature"]),
+    # All files are opened where one doesn't read, or a text of tags is none.
+    *((["--library", "bad.steps", "--hooks", "bad.hooks", "bad.feature", "b.feature", *options], 3,
+       ["bad.steps", "bad.hooks", "bad.feature", "b.feature"]) for options in ([], ["--lint"], ["--dry-run"])),
+    ([*ARGUMENTS, "--tags", "("], 2, list(FILES)),
+    ([*ARGUMENTS, "--tags", "(", "--lint"], 2, list(FILES)),
+    # None is opened after the first that can't be read.
+    (["--library", "no", "--hooks", "h.hooks", "b.feature"], 3, ["no"]),
+    ([*ARGUMENTS, "--file", "f=b.feature", "--file", "g=no", "--file", "h=a.feature"], 3, ["b.feature", "no"]),
+    ([*ARGUMENTS, "--file", "f=too_long"], 3, ["too_long"]),
+    (["--library", "l.steps", "--hooks", "no", "b.feature"], 3, ["l.steps", "no"]),
+    ([*SUITE, "b.feature", "no", "a.feature"], 3, ["l.steps", "h.hooks", "b.feature", "no"]),
+    (["b.feature", "too_long", "a.feature"], 3, ["b.feature", "too_long"]),
+    (["--lint", "b.feature", "no", "too_long", "no"], 3, ["b.feature", "no"]),
+    (["--library", "too_long", "--hooks", "no", "b.feature"], 3, ["too_long"]),
+    (["b.feature", ".", "a.feature"], 3, ["b.feature", "."]),
+    (["", "b.feature"], 3, [""]),
+    # None at all is opened where there is no run.
+    *(([*options, *ARGUMENTS], 0, []) for options in (["--help"], ["-h"], ["--version"], ["-V"])),
+    ([*ARGUMENTS, "--help"], 0, []),
+    *(([*options, *ARGUMENTS], 2, []) for options in (
+        ["--no-such-option"], ["--library", "l.steps"], ["--hooks", "h.hooks"], ["--format", "xml"], ["--line", "0"],
+        ["--stop", "--stop"], ["--lint", "--explain"], ["--lint", "--env", "A=b"], ["--env", "A"], ["--env", "=b"],
+        ["--env", "A=b", "--env", "N" * 256 + "=b"], ["--dry-run", "--env", "A"], ["--explain", "--env", "A"],
+        ["--file", "A"], ["--file", "f=b.feature", "--file", "A"], ["--file", "f=b.feature", "--env", "=b"],
+        ["--lint", "--file", "f=b.feature"],
+        [b"\xff"])),
+    (SUITE, 2, []),
+    ([], 2, []),
+]
+
+
+def unread(name):
+    """How a run ends where this file can't be read."""
+    return 3, b"", f"gherkin_run: {name}: cannot read\n".encode()
+
+
+def up_to(name):
+    """The files that are opened where this one can't be read."""
+    return list(FILES)[:list(FILES).index(name) + 1]
+
+
+def calls():
+    """The file of each call of read: one for each piece, and one that gives no byte."""
+    for name, text in FILES.items():
+        yield from [name] * (-(-len(text) // PIECE) + 1)
+
+
+class FailingReads(Refusing):
+    @classmethod
+    def setUpClass(cls):
+        super().setUpClass()
+        cls.folder = os.path.join(cls.room, "whole")
+        driver.write(cls.folder, {**FILES, **OTHER_FILES})
+        cls.ample = driver.start(driver.program(), ARGUMENTS, cls.folder)
+
+    def opened_of(self, log):
+        """The names in a log of what was opened, without the files outside of the folder.
+
+        The runtime of the program may open such."""
+        for name in log.decode().split("\n")[:-1]:
+            path = os.path.normpath(os.path.join(self.folder, name))
+            if os.path.commonpath([path, self.folder]) == self.folder:
+                yield name
+
+    def trouble(self, name, wanted, opened=tuple(FILES), arguments=ARGUMENTS, **limits):
+        """What is wrong with a run whose files are limited, and with the files that it opens, or nothing."""
+        with tempfile.NamedTemporaryFile(dir=self.room) as log:
+            environment = driver.limited(self.room, OPEN_LOG=log.name, **limits)
+            ended = driver.start(self.program, arguments, self.folder, environment)
+            noted = list(self.opened_of(log.read()))
+        found = driver.trouble(name, ended, wanted)
+        return found if noted == list(opened) else f"{found or name}\n  opened {noted}, and not {list(opened)}"
+
+    def try_all(self, runs):
+        """Checks runs, each as what `trouble` is called with, and the limits."""
+        self.check_all(driver.on_all_processors(lambda it: self.trouble(*it[0], **it[1]), runs))
+
+    def test_ample(self):
+        self.unless(f"with files that don't fail: {self.ample}", self.ample[0] == 0 and not self.ample[2])
+
+    def test_opened(self):
+        """Runs print what they do without the log."""
+        for arguments, status, opened in OPENED:
+            wanted = status, *driver.start(self.program, arguments, self.folder)[1:]
+            self.check(self.trouble(f"{arguments}", wanted, opened, arguments))
+
+    def test_unopened(self):
+        self.try_all(((f"{name}, opened with error {reason}", OUT_OF_MEMORY if reason == errno.ENOMEM else unread(name),
+                       up_to(name)), {"OPEN_FAILS": name, "OPEN_ERROR": reason})
+                     for name in FILES for reason in (*OPEN_REASONS, errno.ENOMEM))
+
+    def test_read(self):
+        """A call of read fails, or gives few bytes."""
+        self.try_all(((f"{piece} bytes a call", self.ample), {"READ_PIECE": piece}) for piece in (1, 7))
+        each = list(calls())
+        self.try_all(((f"error {reason} at call {number}", unread(name), up_to(name)),
+                      {"READ_FAILS": number, "READ_ERROR": reason})
+                     for number, name in enumerate(each, 1) for reason in READ_REASONS)
+        self.try_all([(("no call left to fail", self.ample), {"READ_FAILS": len(each) + 1, "READ_ERROR": errno.EIO})])
+
+    def test_ends(self):
+        """Each file ends before its last byte. It is read byte by byte. Each run ends as one whose file has these
+        bytes."""
+        before = 0
+        for name, text in FILES.items():
+            for length in range(0, len(text), max(1, len(text) // 20)):
+                folder = os.path.join(self.room, f"{name}-{length}")
+                driver.write(folder, {**FILES, name: text[:length]})
+                wanted = driver.start(self.program, ARGUMENTS, folder)
+                self.check(self.trouble(f"{name} ends after {length} bytes", wanted, READ_PIECE=1,
+                                        READ_FAILS=before + length + 1))
+            before += len(text) + 1

@@ -1,0 +1,1028 @@
+"""Counts and lengths of sizes at which nobody looks, and large runs.
+
+Each count and length that a user controls, from the bytes of a file to the changes in a layer, is a row. ROWS are made
+of tables and of marked functions. Each has a function that makes the run of a size, with what has to come out, worked
+out beside it and not taken from the program. A row is tried with each of SIZES and with some random ones, or with sizes
+that are its own: those up to SMALL in each format, larger ones in one format. With SIZES=all in the environment each
+size is tried in each format, in some two minutes. Some rows end at 4,097, since their cost grows faster than their
+number, or there is a limit below; those of one argument end where the system takes no longer one.
+
+A group has runs of names, which have no size. A growing run is made of two sizes, and the larger may take only so many
+times the processor time of the smaller.
+"""
+
+import collections
+import functools
+import os
+import random
+import resource
+import tempfile
+import threading
+
+import driver
+from builder import FAILING, HINTS, FeatureFile, Run, Step, quoted, with_hooks, with_library
+from checks import Checks
+from reports import closing
+from tables import FORMATS
+
+SIZES = [0, 1, 127, 128, 129, 255, 256, 257, 4095, 4096, 4097, 65_535, 65_536, 65_537]
+SMALL = 4097  # up to here every format is tried
+MOST = 70_000  # of the random sizes
+RANDOM_SIZES = 2  # of each row
+NAME_LIMIT = 255
+PATH_LIMIT = 4095  # of the system, not of the program
+TEXT_LIMIT = 1_048_576
+FILE_LIMIT = 16_777_216
+STEPS_LIMIT = 1_000_000
+DEPTH_LIMIT = 100  # of an expression
+PIPE = 65_536  # bytes that a pipe holds, as the system makes it
+PATIENCE = 120  # seconds
+TIMES = 10  # a growing run is made once more so many times as large
+MOST_TIMES = 30  # and takes at most so many times the processor time; 100 where each part is compared with each other
+# Not the same letters again after a while, so that a part that is lost or doubled is seen.
+LETTERS = "".join(random.Random(0).choices("abcdefghijklmnopqrstuvwxy", k=MOST))
+OWN_ENTRIES = {
+    "file": "step put {name} => write_file\nstep see {name} => file_is\n",
+    "variable": "step put {name} => set_env\nstep see {name} => env_is\n",
+    "value": "step put {name} => set_value\nstep see {name} => value_is\n",
+}
+PASSING = FeatureFile().scenario("it passes").text()
+SKIPPED = Step("it passes", "skipped")
+UNTESTED = Step("it passes", "untested")
+
+# What makes the run of a size, the sizes, and the formats, where each of them is tried with these.
+Row = collections.namedtuple("Row", "name make sizes formats")
+ROWS, GROUPS, GROWING = [], [], []
+
+
+def rows(table, least=0, most=MOST, also=(), only=None, formats=None):
+    """Adds a row for each name of a table, with the usual sizes of a range and some more, or with other sizes alone."""
+    for name, make in table.items():
+        chance = random.Random(name)
+        sizes = [it for it in SIZES if least <= it <= most]
+        sizes += [int(most ** chance.random()) for _ in range(RANDOM_SIZES)]
+        ROWS.append(Row(name, make, list(only or [*sizes, *also]), formats))
+
+
+def row(**limits):
+    """Marks a function as a row."""
+    def marked(make):
+        rows({make.__name__: make}, **limits)
+        return make
+    return marked
+
+
+def group(make):
+    """Marks a function that makes runs, each with a name."""
+    GROUPS.append(make)
+    return make
+
+
+def growing(size, table):
+    """Adds the growing runs of a table, which are made of this size and TIMES as large."""
+    GROWING.extend((name, make, size) for name, make in table.items())
+
+
+# ---- texts
+
+def letters(count, letter=""):
+    """A text of so many bytes. The last is a z, and no other; those before it may be of one letter of two bytes."""
+    if letter:
+        return letter * (count // 2) + "z" * (count % 2)
+    return (LETTERS * (count // MOST + 1))[:count - 1] + "z" if count else ""
+
+
+def other(text):
+    """A text that differs from one of `letters` in its last letter alone."""
+    return text[:-1] + "y"
+
+
+def blanks(count):
+    """So many blanks, of both kinds."""
+    return (" \t\t" * (count // 3 + 1))[:count]
+
+
+def one(*steps, **more):
+    """A feature file with one scenario."""
+    return FeatureFile().scenario(*steps, **more)
+
+
+def each(text, numbers):
+    """A text with each of these numbers in place of its `{}`, one after another. A number is a count, or a range."""
+    return "".join(text.format(it) for it in (range(numbers) if isinstance(numbers, int) else numbers))
+
+
+def too_long(name, size):
+    """The fault of a file of this size, if it has one."""
+    return f"{name}: longer than {FILE_LIMIT} bytes" if size > FILE_LIMIT else ""
+
+
+def counts(*numbers):
+    """The closing lines of a report. Each of the three is what passed, failed, was skipped and was undefined."""
+    names = ("passed", "failed", "skipped", "undefined")
+    kinds = zip(("feature", "scenario", "step"), numbers)
+    return "".join(closing(noun, collections.Counter(dict(zip(names, own)))) + "\n" for noun, own in kinds)
+
+
+# ---- lengths of files and lines
+
+def padded(text, size):
+    """A text of this size: a comment, and below it the text if there is room."""
+    rest = size - len(text) - 2
+    return "#" + "x" * rest + "\n" + text if rest >= 0 else ("#" + "x" * size)[:size]
+
+
+def feature_of_bytes(size):
+    """The comment is its first line. If there is no room for the rest, it has no feature."""
+    made = FeatureFile("#").scenario("it passes")
+    text = padded("\n".join(made.lines[1:]), size)
+    return Run(*[made] * text.endswith("passes"), files={"a.feature": text}, sources=["a.feature"],
+               fault=too_long("a.feature", size))
+
+
+def library_of_bytes(size):
+    text = padded("step x => pass", size)
+    made = one(Step("x", "passed" if text.endswith("pass") else "undefined"))
+    return with_library(made, text, fault=too_long("l.steps", size))
+
+
+def hooks_of_bytes(size):
+    """Without its last byte a hook would fail."""
+    made = one("it passes")
+    return with_hooks(made, padded("before_feature:\n* it passes", size), fault=too_long("h.hooks", size))
+
+
+rows({"bytes of a feature file": feature_of_bytes, "bytes of a library": library_of_bytes,
+      "bytes of a hooks file": hooks_of_bytes}, also=(FILE_LIMIT, FILE_LIMIT + 1))
+rows({"bytes of a comment": lambda size: one("it passes").add(("#" + letters(size))[:size])},
+     also=(FILE_LIMIT - len(PASSING) - 1,))
+
+
+@group
+def files_of_the_greatest_length():
+    comment, lines = "#" + "x" * (FILE_LIMIT - 1), FILE_LIMIT // 2
+    yield "a comment alone", Run(files={"a.feature": comment}, sources=["a.feature"])
+    yield "a comment alone, one byte longer", Run(files={"a.feature": comment + "x"}, sources=["a.feature"],
+                                                  fault=too_long("a.feature", FILE_LIMIT + 1))
+    files = {"a.feature": "Feature: a\n", "b.feature": "\n" * (FILE_LIMIT + 1)}
+    yield "the second file", Run(files=files, sources=files, fault=too_long("b.feature", FILE_LIMIT + 1))
+    files = {"a.feature": b"\xff" * (FILE_LIMIT + 1)}
+    yield "too long, and not UTF-8", Run(files=files, sources=files, fault=too_long("a.feature", FILE_LIMIT + 1))
+    files = {"a.feature": b"#\n" * (lines - 1) + b"#\xff"}
+    yield "its last byte is not UTF-8", Run(files=files, sources=files, fault=f"a.feature:{lines}: not UTF-8")
+
+
+rows({"bytes of a description": lambda size: FeatureFile().add(letters(size)).scenario("it passes")}, least=1)
+rows({
+    "bytes of a line of blanks": lambda size: FeatureFile(blanks(size)).scenario("it passes").add(blanks(size)),
+    "lines before a scenario": lambda size: FeatureFile().add(*[""] * size).scenario(FAILING),
+    "lines before a fault of a library": lambda size: with_library(
+        FeatureFile(), "\n" * size + "step x => dance\n", fault=f"l.steps:{size + 1}: unknown action"),
+    # A step is description there.
+    "lines of descriptions": lambda size: FeatureFile().add(*["Given it fails"] * size).scenario("it passes"),
+})
+rows({"lines before a fault": lambda size: Run(one("it passes").add(*["# c"] * size, "stray"),
+                                               fault=f"a.feature:{size + 4}: unexpected line")}, also=(70_000,))
+rows({"lines before the scenario of --line": lambda size: Run(
+    one(Step("it fails", "skipped"), name="no").add(*[""] * size).scenario("it passes", name="yes"),
+    options=["--line", str(size + 4)])}, only=(65_531, 65_532, 999_996))
+
+
+@row()
+def blanks_around_lines(size):
+    """They are trimmed, and each line has its column."""
+    made = one("it passes", Step("these files:", block=("| name | text |", "| f | x |")))
+    made.lines = [f"{blanks(size)}{line}{blanks(size)}" for line in made.lines]
+    return made
+
+
+# As many are dropped from each line of it, or as there are.
+rows({"blanks before a doc string": lambda size: one(
+    Step('a file named "f" with:', block=[blanks(size) + it for it in ('"""', "  a", "", "b")] + [
+        blanks(max(0, size - 1)) + "c", '"""']),
+    Step('the file "f" should be:', block=quoted("  a\n\nb\nc")))})
+
+
+# ---- lengths of texts
+
+def kept(size, reason="text too long", limit=TEXT_LIMIT):
+    """The status of a step that makes something of this size."""
+    return "passed" if size <= limit else f"failed: {reason}"
+
+
+def kept_text(noun, letter, size):
+    """A text is kept as it is: the same again is equal, and one with another last letter is not."""
+    text = letters(size, letter)
+    made = one(Step("put n", kept(size), quoted(text)), Step("see n", block=quoted(text)),
+                                  Step("see n", "failed: differs", quoted(other(text))))
+    return with_library(made, OWN_ENTRIES[noun])
+
+
+rows({f"bytes of the text of a {noun}": functools.partial(kept_text, noun, "") for noun in OWN_ENTRIES},
+     also=(TEXT_LIMIT, TEXT_LIMIT + 1))
+rows({"bytes of a text of longer characters": functools.partial(kept_text, "file", "\u00e9")},
+     only=(TEXT_LIMIT, TEXT_LIMIT + 1, TEXT_LIMIT + 2))
+
+
+@row(also=(TEXT_LIMIT, TEXT_LIMIT + 1))
+def bytes_of_the_text_of_a_cell(size):
+    text = letters(size)
+    return one(
+        Step("these files:", kept(size), ("| name | text |", f"| f | {text} |")),
+        Step('the file "f" should contain:', block=quoted(text)), Step('the file "f" should be:', block=quoted(text)),
+        Step('the file "f" should be:', "failed: differs", quoted(other(text))))
+
+
+@row(also=(TEXT_LIMIT - 1, TEXT_LIMIT, TEXT_LIMIT + 1))
+def bytes_of_a_text_in_two_halves(size):
+    """And the same text with one byte more."""
+    text, half = letters(size), size // 2
+    return one(
+        Step('a file named "f" with:', block=quoted(text[:half])),
+        Step('the file "f" is extended with:', kept(size), quoted(text[half:])),
+        Step('the file "f" should be:', block=quoted(text)),
+        Step('the file "f" is extended with "!"', kept(size + 1)),
+        f'the file "f" should contain "{text[-1:]}!"',
+        Step('the file "f" should be:', "failed: differs", quoted(f"{other(text)}!")))
+
+
+@row(least=1, also=(TEXT_LIMIT, TEXT_LIMIT + 1))
+def bytes_of_a_text_in_a_step(size):
+    text, made = letters(size), FeatureFile()
+    for put, see, last in (
+            ('the variable "V" is set to "{}"', 'the variable "V" should be "{}"', Step("it passes")),
+            ('the value "v" is set to "{}"', 'the value "v" should be "{}"',
+             Step('the number "v" grows by 1', "failed: not a number")),
+            ('a file named "f" containing "{}"', 'the file "f" should be "{}"',
+             Step(f'the file "f" should contain "{other(text)}"', "failed: differs"))):
+        made.scenario(Step(put.format(text), kept(size)), see.format(text), last)
+    return made
+
+
+@group
+def texts_beyond_the_limit():
+    """How many bytes a text has that is too long, of a file, of one that is extended, and of a row of a table."""
+    text, fault = "x" * TEXT_LIMIT, "failed: text too long"
+    made = one(Step('a file named "f" with:', block=quoted(text + "x")), name="of a file")
+    made.scenario(Step('a file named "f" with:', block=quoted(text)), 'the file "f" is extended with "xyz"', name="at the end")
+    made.scenario(Step("these files:", block=("| name | text |", "| f | |", f"| g | {text}xy |")), name="in a table")
+    note = "      the text has {} bytes; at most 1048576 are allowed\n\n"
+    explained = (
+        f"a.feature:2: Scenario: of a file ... failed\n  a.feature:3: Given a file named \"f\" with: ... {fault}\n"
+        + note.format(TEXT_LIMIT + 1)
+        + "a.feature:7: Scenario: at the end ... failed\n  a.feature:8: Given a file named \"f\" with: ... passed\n"
+        f"  a.feature:12: Given the file \"f\" is extended with \"xyz\" ... {fault}\n" + note.format(TEXT_LIMIT + 3)
+        + f"a.feature:13: Scenario: in a table ... failed\n  a.feature:14: Given these files: ... {fault}\n"
+        + note.format(TEXT_LIMIT + 2)
+        + "a.feature:2: Scenario: of a file\na.feature:7: Scenario: at the end\na.feature:13: Scenario: in a table\n\n")
+    yield "explained", Run(made, options=["--explain"], printed=explained + counts((0, 1), (0, 3), (1, 3)), status=1)
+
+
+rows({
+    "escapes in a cell": lambda size: one(
+        Step("these files:", block=("| name | text |", "| f | " + "\\|" * size + "a |")),
+        Step('the file "f" should be:', block=quoted("|" * size + "a"))),
+    "escapes in a doc string": lambda size: one(
+        Step('a file named "f" with:', block=quoted(r"\"\"\"" * size + "a")),
+        Step('the file "f" should be:', block=quoted('"""' * size + "a", "```"))),
+    # Leading zeros change nothing. Without a digit the step is undefined.
+    "digits of a number": lambda size: one(
+        Step(f'the number "n" is set to {"0" * (size - 1) + "7" if size else "+"}', "passed" if size else "undefined"),
+        'the value "n" should be "7"'),
+})
+
+
+# ---- texts that could cost more than their length
+
+rows({
+    # A look-up at each `<` must not read on to the end, and what was filled before a `>` may not be copied there.
+    "openings": lambda size: FeatureFile().outline("o", Step("<" * size, "undefined")).examples(["1"]),
+    "openings and a closing": lambda size: FeatureFile().outline("o", Step("<" * size + ">", "undefined")).examples(["1"]),
+    "closings": lambda size: FeatureFile().outline("o", Step(">" * size * 2, "undefined")).examples(["1"]),
+}, only=(TEXT_LIMIT,))
+rows({
+    # No line of a doc string may cost the whole text.
+    "lines of a doc string with escapes": lambda size: one(
+        Step("it passes", block=["```", *["x"] * size, "\\`\\`\\`" * (size // 10), "```"])),
+}, only=(1_000_000,))
+
+
+# ---- lengths of names
+
+def kept_name(noun, letter, size):
+    """A name of at most 255 bytes is kept. One that differs in its last byte is another."""
+    name, is_kept = letters(size, letter), size <= NAME_LIMIT
+    made = one(
+        Step(f"put {name}", kept(size, "bad name", NAME_LIMIT), quoted("x")), Step(f"see {name}", block=quoted("x")),
+        Step(f"see {name[:-1]}y", "failed: absent" if is_kept else "skipped", quoted("x")))
+    made.scenario(Step(f"see {name}", "failed: absent", quoted("x")))
+    return with_library(made, OWN_ENTRIES[noun])
+
+
+rows({f"bytes of the name of a {noun}, of {letter or 'letters'}": functools.partial(kept_name, noun, letter)
+      for noun in OWN_ENTRIES for letter in ("", "\u00e9")}, least=1)
+
+
+rows({"bytes of a name in a table": lambda size: one(Step(
+    "these files:", kept(size or NAME_LIMIT + 1, "bad name", NAME_LIMIT), ("| name | text |", f"| {letters(size)} | x |")))})
+rows({"bytes of the new name of a file": lambda size: one(
+    'a file named "f" containing "x"',
+    Step(f'the file "f" is renamed to "{letters(size)}"', kept(size, "bad name", NAME_LIMIT)),
+    f'the file "{letters(size)}" should be "x"', Step('the file "f" should exist', "failed: absent"))}, least=1)
+rows({
+    "bytes of the name of a feature": lambda size: FeatureFile(name=letters(size)).scenario("it passes"),
+    "bytes of the name of a scenario": lambda size: one("it passes", name=letters(size)),
+    "bytes of the names of a rule and a background": lambda size: FeatureFile().rule(letters(size)).background(
+        "it passes", name=letters(size)).scenario("it passes"),
+    "bytes of the names of an outline and of examples": lambda size: FeatureFile().outline(
+        letters(size), "it passes").examples(["x"], name=letters(size)),
+    # A placeholder of any length is filled, an empty one, too.
+    "bytes of a header and a cell": lambda size: FeatureFile().outline(
+        "o", Step(f"<{letters(size)}><{letters(size)}y>", "undefined")).examples(
+            [letters(size).upper()], header=[letters(size)]),
+})
+
+
+def named(name):
+    """A feature, a scenario and an undefined step of this name."""
+    return FeatureFile(name=name).scenario(Step(name, "undefined"), name=name)
+
+
+rows({"names with escapes": lambda size: named('\u00e9"\\' * size)}, only=(100_000,), formats=FORMATS)
+rows({"names": lambda size: named("n" * size)}, only=(1_000_000,))
+
+
+@row(least=1)
+def bytes_of_a_tag(size):
+    tag = f"@{letters(size - 1)}"
+    made = one("it passes", tags=tag)
+    if size == 1:
+        return Run(made, fault="a.feature:2: bad tag")
+    return Run(made.scenario(SKIPPED, tags=f"{other(tag)} {tag}z"), options=["--tags", tag])
+
+
+@row()
+def bytes_of_a_path(size):
+    """The file's name, after as many slashes as are needed."""
+    path = "." + "/" * (size - 10) + "a.feature" if size > 10 else "a"[:size]
+    made = FeatureFile(source=path).scenario("it passes")
+    run = Run(made, fault="" if 0 < size <= PATH_LIMIT else f"{path}: cannot read")
+    run.files = {"a": made.text(), "a.feature": made.text()}
+    return run
+
+
+# ---- libraries and their steps
+
+rows({
+    # A keyword alone is no step, and nothing else may follow below one.
+    "bytes of a step": lambda size: Run(one("it passes", Step(letters(size), "undefined")),
+                                        fault="" if size else "a.feature:4: unexpected line"),
+    "bytes of a pattern": lambda size: with_library(
+        one(letters(size), Step(other(letters(size)), "undefined")), f"step {letters(size)} => pass\n",
+        fault="" if size else "l.steps:1: bad pattern"),
+    "bytes of the text of a field": lambda size: with_library(
+        one(Step(f"a {letters(size)}z", "passed" if size else "undefined")).scenario(
+            Step(f"a {letters(size)}", "passed" if size > 1 else "undefined")), "step a {x}z => pass\n"),
+    # Names that differ in their last letter are two.
+    "bytes of the name of a field": lambda size: with_library(
+        one("a b,c"), f"step a {{{letters(size)}}},{{{other(letters(size))}}} => pass\n",
+        fault="" if size else "l.steps:1: bad pattern"),
+})
+
+
+@row(most=4097)
+def fields_of_a_pattern(size):
+    fields = ",".join(f"{{f{number}}}" for number in range(size))
+    texts = ",".join(f"t{number}" for number in range(size))
+    made = one(f"a {texts}." if size else "a .", Step(f"a {texts}", "undefined"))
+    return with_library(made, f"step a {fields}. => pass\n")
+
+
+@row(most=4097)
+def entries_of_a_library(size):
+    steps = [f"w{number}" for number in (0, size // 2, size - 1)] if size else []
+    return with_library(one(*steps, Step(f"w{size}", "undefined")), each("step w{} => pass\n", size))
+
+
+ALIKE = "the user opens the order of the"
+
+
+@group
+def entries_of_libraries():
+    """Each entry is compared with those before it. Many begin as they do."""
+    different = each("step w{} {{name}} is {{text}} => set_env\n", 1000)
+    alike = f"step {ALIKE} {{{{name}}}} at {{}} => pass\n"
+    steps = ["w0 A is 1", "w999 B is 2", "A = 1", "B = 2"]
+    yield "many", with_library(one(*steps), different + "step {name} = {text} => env_is\n")
+    yield "many, and a fault", with_library(FeatureFile(), different + "step w7 {x} is {y} => pass\n",
+                                            fault="l.steps:1001: ambiguous with an earlier line")
+    steps = [f"{ALIKE} x at {number}" for number in (0, 17, 29_999)]
+    yield "alike", with_library(one(*steps), each(alike, 30_000))
+    yield "alike, and a fault", with_library(FeatureFile(), each(alike, 3000) + f"step {ALIKE} {{other}} at 17 => pass\n",
+                                             fault="l.steps:3001: ambiguous with an earlier line")
+    steps = [f"{ALIKE} {number}" for number in (0, 17, 29_999)]
+    yield "literals alike", with_library(one(*steps), each(f"step {ALIKE} {{}} => pass\n", 30_000))
+
+
+@group
+def hopeless_patterns():
+    """Taking the fields' lengths one after another would not end."""
+    yield "texts", with_library(one(Step("a" * 400 + "x", "undefined")),
+                                "step {a}{b}{c}{d}{e}{f}{g}{h}z{i}x => pass\n")
+    yield "numbers", with_library(one(Step("1" * 400, "undefined")),
+                                  f"step {each('{{n{}:d}}', 12)} => pass\n")
+
+
+# ---- counts in a feature file
+
+KINDS = [["it passes"], [FAILING], [Step("the scenario is skipped", "skipped")], [Step("nothing knows this", "undefined")]]
+CHANGED = [['the variable "A" is set to "x"', 'the variable "A" should be "x"']]
+# A rule's hook grows the feature's number, and the first of its two scenarios what that gave. The hook of a tag fails.
+RULE_HOOKS = ('before_feature:\n* the number "n" is set to 1\nbefore_rule:\n* the number "n" grows by 10\n'
+              'after_feature:\n* the number "n" should be 1\nafter_tag @bad:\n* the number "n" should be 1\n')
+SEEN, GROWN = 'the number "n" should be 11', ['the number "n" grows by 100', 'the number "n" should be 111']
+
+rows({
+    "scenarios of a feature": lambda size: FeatureFile().scenarios(size, *KINDS),
+    "scenarios of a rule": lambda size: FeatureFile().rule("r").scenarios(size, *KINDS),
+    "scenarios that pass": lambda size: FeatureFile().scenarios(size, ["it passes"]),
+    "scenarios after one that stops the run": lambda size: Run(
+        one(FAILING).scenarios(size, [UNTESTED]), options=["--stop"]),
+    "scenarios before the one that is chosen": lambda size: Run(
+        FeatureFile().scenarios(size, [Step("it fails", "skipped")]).scenario("it passes"),
+        options=["--line", str(2 + 2 * size)]),
+    "steps of a scenario": lambda size: one(*["it passes"] * size, FAILING, "it passes"),
+    "steps of a background": lambda size: FeatureFile().background(*["it passes"] * size).scenario(
+        "it passes").scenario(FAILING),
+})
+rows({"scenarios that change something": lambda size: FeatureFile(name="many").scenarios(size, *CHANGED)},
+     only=(100_000,), formats=FORMATS)
+rows({
+    "scenarios of the file after one that stops the run": lambda size: Run(
+        FeatureFile(source="0.feature").scenario(FAILING),
+        FeatureFile().scenarios(size, [Step(it, "untested") for it in CHANGED[0]]), options=["--stop"]),
+    # Each finds what the rule's hook made.
+    "scenarios of a rule with hooks": lambda size: with_hooks(
+        FeatureFile().rule("r").scenarios(size, [SEEN, 'the number "n" grows by 1']), RULE_HOOKS),
+}, only=(100_000,), formats=["progress", "plain"])
+
+
+@row()
+def steps_of_a_dry_run(size):
+    made = one(*[UNTESTED] * size, Step("nothing knows this", "undefined"))
+    made.cases = [it._replace(status="untested") for it in made.cases]
+    return Run(made, options=["--dry-run"])
+
+
+@row()
+def rules_of_a_feature(size):
+    made = FeatureFile()
+    for number in range(size):
+        made.rule(f"r{number}").scenario("it passes", name=f"s{number}")
+    return made
+
+
+@row()
+def rules_with_hooks(size):
+    """The hook after every third one fails, unless the rule has no scenario, since such a one isn't begun."""
+    made = FeatureFile()
+    for number in range(size):
+        is_bad, is_empty = number % 3 == 0, number % 5 == 0
+        made.rule("r", "@bad" if is_bad else "", "failed" if is_bad and not is_empty else "passed")
+        if not is_empty:
+            made.scenario(SEEN, name=f"s{number}")
+    return with_hooks(made, RULE_HOOKS)
+
+
+@row(only=(1000,), formats=FORMATS)
+def rules_with_hooks_and_changes(size):
+    made = FeatureFile()
+    for number in range(size):
+        made.rule(f"r{number}", "@bad" * (number % 2), "failed" if number % 2 else "passed")
+        made.scenario(*GROWN, name="a").scenario(SEEN, name="b")
+    return with_hooks(made, RULE_HOOKS)
+
+
+@row(also=(999,))
+def rules_after_the_one_that_stops_the_run(size):
+    made = FeatureFile().rule("r", "@bad", "failed").scenario("it passes")
+    for number in range(size):
+        made.rule(f"r{number}").scenario(UNTESTED, name=f"s{number}").scenario(UNTESTED, name="t")
+    return with_hooks(made, RULE_HOOKS, ["--stop"])
+
+
+@row(only=(300,))
+def examples_and_rules_in_turn(size):
+    made = FeatureFile().outline("o", 'a file named "<a>" containing "x"')
+    for number in range(size):
+        made.examples([str(number)], ["x"], name=f"e{number}")
+    for number in range(size):
+        made.rule(f"r{number}").background("it passes").scenario(name=f"e{number}", keyword="Example")
+    return made
+
+
+@row(only=(60 * 41,), formats=FORMATS)
+def scenarios_of_a_part_of_many_pieces(size):
+    """60 before the first rule and in each. Their names grow and shrink, so that pieces end anywhere. The hook after
+    each second rule fails. Two of five aren't chosen, nor most of a rule in the middle."""
+    made = FeatureFile()
+    for number in range(size):
+        rule, place = divmod(number, 60)
+        if rule and place == 0:
+            made.rule(f"r{rule}", "@bad" * (rule % 2), "failed" if rule % 2 else "passed")
+        is_on = number % 5 not in (2, 3) and not 1025 <= number < 1078
+        made.scenario("it passes" if is_on else SKIPPED, name=f"s{number}{'x' * (number * 37 % 211)}", tags="@on" * is_on)
+    return with_hooks(made, "after_tag @bad:\n* it fails\n", ["--no-skipped", "--tags", "@on"])
+
+
+@row(also=(70_000,))
+def rows_of_a_table(size):
+    table = ["| name | text |", *(f"| f{number} | {number} |" for number in range(size))]
+    seen = [f'the file "f{number}" should be "{number}"' for number in (0, size // 2, size - 1)]
+    return one(Step("these files:", block=table), *(seen if size else []),
+                                  Step(f'the file "f{size}" should exist', "failed: absent"))
+
+
+@row(least=1)
+def cells_of_a_row(size):
+    """The first and the last of the examples' cells, below a step with a table of as many."""
+    header = [f"h{number}" for number in range(size)]
+    table = [f"| {' | '.join(header)} |"] * 2
+    step = Step(f"<h{size - 1}><h0>", "undefined", table)
+    return FeatureFile().outline("o", step).examples([f"c{number}" for number in range(size)], header=header)
+
+
+rows({"cells of a row with one more": lambda size: Run(
+    one(Step("it passes", block=[*["|" + "a|" * size] * 2, "|" + "a|" * (size + 1)])),
+    fault="a.feature:6: row with another number of cells")}, least=1, also=(100_000,))
+
+
+rows({"rows of examples": lambda size: FeatureFile().outline("o", "it passes").examples(
+    *([str(number)] for number in range(size)))})
+
+
+@row()
+def examples_of_an_outline(size):
+    made = FeatureFile().outline("o", "it passes")
+    for _ in range(size):
+        made.examples(["x"], name="e")
+    return made
+
+
+rows({"placeholders in a text": lambda size: FeatureFile().outline(
+    "o", Step(f"x{'<a>' * size}<b>", "undefined")).examples(["12"])})
+
+
+def chosen_by_the_last(tags, size):
+    """A scenario below lines of tags, and one without. The last tag is asked for."""
+    made = FeatureFile().add(*tags).scenario("it passes" if size else SKIPPED).scenario(SKIPPED)
+    return Run(made, options=["--tags", f"@t{size - 1}", "--tags", f"~@t{size}"])
+
+
+rows({"tags of a line": lambda size: chosen_by_the_last([each("@t{} ", size)], size),
+      "lines of tags": lambda size: chosen_by_the_last([f"@t{number}" for number in range(size)], size)}, also=(70_000,))
+
+
+@row(also=(80_000,))
+def lines_of_a_doc_string(size):
+    lines = [f"line {number}" for number in range(size)]
+    contained = [f'the file "f" should contain "{lines[-1]}"'] if lines else []
+    made = one(Step('a file named "f" with:', block=['"""', *lines, '"""']), *contained,
+                                  Step('the file "f" should be:', block=['"""', *lines, '"""']),
+                                  Step('the file "f" should be:', "failed: differs", ['"""', *lines[:-1], "line", '"""']))
+    return made.scenario(Step('a file named "f" with:', block=['"""', *lines, '"""']),
+                         Step(f'the file "f" should contain "line {size}"', "failed: differs"))
+
+
+# ---- files of a run
+
+@group
+def many_files():
+    seen = ['the variable "V{}" should be unset', 'the variable "V{}" is set to "x"']
+    made = [FeatureFile(name=f"f{number}", source=f"{number}.feature").scenario(
+        *(it.format(number) for it in seen), name=f"s{number}") for number in range(100)]
+    yield "in order", Run(*made)
+    yield "backwards", Run(*reversed(made))
+    made = [FeatureFile(source=f"{number}.feature") for number in range(300)]
+    yield "without scenarios", Run(*made, formats=FORMATS)
+    made[-1].add("Feature: g")
+    yield "a fault of the last", Run(*made, fault="299.feature:2: unexpected line")
+
+
+# The same file again and again.
+rows({"files of a run": lambda size: Run(*[FeatureFile(source="a").scenario("it passes")] * size)}, least=1)
+
+
+# ---- the limit of the steps of a file
+
+def outlined(steps, examples, step="it passes", source="a.feature"):
+    """An outline of so many steps, with so many rows."""
+    return FeatureFile(source=source).outline("o", *[step] * steps).examples(*[["x"]] * examples)
+
+
+def with_backgrounds(step, count):
+    """A background of 1,000 steps, and so many scenarios. The report of those that pass it would take the time."""
+    made = FeatureFile()
+    made.before = [it._replace(status="skipped") for it in made.add("Background:").steps(*[step] * 1000)]
+    return made.scenarios(count, [])
+
+
+@group
+def steps_of_a_file():
+    """Some are chosen, so that a report is all that takes time. Very many steps are counted, and not made."""
+    fault = "a.feature: more than 1000000 steps"
+    yield "at the limit", Run(outlined(1000, STEPS_LIMIT // 1000))
+    yield "a row more", Run(outlined(1000, 1001), fault=fault)
+    yield "a step more", Run(outlined(1000, 1000).scenario("it passes"), fault=fault)
+    yield "a later fault", Run(outlined(1000, 1001), FeatureFile(source="b.feature").add("Feature: g"), fault=fault)
+    text = "Feature: f\nScenario Outline: o\n" + "Given it passes\n" * 500_000 + "Examples:\n| a |\n" + "| x |\n" * 1_000_000
+    yield "very many", Run(files={"a.feature": text}, sources=["a.feature"], fault=fault)
+    yield "of backgrounds, too many", Run(with_backgrounds("it passes", 1001), fault=fault)
+    yield "of backgrounds", Run(with_backgrounds("it fails", 1000), options=["--tags", "@no"])
+    yield "of each of two files", Run(*(outlined(1000, 600, SKIPPED, f"{it}.feature") for it in "ab"), options=["--line", "1"])
+
+
+# ---- counts in a run
+
+def changes_of_each_kind(size):
+    """So many changes of each of a value, a variable and a file. The end of the scenario takes all of them back."""
+    gone = ['the variable "V" should be unset', 'the file "f" should not exist']
+    changes = [*['the number "n" grows by 1'] * size,
+               *['the variable "V" is set to "x"', 'the variable "V" is unset'] * (size // 2),
+               *['a file named "f" containing "x"', 'the file "f" is removed'] * (size // 2)]
+    made = one('the number "n" is set to 0', *changes, f'the number "n" should be {size}', *gone)
+    return made.scenario('the value "n" should be absent', *gone)
+
+
+rows({"changes of a layer": lambda size: one(
+    'the number "n" is set to 0', *['the number "n" grows by 1'] * size, f'the number "n" should be {size}').scenario(
+        'the value "n" should be absent')})
+rows({"changes of each kind": changes_of_each_kind}, only=(100_000,))
+
+
+@row()
+def names_of_a_layer(size):
+    """A variable and a value of each name. The end of the layer takes all of them back."""
+    put = [f'the {noun} "n{number}" is set to "{number}"'
+           for number in range(size // 2) for noun in ("variable", "value")]
+    last = size // 2 - 1
+    seen = [f'the {noun} "n{last}" should be "{last}"' for noun in ("variable", "value")]
+    return one(*put, *(seen if put else [])).scenario(
+        f'the variable "n{last}" should be unset', f'the value "n{last}" should be absent')
+
+
+# Cleanups run last in, first out.
+rows({"cleanups of a scenario": lambda size: one(
+    f'at cleanup the number "n" should be {size}', *['at cleanup the number "n" grows by 1'] * size,
+    'at cleanup the number "n" is set to 0').scenario('the value "n" should be absent')})
+
+
+@row(only=(100_000,))
+def cleanups_with_a_table(size):
+    table = ["| name | text |", *(f"| f{number} | {number} |" for number in range(size // 10))]
+    last = size // 10 - 1
+    return one(
+        f'at cleanup the number "n" should be {size}', f'at cleanup the file "f{last}" should be "{last}"',
+        *['at cleanup the number "n" grows by 1'] * size, 'at cleanup the number "n" is set to 0',
+        Step("at cleanup these files:", block=table))
+
+
+@row()
+def cleanups_of_a_rule(size):
+    """They run after its scenarios and last in, first out, and the last of them fails."""
+    hooks = ["before_rule:", "* at cleanup it fails", f'* at cleanup the number "n" should be {size}',
+             *['* at cleanup the number "n" grows by 1'] * size, '* at cleanup the number "n" is set to 0', ""]
+    made = FeatureFile().rule("r", around="failed").scenario('the value "n" should be absent')
+    return with_hooks(made, "\n".join(hooks))
+
+
+# ---- hooks
+
+VARIABLE_SEEN = 'the variable "V" should be "{}"'
+SETTING = 'before_tag @t{0}:\n* the variable "V" is set to "{0}"\n'
+EMPTY_HOOKS = "before_tag @t{0}:\nafter_tag @t{0}:\n"
+
+
+def counting_hooks(size):
+    """Hooks of so many tags, of which each grows a number, the tags, and a step that passes if each ran once, in
+    order."""
+    hooks = 'before_tag @t:\n* the number "n" is set to 0\n' + each('before_tag @t{}:\n* the number "n" grows by 1\n', size)
+    return hooks, "@t" + each(" @t{}", size), f'the number "n" should be {size}'
+
+
+@row(most=4097)
+def hooks_of_a_rule(size):
+    hooks, tags, seen = counting_hooks(size)
+    return with_hooks(FeatureFile().rule("r", tags).scenario(seen, name="one").scenario(seen, name="two"), hooks)
+
+
+@row(most=4097)
+def hooks_of_a_scenario(size):
+    hooks, tags, seen = counting_hooks(size)
+    return with_hooks(one(seen, tags=tags), hooks)
+
+
+@row(most=4097, also=(1000,))
+def hooks_of_a_file(size):
+    tags = f"@t0 @t{size - 1}" if size else "@t"
+    seen = VARIABLE_SEEN.format(size - 1) if size else 'the variable "V" should be unset'
+    made = one(seen, tags=tags)
+    if size:
+        made.scenario(VARIABLE_SEEN.format(size // 2), tags=f"@t{size // 2}")
+    return with_hooks(made, each(SETTING, size))
+
+
+@row(also=(70_000,))
+def steps_of_a_hook(size):
+    hooks = ["before_scenario:", '* the number "n" is set to 0', *['* the number "n" grows by 1'] * size,
+             "after_scenario:", f'* the number "n" should be {size + 1}', ""]
+    made = one(f'the number "n" should be {size}', 'the number "n" grows by 1')
+    return with_hooks(made, "\n".join(hooks))
+
+
+growing(3000, {
+    # Each heading is looked for among those before it.
+    "headings of hooks": lambda count: with_hooks(
+        one(VARIABLE_SEEN.format("x")), each("before_tag @t{}:\n", count)
+        + 'after_tag @last:\nbefore_scenario:\n* the variable "V" is set to "x"\n'),
+    "headings of hooks before a fault": lambda count: with_hooks(
+        FeatureFile(), each(EMPTY_HOOKS, count // 2) + "after_tag @t7:\n", fault=f"h.hooks:{count + 1}: bad hook heading"),
+})
+
+
+def tags_with_hooks(count):
+    """Each tag of each of 20 scenarios has a hook before it and one after it."""
+    made, tags = FeatureFile(), each("@t{} ", count) + "@last"
+    for number in range(20):
+        made.scenario(VARIABLE_SEEN.format("x"), name=f"s{number}", tags=tags)
+    return with_hooks(made, each(EMPTY_HOOKS, count) + 'before_tag @last:\n* the variable "V" is set to "x"\n')
+
+
+def scenarios_with_hooks(count):
+    """Each scenario has a tag of its own, and each tag a hook."""
+    made = FeatureFile()
+    for number in range(count):
+        made.scenario(VARIABLE_SEEN.format(number), tags=f"@t{number}")
+    return with_hooks(made, each(SETTING, count))
+
+
+growing(300, {"tags with hooks": tags_with_hooks})
+growing(3000, {"scenarios with hooks": scenarios_with_hooks})
+
+# ---- counts and lengths of arguments
+
+def chosen(*options, no="@c", **more):
+    """A run that chooses the first of two scenarios by its tags."""
+    made = one("it passes", tags="@a @b").scenario(SKIPPED, tags=no)
+    return Run(made, options=options, **more)
+
+
+rows({
+    "options of tags": lambda size: chosen(*["--tags=a"] * size, "--tags=b", no="@a"),
+    "options of lines": lambda size: chosen(*["--line=1"] * size, "--line=3"),
+})
+rows({"alternatives of tags": lambda size: chosen("--tags=" + "c2," * size + "b"),
+      "blanks of an expression": lambda size: chosen("--tags=" + " " * size + "(@b" + "\t" * size + ")")}, most=60_000)
+rows({"terms of an or": lambda size: chosen("--tags=" + "@x or " * size + "@b ")}, most=20_000, also=(21_800,))
+rows({"terms of an and": lambda size: chosen("--tags=" + "@a and " * size + "@b ", no="@a")}, most=18_000, also=(18_700,))
+
+
+def too_deep(size):
+    """The fault of an expression that is this deep, if it has one."""
+    return {"fault": "" if size <= DEPTH_LIMIT else "bad tag expression", "status": 2}
+
+
+rows({"parentheses of an expression": lambda size: chosen("--tags=" + "(" * size + "@b" + ")" * size, **too_deep(size)),
+      "negations of an expression": lambda size: chosen(
+          "--tags=" + "not " * size + ("@c " if size % 2 else "@b "), **too_deep(size))}, most=4097, also=(32_000,))
+
+
+@row()
+def bytes_of_a_text_of_tags(size):
+    tag = letters(size)
+    if not size:
+        return chosen("--tags=", fault="bad tag expression", status=2)
+    return Run(one("it passes", tags=f"@{tag}").scenario(SKIPPED, tags=f"@{other(tag)}"),
+               options=[f"--tags={tag}"])
+
+
+@group
+def long_texts_of_tags():
+    """An argument has 131,071 bytes at most: these come near that."""
+    deep = "not (" * 50 + "@b" + ")" * 50
+    for name, texts in (
+            ("alternatives", ["~@a," * 30_000 + "@b"]), ("groups", ["(@x)or" * 21_800 + "(@b)"]),
+            ("negated terms", ["not @b or " * 13_000 + "@b", "not @c and " * 11_900 + "@b"]),
+            ("deep terms", [" or ".join([deep] * 400), " and ".join([deep] * 400)]),
+            ("expressions", [f"@b or @t{number}" for number in range(1000)]),
+            ("a long tag", ["@b or @" + "t" * 130_000])):
+        yield name, chosen(*(f"--tags={it}" for it in texts), no="@a")
+    for name, text in (
+            ("nothing after its terms", "@a or " * 21_800), ("parentheses", "(" * 65_000 + "@a" + ")" * 65_000),
+            ("open parentheses", "(" * 131_000), ("closing parentheses", "@a" + ")" * 131_000),
+            ("negations", "not " * 32_000 + "@a"), ("blanks", " \t" * 65_000)):
+        yield name, chosen("--tags", "@a or @b", "--tags", text, fault="bad tag expression", status=2)
+
+
+rows({
+    # The last of equal names counts.
+    "options of variables": lambda size: Run(
+        one(VARIABLE_SEEN.format((size - 1) % 10 if size else 0)),
+        options=["--env=V=0", *(f"--env=V={number % 10}" for number in range(size))]),
+    "bytes of the name of an option": lambda size: Run(
+        one(f'the variable "{letters(size)}" should be "x"'), options=[f"--env={letters(size)}=x"],
+        fault="" if 0 < size <= NAME_LIMIT else "bad --env", status=2),
+    "bytes of the name of a file of an option": lambda size: Run(
+        one(f'the file "{letters(size)}" should contain "x"'), files={"x.txt": "x"}, options=[f"--file={letters(size)}=x.txt"],
+        fault="" if 0 < size <= NAME_LIMIT else "bad --file", status=2),
+})
+
+
+@row(also=(100_000,))
+def bytes_of_the_text_of_an_option(size):
+    text = letters(size)
+    made = one(Step("see V", block=quoted(text)), Step("see V", "failed: differs", quoted(other(text))))
+    run = with_library(made, OWN_ENTRIES["variable"])
+    run.options += [f"--env=V={text}", f"--tags=~@{text}t"]
+    return run
+
+
+@row(also=(TEXT_LIMIT - 1, TEXT_LIMIT, TEXT_LIMIT + 1, FILE_LIMIT + 1))
+def bytes_of_the_file_of_an_option(size):
+    text = letters(size)
+    made = one(Step("see f", block=quoted(text)), Step("see f", "failed: differs", quoted(other(text))))
+    if size > TEXT_LIMIT:
+        return Run(one("it passes"), files={"x.txt": text}, options=["--file=f=x.txt"],
+                   fault=f"x.txt: longer than {TEXT_LIMIT} bytes")
+    run = with_library(made, OWN_ENTRIES["file"])
+    run.files["x.txt"] = text
+    run.options.append("--file=f=x.txt")
+    return run
+
+
+def given(option, values):
+    """An option with each of these values."""
+    return [it for value in values for it in (option, str(value))]
+
+
+@group
+def many_options():
+    steps = [f'the variable "V{number}" should be "{number}"' for number in (0, 999)]
+    options = given("--tags", (f"~@t{number}" for number in range(1000))) + given("--line", range(1000, 0, -1))
+    options += given("--env", (f"V{number}={number}" for number in range(1000)))
+    yield "of each kind", Run(one(*steps), options=options)
+
+
+growing(1000, {
+    "lines of which the last chooses": lambda count: chosen(*given("--line", [*range(count + 6, 7, -1), 3])),
+    # Each of them is looked up for each scenario, so the scenarios are few.
+    "tags of which the last chooses": lambda count: chosen(
+        *given("--tags", [*(f"~@t{number}" for number in range(count - 1)), "~@c"])),
+    # Each tag that is named is looked for among as many in the feature.
+    "tags that are nowhere": lambda count: Run(
+        FeatureFile(each("@t{} ", count)).scenario("it passes"), printed=f"--tags @t{count}: stands nowhere\n", status=1,
+        options=["--lint", *given("--tags", [f"@t{number}" for number in range(1, count + 1)])]),
+    "variables of the run": lambda count: Run(
+        one(*(VARIABLE_SEEN.replace("V", f"V{number}").format(number) for number in (0, count - 1)),
+            f'the variable "V{count}" should be unset'),
+        options=given("--env", (f"V{number}={number}" for number in range(count)))),
+    "files of the run": lambda count: Run(
+        one(*(f'the file "f{number}" should be "x"' for number in (0, count - 1)), f'the file "f{count}" should not exist'),
+        files={"x.txt": "x"}, options=given("--file", (f"f{number}=x.txt" for number in range(count)))),
+})
+
+
+# ---- what is found before a run
+
+# Files that don't read, except the last: the fault, its line, and the text.
+FAULTY = (
+    ("unexpected line", 2, "Feature: f\nFeature: number {}\n"),
+    ("bad tag", 1, "@a number {}\nFeature: f\n"),
+    ("language not known", 1, "# language: de\nFeature: number {}\n"),
+    ("row without closing bar", 4, driver.feature("Given it passes", "| {} | x")),
+    ("doc string without end", 4, driver.feature("Given it passes", '"""', "number {}")),
+    (None, 1, driver.feature("Given step {} is undefined")),
+)
+
+
+def listed(name, line, fault, text):
+    """What --lint prints of a file that doesn't read: the fault, the line that it names, and what is to be done."""
+    quoted_line = text.split("\n")[line - 1]
+    return f"gherkin_run: {name}:{line}: {fault}\n    {quoted_line}\n    {HINTS[fault]}\n"
+
+
+def faults_of_many_files(count):
+    """The listing, on standard error, has more bytes than a pipe holds. It has nothing of the files that read."""
+    files, listing = {}, ""
+    for number in range(count):
+        fault, line, text = FAULTY[number % len(FAULTY)]
+        name = f"{number}.feature"
+        files[name] = text.format(number)
+        listing += listed(name, line, fault, files[name]) if fault else ""
+    return Run(files=files, sources=files, options=["--lint"], printed="", err=listing)
+
+
+def long_line(length):
+    """A listing that quotes a line with so many letters, whole, beside the fault of a library."""
+    files = {"l.steps": "dance\n", "a.feature": f"Feature: f\nFeature: {'x' * length}\n"}
+    found = (("l.steps", 1, "bad step type"), ("a.feature", 2, "unexpected line"))
+    listing = "".join(listed(name, line, fault, files[name]) for name, line, fault in found)
+    return Run(files=files, sources=["a.feature"], options=["--lint", "--library", "l.steps"], printed="", err=listing)
+
+
+AROUND_THE_LINE = len(long_line(0).err)
+rows({"letters of a line with a fault": long_line},
+     only=(1_000_000, PIPE - AROUND_THE_LINE, PIPE + 1 - AROUND_THE_LINE))
+
+
+growing(700, {"faults of many files": faults_of_many_files})
+# What is found goes to standard output.
+growing(2000, {"findings of a file": lambda count: Run(
+    FeatureFile().scenarios(count, []), options=["--lint"], status=1,
+    printed=each("a.feature:{}: scenario without steps\n", range(2, count + 2)))})
+
+
+# ---- running them
+
+def trouble(folder, name, run, style):
+    """What is wrong with a run in a folder, in a format, or nothing."""
+    ended = driver.start(driver.program(), run.arguments(style), folder, patience=PATIENCE)
+    return driver.trouble(f"{name}, {style}", ended, run.wanted(style))
+
+
+def processor_time():
+    """The seconds of the processor that runs so far took."""
+    used = resource.getrusage(resource.RUSAGE_CHILDREN)
+    return used.ru_utime + used.ru_stime
+
+
+def of_run(name, run, styles):
+    """What is wrong with a run in each of these formats, or nothing."""
+    with tempfile.TemporaryDirectory() as folder:
+        driver.write(folder, run.files)
+        return [trouble(folder, name, run, style) for style in styles]
+
+
+def of_row(place):
+    """The same of each run of a row. Each run above SMALL is tried in one format alone."""
+    row, found = ROWS[place], []
+    for number, size in enumerate(row.sizes, place):
+        run = row.make(size)
+        run = Run(run) if isinstance(run, FeatureFile) else run
+        is_each = os.environ.get("SIZES") == "all" or size <= SMALL
+        styles = FORMATS if is_each else [FORMATS[number % len(FORMATS)]]
+        found += of_run(f"{row.name}: {size}", run, run.formats or row.formats or styles)
+    return found
+
+
+def of_group(place):
+    """The same of each run of a group."""
+    make = GROUPS[place]
+    return [it for name, run in make() for it in of_run(f"{make.__name__}: {name}", run, run.formats or ["plain"])]
+
+
+def of_growing(place):
+    """The same of a growing run. Of three times the least counts."""
+    (name, make, size), least = GROWING[place], []
+    for own in (size, size * TIMES):
+        run, times = make(own), []
+        with tempfile.TemporaryDirectory() as folder:
+            driver.write(folder, run.files)
+            for _ in range(3):
+                before = processor_time()
+                found = trouble(folder, f"{name}: {own}", run, None)
+                times.append(processor_time() - before)
+                if found:
+                    return [found]
+        least.append(min(times))
+    return [driver.unless(f"{name}: {least[0]:.3f} s, and {TIMES} times as large {least[1]:.3f} s", least[1] <= MOST_TIMES * least[0])]
+
+
+class Sizes(Checks):
+    def try_all(self, of_one, count):
+        for troubles in driver.in_processes(of_one, range(count)):
+            self.check_all(troubles)
+
+    def test_groups(self):
+        self.try_all(of_group, len(GROUPS))
+
+    def test_growing(self):
+        self.try_all(of_growing, len(GROWING))
+
+    def test_rows(self):
+        self.try_all(of_row, len(ROWS))
+
+    def test_pipe(self):
+        """The program reads a pipe that gives one byte at a time."""
+        made = FeatureFile(source="pipe").scenario("it passes")
+        os.mkfifo(os.path.join(self.room, "pipe"))
+
+        def feed():
+            with open(os.path.join(self.room, "pipe"), "wb", buffering=0) as pipe:
+                for byte in made.text().encode():
+                    pipe.write(bytes([byte]))
+
+        writer = threading.Thread(target=feed)
+        writer.start()
+        self.check(trouble(self.room, "from a pipe", Run(made), "plain"))
+        writer.join()

@@ -1,0 +1,39 @@
+"""The shape of the crates' sources, calls of public functions, what tables are written into, and notes on edits."""
+
+import calls
+import shape
+import tables
+from checks import Checks, Script
+
+
+class Shape(Checks):
+    def test_limits(self):
+        limits = shape.limits()
+        for check in shape.CHECKS:
+            self.check(shape.trouble(check.__name__, len(list(check())), limits.pop(check.__name__, None)))
+        self.check_list("limits of nothing", limits)
+
+
+class Calls(Checks):
+    def test_each_public_function(self):
+        self.check_all(calls.troubles())
+
+
+class Tables(Checks):
+    def test_all_rows_are_read(self):
+        self.check_all(tables.unread())
+
+    def test_written_files_are_up_to_date(self):
+        self.check_all(tables.not_up_to_date())
+
+    def test_changes_are_seen(self):
+        """In a copy, a change of a table is found, and written into each file that repeats it."""
+        self.check_all(tables.unseen(*it) for it in tables.CHANGES)
+
+
+class Edits(Script):
+    NEEDS = ("rt",)
+
+    def test_notes(self):
+        """The edits that `rt ci` leaves out were tried on the crates as they are."""
+        self.run_script("edits.sh", "--check")

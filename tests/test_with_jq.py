@@ -1,0 +1,156 @@
+"""jq reads JSON reports, as another program would.
+
+Of each example, and of each stored run with a JSON report, jq makes the plain report of the JSON one, and counts its
+rows. Runs over several files are compared with the sum of runs over one of them each, by examples/add_reports.sh.
+"""
+
+import json
+import os
+import re
+import subprocess
+
+import driver
+import stored_cases
+from checks import Checks
+
+ADD = os.path.join(driver.EXAMPLES, "add_reports.sh")
+# Whether a report counts its own rows well.
+COUNTS = """def tally(rows): reduce rows as $it ({}; .[$it] += 1);
+    def counted($noun; $counts): .summary[$noun] | with_entries(select(.value != 0)) == $counts;
+    counted("features"; tally(.features[].status))
+    and counted("scenarios"; tally(.features[].scenarios[].status))
+    and counted("steps"; tally(.features[].scenarios[].steps[].status))"""
+SEVERAL = [f"examples/{it}.feature" for it in ("first", "failing", "tags", "undefined", "sums", "isolation")]
+# A name, the options and the files of runs that are added up.
+ADDED = [
+    ("all that pass", [], [f"examples/{it}.feature" for it in ("first", "sums", "settings")]),
+    ("some that fail", [], SEVERAL),
+    ("the same, without what is skipped", ["--no-skipped", "--tags", "~@slow"], SEVERAL),
+    ("a dry run", ["--dry-run"], SEVERAL),
+    ("hooks that fail", ["--hooks", "examples/failing_hooks.hooks"], ["examples/failing_hooks.feature", *SEVERAL]),
+    ("cleanups", ["--hooks", "examples/cleanups.hooks"], ["examples/cleanups.feature", "examples/first.feature"]),
+    ("rules", ["--hooks", "examples/rules.hooks"], ["examples/rules.feature", "examples/settings.feature"]),
+    ("a library", ["--library", "examples/default.steps", "--env", "A=b"], ["examples/default.feature", *SEVERAL]),
+    ("files without features", [], ["{none}", "examples/first.feature", "{none}", "examples/sums.feature", "{none}"]),
+    ("only files without features", [], ["{none}", "{none}"]),
+]
+
+
+def jq(*words, given=b""):
+    """The status of jq, and what it prints."""
+    done = subprocess.run(["jq", *words], input=given, stdout=subprocess.PIPE, stderr=subprocess.DEVNULL, check=False)
+    return done.returncode, done.stdout
+
+
+def plain(report):
+    """The plain report that jq makes of a JSON one."""
+    return jq("--raw-output", "--from-file", os.path.join(driver.EXAMPLES, "recipes", "plain.jq"), given=report)[1]
+
+
+def without_format(arguments):
+    """Arguments without the choice of a format."""
+    rest = iter(os.fsdecode(it) for it in arguments)
+    return [it for it in rest if not it.startswith("--format=") and not (it == "--format" and next(rest))]
+
+
+class WithJq(Checks):
+    NEEDS = ("jq",)
+
+    def json(self, *arguments, folder=driver.HOME):
+        """A run with a JSON report."""
+        return driver.start(self.program, ["--format", "json", *arguments], folder)
+
+    def add(self, *names, folder=driver.HOME):
+        """Adds up reports."""
+        return driver.start(ADD, names, folder)
+
+    def compare(self, name, arguments, folder=driver.HOME):
+        """Compares the JSON report of a run with its plain one."""
+        arguments = without_format(arguments)
+        wanted, text, _ = driver.start(self.program, ["--format", "plain", *arguments], folder)
+        status, report, _ = self.json(*arguments, folder=folder)
+        self.unless(f"{name}: another status as JSON", status == wanted)
+        if not text:
+            self.unless(f"{name}: a report as JSON and none as plain", not report)
+            return
+        self.unless(f"{name}: another plain report", plain(report) == text)
+        self.unless(f"{name}: another status inside", jq(".status", given=report)[1] == b"%d\n" % status)
+        if "--no-skipped" not in arguments:
+            self.unless(f"{name}: other counts", jq("--exit-status", COUNTS, given=report)[0] == 0)
+
+    def test_examples(self):
+        for arguments in driver.examples():
+            self.compare(arguments[-1], arguments)
+
+    def test_stored_runs(self):
+        for number, case in enumerate(stored_cases.cases()):
+            if case.stdout.startswith(b"{"):
+                folder = os.path.join(self.room, str(number))
+                stored_cases.lay(case, folder)
+                self.compare(f"{case.page}: {case.name}", case.arguments, folder)
+
+    def test_names_with_line_feeds(self):
+        driver.write(self.room, {"lines.feature": "Feature: f\n  Scenario Outline: <n>\n    Given <n>\n    Examples:\n"
+                                                  "      | n |\n      | a\\nb\\nc |\n"})
+        self.compare("names with line feeds", [os.path.join(self.room, "lines.feature")])
+
+    def test_sums(self):
+        none = os.path.join(self.room, "none.feature")
+        driver.write(self.room, {"none.feature": "# nothing\n"})
+        for name, options, files in ADDED:
+            files = [it.format(none=none) for it in files]
+            parts = {f"part{100 + number}": self.json(*options, it)[1] for number, it in enumerate(files)}
+            driver.write(self.room, parts)
+            ended, wanted = self.add(*parts, folder=self.room), self.json(*options, *files)
+            self.unless(f"{name}: the sum has another status", ended[0] == wanted[0])
+            self.unless(f"{name}: the sum is another report", ended[1] == wanted[1])
+
+    def test_command_of_the_guide(self):
+        """The command that lists what failed."""
+        page = driver.read(os.path.join(driver.HOME, "docs", "guide", "reports.md")).decode()
+        command = re.search(r"^jq -r '\.features\[\].*", page, re.MULTILINE)[0]
+        driver.write(self.room, {"report.json": self.json(*SEVERAL)[1]})
+        listed = driver.start("sh", ["-c", command], self.room)[1]
+        text = driver.start(self.program, SEVERAL)[1]
+        failed = re.findall(rb"^  [A-Z].* \.\.\. failed$", text, re.MULTILINE)
+        self.unless("the guide's list of failed scenarios", listed.count(b"\n") == len(failed))
+        self.unless("the guide's list has scenarios", listed)
+
+    def test_broken_reports(self):
+        report = self.json("examples/first.feature")[1]
+        parts = {key: json.loads(report)[key] for key in ("features", "status", "run", "summary")}
+        broken = {
+            "empty": b"", "cut": report[:100], "two": report * 2, "two_in_a_line": (report * 2).replace(b"\n", b""),
+            "other": b"{}\n", "in_lines": json.dumps(json.loads(report), indent=2).encode() + b"\n",
+            "in_another_order": json.dumps(parts, separators=(",", ":")).encode() + b"\n",
+            "indented": b" " + report, "with_a_space": report[:-1] + b" \n",
+            "with_another_number": report.replace(b'"status":0,"summary"', b'"status":0.0,"summary"'),
+            "with_an_empty_line": report + b"\n"}
+        driver.write(self.room, {"json": report, **broken})
+        for name in broken:
+            status, printed, fault = self.add("json", name, folder=self.room)
+            self.unless(f"a report that is {name}: another status", status == 3)
+            self.unless(f"a report that is {name}: something is printed", not printed)
+            self.unless(f"a report that is {name}: it isn't named",
+                        b"add_reports: %s is no report" % name.encode() in fault)
+
+    def test_worst_end(self):
+        report = self.json("examples/first.feature")[1]
+        ends = {it: report.replace(b'"run":"passed","status":0', b'"run":"%s","status":%d' % (it.encode(), status))
+                for it, status in (("memory", 4), ("failed", 1))}
+        driver.write(self.room, {"json": report, **ends})
+        for order in (["json", "failed", "memory"], ["memory", "failed", "json"], ["failed", "memory", "failed"]):
+            status, printed, _ = self.add(*order, folder=self.room)
+            self.unless(f"{order}: another status", status == 4)
+            self.unless(f"{order}: another end of the run", json.loads(printed)["run"] == "memory")
+
+    def test_counts_of_memory(self):
+        text, report = driver.start(self.program, ["examples/first.feature"])[1], self.json("examples/first.feature")[1]
+        wanted = [it + b", 2 memory" for it in text.splitlines()[-3:]]
+        found = plain(report.replace(b'"memory":0', b'"memory":2')).splitlines()[-3:]
+        self.unless("plain.jq: other counts of what ran out of memory", found == wanted, found)
+
+    def test_report_without_its_line_feed(self):
+        report = self.json("examples/first.feature")[1]
+        driver.write(self.room, {"without": report[:-1]})
+        self.unless("another sum", self.add("without", folder=self.room)[1] == report)
