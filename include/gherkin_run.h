@@ -63,7 +63,8 @@ void gherkin_run(const gherkin_text *arguments, size_t argument_count, const ghe
 
 /* Writes the names of the files that the arguments ask for to `room` in the same way, each with a zero byte at its end,
    and returns the length of them all: those of --file, the library file, the hooks file, the feature files. Arguments
-   that ask for no run ask for no files. */
+   that ask for no run ask for no files. Returns GHERKIN_NO_LENGTH and writes nothing if memory ran out. */
+#define GHERKIN_NO_LENGTH ((size_t)-1)
 size_t gherkin_run_files(const gherkin_text *arguments, size_t argument_count, uint8_t *room, size_t room_length);
 
 /* Writes the library's version to `room` in the same way, and returns its length. */

@@ -53,6 +53,7 @@ static bool reads(const char *name, gherkin_file *file) {
 /* Reads the files that the arguments ask for. */
 static void read_files(command *asked) {
     size_t length = gherkin_run_files(asked->arguments, asked->argument_count, NULL, 0);
+    if (length == GHERKIN_NO_LENGTH) exit(GHERKIN_OUT_OF_MEMORY);
     char *names = room_for(length, 1);
     gherkin_run_files(asked->arguments, asked->argument_count, (uint8_t *)names, length);
     asked->files = room_for(length, sizeof *asked->files);

@@ -1,7 +1,7 @@
 -- What the machine returns for a file, and what the program ends with.
 use Rattle.std.specs.Prelude.{◌≡◌, ◌<◌, ℕ, List, length, Option, Result, Ok, Err, IfSome}
 use Rattle.gk_gherkin.specs.Lines.{limit}
-use Rattle.gk_cli.specs.Suite.{Device}
+use Rattle.gk_cli.specs.Writing.{Device}
 use Rattle.gk_cli.specs.declared.source.SourceFault.{SourceFault}
 use Rattle.gk_cli.specs.declared.source.SourceFault.TheVariants as reading
 use Rattle.gk_program.specs.Ended.{IsEnded}
@@ -20,7 +20,7 @@ abbrev pub reads_some : {F : Type 0} → {S : Type 0} → (F → Option (List �
 reads_some holds before name answer after = IsOfSomeFile holds answer
 
 -- The program ended with this status, for some arguments: nothing says which they are.
-pub record IsRunOn {S : Type 0} (reads : Reading S) (before after : S) (old new : Device) (errors_old errors_new : Option (List ℕ)) (status : ℕ) : Type 0 where
+pub record IsRunOn {S : Type 0} (reads : Reading S) (before after : S) (old new errors_old errors_new : Device) (status : ℕ) : Type 0 where
   pub arguments : Result (List (List ℕ)) ArgumentsFault
   pub ended : Ended
   pub ended_so : IsEnded reads arguments before after old new errors_old errors_new ended

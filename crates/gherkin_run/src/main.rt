@@ -3,7 +3,7 @@
 
 ghost use Rattle.std.specs.Process.{exit_status};
 ghost use Rattle.gk_cli.specs.Counted.{FailuresCanRise};
-ghost use Rattle.gk_cli.specs.Suite.{device_of};
+ghost use Rattle.gk_cli.specs.Writing.{device_of};
 ghost use Rattle.gherkin_run.specs.Machine.{IsRunOn, reads_some};
 
 mod machine;
@@ -19,12 +19,12 @@ use std::rt::{Env, Files};
 fn run_on<R: Env + Files + AllocGlobal, W: Write, E: Write>(
     machine: &mut Machine<'_, R>,
     out: &mut Counted<W>,
-    errors: &mut E,
+    errors: &mut Counted<E>,
 ) -> ExitCode
     requires room { FailuresCanRise out.old }
     ensures { IsRunOn (reads_some R.File.remaining) machine.old machine.new
         (device_of W.contents out.old) (device_of W.contents out.new)
-        (E.contents errors.old) (E.contents errors.new) (exit_status result) }
+        (device_of E.contents errors.old) (device_of E.contents errors.new) (exit_status result) }
 {
     let arguments = arguments_of(machine.rt);
     let ended = run(machine.rt.alloc(), machine, arguments, out, errors);
@@ -35,6 +35,6 @@ fn main(rt: HostRuntime) -> ExitCode {
     run_on(
         &mut Machine { rt: &rt },
         &mut Counted::new(rt.stdout()),
-        &mut rt.stderr(),
+        &mut Counted::new(rt.stderr()),
     )
 }

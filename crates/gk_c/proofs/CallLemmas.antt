@@ -1,12 +1,10 @@
 -- Reading the arguments of a call, and the files that they ask for.
-use Rattle.std.proofs.Common.{◌≡◌, ◌∙◌, ◌+◌, ◌<◌, ◌≤◌, ◌++◌, ap, sym, subst, refl, ℕ, List, [], ◌∷◌, length, map, take, drop, get_or, Result, Ok, Err, add-one, append-nil, append_assoc}
+use Rattle.std.proofs.Common.{◌≡◌, ◌∙◌, ◌+◌, ◌<◌, ◌≤◌, ◌++◌, ap, sym, subst, ℕ, List, [], ◌∷◌, length, map, take, drop, get_or, Err, add-one, append-nil, append_assoc}
 use Rattle.std.proofs.lemmas.List.{drop_all, get_or-map, length-map, map_push, take_all}
 use Rattle.std.proofs.lemmas.List.Elements.{All-push}
 use Rattle.std.proofs.Math.Seq.{drop-cons, take-suc}
 use Rattle.std.specs.List.{All, Any}
-use Rattle.gk_program.specs.Asked.{AreNamesAsked, fault_without}
 use Rattle.gk_program.specs.declared.asked.ArgumentsFault.{ArgumentsFault}
-use Rattle.gk_program.specs.declared.fault.Fault.TheVariants as fault
 use Rattle.gk_program.specs.declared.asked.ArgumentsFault.TheVariants.{NotUtf8, Memory}
 use Rattle.gk_c.specs.Words.{IsNoText, SaysWord, SaysWords, text_value}
 use Rattle.gk_c.specs.declared.words.Text.{Text}
@@ -46,8 +44,3 @@ all_copied g f ys xs i all le before = sym (append-nil (map g ys)) ∙ (ap (λ l
 pub bad_word : (arguments : List Text) (i : ℕ) (d : Text) (fault : ArgumentsFault) → i < length arguments → SaysWord (text_value (get_or arguments i d)) (Err fault) → SaysWords (map text_value arguments) (Err fault)
 bad_word arguments i d NotUtf8 lt says = bad_here IsNoText text_value arguments i d lt says
 bad_word arguments i d Memory lt says = tt
-
--- memory may be refused for any arguments, and then no file is asked for
-pub none_asked : (words : Result (List (List ℕ)) ArgumentsFault) → AreNamesAsked words []
-none_asked (Ok words) = (Err fault.Memory, tt, refl)
-none_asked (Err by) = (Err (fault_without by), refl, refl)

@@ -1,9 +1,9 @@
 //! Answering a call.
 ghost use Rattle.std.specs.Prelude.{◌≡◌, ◌++◌, [], Some, codes, map, IfOk, OnOk, string_bytes};
 ghost use Rattle.gk_cli.specs.Counted.{inner_of};
-ghost use Rattle.gk_cli.specs.Suite.{device_of};
+ghost use Rattle.gk_cli.specs.Writing.{device_of};
 ghost use Rattle.gk_c.specs.Answer.{IsPut, put_over};
-ghost use Rattle.gk_c.specs.Call.{AreFilesPut, IsAnswer, IsAnsweredBy, IsAnsweredWith, IsRefusal, IsRunOver, fresh, listed, one_listed, refusal};
+ghost use Rattle.gk_c.specs.Call.{AreFilesPut, AreNamesListed, IsAnswer, IsAnsweredBy, IsAnsweredWith, IsRefusal, IsRunOver, fresh, listed, one_listed, refusal};
 ghost use Rattle.gk_c.specs.CallerFiles.{file_value};
 ghost use Rattle.gk_c.specs.Words.{text_value};
 
@@ -31,13 +31,13 @@ fn run_over(
     arguments: &[Text],
     files: &[File],
     out: &mut Counted<Vec<u8>>,
-    errors: &mut Vec<u8>,
+    errors: &mut Counted<Vec<u8>>,
 ) -> Ended
     requires out { device_of (λ buffer. Some buffer.items) out.old ≡ fresh }
-    requires errors { errors.old.items ≡ [] }
+    requires errors { device_of (λ buffer. Some buffer.items) errors.old ≡ fresh }
     ensures { IsRunOver (map file_value files.now) (map text_value arguments.now)
-        (inner_of out.new).items errors.new.items
-        (device_of (λ buffer. Some buffer.items) out.new) result }
+        (device_of (λ buffer. Some buffer.items) out.new)
+        (device_of (λ buffer. Some buffer.items) errors.new) result }
 {
     let words = words_from(alloc, arguments);
     let mut system = InMemory { files };
@@ -50,17 +50,18 @@ fn answer_with(
     ended: Ended,
     out: &Counted<Vec<u8>>,
     out_length: usize,
-    errors: &[u8],
+    errors: &Counted<Vec<u8>>,
     room: &mut [u8],
 ) -> Answer
     ensures out { result.out_length ≡ out_length }
-    ensures answered { IsAnsweredWith (device_of (λ buffer. Some buffer.items) out.now) ended
-        errors.now room.old room.new result }
+    ensures answered { IsAnsweredWith (device_of (λ buffer. Some buffer.items) out.now)
+        (device_of (λ buffer. Some buffer.items) errors.now) ended
+        (inner_of errors.now).items room.old room.new result }
 {
-    if out.failures() == 0 && ended.is_told {
+    if out.failures() == 0 && errors.failures() == 0 {
         Answer {
             out_length,
-            errors_length: put_out(errors, room),
+            errors_length: put_out(errors.inner().as_slice(), room),
             name_length: ended.place.name_length,
             line: ended.place.line,
             status: ended.status,
@@ -88,10 +89,10 @@ pub fn answer_call(
         out.old out.new errors.old errors.new result }
 {
     let mut said = Counted::new(buffer_for(alloc, out));
-    let mut told = buffer_for(alloc, errors);
+    let mut told = Counted::new(buffer_for(alloc, errors));
     let ended = run_over(alloc, arguments, files, &mut said, &mut told);
     let out_length = put_out(said.inner().as_slice(), out);
-    answer_with(ended, &said, out_length, told.as_slice(), errors)
+    answer_with(ended, &said, out_length, &told, errors)
 }
 
 // Adds a name and the zero byte that ends it.
@@ -114,14 +115,21 @@ fn listed_names(alloc: Global, names: &[String]) -> Result<Vec<u8>, AllocError>
     Ok(text)
 }
 
+// Returns the names of the files that these arguments ask for, each with a zero byte at its end.
+fn names_asked(alloc: Global, arguments: &[Text]) -> Result<Vec<u8>, AllocError>
+    ensures { IfOk result (λ text. AreNamesListed (map text_value arguments.now) text.items) }
+{
+    let names = files_asked(alloc, words_from(alloc, arguments))?;
+    listed_names(alloc, names.as_slice())
+}
+
 /// Writes the names of the files that these arguments ask for, each with a zero byte at its end, and returns the length
-/// of them all.
+/// of them all; or `usize::MAX`, if memory was refused.
 pub fn put_files(alloc: Global, arguments: &[Text], room: &mut [u8]) -> usize
     ensures { AreFilesPut (map text_value arguments.now) room.old room.new result }
 {
-    let names = files_asked(alloc, words_from(alloc, arguments));
-    match listed_names(alloc, names.as_slice()) {
+    match names_asked(alloc, arguments) {
         Ok(text) => put_out(text.as_slice(), room),
-        Err(_) => put_out(b"", room),
+        Err(_) => usize::MAX,
     }
 }

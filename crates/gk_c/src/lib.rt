@@ -43,9 +43,10 @@ pub extern "C" fn gherkin_run(
 }
 
 /// Writes the names of the files that these arguments ask for, in the order in which the program reads them: those of
-/// `--file`, the library file, the hooks file, the feature files. Each name ends with a zero byte. They are written over the beginning of
-/// `room`, as far as there is room, and the length of them all is returned. There are none if the arguments ask for help
-/// or the version or have a mistake, or if memory was refused.
+/// `--file`, the library file, the hooks file, the feature files. Each name ends with a zero byte. They are written over
+/// the beginning of `room`, as far as there is room, and the length of them all is returned. There are none if the
+/// arguments ask for help or the version or have a mistake. If memory was refused, nothing is written, and `usize::MAX`
+/// is returned.
 #[unsafe(no_mangle)]
 pub extern "C" fn gherkin_run_files(alloc: Global, arguments: &[Text], room: &mut [u8]) -> usize
     ensures { AreFilesPut (map text_value arguments.now) room.old room.new result }

@@ -4,17 +4,12 @@ use Rattle.gk_world.specs.State.{Contents}
 use Rattle.gk_run.specs.Run.{Run}
 use Rattle.gk_run.specs.Chosen.{ChosenValue}
 use Rattle.gk_cli.specs.declared.run_fault.RunFault.{RunFault}
-use Rattle.gk_cli.specs.declared.run_fault.RunFault.TheVariants.{Read, Library, Hooks, Select, Write, Memory}
-use Rattle.gk_cli.specs.Inputs.{Request, Inputs, AreInputs}
-use Rattle.gk_cli.specs.RunFault.{IsUnread}
-use Rattle.gk_cli.specs.Suite.{Device, IsUntouched}
-use Rattle.gk_cli.specs.GrowingReport.{StopsBy}
+use Rattle.gk_cli.specs.Writing.{Device, StopsBy}
 use Rattle.gk_explain.specs.declared.explainer.Explainer.{Explainer}
 use Rattle.gk_explain.specs.Explanation.{nothing_said}
 use Rattle.gk_explain.specs.Explainer.{said, Hears}
 use Rattle.gk_cli.specs.ToldRun.{IsToldUpTo}
 use Rattle.gk_cli.specs.ExplainedRun.{Explains, Closes, IsExplainedUpTo}
-use Rattle.gk_cli.specs.ExplainedSuite.{explained_run, SaysExplanationFault}
 
 -- What was told to an explainer that had said nothing is explained.
 pub told_up_to : (run : Run) (hooks : List ℕ) (contents : Contents) (features : List ChosenValue) (first : Explainer) (old new : Device) (fault : RunFault) → said first ≡ nothing_said run.library hooks →
@@ -32,22 +27,3 @@ why_stopped run hooks contents features old new fault (inr short) = short.stoppe
 pub unflushed_so : (run : Run) (hooks : List ℕ) (contents : Contents) (features : List ChosenValue) (old new : Device) (fault : RunFault) → IsExplainedUpTo run hooks contents features old new fault → new.flushes ≡ old.flushes
 unflushed_so run hooks contents features old new fault (inl part) = part.stopped.unflushed
 unflushed_so run hooks contents features old new fault (inr short) = short.stopped.unflushed
-
--- A prefix that was written is what the fault says.
-pub part_says : (r : Request) (hooks : List ℕ) (contents : Contents) (old new : Device) (inputs : Inputs) (fault : RunFault) → AreInputs r inputs →
-    IsExplainedUpTo (explained_run r inputs) hooks contents inputs.features old new fault → SaysExplanationFault r hooks contents old new fault
-part_says r hooks contents old new inputs (Read input why) read part = absurd (why_stopped _ _ _ _ old new _ part)
-part_says r hooks contents old new inputs (Library why) read part = absurd (why_stopped _ _ _ _ old new _ part)
-part_says r hooks contents old new inputs (Hooks why) read part = absurd (why_stopped _ _ _ _ old new _ part)
-part_says r hooks contents old new inputs (Select input why) read part = absurd (why_stopped _ _ _ _ old new _ part)
-part_says r hooks contents old new inputs Write read part = (inputs, read, part)
-part_says r hooks contents old new inputs Memory read part = inr (inputs, read, part)
-
--- What doesn't read writes nothing.
-pub unread_says : (r : Request) (hooks : List ℕ) (contents : Contents) (old new : Device) (fault : RunFault) → IsUnread r fault → IsUntouched old new → SaysExplanationFault r hooks contents old new fault
-unread_says r hooks contents old new (Read input why) unread same = (unread, same)
-unread_says r hooks contents old new (Library why) unread same = (unread, same)
-unread_says r hooks contents old new (Hooks why) unread same = (unread, same)
-unread_says r hooks contents old new (Select input why) unread same = (unread, same)
-unread_says r hooks contents old new Write unread same = absurd unread
-unread_says r hooks contents old new Memory unread same = inl same

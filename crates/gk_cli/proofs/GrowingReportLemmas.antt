@@ -23,8 +23,9 @@ use Rattle.gk_cli.specs.declared.growing_report.GrowingReport.{GrowingReport}
 use Rattle.gk_cli.specs.declared.run_fault.RunFault.{RunFault}
 use Rattle.gk_cli.specs.declared.run_fault.RunFault.TheVariants.{Read, Library, Hooks, Select, Write, Memory}
 use Rattle.gk_cli.specs.Counted.{one_more}
-use Rattle.gk_cli.specs.Suite.{Device, IsReported, IsUntouched}
-use Rattle.gk_cli.specs.GrowingReport.{style_of, prints_nothing, results_with, IsWritten, StopsBy, IsStopped, Stays, AddsPart, ClosesByTail}
+use Rattle.gk_cli.specs.Suite.{IsReported}
+use Rattle.gk_cli.specs.Writing.{Device, IsUntouched, IsWritten, StopsBy, IsStopped}
+use Rattle.gk_cli.specs.GrowingReport.{style_of, prints_nothing, results_with, Stays, AddsPart, ClosesByTail}
 use Rattle.gk_cli.specs.declared.told_run.Told.{Told}
 use Rattle.gk_cli.specs.ToldRun.{stays, stays_begun, reporter_of, counts_of, TellsFeature, TellsDryFeature, TellsFeatures, TellsFirst, IsWholeText, IsTextSoFar, IsToldRun, IsToldUpTo, AreTold, AreToldUpTo, IsClosed, StopsClosing}
 use Rattle.gk_cli.specs.WrittenRun.{IsWhole, IsPrefix}
@@ -245,8 +246,7 @@ text_so_far law run contents features first text style styles none (inr (results
 reported : (style : Style) (old there new : Device) (text : List ℕ) (results : Results) (answer : ℕ) → IsWritten old there (head style) → IsWritten there new text → head style ++ text ≡ report style results → answer ≡ status results →
     IsReported style old new answer results
 reported style old there new text results answer headed written is returned =
-    let whole = subst (IsWritten old new) is (written_more old there new (head style) text headed written) in
-    record { written = whole.written; returned = returned; calls = whole.calls; busy = whole.busy; quiet = whole.quiet; unflushed = whole.unflushed }
+    record { written = subst (IsWritten old new) is (written_more old there new (head style) text headed written); returned = returned }
 
 -- The head wasn't written whole.
 pub head_stopped : (run : Run) (contents : Contents) (features : List ChosenValue) (style : Style) (old new : Device) (fault : RunFault) → IsStopped old new (head style) fault → IsPrefix run contents features style old new fault

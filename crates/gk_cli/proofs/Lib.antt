@@ -11,6 +11,7 @@ pub mod ToldRunLemmas
 pub mod ExplainedSuiteLemmas
 pub mod LintedSourcesLemmas
 pub mod LintedSuiteLemmas
+pub mod ModesLemmas
 pub mod AllFaultsLemmas
 pub mod AllFaultsLaw
 pub mod RowOrderLaw

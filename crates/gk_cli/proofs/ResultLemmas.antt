@@ -25,6 +25,10 @@ pub either_way : {T E : Type 0} {P : T → Type 0} {Q : E → Type 0} {R : Type 
 either_way (Ok x) f g h k = f x h
 either_way (Err e) f g h k = g e k
 
+pub if_ok_both : {T E : Type 0} (P Q : T → Type 0) (r : Result T E) → IfOk r P → IfOk r Q → IfOk r (λ x. P x × Q x)
+if_ok_both P Q (Ok x) h k = (h, k)
+if_ok_both P Q (Err e) h k = h
+
 -- An error that is passed on.
 pub passed_on : {T E : Type 0} {Q P : E → Type 0} (r : Result T E) → IsErrAnd r Q → ((e : E) → Q e → P e) → IfErr r P
 passed_on (Ok x) h f = absurd h

@@ -1,5 +1,5 @@
 -- Features, one after another, and what their status says of them.
-use Rattle.std.proofs.Common.{◌≡◌, ◌≢◌, ℕ, Bool, true, false, cond, ◌&&◌, ◌||◌, List, [], ◌∷◌, ◌++◌, map, refl, ap, sym, subst, ◌∙◌, inl, inr, length, arith}
+use Rattle.std.proofs.Common.{◌≡◌, ◌≢◌, ℕ, Bool, true, false, cond, ◌&&◌, ◌||◌, List, [], ◌∷◌, Result, Ok, Err, IfOk, IfErr, ◌++◌, map, refl, ap, sym, subst, ◌∙◌, inl, inr, length, arith}
 use Rattle.std.specs.List.{AllByRecursion, list_any}
 use Rattle.std.proofs.lemmas.Bool.{true≢false}
 use Rattle.std.proofs.lemmas.List.Folds.{list_any-append}
@@ -25,7 +25,8 @@ use Rattle.gk_cli.specs.declared.run_fault.RunFault.{RunFault}
 use Rattle.gk_cli.specs.declared.run_fault.RunFault.TheVariants.{Read, Library, Hooks, Select, Write, Memory}
 use Rattle.gk_cli.specs.Inputs.{Request, Inputs, AreInputs}
 use Rattle.gk_cli.specs.RunFault.{IsUnread}
-use Rattle.gk_cli.specs.Suite.{Device, IsReported, JudgedReport, OnlyReport, AreJudged, IsUntouched, IsCutShort, SaysFault, InputsAreUnique, run_with}
+use Rattle.gk_cli.specs.Suite.{IsReported, JudgedReport, OnlyReport, AreJudged, ReportedInPart, SaysFaultBy, InputsAreUnique, run_with}
+use Rattle.gk_cli.specs.Writing.{Device, IsUntouched, IsWritten, StopsBy, UsesWriter}
 use Rattle.gk_cli.specs.WrittenRun.{IsWhole, IsPrefix}
 
 -- A list without length.
@@ -172,30 +173,30 @@ whole_is_only unique one r contents old new inputs answer read whole other =
       only = only_list unique one r contents answer other inputs read;
     }
 
-cut_short : (r : Request) (contents : Contents) (old new : Device) (inputs : Inputs) (fault : RunFault) → AreInputs r inputs → (part : IsPrefix (run_with r inputs) contents inputs.features r.style old new fault) → IsCutShort r contents old new part.0
-cut_short r contents old new inputs fault read part = record {
-  judged = record { inputs = inputs; read = read; judged = part.1 };
-  written = part.2.written;
-  calls = part.2.calls;
-  unflushed = part.2.unflushed;
-}
+-- A prefix of the report of a judged list was written.
+pub reported_in_part : (r : Request) (contents : Contents) (old new : Device) (inputs : Inputs) (fault : RunFault) → AreInputs r inputs → IsPrefix (run_with r inputs) contents inputs.features r.style old new fault → ReportedInPart r contents old new fault
+reported_in_part r contents old new inputs fault read part = (part.0, record { inputs = inputs; read = read; judged = part.1 }, part.2)
 
--- A prefix that was written is the report of a judged list, cut short.
-pub prefix_is_cut_short : (r : Request) (contents : Contents) (old new : Device) (inputs : Inputs) (fault : RunFault) → AreInputs r inputs → IsPrefix (run_with r inputs) contents inputs.features r.style old new fault → SaysFault r contents old new fault
-prefix_is_cut_short r contents old new inputs (Read input why) read part = absurd part.2.why
-prefix_is_cut_short r contents old new inputs (Library why) read part = absurd part.2.why
-prefix_is_cut_short r contents old new inputs (Hooks why) read part = absurd part.2.why
-prefix_is_cut_short r contents old new inputs (Select input why) read part = absurd part.2.why
-prefix_is_cut_short r contents old new inputs Write read part =
-    ((part.0, cut_short r contents old new inputs Write read part), part.2.why.0, part.2.why.1)
-prefix_is_cut_short r contents old new inputs Memory read part =
-    inr ((part.0, cut_short r contents old new inputs Memory read part), part.2.why.0, part.2.why.1)
+-- What a fault says if a prefix of the output was written.
+pub cut_says : (IsCut : RunFault → Type 0) (r : Request) (old new : Device) (fault : RunFault) → StopsBy old new fault → IsCut fault → SaysFaultBy IsCut r old new fault
+cut_says IsCut r old new (Read input why) by cut = absurd by
+cut_says IsCut r old new (Library why) by cut = absurd by
+cut_says IsCut r old new (Hooks why) by cut = absurd by
+cut_says IsCut r old new (Select input why) by cut = absurd by
+cut_says IsCut r old new Write by cut = cut
+cut_says IsCut r old new Memory by cut = inr cut
 
--- What doesn't read writes nothing.
-pub unread_is_untouched : (r : Request) (contents : Contents) (old new : Device) (fault : RunFault) → IsUnread r fault → IsUntouched old new → SaysFault r contents old new fault
-unread_is_untouched r contents old new (Read input why) unread same = (unread, same)
-unread_is_untouched r contents old new (Library why) unread same = (unread, same)
-unread_is_untouched r contents old new (Hooks why) unread same = (unread, same)
-unread_is_untouched r contents old new (Select input why) unread same = (unread, same)
-unread_is_untouched r contents old new Write unread same = absurd unread
-unread_is_untouched r contents old new Memory unread same = inl same
+-- What a fault says if the request doesn't read: nothing was written.
+pub unread_says : (IsCut : RunFault → Type 0) (r : Request) (old new : Device) (fault : RunFault) → IsUnread r fault → IsUntouched old new → SaysFaultBy IsCut r old new fault
+unread_says IsCut r old new (Read input why) unread same = (unread, same)
+unread_says IsCut r old new (Library why) unread same = (unread, same)
+unread_says IsCut r old new (Hooks why) unread same = (unread, same)
+unread_says IsCut r old new (Select input why) unread same = (unread, same)
+unread_says IsCut r old new Write unread same = absurd unread
+unread_says IsCut r old new Memory unread same = inl same
+
+-- How the writer was used, by what was written.
+pub used_by_run : {P : ℕ → Type 0} {Q : RunFault → Type 0} (result : Result ℕ RunFault) (old new : Device) → ((status : ℕ) → P status → (text : List ℕ) × IsWritten old new text) → ((fault : RunFault) → Q fault → new.flushes ≡ old.flushes)
+    → IfOk result P → IfErr result Q → UsesWriter result old new
+used_by_run (Ok status) old new whole part done failed = let written = whole status done in (written.1.quiet, written.1.busy, written.1.unflushed)
+used_by_run (Err fault) old new whole part done failed = part fault failed

@@ -25,8 +25,8 @@ use Rattle.gk_report.specs.Summary.{summary_of}
 use Rattle.gk_cli.specs.declared.run_fault.RunFault.{RunFault}
 use Rattle.gk_cli.specs.declared.run_fault.RunFault.TheVariants.{Memory}
 use Rattle.gk_cli.specs.declared.told_run.Told.{Told}
-use Rattle.gk_cli.specs.Suite.{Device}
-use Rattle.gk_cli.specs.GrowingReport.{results_with, IsWritten, IsStopped}
+use Rattle.gk_cli.specs.Writing.{Device, IsWritten, IsStopped}
+use Rattle.gk_cli.specs.GrowingReport.{results_with}
 use Rattle.gk_cli.specs.Reporter.{StopsAdding}
 use Rattle.gk_cli.specs.ToldRun.{stays, TellsFeatures, TellsFirst, IsToldRun, IsToldUpTo, TellsNext, EndsNext, IsNextResult, IsDryResult, AreTold, AreToldUpTo, IsClosed, StopsClosing, stays_begun}
 use Rattle.gk_cli.proofs.GrowingReportLemmas.{written_none, written_more, stopped_after, stopped_here}

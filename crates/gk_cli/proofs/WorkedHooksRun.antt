@@ -36,7 +36,8 @@ use Rattle.gk_report.specs.PlainReport.{status_line, step_line, case_line, aroun
 use Rattle.gk_report.specs.Report.{report}
 use Rattle.gk_steps.specs.DefaultFile.{default_entries}
 use Rattle.gk_cli.specs.Inputs.{Request, Inputs, AreInputs, IsLibrary}
-use Rattle.gk_cli.specs.Suite.{Device, OnlyReport, InputsAreUnique, run_with}
+use Rattle.gk_cli.specs.Suite.{OnlyReport, InputsAreUnique, run_with}
+use Rattle.gk_cli.specs.Writing.{Device}
 use Rattle.gk_cli.proofs.WorkedRun.{plain_style, ends_so, one_request, one_inputs, one_inputs_read, one_results}
 
 -- A hooks file: a step that passes before each scenario, and one that no entry matches after the run.

@@ -44,7 +44,8 @@ use Rattle.gk_report.specs.PlainReport.{status_line, step_line, case_line, aroun
 use Rattle.gk_report.specs.Report.{report}
 use Rattle.gk_cli.specs.Source.{SourceValue}
 use Rattle.gk_cli.specs.Inputs.{Request, Inputs, AreInputs, IsWithinLimit, chosen_of}
-use Rattle.gk_cli.specs.Suite.{Device, OnlyReport, InputsAreUnique, run_with}
+use Rattle.gk_cli.specs.Suite.{OnlyReport, InputsAreUnique, run_with}
+use Rattle.gk_cli.specs.Writing.{Device}
 use Rattle.gk_cli.proofs.WorkedRun.{plain_style, ends_so, same_from_bare}
 
 -- The feature file.

@@ -31,7 +31,8 @@ use Rattle.gk_report.specs.Summary.{status}
 use Rattle.gk_report.specs.PlainReport.{status_line, step_line, case_line, around_line, feature_line, counted, count_line, closing_lines, plain_part}
 use Rattle.gk_report.specs.Report.{report}
 use Rattle.gk_cli.specs.Inputs.{Request, Inputs, AreInputs, IsLibrary, member_by}
-use Rattle.gk_cli.specs.Suite.{Device, IsReported, JudgedReport, InputsAreUnique, run_with}
+use Rattle.gk_cli.specs.Suite.{IsReported, JudgedReport, InputsAreUnique, run_with}
+use Rattle.gk_cli.specs.Writing.{Device}
 use Rattle.gk_cli.proofs.WorkedRun.{plain_style, bare_state, one_feature, two_feature, set_step, ask_step, results_from_bare, same_from_bare, one_request, one_inputs, one_inputs_read, one_results, one_report, one_reports, one_status, two_request, two_inputs, two_inputs_read, two_results, two_report, two_reports, two_status, one_row, results_with, row_A, row_B, two_rows}
 
 -- This report was written, and this status is returned.
@@ -41,7 +42,7 @@ IsReturned old new answer text number = Appends old.bytes new.bytes text × (ans
 -- What the report and the status of results say, where these are known.
 returned : (old new : Device) (answer : ℕ) (results known : Results) (text : List ℕ) (number : ℕ) → results ≡ known → report plain_style known ≡ text → status known ≡ number → IsReported plain_style old new answer results → IsReturned old new answer text number
 returned old new answer results known text number are reports ends r =
-    (subst (λ (bytes : List ℕ). Appends old.bytes new.bytes bytes) (ap (report plain_style) are ∙ reports) r.written, r.returned ∙ ap status are ∙ ends)
+    (subst (λ (bytes : List ℕ). Appends old.bytes new.bytes bytes) (ap (report plain_style) are ∙ reports) r.written.written, r.returned ∙ ap status are ∙ ends)
 
 -- A run of a request whose inputs are known writes and answers what some cuts give.
 judged_ends : (r : Request) (inputs : Inputs) → r.dry_run ≡ false → AreInputs r inputs → InputsAreUnique → (old new : Device) (answer : ℕ) → JudgedReport r nothing_yet old new answer → (cuts : Cuts) × IsReported r.style old new answer (results_from_bare (run_with r inputs) cuts inputs.features)

@@ -46,7 +46,8 @@ use Rattle.gk_report.specs.declared.report.Format.TheVariants as formats
 use Rattle.gk_report.specs.Report.{report}
 use Rattle.gk_cli.specs.Source.{SourceValue}
 use Rattle.gk_cli.specs.Inputs.{Request, Inputs, AreRead, AreInputs, IsLibrary, IsWithinLimit, chosen_of}
-use Rattle.gk_cli.specs.Suite.{Device, OnlyReport, InputsAreUnique, run_with}
+use Rattle.gk_cli.specs.Suite.{OnlyReport, InputsAreUnique, run_with}
+use Rattle.gk_cli.specs.Writing.{Device}
 
 -- The plain style, in which nothing is left out.
 abbrev pub plain_style : Style
@@ -59,7 +60,7 @@ ends_so r inputs results text number read is_plain reports ends unique old new a
     let p = plain not_memory in
     let same : p.inputs ≡ inputs = unique r p.inputs inputs p.read read in
     let are : plain_results (run_with r p.inputs) nothing_yet p.inputs.features ≡ results = ap (λ (i : Inputs). plain_results (run_with r i) nothing_yet i.features) same ∙ is_plain in
-    (subst (λ (bytes : List ℕ). Appends old.bytes new.bytes bytes) (ap (report r.style) are ∙ reports) p.reported.written, p.reported.returned ∙ ap status are ∙ ends)
+    (subst (λ (bytes : List ℕ). Appends old.bytes new.bytes bytes) (ap (report r.style) are ∙ reports) p.reported.written.written, p.reported.returned ∙ ap status are ∙ ends)
 
 -- The state of a new sandbox: no file, no variable, no value.
 abbrev pub bare_state : State

@@ -1,12 +1,10 @@
--- What a whole run with an explanation can return and write.
-use Rattle.std.specs.Prelude.{◌⊎◌, ℕ, false, List}
+-- A whole run with an explanation.
+use Rattle.std.specs.Prelude.{ℕ, false, List}
 use Rattle.gk_world.specs.State.{Contents}
 use Rattle.gk_run.specs.Run.{Run}
 use Rattle.gk_cli.specs.declared.run_fault.RunFault.{RunFault}
-use Rattle.gk_cli.specs.declared.run_fault.RunFault.TheVariants.{Write, Memory}
 use Rattle.gk_cli.specs.Inputs.{Request, Inputs, AreInputs}
-use Rattle.gk_cli.specs.RunFault.{IsUnread}
-use Rattle.gk_cli.specs.Suite.{Device, IsUntouched}
+use Rattle.gk_cli.specs.Writing.{Device}
 use Rattle.gk_cli.specs.ExplainedRun.{IsExplained, IsExplainedUpTo}
 
 -- What stays constant during an explained run of these inputs. It isn't dry, whatever the request says.
@@ -20,9 +18,3 @@ Explained r hooks contents old new answer = (inputs : Inputs) × AreInputs r inp
 -- The request reads, and a prefix of the text that explains a run of it was written.
 abbrev pub ExplainedInPart : Request → List ℕ → Contents → Device → Device → RunFault → Type 0
 ExplainedInPart r hooks contents old new fault = (inputs : Inputs) × AreInputs r inputs × IsExplainedUpTo (explained_run r inputs) hooks contents inputs.features old new fault
-
--- What each fault means, as for a run's report. If the writer failed, it failed once, and a prefix was written. If memory was refused, nothing or a prefix was written, and the writer didn't fail. Otherwise the request doesn't read, and nothing was written.
-abbrev pub SaysExplanationFault : Request → List ℕ → Contents → Device → Device → RunFault → Type 0
-SaysExplanationFault r hooks contents old new Write = ExplainedInPart r hooks contents old new Write
-SaysExplanationFault r hooks contents old new Memory = IsUntouched old new ⊎ ExplainedInPart r hooks contents old new Memory
-SaysExplanationFault r hooks contents old new fault = IsUnread r fault × IsUntouched old new

@@ -1,40 +1,14 @@
--- Bytes that are written, and a report that is written part by part.
-use Rattle.std.specs.Prelude.{◌≡◌, ◌≤◌, ◌+◌, ◌&&◌, ℕ, Bool, List, length}
-use Rattle.std.specs.Io.KnownBytes.{Appends}
+-- A report that is written part by part.
+use Rattle.std.specs.Prelude.{◌≡◌, ◌&&◌, ℕ, Bool, List}
 use Rattle.gk_run.specs.declared.results.Status.{Status}
 use Rattle.gk_run.specs.Results.{FeatureRow, Results}
 use Rattle.gk_report.specs.declared.report.Style.{Style}
 use Rattle.gk_report.specs.Report.{part, tail, is_empty}
 use Rattle.gk_cli.specs.declared.growing_report.GrowingReport.{GrowingReport}
-use Rattle.gk_cli.specs.declared.run_fault.RunFault.{RunFault}
-use Rattle.gk_cli.specs.declared.run_fault.RunFault.TheVariants.{Write, Memory}
-use Rattle.gk_cli.specs.Counted.{one_more, IsPrefixWritten}
-use Rattle.gk_cli.specs.Suite.{Device}
 
 -- The results of a run: those of its features, and how its own hooks and cleanups ended.
 abbrev pub results_with : List FeatureRow → Status → Results
 results_with rows around = record { features = rows; around = around }
-
--- These bytes were written. The number of calls is at most the number of bytes, and each call moved at least one.
-pub record IsWritten (old new : Device) (bytes : List ℕ) : Type 0 where
-  pub written : Appends old.bytes new.bytes bytes
-  pub calls : new.calls ≤ old.calls + length bytes
-  pub busy : new.idle ≡ old.idle
-  pub quiet : new.failures ≡ old.failures
-  pub unflushed : new.flushes ≡ old.flushes
-
--- Why no more is written: the writer failed once, in a call that moved no byte, or memory was refused.
-abbrev pub StopsBy : Device → Device → RunFault → Type 0
-StopsBy old new Write = (new.failures ≡ one_more old.failures) × (new.idle ≡ one_more old.idle)
-StopsBy old new Memory = (new.failures ≡ old.failures) × (new.idle ≡ old.idle)
-StopsBy old new fault = ⊥
-
--- A prefix of these bytes was written, and no more is written. The number of calls is at most the number of bytes.
-pub record IsStopped (old new : Device) (bytes : List ℕ) (fault : RunFault) : Type 0 where
-  pub written : IsPrefixWritten old.bytes new.bytes bytes
-  pub calls : new.calls ≤ old.calls + length bytes
-  pub why : StopsBy old new fault
-  pub unflushed : new.flushes ≡ old.flushes
 
 -- Proof machinery, from here on: the style of a growing report.
 abbrev pub style_of : GrowingReport → Style

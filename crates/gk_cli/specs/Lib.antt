@@ -5,6 +5,7 @@ pub mod Counted
 pub mod Source
 pub mod Inputs
 pub mod RunFault
+pub mod Writing
 pub mod SuiteFiles
 pub mod Suite
 pub mod RowOrder
@@ -17,6 +18,7 @@ pub mod ExplainedSuite
 pub mod FindingLines
 pub mod LintedSources
 pub mod LintedSuite
+pub mod Modes
 pub mod AllFaults
 pub mod Hints
 pub mod FaultLine

@@ -17,13 +17,11 @@ use Rattle.gk_lint.specs.WrittenSteps.{of_hooks, found_in, used_in}
 use Rattle.gk_cli.specs.declared.inputs.ReadBefore.{ReadBefore}
 use Rattle.gk_cli.specs.declared.linted_sources.LintSoFar.{LintSoFar}
 use Rattle.gk_cli.specs.declared.run_fault.RunFault.{RunFault}
-use Rattle.gk_cli.specs.declared.run_fault.RunFault.TheVariants.{Write, Memory}
+use Rattle.gk_cli.specs.declared.run_fault.RunFault.TheVariants.{Write}
 use Rattle.gk_cli.specs.FindingLines.{NotedLibraryValue, NotedFileValue, noted_lines, finding_lines, count_line, tag_lines, idle_lines}
-use Rattle.gk_cli.specs.GrowingReport.{IsWritten, IsStopped}
 use Rattle.gk_cli.specs.Inputs.{Request, AreRules, IsLibrary, AreHooks}
 use Rattle.gk_cli.specs.LintedSources.{features_in, used_by, AreLinted}
-use Rattle.gk_cli.specs.RunFault.{IsUnread}
-use Rattle.gk_cli.specs.Suite.{Device, IsUntouched}
+use Rattle.gk_cli.specs.Writing.{Device, IsStopped, IsWritten}
 
 -- The findings of a library file, given the places of the entries that are used: its other entries. If no file is given, there are none.
 abbrev pub library_findings : Option (List ℕ) → List ℕ → List Finding
@@ -95,15 +93,9 @@ lint_status (byte ∷ more) = 1
 abbrev pub Linted : Request → List ℕ → List ℕ → Device → Device → ℕ → Type 0
 Linted r library hooks old new answer = (text : List ℕ) × IsLinted r library hooks text × IsWritten old new text × (answer ≡ lint_status text)
 
--- The request reads, and a prefix of the text of its findings was written.
+-- The request reads, and the writer failed after a prefix of the text of its findings. Memory isn't refused once a part is written.
 abbrev pub LintedInPart : Request → List ℕ → List ℕ → Device → Device → RunFault → Type 0
-LintedInPart r library hooks old new fault = (text : List ℕ) × IsLinted r library hooks text × IsStopped old new text fault
-
--- What each fault means. If the writer failed, a prefix was written. If memory was refused, nothing was. Otherwise the request doesn't read, and nothing was written.
-abbrev pub SaysLintFault : Request → List ℕ → List ℕ → Device → Device → RunFault → Type 0
-SaysLintFault r library hooks old new Write = LintedInPart r library hooks old new Write
-SaysLintFault r library hooks old new Memory = IsUntouched old new
-SaysLintFault r library hooks old new fault = IsUnread r fault × IsUntouched old new
+LintedInPart r library hooks old new fault = (text : List ℕ) × IsLinted r library hooks text × IsStopped old new text fault × (fault ≡ Write)
 
 -- Proof machinery: the bytes of an optional file are a text.
 abbrev pub AreTexts : Option (List ℕ) → Type 0

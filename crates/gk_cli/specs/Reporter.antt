@@ -6,8 +6,8 @@ use Rattle.gk_report.specs.declared.summary.Summary.{Summary}
 use Rattle.gk_report.specs.Summary.{summary_of}
 use Rattle.gk_cli.specs.declared.run_fault.RunFault.{RunFault}
 use Rattle.gk_cli.specs.declared.run_fault.RunFault.TheVariants.{Memory}
-use Rattle.gk_cli.specs.GrowingReport.{IsWritten, IsStopped, results_with}
-use Rattle.gk_cli.specs.Suite.{Device}
+use Rattle.gk_cli.specs.GrowingReport.{results_with}
+use Rattle.gk_cli.specs.Writing.{Device, IsWritten, IsStopped}
 
 -- A reporter was told the end of a feature with this result, and its text of the feature was written.
 pub record IsAdded {S : Type 0} (adds : S → FeatureRow → List ℕ → S → Type 0) (row : FeatureRow) (old new : S) (there here : Device) : Type 0 where

@@ -1,6 +1,5 @@
 -- What a whole run can return and write.
-use Rattle.std.specs.Prelude.{◌≡◌, ◌≢◌, ◌≤◌, ◌+◌, ◌⊎◌, ℕ, false, List, [], length, Option, None}
-use Rattle.std.specs.Io.KnownBytes.{Appends}
+use Rattle.std.specs.Prelude.{◌≡◌, ◌≢◌, ◌⊎◌, ℕ, false, [], None}
 use Rattle.gk_world.specs.State.{Contents}
 use Rattle.gk_run.specs.Results.{Results}
 use Rattle.gk_run.specs.Run.{Run}
@@ -9,37 +8,20 @@ use Rattle.gk_report.specs.declared.report.Style.{Style}
 use Rattle.gk_report.specs.Report.{report}
 use Rattle.gk_report.specs.Summary.{status}
 use Rattle.gk_cli.specs.declared.arguments.Options.{Options}
-use Rattle.gk_cli.specs.declared.counted.Counted.{Counted}
 use Rattle.gk_cli.specs.declared.run_fault.RunFault.{RunFault}
 use Rattle.gk_cli.specs.declared.run_fault.RunFault.TheVariants.{Write, Memory}
-use Rattle.gk_cli.specs.Counted.{inner_of, calls_of, flushes_of, failures_of, idle_of, one_more, IsPrefixWritten}
 use Rattle.gk_cli.specs.Inputs.{Request, Inputs, request_of, AreInputs}
 use Rattle.gk_cli.specs.RunFault.{IsUnread}
+use Rattle.gk_cli.specs.Writing.{Device, IsStopped, IsUntouched, IsWritten}
 
 -- What stays constant during a run of these inputs.
 abbrev pub run_with : Request → Inputs → Run
 run_with r inputs = record { library = inputs.library; hooks = inputs.hooks; dry_run = r.dry_run; stop = r.stop }
 
--- A writer: the bytes that it took, if they are known, and the counts of its calls, flushes, failures and idle calls.
-pub record Device : Type 0 where
-  pub bytes : Option (List ℕ)
-  pub calls : ℕ
-  pub flushes : ℕ
-  pub failures : ℕ
-  pub idle : ℕ
-
--- What a counted writer took and counted.
-abbrev pub device_of : {W : Type 0} → (W → Option (List ℕ)) → Counted W → Device
-device_of bytes_of out = record { bytes = bytes_of (inner_of out); calls = calls_of out; flushes = flushes_of out; failures = failures_of out; idle = idle_of out }
-
--- The report of these results was written, and their status is returned. The writer didn't fail and wasn't flushed. The number of its calls is at most the number of bytes, and each call moved at least one.
+-- The report of these results was written, and their status is returned.
 pub record IsReported (style : Style) (old new : Device) (answer : ℕ) (results : Results) : Type 0 where
-  pub written : Appends old.bytes new.bytes (report style results)
+  pub written : IsWritten old new (report style results)
   pub returned : answer ≡ status results
-  pub calls : new.calls ≤ old.calls + length (report style results)
-  pub busy : new.idle ≡ old.idle
-  pub quiet : new.failures ≡ old.failures
-  pub unflushed : new.flushes ≡ old.flushes
 
 -- The report of some list of results was written, and its status is returned.
 abbrev pub Reported : Style → Device → Device → ℕ → Type 0
@@ -67,30 +49,19 @@ pub record IsOnlyReport (r : Request) (contents : Contents) (old new : Device) (
 abbrev pub OnlyReport : Request → Contents → Device → Device → ℕ → Type 0
 OnlyReport r contents old new answer = answer ≢ 4 → IsOnlyReport r contents old new answer
 
--- Nothing was written, and the writer wasn't called.
-pub record IsUntouched (old new : Device) : Type 0 where
-  pub written : Appends old.bytes new.bytes []
-  pub calls : new.calls ≡ old.calls
-  pub flushes : new.flushes ≡ old.flushes
-  pub failures : new.failures ≡ old.failures
-  pub idle : new.idle ≡ old.idle
+-- What each fault of a run says, given what it says if a prefix of the output was written. If the writer failed, such a prefix was written; if memory was refused, such a prefix or nothing. Otherwise the request doesn't read, and nothing was written.
+abbrev pub SaysFaultBy : (RunFault → Type 0) → Request → Device → Device → RunFault → Type 0
+SaysFaultBy IsCut r old new Write = IsCut Write
+SaysFaultBy IsCut r old new Memory = IsUntouched old new ⊎ IsCut Memory
+SaysFaultBy IsCut r old new fault = IsUnread r fault × IsUntouched old new
 
--- The writer took a prefix of the report of a judged list. The number of its calls is at most the number of the report's bytes.
-pub record IsCutShort (r : Request) (contents : Contents) (old new : Device) (results : Results) : Type 0 where
-  pub judged : AreJudged r contents results
-  pub written : IsPrefixWritten old.bytes new.bytes (report r.style results)
-  pub calls : new.calls ≤ old.calls + length (report r.style results)
-  pub unflushed : new.flushes ≡ old.flushes
+-- A prefix of the report of some judged list was written.
+abbrev pub ReportedInPart : Request → Contents → Device → Device → RunFault → Type 0
+ReportedInPart r contents old new fault = (results : Results) × AreJudged r contents results × IsStopped old new (report r.style results) fault
 
--- The writer took a prefix of the report of some judged list.
-abbrev pub CutShort : Request → Contents → Device → Device → Type 0
-CutShort r contents old new = (results : Results) × IsCutShort r contents old new results
-
--- What each fault means. If the writer failed, it failed once, a prefix was written, and each other call moved at least one byte. If memory was refused, nothing or a prefix was written, the writer didn't fail, and each call moved at least one byte. Otherwise the request doesn't read, and nothing was written.
+-- What each fault of a run with its report says.
 abbrev pub SaysFault : Request → Contents → Device → Device → RunFault → Type 0
-SaysFault r contents old new Write = CutShort r contents old new × (new.failures ≡ one_more old.failures) × (new.idle ≡ one_more old.idle)
-SaysFault r contents old new Memory = IsUntouched old new ⊎ (CutShort r contents old new × (new.failures ≡ old.failures) × (new.idle ≡ old.idle))
-SaysFault r contents old new fault = IsUnread r fault × IsUntouched old new
+SaysFault r contents old new fault = SaysFaultBy (ReportedInPart r contents old new) r old new fault
 
 -- A request reads in only one way.
 abbrev pub InputsAreUnique : Type 0

@@ -1,6 +1,7 @@
 -- The files of a run, and what remains of them after they are read.
-use Rattle.std.specs.Prelude.{◌≡◌, ℕ, List, [], map, unwrap_or, Option, option_map}
+use Rattle.std.specs.Prelude.{◌≡◌, ℕ, List, [], map, unwrap_or, Option, OnOk, Result, option_map}
 use Rattle.gk_cli.specs.declared.arguments.Options.{Options}
+use Rattle.gk_cli.specs.declared.run_fault.RunFault.{RunFault}
 use Rattle.gk_cli.specs.declared.suite_files.SuiteFiles.{SuiteFiles}
 use Rattle.gk_cli.specs.Inputs.{Request, request_of}
 use Rattle.gk_cli.specs.Source.{SourceValue, names_of, without_bytes, GaveUpInTurn}
@@ -48,3 +49,9 @@ AreGivenUpInTurn old new = GaveUpInTurn old.sources new.sources
 -- Each source dropped its bytes and kept its name.
 abbrev pub AreGivenUp : FilesValue → FilesValue → Type 0
 AreGivenUp old new = new.sources ≡ map without_bytes old.sources
+
+-- What a run leaves of its files. The names stay, and the sources drop their bytes one after another; after a status, each has done so.
+pub record AreLeftByRun (result : Result ℕ RunFault) (old new : FilesValue) : Type 0 where
+  pub names : HaveSameNames old new
+  pub in_turn : AreGivenUpInTurn old new
+  pub given_up : OnOk result (AreGivenUp old new)

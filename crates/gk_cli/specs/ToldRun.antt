@@ -21,8 +21,8 @@ use Rattle.gk_report.specs.Summary.{status, status_of, summary_of, CountsOneMore
 use Rattle.gk_cli.specs.declared.run_fault.RunFault.{RunFault}
 use Rattle.gk_cli.specs.declared.run_fault.RunFault.TheVariants.{Memory}
 use Rattle.gk_cli.specs.declared.told_run.Told.{Told}
-use Rattle.gk_cli.specs.GrowingReport.{IsWritten, IsStopped, results_with}
-use Rattle.gk_cli.specs.Suite.{Device}
+use Rattle.gk_cli.specs.GrowingReport.{results_with}
+use Rattle.gk_cli.specs.Writing.{Device, IsWritten, IsStopped}
 
 -- A feature of a run in this state was told to a reporter: its beginning, what happened in it, and its end with this result. This is the reporter's text of it.
 pub record TellsFeature {S : Type 0} (hears : S → Event → S → Type 0) (ends : S → Ended → S → Type 0) (begins : S → List ℕ → S → Type 0) (adds : S → FeatureRow → List ℕ → S → Type 0) (run : Run) (now : State) (is_open : Bool) (f : ChosenValue) (row : FeatureRow) (text : List ℕ) (old new : S) : Type 0 where

@@ -8,8 +8,8 @@ use Rattle.gk_run.specs.Judged.{Judged}
 use Rattle.gk_report.specs.declared.report.Style.{Style}
 use Rattle.gk_report.specs.Report.{report}
 use Rattle.gk_cli.specs.declared.run_fault.RunFault.{RunFault}
-use Rattle.gk_cli.specs.GrowingReport.{IsStopped}
-use Rattle.gk_cli.specs.Suite.{Device, IsReported}
+use Rattle.gk_cli.specs.Writing.{Device, IsStopped}
+use Rattle.gk_cli.specs.Suite.{IsReported}
 
 -- The report of a judged list was written, and its status is returned.
 abbrev pub IsWhole : Run → Contents → List ChosenValue → Style → Device → Device → ℕ → Type 0

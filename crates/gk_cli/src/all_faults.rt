@@ -35,7 +35,7 @@ fn check_hooks(alloc: Global, hooks: &Option<Source>) -> Result<(), RunFault>
 fn check_source(alloc: Global, place: usize, source: &Source) -> Result<(), RunFault>
     ensures { SaysOfFiles (source_at place source.now.bytes.items ∷ []) result }
 {
-    match read_one(alloc, place, source) {
+    match read_one(alloc, place, source.bytes.as_slice()) {
         Ok(_feature) => Ok(()),
         Err(fault) => Err(fault),
     }

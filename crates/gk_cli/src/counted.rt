@@ -1,8 +1,9 @@
-//! Readers and writers whose calls are counted, and writing bytes whole.
-ghost use Rattle.std.specs.Prelude.{◌≡◌, ◌≤◌, ◌+◌, length, OnOk, OnErr};
+//! Readers and writers whose calls are counted, and writing bytes and texts whole.
+ghost use Rattle.std.specs.Prelude.{◌≡◌, ◌≤◌, ◌+◌, length, IfSome, OnOk, OnErr};
 ghost use Rattle.std.specs.Io.KnownBytes.{Appends};
 ghost use Rattle.gk_cli.specs.Counted.{inner_of, calls_of, one_more, IsPrefixWritten, HasNotFailed, HasFailedOnce, IsUnflushed, IsNeverIdle, IsIdleOnce};
 
+use std::fmt::Display;
 use std::io;
 use std::io::{Read, Write};
 
@@ -197,4 +198,25 @@ pub fn write_whole<W: Write>(out: &mut Counted<W>, bytes: &[u8]) -> Result<(), N
         }
     }
     Ok(())
+}
+
+/// Writes a text as it is displayed, piece by piece, and flushes nothing. Of the calls that this takes, only a failure is
+/// counted. At `NotWritten` the writer failed, and the text was written in part. It doesn't allocate.
+pub fn write_displayed<W: Write, D: Display + Drop>(
+    out: &mut Counted<W>,
+    text: D,
+) -> Result<(), NotWritten>
+    ensures ok { OnOk result (IfSome (D.output text)
+        (Appends (W.contents (inner_of out.old)) (W.contents (inner_of out.new)))) }
+    ensures quiet { OnOk result (HasNotFailed out.old out.new) }
+    ensures failed { OnErr result (HasFailedOnce out.old out.new) }
+    ensures unflushed { IsUnflushed out.old out.new }
+{
+    match out.inner.write_fmt(text) {
+        Ok(()) => Ok(()),
+        Err(_) => {
+            count_one(&mut out.failures);
+            Err(NotWritten)
+        }
+    }
 }

@@ -4,7 +4,7 @@ ghost use Rattle.std.specs.List.{AllByRecursion};
 ghost use Rattle.gk_world.specs.Sandbox.{depth, IsSame};
 ghost use Rattle.gk_run.specs.Run.{run_of};
 ghost use Rattle.gk_run.specs.Chosen.{chosen_value, IsFormed};
-ghost use Rattle.gk_cli.specs.Suite.{device_of};
+ghost use Rattle.gk_cli.specs.Writing.{device_of};
 ghost use Rattle.gk_cli.specs.ExplainedRun.{IsExplained, IsExplainedUpTo};
 
 use crate::counted::Counted;
@@ -12,7 +12,7 @@ use crate::growing_report::write_piece;
 use crate::inputs::ReadInputs;
 use crate::reporter::Reporter;
 use crate::run_fault::RunFault;
-use crate::told_run::{Glue, tell_run};
+use crate::told_run::{RunParts, tell_run};
 use gk_explain::Explainer;
 use gk_report::{Format, Style, Summary, tail};
 use gk_run::{FeatureResult, Status};
@@ -99,10 +99,10 @@ pub fn write_explanation<W: Write>(
         features,
     } = inputs;
     let explainer = Explainer::new(alloc, &library, hooks);
-    let glue = Glue {
+    let parts = RunParts {
         alloc,
         library: &library,
         hooks: &hook_file,
     };
-    tell_run(&glue, sandbox, stop, features, explainer, out)
+    tell_run(&parts, sandbox, stop, features, explainer, out)
 }

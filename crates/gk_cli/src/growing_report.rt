@@ -3,8 +3,7 @@ ghost use Rattle.std.specs.Prelude.{◌≡◌, ◌&&◌, OnOk, IfOk, IfErr};
 ghost use Rattle.gk_run.specs.Results.{feature_row};
 ghost use Rattle.gk_report.specs.Report as spec;
 ghost use Rattle.gk_report.specs.Report.{is_empty, part};
-ghost use Rattle.gk_cli.specs.Suite.{device_of};
-ghost use Rattle.gk_cli.specs.GrowingReport.{IsWritten, IsStopped};
+ghost use Rattle.gk_cli.specs.Writing.{device_of, IsWritten, IsStopped};
 ghost use Rattle.gk_cli.specs.declared.run_fault.RunFault.TheVariants as faults;
 
 use crate::counted::{Counted, write_whole};

@@ -8,7 +8,6 @@ ghost use Rattle.gk_lint.specs.Findings.{AreInOrder};
 ghost use Rattle.gk_report.specs.ReportTexts.{Pushes};
 ghost use Rattle.gk_cli.specs.FindingLines as of_notes;
 ghost use Rattle.gk_cli.specs.FindingLines.{noted_library_value, noted_lines};
-ghost use Rattle.gk_cli.specs.Source.{source_value};
 ghost use Rattle.gk_cli.specs.Inputs.{IsWithinLimit};
 ghost use Rattle.gk_cli.specs.RunFault.{SaysSourceAt, SaysExpansion};
 ghost use Rattle.gk_cli.specs.LintedSources as spec;
@@ -17,7 +16,7 @@ ghost use Rattle.gk_cli.specs.LintedSources.{IsReadAs, IsLintOf, IsLintedOnto, S
 use crate::finding_lines::{NotedFile, NotedLibrary, push_noted_findings, text_lines};
 use crate::inputs::{feature_at, select_fault_at};
 use crate::run_fault::RunFault;
-use crate::source::Source;
+use crate::source::FeatureSource;
 use gk_gherkin::{Feature, LIMIT, Scenario, text_of};
 use gk_lint::{Finding, StepFindings, in_order, lint_feature, lint_steps, scenarios_of};
 use gk_select::{SelectFault, has_room, read_features_are_expandable};
@@ -57,13 +56,14 @@ fn check_limit(feature: &Feature) -> Result<(), SelectFault>
     }
 }
 
-/// Reads the source at a place. An error says why it doesn't read; `Memory` comes only if memory can't be allocated.
-pub fn read_one(alloc: Global, input: usize, source: &Source) -> Result<Option<Feature>, RunFault>
-    ensures read { IfOk result (λ feature. IsReadAs source.now.bytes.items
+/// Reads the source at a place, which has these bytes. An error says why it doesn't read; `Memory` comes only if memory
+/// can't be allocated.
+pub fn read_one(alloc: Global, input: usize, bytes: &[u8]) -> Result<Option<Feature>, RunFault>
+    ensures read { IfOk result (λ feature. IsReadAs bytes.now
         (option_map feature_value feature)) }
-    ensures fault { IfErr result (λ e. SaysSourceAt input source.now.bytes.items e) }
+    ensures fault { IfErr result (λ e. SaysSourceAt input bytes.now e) }
 {
-    match feature_at(alloc, input, source.bytes.as_slice()) {
+    match feature_at(alloc, input, bytes) {
         Ok(Some(feature)) => match check_limit(&feature) {
             Ok(()) => Ok(Some(feature)),
             Err(fault) => Err(select_fault_at(input, fault)),
@@ -169,26 +169,26 @@ fn push_source_findings(
 }
 
 // Adds the findings of a source that reads as this feature, or as none.
-fn add_source(
+fn add_source<S: FeatureSource>(
     so_far: &mut LintSoFar,
     alloc: Global,
     library: &NotedLibrary<'_>,
-    source: &Source,
+    source: &S,
     feature: Option<Feature>,
 ) -> Result<(), AllocError>
-    requires { IsReadAs source.now.bytes.items (option_map feature_value feature) }
+    requires { IsReadAs (S.value source.now).bytes (option_map feature_value feature) }
     ensures { OnOk result (IsLintedOnto (noted_library_value library.now)
-        (source_value source.now) so_far.old so_far.new) }
+        (S.value source.now) so_far.old so_far.new) }
 {
     // No code runs here: the law says that what was read can be expanded.
     read_features_are_expandable();
-    let text = known_text(source.bytes.as_slice());
+    let text = known_text(source.bytes());
     let mut found = all_findings(alloc, library.library, &feature, text)?;
     push_source_findings(
         &mut so_far.text,
         alloc,
         library,
-        source.name.as_str(),
+        source.name(),
         text,
         &feature,
         found.findings.as_slice(),
@@ -201,18 +201,18 @@ fn add_source(
 }
 
 // Reads the source at a place and adds its findings.
-fn lint_source(
+fn lint_source<S: FeatureSource>(
     alloc: Global,
     library: &NotedLibrary<'_>,
     input: usize,
-    source: &Source,
+    source: &S,
     so_far: &mut LintSoFar,
 ) -> Result<(), RunFault>
     ensures ok { OnOk result (IsLintedOnto (noted_library_value library.now)
-        (source_value source.now) so_far.old so_far.new) }
-    ensures fault { IfErr result (λ e. SaysSourceAt input source.now.bytes.items e) }
+        (S.value source.now) so_far.old so_far.new) }
+    ensures fault { IfErr result (λ e. SaysSourceAt input (S.value source.now).bytes e) }
 {
-    match read_one(alloc, input, source) {
+    match read_one(alloc, input, source.bytes()) {
         Ok(feature) => Ok(add_source(so_far, alloc, library, source, feature)?),
         Err(fault) => Err(fault),
     }
@@ -221,14 +221,14 @@ fn lint_source(
 /// Reads the sources one after another and collects their findings: those of the file, and those of the steps, which
 /// are looked up in a library. An error names the first source that doesn't read, as that of a run does; `Memory` comes
 /// only if memory can't be allocated.
-pub fn lint_sources(
+pub fn lint_sources<S: FeatureSource>(
     alloc: Global,
     library: &NotedLibrary<'_>,
-    sources: &[Source],
+    sources: &[S],
 ) -> Result<LintSoFar, RunFault>
     ensures linted { IfOk result (λ l. IsLintOf (noted_library_value library.now)
-        (map source_value sources.now) l) }
-    ensures fault { IfErr result (λ e. SaysOfSources (map source_value sources.now) e) }
+        (map S.value sources.now) l) }
+    ensures fault { IfErr result (λ e. SaysOfSources (map S.value sources.now) e) }
 {
     let mut so_far = LintSoFar {
         text: String::new(alloc),

@@ -1,22 +1,21 @@
 //! The findings in a whole request, before any run.
-ghost use Rattle.std.specs.Prelude.{◌≡◌, length, ◌++◌, map, option_map, string_bytes, IfOk, IfErr, OnOk};
+ghost use Rattle.std.specs.Prelude.{◌≡◌, length, ◌++◌, map, option_map, string_bytes, IfOk, IfErr};
 ghost use Rattle.gk_gherkin.specs.Feature.{feature_value};
 ghost use Rattle.gk_gherkin.specs.Hooks.{hooks_value};
 ghost use Rattle.gk_report.specs.ReportTexts.{Pushes};
 ghost use Rattle.gk_steps.specs.Finding.{library_value};
 ghost use Rattle.gk_lint.specs.Findings.{AreInOrder};
-ghost use Rattle.gk_cli.specs.Counted.{HasNotFailed, IsUnflushed, IsNeverIdle};
 ghost use Rattle.gk_cli.specs.SuiteFiles as of_files;
-ghost use Rattle.gk_cli.specs.Source.{source_value};
 ghost use Rattle.gk_cli.specs.SuiteFiles.{suite_value, request_of_files, library_name, hooks_name};
 ghost use Rattle.gk_cli.specs.FindingLines.{noted_library_value, noted_file_value};
 ghost use Rattle.gk_cli.specs.LintedSuite as spec;
 ghost use Rattle.gk_cli.specs.RunFault.{IsUnread};
-ghost use Rattle.gk_cli.specs.Suite.{device_of};
+ghost use Rattle.gk_cli.specs.Suite.{SaysFaultBy};
+ghost use Rattle.gk_cli.specs.Writing.{UsesWriter, device_of};
 ghost use Rattle.gk_lint.specs.TagUse.{hooks_of_no_tag};
 ghost use Rattle.gk_lint.specs.WrittenSteps.{of_hooks, found_in, used_in};
 ghost use Rattle.gk_cli.specs.LintedSources.{used_by};
-ghost use Rattle.gk_cli.specs.LintedSuite.{lint_status, AreTexts, IsTextOf, read_of, IsLinted, Linted, SaysLintFault};
+ghost use Rattle.gk_cli.specs.LintedSuite.{lint_status, AreTexts, IsTextOf, read_of, IsLinted, Linted, LintedInPart};
 
 use crate::arguments::Options;
 use crate::counted::Counted;
@@ -28,7 +27,7 @@ use crate::growing_report::write_piece;
 use crate::inputs::{ReadBefore, read_before};
 use crate::linted_sources::{LintSoFar, known_text, lint_sources, with_findings};
 use crate::run_fault::RunFault;
-use crate::source::Source;
+use crate::source::FeatureSource;
 use crate::suite_files::{SuiteFiles, bytes_of};
 use gk_gherkin::Feature;
 use gk_lint::{
@@ -40,22 +39,22 @@ use std::alloc::{AllocError, Global};
 use std::io::Write;
 
 // Returns the library, as notes name it.
-fn noted_library<'a>(
+fn noted_library<'a, S: FeatureSource>(
     alloc: Global,
     library: &'a Library,
-    file: &'a Option<Source>,
+    file: &'a Option<S>,
 ) -> Result<NotedLibrary<'a>, AllocError>
-    requires { AreTexts (of_files.bytes_of (option_map source_value file.now)) }
-    ensures { let f = option_map source_value file.now in IfOk result (λ noted.
+    requires { AreTexts (of_files.bytes_of (option_map S.value file.now)) }
+    ensures { let f = option_map S.value file.now in IfOk result (λ noted.
         noted_library_value noted ≡ spec.noted_library (of_files.name_of f)
         (of_files.bytes_of f) (library_value library.now)) }
 {
     match file {
         Some(source) => {
-            let text = known_text(source.bytes.as_slice());
+            let text = known_text(source.bytes());
             Ok(NotedLibrary {
                 library,
-                name: source.name.as_str(),
+                name: source.name(),
                 lines: entry_lines(alloc, text)?,
             })
         }
@@ -68,16 +67,19 @@ fn noted_library<'a>(
 }
 
 // Returns the hooks file, as notes quote it.
-fn noted_hooks(alloc: Global, file: &Option<Source>) -> Result<NotedFile<'_>, AllocError>
-    requires { AreTexts (of_files.bytes_of (option_map source_value file.now)) }
-    ensures { let f = option_map source_value file.now in IfOk result (λ noted.
+fn noted_hooks<S: FeatureSource>(
+    alloc: Global,
+    file: &Option<S>,
+) -> Result<NotedFile<'_>, AllocError>
+    requires { AreTexts (of_files.bytes_of (option_map S.value file.now)) }
+    ensures { let f = option_map S.value file.now in IfOk result (λ noted.
         noted_file_value noted ≡ spec.noted_hooks (of_files.name_of f) (of_files.bytes_of f)) }
 {
     match file {
         Some(source) => {
-            let text = known_text(source.bytes.as_slice());
+            let text = known_text(source.bytes());
             Ok(NotedFile {
-                name: source.name.as_str(),
+                name: source.name(),
                 lines: text_lines(alloc, text)?,
                 scenarios: Vec::new(alloc),
             })
@@ -92,25 +94,25 @@ fn noted_hooks(alloc: Global, file: &Option<Source>) -> Result<NotedFile<'_>, Al
 
 // Pushes the lines of a library file, if there is one, given the number of its entries and the places of those that are
 // used.
-fn push_library_lines(
+fn push_library_lines<S: FeatureSource>(
     out: &mut String,
     alloc: Global,
-    library: &Option<Source>,
+    library: &Option<S>,
     entries: usize,
     used: &[usize],
 ) -> Result<(), AllocError>
-    requires texts { AreTexts (of_files.bytes_of (option_map source_value library.now)) }
+    requires texts { AreTexts (of_files.bytes_of (option_map S.value library.now)) }
     requires entries { entries ≡ length (spec.lines_of_library
-        (of_files.bytes_of (option_map source_value library.now))) }
-    ensures { let file = option_map source_value library.now in Pushes out.old
+        (of_files.bytes_of (option_map S.value library.now))) }
+    ensures { let file = option_map S.value library.now in Pushes out.old
         (spec.library_lines (of_files.name_of file) (of_files.bytes_of file) used.now)
         result out.new }
 {
     match library {
         Some(source) => {
-            let text = known_text(source.bytes.as_slice());
+            let text = known_text(source.bytes());
             let findings = lint_library(alloc, text, used)?;
-            let name = source.name.as_str();
+            let name = source.name();
             push_findings(out, alloc, name, &findings)?;
             push_count_line(out, name, findings.len(), entries)
         }
@@ -138,25 +140,25 @@ fn findings_of_hooks(
 }
 
 // Makes the text of all findings.
-fn whole_text(
+fn whole_text<S: FeatureSource>(
     alloc: Global,
     options: &Options,
-    files: &SuiteFiles<Source>,
+    files: &SuiteFiles<S>,
     library: &NotedLibrary<'_>,
     before: &ReadBefore,
     so_far: LintSoFar,
 ) -> Result<String, AllocError>
-    requires texts { AreTexts (of_files.bytes_of (option_map source_value files.now.library)) }
-    requires hooks { AreTexts (of_files.bytes_of (option_map source_value files.now.hooks)) }
-    requires noted { let file = option_map source_value files.now.library in
+    requires texts { AreTexts (of_files.bytes_of (option_map S.value files.now.library)) }
+    requires hooks { AreTexts (of_files.bytes_of (option_map S.value files.now.hooks)) }
+    requires noted { let file = option_map S.value files.now.library in
         noted_library_value library.now ≡ spec.noted_library (of_files.name_of file)
         (of_files.bytes_of file) (library_value before.now.library) }
     requires used { so_far.used.items ≡ used_by (library_value before.now.library)
         (map feature_value so_far.features.items) }
     ensures { IfOk result (λ text. IsTextOf
-        (request_of_files options.now (suite_value source_value files.now))
-        (library_name (suite_value source_value files.now))
-        (hooks_name (suite_value source_value files.now))
+        (request_of_files options.now (suite_value S.value files.now))
+        (library_name (suite_value S.value files.now))
+        (hooks_name (suite_value S.value files.now))
         (read_of before.now so_far) (string_bytes text)) }
 {
     let LintSoFar {
@@ -193,17 +195,17 @@ fn whole_text(
 }
 
 // Reads the request and returns the text of all its findings.
-fn read_and_lint(
+fn read_and_lint<S: FeatureSource>(
     alloc: Global,
     options: &Options,
-    files: &SuiteFiles<Source>,
+    files: &SuiteFiles<S>,
 ) -> Result<String, RunFault>
     ensures linted { IfOk result (λ text. IsLinted
-        (request_of_files options.now (suite_value source_value files.now))
-        (library_name (suite_value source_value files.now))
-        (hooks_name (suite_value source_value files.now)) (string_bytes text)) }
+        (request_of_files options.now (suite_value S.value files.now))
+        (library_name (suite_value S.value files.now))
+        (hooks_name (suite_value S.value files.now)) (string_bytes text)) }
     ensures fault { IfErr result (λ e. IsUnread
-        (request_of_files options.now (suite_value source_value files.now)) e) }
+        (request_of_files options.now (suite_value S.value files.now)) e) }
 {
     let library = bytes_of(&files.library);
     let hooks = bytes_of(&files.hooks);
@@ -225,40 +227,27 @@ fn status_of(text: &str) -> u8
     if text.is_empty() { 0 } else { 1 }
 }
 
-/// Reads the request as `run_suite` does, runs nothing, and writes the findings, each as a line `NAME:LINE: TEXT`.
-/// Those of the hooks file come first, then those of each source in order, each in the order of its lines. Then there is
-/// a line for each tag of `--tags` that occurs nowhere, as often as it is named, and for each `--line` that chooses no
-/// scenario. The unused entries of the library file come last, with a line that counts them. Below an undefined step are
-/// its text and the entry that may be meant. Findings are silently ignored parts of a file, steps that can't work
-/// because an entry, a text or a table is missing, unused items, and scenarios that share a name. Of the options, only
-/// `tags` and `lines` are looked at.
-///
-/// Returns 0 if nothing was found, and 1 otherwise. `RunFault` says when each error comes. At `Write` a prefix was
-/// written, perhaps an empty one, and at every other error nothing. Nothing is flushed. A count of the writer that has
-/// reached `u64::MAX` stays there.
-pub fn lint_suite<W: Write>(
+/// Reads the request, runs nothing, and writes the findings, as `write_suite` says.
+pub fn lint_suite<S: FeatureSource, W: Write>(
     alloc: Global,
     options: &Options,
-    files: &SuiteFiles<Source>,
+    files: &SuiteFiles<S>,
     out: &mut Counted<W>,
 ) -> Result<u8, RunFault>
-    // All findings were written, and nothing more; the status says whether there are any.
     ensures linted { IfOk result (Linted
-        (request_of_files options.now (suite_value source_value files.now))
-        (library_name (suite_value source_value files.now))
-        (hooks_name (suite_value source_value files.now))
+        (request_of_files options.now (suite_value S.value files.now))
+        (library_name (suite_value S.value files.now))
+        (hooks_name (suite_value S.value files.now))
         (device_of W.contents out.old) (device_of W.contents out.new)) }
-    // The fault, and what was written.
-    ensures fault { IfErr result (SaysLintFault
-        (request_of_files options.now (suite_value source_value files.now))
-        (library_name (suite_value source_value files.now))
-        (hooks_name (suite_value source_value files.now))
+    ensures fault { IfErr result (SaysFaultBy (LintedInPart
+        (request_of_files options.now (suite_value S.value files.now))
+        (library_name (suite_value S.value files.now))
+        (hooks_name (suite_value S.value files.now))
+        (device_of W.contents out.old) (device_of W.contents out.new))
+        (request_of_files options.now (suite_value S.value files.now))
         (device_of W.contents out.old) (device_of W.contents out.new)) }
-    // A status is returned only if the writer didn't fail.
-    ensures quiet { OnOk result (HasNotFailed out.old out.new) }
-    // Each call of the writer moved at least one byte.
-    ensures busy { OnOk result (IsNeverIdle out.old out.new) }
-    ensures unflushed { IsUnflushed out.old out.new }
+    ensures used { UsesWriter result
+        (device_of W.contents out.old) (device_of W.contents out.new) }
 {
     match read_and_lint(alloc, options, files) {
         Ok(text) => match write_piece(out, text.as_str()) {

@@ -2,7 +2,7 @@
 ghost use Rattle.std.specs.Prelude.{ℕ, List, OnOk, IfOk, IfErr, string_bytes};
 ghost use Rattle.gk_run.specs.Results.{FeatureRow, Results, feature_row};
 ghost use Rattle.gk_cli.specs.Reporter.{IsAdded, StopsAdding, ClosesWith};
-ghost use Rattle.gk_cli.specs.Suite.{device_of};
+ghost use Rattle.gk_cli.specs.Writing.{device_of};
 
 use crate::counted::Counted;
 use crate::run_fault::RunFault;

@@ -1,18 +1,22 @@
-//! A whole run with its report.
-ghost use Rattle.std.specs.Prelude.{◌≡◌, map, option_map, IfOk, IfErr, OnOk};
+//! A whole run of a suite, with its report, with an explanation in its place, or with the findings before any run.
+ghost use Rattle.std.specs.Prelude.{◌≡◌, map, option_map, IfOk, IfErr};
 ghost use Rattle.gk_world.specs.Sandbox.{depth, IsSame};
-ghost use Rattle.gk_cli.specs.Counted.{HasNotFailed, IsUnflushed, IsNeverIdle};
 ghost use Rattle.gk_cli.specs.Source.{borrowed_value, source_value};
 ghost use Rattle.gk_cli.specs.Inputs.{asked};
-ghost use Rattle.gk_cli.specs.SuiteFiles.{bytes_of, suite_value, request_of_files, HaveSameNames, AreGivenUp, AreGivenUpInTurn};
-ghost use Rattle.gk_cli.specs.Suite.{device_of, Reported, JudgedReport, OnlyReport, SaysFault, InputsAreUnique};
+ghost use Rattle.gk_cli.specs.SuiteFiles.{bytes_of, suite_value, request_of_files, hooks_name, AreLeftByRun};
+ghost use Rattle.gk_cli.specs.Modes.{AreLeft, IsWrittenAs, SaysFaultAs};
+ghost use Rattle.gk_cli.specs.Suite.{InputsAreUnique, JudgedReport, OnlyReport, Reported, ReportedInPart, SaysFault, SaysFaultBy};
+ghost use Rattle.gk_cli.specs.ExplainedSuite.{Explained, ExplainedInPart};
+ghost use Rattle.gk_cli.specs.Writing.{UsesWriter, device_of};
 
-use crate::arguments::Options;
+use crate::arguments::{Mode, Options};
 use crate::counted::Counted;
+use crate::explained_run::write_explanation;
 use crate::inputs::read_inputs;
+use crate::linted_suite::lint_suite;
 use crate::run_fault::RunFault;
 use crate::source::{BorrowedSource, FeatureSource, Source};
-use crate::suite_files::SuiteFiles;
+use crate::suite_files::{SuiteFiles, name_of};
 use crate::written_run::write_run;
 use gk_gherkin::{hooks_reading_is_unique, reading_is_unique};
 use gk_run::without_memory_there_is_one_list;
@@ -57,14 +61,8 @@ fn unnamed<'a>(bytes: Option<&'a [u8]>) -> Option<BorrowedSource<'a>>
     }
 }
 
-/// Runs these files and writes the report as `run_suite` does, with the same results and the same errors. Each source
-/// drops its bytes as soon as its feature is read, before the next one is read. So the bytes of sources that own them,
-/// and what is made of the bytes, are never all held at once.
-///
-/// Whatever is returned, the names stay, so a caller can name the source of a fault. The library file and the hooks
-/// file stay as they were. After a status, no source has bytes any more. After an error, perhaps only the first sources
-/// have dropped theirs.
-pub fn report_suite<S: FeatureSource, W: Write>(
+// Runs these files and writes the report.
+fn report_suite<S: FeatureSource, W: Write>(
     alloc: Global,
     sandbox: &mut Sandbox,
     options: &Options,
@@ -72,36 +70,20 @@ pub fn report_suite<S: FeatureSource, W: Write>(
     out: &mut Counted<W>,
 ) -> Result<u8, RunFault>
     requires outside { depth sandbox.old ≡ 0 }
-
-    // The report that was written and the status that is returned are those of one list of results.
-    ensures reported { IfOk result (Reported options.now.style
-        (device_of W.contents out.old) (device_of W.contents out.new)) }
-    // That list is judged.
     ensures judged { IfOk result (JudgedReport
         (request_of_files options.now (suite_value S.value files.old)) sandbox.old.now
         (device_of W.contents out.old) (device_of W.contents out.new)) }
-    // At each status except 4 it is the one that plain maps give, and there is no other.
     ensures plain { IfOk result (OnlyReport
         (request_of_files options.now (suite_value S.value files.old)) sandbox.old.now
         (device_of W.contents out.old) (device_of W.contents out.new)) }
-    // Whatever is returned, files, variables, values and layers are as they were.
-    ensures same { IsSame sandbox.old sandbox.new }
-    // The fault, and what was written.
     ensures fault { IfErr result (SaysFault
         (request_of_files options.now (suite_value S.value files.old)) sandbox.old.now
         (device_of W.contents out.old) (device_of W.contents out.new)) }
-    // Whatever is returned, the names stay.
-    ensures names { HaveSameNames (suite_value S.value files.old) (suite_value S.value files.new) }
-    // The sources drop their bytes one after another; after a status, each has done so.
-    ensures in_turn { AreGivenUpInTurn
+    ensures same { IsSame sandbox.old sandbox.new }
+    ensures left { AreLeftByRun result
         (suite_value S.value files.old) (suite_value S.value files.new) }
-    ensures given_up { OnOk result (AreGivenUp
-        (suite_value S.value files.old) (suite_value S.value files.new)) }
-    // A status is returned only if the writer didn't fail.
-    ensures quiet { OnOk result (HasNotFailed out.old out.new) }
-    // Each call of the writer moved at least one byte.
-    ensures busy { OnOk result (IsNeverIdle out.old out.new) }
-    ensures unflushed { IsUnflushed out.old out.new }
+    ensures used { UsesWriter result
+        (device_of W.contents out.old) (device_of W.contents out.new) }
 {
     // No code runs in these two: the laws say that a request reads in only one way, and that results without a mark of
     // memory are the plain ones.
@@ -110,6 +92,102 @@ pub fn report_suite<S: FeatureSource, W: Write>(
     match read_inputs(alloc, options, files) {
         Ok(inputs) => write_run(alloc, sandbox, options, inputs, out),
         Err(fault) => Err(fault),
+    }
+}
+
+// Runs these files and writes an explanation.
+fn explain_suite<S: FeatureSource, W: Write>(
+    alloc: Global,
+    sandbox: &mut Sandbox,
+    options: &Options,
+    files: &mut SuiteFiles<S>,
+    out: &mut Counted<W>,
+) -> Result<u8, RunFault>
+    requires outside { depth sandbox.old ≡ 0 }
+    ensures explained { IfOk result (Explained
+        (request_of_files options.now (suite_value S.value files.old))
+        (hooks_name (suite_value S.value files.old)) sandbox.old.now
+        (device_of W.contents out.old) (device_of W.contents out.new)) }
+    ensures fault { IfErr result (SaysFaultBy (ExplainedInPart
+        (request_of_files options.now (suite_value S.value files.old))
+        (hooks_name (suite_value S.value files.old)) sandbox.old.now
+        (device_of W.contents out.old) (device_of W.contents out.new))
+        (request_of_files options.now (suite_value S.value files.old))
+        (device_of W.contents out.old) (device_of W.contents out.new)) }
+    ensures same { IsSame sandbox.old sandbox.new }
+    ensures left { AreLeftByRun result
+        (suite_value S.value files.old) (suite_value S.value files.new) }
+    ensures used { UsesWriter result
+        (device_of W.contents out.old) (device_of W.contents out.new) }
+{
+    match read_inputs(alloc, options, files) {
+        Ok(inputs) => {
+            let hooks = name_of(&files.hooks);
+            write_explanation(alloc, sandbox, options.stop, hooks, inputs, out)
+        }
+        Err(fault) => Err(fault),
+    }
+}
+
+/// Reads these files, and writes what the mode asks for.
+///
+/// `Report`: runs them as `run_suite` does, with the same results and the same errors.
+///
+/// `Explanation`: runs them in the same way, and writes an explanation instead of the report. When a feature has ended,
+/// each of its scenarios that failed or ran out of memory gets a heading with its place and status. Below the heading
+/// is a line for each of its events, in order. The hooks and cleanups of each of its rules, and the feature's own, get
+/// the same if they failed or ran out of memory. When the run has ended, so do its own. Then the headings appear as a
+/// list, followed by the closing lines of the plain report. Scenarios that passed, are skipped or aren't reached are
+/// only counted. The options `dry_run` and `style` are ignored.
+///
+/// `Findings`: runs nothing, and writes the findings, each as a line `NAME:LINE: TEXT`. Those of the hooks file come
+/// first, then those of each source in order, each in the order of its lines. Then there is a line for each tag of
+/// `--tags` that occurs nowhere, as often as it is named, and for each `--line` that chooses no scenario. The unused
+/// entries of the library file come last, with a line that counts them. Below an undefined step are its text and the
+/// entry that may be meant. Findings are silently ignored parts of a file, steps that can't work because an entry, a
+/// text or a table is missing, unused items, and scenarios that share a name. Of the options, only `tags` and `lines`
+/// are looked at.
+///
+/// Returns the status of the results, as `run_suite` does; with `Findings`, 0 if nothing was found, and 1 otherwise.
+/// `RunFault` says when each error comes and what was written. Whatever is returned, files, variables, values and layers
+/// of the sandbox are as they were, and nothing is flushed. No layer of the sandbox may be open. A count of the writer
+/// that has reached `u64::MAX` stays there.
+///
+/// Each source of a run drops its bytes as soon as its feature is read, before the next one is read. So the bytes of
+/// sources that own them, and what is made of the bytes, are never all held at once. The names stay, so a caller can name
+/// the source of a fault. With `Findings` all files stay as they were.
+pub fn write_suite<S: FeatureSource, W: Write>(
+    alloc: Global,
+    sandbox: &mut Sandbox,
+    options: &Options,
+    mode: Mode,
+    files: &mut SuiteFiles<S>,
+    out: &mut Counted<W>,
+) -> Result<u8, RunFault>
+    requires outside { depth sandbox.old ≡ 0 }
+
+    // The output and the status: the report of a judged list, which at each status except 4 is the one that plain maps
+    // give, the explanation of a run with judged results, or all findings and no others.
+    ensures written { IfOk result (IsWrittenAs mode (suite_value S.value files.old)
+        (request_of_files options.now (suite_value S.value files.old)) sandbox.old.now
+        (device_of W.contents out.old) (device_of W.contents out.new)) }
+    // The fault, and what was written.
+    ensures fault { IfErr result (SaysFaultAs mode (suite_value S.value files.old)
+        (request_of_files options.now (suite_value S.value files.old)) sandbox.old.now
+        (device_of W.contents out.old) (device_of W.contents out.new)) }
+    // Whatever is returned, files, variables, values and layers are as they were.
+    ensures same { IsSame sandbox.old sandbox.new }
+    // Whatever is returned, the names of the files stay.
+    ensures left { AreLeft mode result
+        (suite_value S.value files.old) (suite_value S.value files.new) }
+    // The writer isn't flushed. With a status, it didn't fail, and each call moved at least one byte.
+    ensures used { UsesWriter result
+        (device_of W.contents out.old) (device_of W.contents out.new) }
+{
+    match mode {
+        Mode::Report => report_suite(alloc, sandbox, options, files, out),
+        Mode::Explanation => explain_suite(alloc, sandbox, options, files, out),
+        Mode::Findings => lint_suite(alloc, options, files, out),
     }
 }
 
@@ -153,11 +231,9 @@ pub fn run_suite<W: Write>(
     ensures fault { IfErr result (SaysFault
         (asked options.now library.entry hooks.entry sources.now) sandbox.old.now
         (device_of W.contents out.old) (device_of W.contents out.new)) }
-    // A status is returned only if the writer didn't fail.
-    ensures quiet { OnOk result (HasNotFailed out.old out.new) }
-    // Each call of the writer moved at least one byte.
-    ensures busy { OnOk result (IsNeverIdle out.old out.new) }
-    ensures unflushed { IsUnflushed out.old out.new }
+    // The writer isn't flushed. With a status, it didn't fail, and each call moved at least one byte.
+    ensures used { UsesWriter result
+        (device_of W.contents out.old) (device_of W.contents out.new) }
 {
     let library = unnamed(library);
     let hooks = unnamed(hooks);
@@ -167,5 +243,5 @@ pub fn run_suite<W: Write>(
         hooks,
         sources,
     };
-    report_suite(alloc, sandbox, options, &mut files, out)
+    write_suite(alloc, sandbox, options, Mode::Report, &mut files, out)
 }

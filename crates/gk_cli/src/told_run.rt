@@ -11,7 +11,7 @@ ghost use Rattle.gk_run.specs.DryRun.{AreDryFeatures};
 ghost use Rattle.gk_run.specs.Features.{IsFeatureResult};
 ghost use Rattle.gk_run.specs.OpenRun.{AreFeatures, IsKept, opens_features};
 ghost use Rattle.gk_report.specs.Summary.{CountsOneMore};
-ghost use Rattle.gk_cli.specs.Suite.{device_of};
+ghost use Rattle.gk_cli.specs.Writing.{device_of};
 ghost use Rattle.gk_cli.specs.Reporter.{IsAdded, StopsAdding};
 ghost use Rattle.gk_cli.specs.ToldRun.{TellsFeature, TellsDryFeature, IsNextResult, IsDryResult, TellsNext, EndsNext, AreTold, AreToldUpTo, IsClosed, StopsClosing, IsToldRun, IsToldUpTo, stays, stays_begun};
 
@@ -30,9 +30,9 @@ use gk_world::Sandbox;
 use std::alloc::Global;
 use std::io::Write;
 
-/// The library and the hooks of a run, and its allocator.
+/// What stays the same during a run: the library, the hooks and the allocator.
 #[derive(Clone, Copy)]
-pub struct Glue<'a> {
+pub struct RunParts<'a> {
     pub alloc: Global,
     pub library: &'a Library,
     pub hooks: &'a HookFile,
@@ -84,7 +84,7 @@ fn add_feature<R: Reporter, W: Write>(
 
 // Runs the next feature of a run, and tells it.
 fn tell_next<R: Reporter, W: Write>(
-    glue: &Glue<'_>,
+    parts: &RunParts<'_>,
     sandbox: &mut Sandbox,
     suite: &mut Suite,
     told: &mut Told<R>,
@@ -93,14 +93,14 @@ fn tell_next<R: Reporter, W: Write>(
 ) -> Result<(), RunFault>
     requires innermost { suite.old.layer ≡ depth sandbox.old }
     requires formed { IsFormed feature }
-    ensures ok { let run = run_of glue.now.library.now glue.now.hooks.now suite.old.stop in
+    ensures ok { let run = run_of parts.now.library.now parts.now.hooks.now suite.old.stop in
         OnOk result (TellsNext
         (TellsFeature R.hears R.ends R.begins R.adds run (state_of sandbox.old.now))
         (IsNextResult run (state_of sandbox.old.now)
         (opens_features suite.old) (opens_features suite.new) (chosen_value feature))
         (opens_features suite.old) (chosen_value feature)
         (device_of W.contents out.old) told.old (device_of W.contents out.new) told.new) }
-    ensures err { let run = run_of glue.now.library.now glue.now.hooks.now suite.old.stop in
+    ensures err { let run = run_of parts.now.library.now parts.now.hooks.now suite.old.stop in
         IfErr result (EndsNext
         (TellsFeature R.hears R.ends R.begins R.adds run (state_of sandbox.old.now))
         (IsFeatureResult run (state_of sandbox.old.now)
@@ -112,21 +112,21 @@ fn tell_next<R: Reporter, W: Write>(
 {
     told.reporter.feature_begun(feature.source.as_str());
     match suite.feature_watched(
-        glue.alloc,
+        parts.alloc,
         sandbox,
-        glue.library,
-        glue.hooks,
+        parts.library,
+        parts.hooks,
         feature,
         &mut told.reporter,
     ) {
-        Ok(result) => add_feature(glue.alloc, told, &result, out),
+        Ok(result) => add_feature(parts.alloc, told, &result, out),
         Err(NoRoom) => Err(RunFault::Memory),
     }
 }
 
 // Runs the features of a run that has begun, one after another, and tells each.
 fn tell_features<R: Reporter, W: Write>(
-    glue: &Glue<'_>,
+    parts: &RunParts<'_>,
     sandbox: &mut Sandbox,
     suite: &mut Suite,
     told: &mut Told<R>,
@@ -135,13 +135,13 @@ fn tell_features<R: Reporter, W: Write>(
 ) -> Result<(), RunFault>
     requires innermost { suite.old.layer ≡ depth sandbox.old }
     requires formed { AllByRecursion IsFormed features.items }
-    ensures ok { let run = run_of glue.now.library.now glue.now.hooks.now suite.old.stop in
+    ensures ok { let run = run_of parts.now.library.now parts.now.hooks.now suite.old.stop in
         OnOk result (AreTold
         (TellsFeature R.hears R.ends R.begins R.adds run (state_of sandbox.old.now)) (stays run)
         (AreFeatures run (state_of sandbox.old.now) (opens_features suite.old))
         (opens_features suite.old) (map chosen_value features.items)
         (device_of W.contents out.old) told.old (device_of W.contents out.new) told.new) }
-    ensures err { let run = run_of glue.now.library.now glue.now.hooks.now suite.old.stop in
+    ensures err { let run = run_of parts.now.library.now parts.now.hooks.now suite.old.stop in
         IfErr result (AreToldUpTo
         (TellsFeature R.hears R.ends R.begins R.adds run (state_of sandbox.old.now)) (stays run)
         (AreFeatures run (state_of sandbox.old.now) (opens_features suite.old))
@@ -151,7 +151,7 @@ fn tell_features<R: Reporter, W: Write>(
     ensures same { IsSame sandbox.old sandbox.new }
 {
     for feature in features {
-        tell_next(glue, sandbox, suite, told, feature, out)?;
+        tell_next(parts, sandbox, suite, told, feature, out)?;
     }
     Ok(())
 }
@@ -225,7 +225,7 @@ pub fn close<R: Reporter, W: Write>(
 /// the run. `Memory` comes if a text couldn't be made, or if there is no room for a feature's results. `Write` comes if
 /// the writer failed. In both cases the run is finished, its result is dropped, and nothing more is written.
 pub fn tell_run<R: Reporter, W: Write>(
-    glue: &Glue<'_>,
+    parts: &RunParts<'_>,
     sandbox: &mut Sandbox,
     stop: bool,
     features: Vec<Chosen>,
@@ -236,12 +236,12 @@ pub fn tell_run<R: Reporter, W: Write>(
     requires formed { AllByRecursion IsFormed features.items }
     ensures ok { IfOk result (IsToldRun R.hears
         (TellsFeature R.hears R.ends R.begins R.adds) R.closes
-        (run_of glue.now.library.now glue.now.hooks.now stop) sandbox.old.now
+        (run_of parts.now.library.now parts.now.hooks.now stop) sandbox.old.now
         (map chosen_value features.items) reporter
         (device_of W.contents out.old) (device_of W.contents out.new)) }
     ensures err { IfErr result (IsToldUpTo R.hears
         (TellsFeature R.hears R.ends R.begins R.adds) R.closes
-        (run_of glue.now.library.now glue.now.hooks.now stop) sandbox.old.now
+        (run_of parts.now.library.now parts.now.hooks.now stop) sandbox.old.now
         (map chosen_value features.items) reporter
         (device_of W.contents out.old) (device_of W.contents out.new)) }
     ensures same { IsSame sandbox.old sandbox.new }
@@ -250,15 +250,15 @@ pub fn tell_run<R: Reporter, W: Write>(
     // far begin some judged list.
     finished_runs_are_judged();
     unfinished_runs_are_judged();
-    let Glue {
+    let RunParts {
         alloc,
         library,
         hooks,
-    } = *glue;
+    } = *parts;
     let mut reporter = reporter;
     let mut suite = Suite::start_watched(alloc, sandbox, library, hooks, stop, &mut reporter);
     let mut told = Told::new(reporter);
-    let written = tell_features(glue, sandbox, &mut suite, &mut told, features, out);
+    let written = tell_features(parts, sandbox, &mut suite, &mut told, features, out);
     let around = suite.finish_watched(alloc, sandbox, library, hooks, &mut told.reporter);
     match written {
         Ok(()) => close(alloc, told, around, out),

@@ -4,7 +4,8 @@ ghost use Rattle.std.specs.List.{AllByRecursion};
 ghost use Rattle.gk_world.specs.Sandbox.{depth, IsSame};
 ghost use Rattle.gk_run.specs.Chosen.{chosen_value, IsFormed};
 ghost use Rattle.gk_cli.specs.Inputs.{inputs_value};
-ghost use Rattle.gk_cli.specs.Suite.{device_of, run_by};
+ghost use Rattle.gk_cli.specs.Suite.{run_by};
+ghost use Rattle.gk_cli.specs.Writing.{device_of};
 ghost use Rattle.gk_cli.specs.WrittenRun.{IsWhole, IsPrefix};
 
 use crate::arguments::Options;
@@ -12,7 +13,7 @@ use crate::counted::Counted;
 use crate::growing_report::{GrowingReport, write_head};
 use crate::inputs::ReadInputs;
 use crate::run_fault::RunFault;
-use crate::told_run::{Glue, Told, close, tell_dry_features, tell_run};
+use crate::told_run::{RunParts, Told, close, tell_dry_features, tell_run};
 use gk_report::reports_grow_by_parts;
 use gk_run::{Status, dry_runs_are_judged, unfinished_dry_runs_are_judged};
 use gk_world::Sandbox;
@@ -55,10 +56,10 @@ pub fn write_run<W: Write>(
         tell_dry_features(alloc, &library, &mut told, features, out)?;
         return close(alloc, told, Status::Passed, out);
     }
-    let glue = Glue {
+    let parts = RunParts {
         alloc,
         library: &library,
         hooks: &hooks,
     };
-    tell_run(&glue, sandbox, options.stop, features, report, out)
+    tell_run(&parts, sandbox, options.stop, features, report, out)
 }

@@ -1,4 +1,4 @@
-use gk_cli::{Counted, write_whole};
+use gk_cli::{Counted, write_displayed, write_whole};
 use std::alloc::{AllocError, Global};
 use std::io;
 use std::io::Write as _;
@@ -120,6 +120,31 @@ fn offers_all_that_is_left(rt: HostRuntime) -> Result<(), Fail> {
         assert_eq!(rt; (writer.calls, writer.offered), (calls, length));
         let counts = (out.calls(), out.failures(), out.flushes(), out.idle());
         assert_eq!(rt; counts, (calls as u64, 0, 0, 0));
+    }
+    Ok(())
+}
+
+// Writes a text of three pieces, and formats whether all of it was written and what the writer shows.
+fn displayed(alloc: Global, most: usize, fails_at: usize) -> Result<String, AllocError> {
+    let mut out = counted(alloc, most, fails_at);
+    let whole = write_displayed(&mut out, format_args!("{}-{}", "ab", "cd")).is_ok();
+    let shown = shown(alloc, &out)?;
+    format!(in alloc; "{whole}: {shown}")
+}
+
+// How many bytes the writer takes in a call, the call that fails, and the outcome.
+const DISPLAYED: [(usize, usize, &str); 4] = [
+    (100, 0, "true: 3 of 2, counted 0 0 0, Ok(\"ab-cd\")"),
+    (1, 0, "true: 5 of 2, counted 0 0 0, Ok(\"ab-cd\")"),
+    (100, 1, "false: 1 of 2, counted 0 1 0, Ok(\"\")"),
+    (100, 3, "false: 3 of 2, counted 0 1 0, Ok(\"ab-\")"),
+];
+
+#[test]
+fn writes_a_text_as_it_is_displayed(rt: HostRuntime) -> Result<(), Fail> {
+    for (most, fails_at, wanted) in DISPLAYED {
+        let found = displayed(rt.alloc(), most, fails_at)?;
+        assert_eq!(rt; found.as_str(), wanted);
     }
     Ok(())
 }

@@ -1,7 +1,7 @@
 use crate::counted_tests::{Writer, counted};
 use gk_cli::{
-    Counted, Options, RunFault, Source, SuiteFiles, explain_suite, faults_after, lint_suite,
-    name_at_fault, push_notes, report_suite,
+    Counted, Mode, Options, RunFault, Source, SuiteFiles, faults_after, name_at_fault, push_notes,
+    write_suite,
 };
 use gk_gherkin::ReadFault;
 use gk_report::{Format, Style};
@@ -72,7 +72,14 @@ fn suites_are_reported(rt: HostRuntime) -> Result<(), Fail> {
     let mut out = counted(rt.alloc(), usize::MAX, 0);
     let mut sandbox = Sandbox::new(rt.alloc());
     let options = plain(rt.alloc());
-    let status = report_suite(rt.alloc(), &mut sandbox, &options, &mut files, &mut out)?;
+    let status = write_suite(
+        rt.alloc(),
+        &mut sandbox,
+        &options,
+        Mode::Report,
+        &mut files,
+        &mut out,
+    )?;
     assert_eq!(rt; status, 1);
     assert_eq!(rt; text_of(&out)?, REPORT);
     let left = format!(in rt.alloc(); "{:?}", files.sources)?;
@@ -102,7 +109,14 @@ fn suites_are_explained(rt: HostRuntime) -> Result<(), Fail> {
     let mut out = counted(rt.alloc(), usize::MAX, 0);
     let mut sandbox = Sandbox::new(rt.alloc());
     let options = plain(rt.alloc());
-    let status = explain_suite(rt.alloc(), &mut sandbox, &options, &mut files, &mut out)?;
+    let status = write_suite(
+        rt.alloc(),
+        &mut sandbox,
+        &options,
+        Mode::Explanation,
+        &mut files,
+        &mut out,
+    )?;
     assert_eq!(rt; status, 1);
     assert_eq!(rt; text_of(&out)?, wanted);
     Ok(())
@@ -117,16 +131,24 @@ const WICK: [&str; 4] = [
 ];
 
 // What is found in files, and the status.
-fn found(alloc: Global, options: &Options, files: &SuiteFiles<Source>) -> Result<String, Fail> {
+fn found(alloc: Global, options: &Options, files: &mut SuiteFiles<Source>) -> Result<String, Fail> {
     let mut out = counted(alloc, usize::MAX, 0);
-    let status = lint_suite(alloc, options, files, &mut out)?;
+    let mut sandbox = Sandbox::new(alloc);
+    let status = write_suite(
+        alloc,
+        &mut sandbox,
+        options,
+        Mode::Findings,
+        files,
+        &mut out,
+    )?;
     Ok(format!(in alloc; "{}{status}", text_of(&out)?)?)
 }
 
 #[test]
 fn suites_are_linted(rt: HostRuntime) -> Result<(), Fail> {
     let [library, hooks, feature, wanted] = WICK;
-    let files = files_with(
+    let mut files = files_with(
         rt.alloc(),
         Some(source(rt.alloc(), "wick.steps", library)?),
         Some(source(rt.alloc(), "wick.hooks", hooks)?),
@@ -135,7 +157,7 @@ fn suites_are_linted(rt: HostRuntime) -> Result<(), Fail> {
     let mut options = plain(rt.alloc());
     options.tags.push(String::from_str(rt.alloc(), "@quik")?)?;
     options.lines.push(6)?;
-    assert_eq!(rt; found(rt.alloc(), &options, &files)?.as_str(), wanted);
+    assert_eq!(rt; found(rt.alloc(), &options, &mut files)?.as_str(), wanted);
     Ok(())
 }
 
@@ -143,9 +165,9 @@ fn suites_are_linted(rt: HostRuntime) -> Result<(), Fail> {
 fn nothing_is_found_in_a_suite(rt: HostRuntime) -> Result<(), Fail> {
     let [_, feature, _] = HALL;
     let hall = source(rt.alloc(), "hall.feature", feature)?;
-    let files = files_with(rt.alloc(), None, None, hall)?;
+    let mut files = files_with(rt.alloc(), None, None, hall)?;
     assert_eq!(rt;
-        found(rt.alloc(), &plain(rt.alloc()), &files)?.as_str(),
+        found(rt.alloc(), &plain(rt.alloc()), &mut files)?.as_str(),
         "0"
     );
     Ok(())
@@ -163,9 +185,18 @@ fn oil(alloc: Global) -> Result<SuiteFiles<Source>, AllocError> {
 }
 
 // The first fault of some files.
-fn first_fault(alloc: Global, files: &SuiteFiles<Source>) -> Result<RunFault, Fail> {
+fn first_fault(alloc: Global, files: &mut SuiteFiles<Source>) -> Result<RunFault, Fail> {
     let mut out = counted(alloc, usize::MAX, 0);
-    match lint_suite(alloc, &plain(alloc), files, &mut out) {
+    let mut sandbox = Sandbox::new(alloc);
+    let options = plain(alloc);
+    match write_suite(
+        alloc,
+        &mut sandbox,
+        &options,
+        Mode::Findings,
+        files,
+        &mut out,
+    ) {
         Ok(_) => Err("no fault".into()),
         Err(fault) => Ok(fault),
     }
@@ -186,8 +217,8 @@ const IN_FEATURE: &str =
 
 #[test]
 fn all_faults_are_named(rt: HostRuntime) -> Result<(), Fail> {
-    let files = oil(rt.alloc())?;
-    let first = first_fault(rt.alloc(), &files)?;
+    let mut files = oil(rt.alloc())?;
+    let first = first_fault(rt.alloc(), &mut files)?;
     assert_eq!(rt; said(rt.alloc(), &files, first)?.as_str(), IN_LIBRARY);
     let others = faults_after(rt.alloc(), &files, first)?;
     let [second] = others.as_slice() else {

@@ -1,12 +1,11 @@
 -- What the arguments ask for.
-use Rattle.std.proofs.Common.{◌≡◌, refl, subst, List, [], Result, Ok, Err}
+use Rattle.std.proofs.Common.{◌≡◌, subst, List, Result, Ok, Err}
 use Rattle.clap.specs.Words.{IsAmong, Text, kind_of}
 use Rattle.clap.specs.declared.error.Error.{Error}
 use Rattle.gk_cli.specs.Arguments.{SaysArguments, faults_in}
 use Rattle.gk_cli.specs.declared.arguments.WordsFault.{WordsFault}
 use Rattle.gk_cli.specs.declared.arguments.WordsFault.TheVariants as words
-use Rattle.gk_program.specs.Asked.{AreNamesAsked, SaysAsked, SaysError, SaysGiven}
-use Rattle.gk_program.specs.declared.asked.ArgumentsFault.{ArgumentsFault}
+use Rattle.gk_program.specs.Asked.{SaysAsked, SaysError}
 use Rattle.gk_program.specs.declared.asked.Asked.{Asked}
 use Rattle.gk_program.specs.declared.asked.Asked.TheVariants.{Help, Run}
 use Rattle.gk_program.specs.declared.fault.Fault.{Fault}
@@ -22,12 +21,3 @@ of_error arguments error (Err _) among says = absurd says
 
 pub of_mistake : (arguments : List Text) (fault : WordsFault) (error : Error) (asked : Result Asked Fault) → fault ≡ words.Usage error → SaysArguments arguments (Err fault) → SaysError error asked → SaysAsked arguments asked
 of_mistake arguments fault error asked is says = of_error arguments error asked (subst (λ f. SaysArguments arguments (Err f)) is says)
-
--- arguments that ask for something can be refused memory
-pub may_be_refused : (arguments : Result (List Text) ArgumentsFault) (asked : Asked) → SaysGiven arguments (Ok asked) → SaysGiven arguments (Err Memory)
-may_be_refused (Ok words) asked says = tt
-may_be_refused (Err fault) asked says = absurd cc
-
--- so no name is listed
-pub none_listed : (arguments : Result (List Text) ArgumentsFault) (asked : Asked) → SaysGiven arguments (Ok asked) → AreNamesAsked arguments []
-none_listed arguments asked says = (Err Memory, may_be_refused arguments asked says, refl)

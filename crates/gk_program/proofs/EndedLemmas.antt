@@ -5,7 +5,7 @@ use Rattle.std.specs.declared.alloc.Global.{Global}
 use Rattle.std.specs.Io.KnownBytes.{Appends}
 use Rattle.clap.specs.Words.{Text}
 use Rattle.gk_cli.specs.Counted.{one_more}
-use Rattle.gk_cli.specs.Suite.{Device}
+use Rattle.gk_cli.specs.Writing.{Device}
 use Rattle.gk_cli.specs.declared.arguments.Words.{Words}
 use Rattle.gk_program.specs.Asked.{SaysGiven}
 use Rattle.gk_program.specs.Ended.{IsTold, SaysDone}
@@ -37,11 +37,6 @@ pub run_fails : {S : Type 0} (reads : Reading S) (arguments : Result (List Text)
     → IfErr result (SaysProgram reads w before after old new) → IfErr result (IsFaultFor reads arguments before after old new)
 run_fails reads arguments w before after old new (Ok status) given says = tt
 run_fails reads arguments w before after old new (Err fault) given says = inr (Run w, given, says)
-
--- what was written for a fault
-pub told_by : (fault : Fault) (old new : Option (List ℕ)) (all : Bool) → (all ≡ true → Appends old new (text_of fault)) → IsTold (Err fault) old new all
-told_by fault old new true says = says refl
-told_by fault old new false says = tt
 
 -- what was done, or why it was not, by what is known of both
 pub says_done : {S : Type 0} (reads : Reading S) (arguments : Result (List Text) ArgumentsFault) (before after : S) (old new : Device) (done : Result ℕ Fault)

@@ -18,20 +18,18 @@ use Rattle.gk_cli.specs.Counted.{one_more}
 use Rattle.gk_cli.specs.Inputs.{Request}
 use Rattle.gk_cli.specs.Source.{SourceValue, source_value, names_of}
 use Rattle.gk_cli.specs.declared.source.Source.{Source}
-use Rattle.gk_cli.specs.GrowingReport.{StopsBy}
-use Rattle.gk_cli.specs.Suite.{Device, IsUntouched, SaysFault}
-use Rattle.gk_cli.specs.ExplainedSuite.{SaysExplanationFault}
-use Rattle.gk_cli.specs.SuiteFiles.{FilesValue, HaveSameNames, hooks_name, library_name, request_of_files, suite_value}
+use Rattle.gk_cli.specs.Writing.{Device, IsUntouched, StopsBy}
+use Rattle.gk_cli.specs.SuiteFiles.{FilesValue, HaveSameNames, request_of_files, suite_value}
+use Rattle.gk_cli.specs.Modes.{AreLeft, IsStoppedAs, SaysFaultAs}
 use Rattle.gk_cli.specs.FaultNotes.{name_at_fault}
 use Rattle.gk_cli.specs.declared.suite_files.SuiteFiles.{SuiteFiles}
-use Rattle.gk_cli.specs.LintedSuite.{SaysLintFault}
 use Rattle.gk_cli.specs.declared.arguments.Mode.{Mode}
 use Rattle.gk_cli.specs.declared.arguments.Mode.TheVariants.{Report, Explanation, Findings}
 use Rattle.gk_cli.specs.declared.arguments.Words.{Words}
 use Rattle.gk_cli.specs.declared.run_fault.RunFault.{RunFault}
 use Rattle.gk_cli.specs.declared.run_fault.RunFault.TheVariants as run
 use Rattle.gk_program.specs.Files.{AreRead, IsFaultOfFiles, IsFileFault, Reading, StopsReading, files_in_order, name_of}
-use Rattle.gk_program.specs.Program.{AreGiven, AreLeft, AreTaken, IsFaultAs, IsFaultOfGiven, IsFaultOfRun, IsFaultOfVariable, IsFlushedRun, IsGiven, IsRefused, IsRun, IsShown, IsTextFault, SaysCalls, SaysCallsOfRun, IsWrittenAs, SaysFaultAs, IsStoppedAs, IsRunFrom, SaysProgram, SaysRunFrom, SaysSuite, SaysVariables, contents_given, variables_given, with_variables}
+use Rattle.gk_program.specs.Program.{AreGiven, AreTaken, IsFaultAs, IsFaultOfGiven, IsFaultOfRun, IsFaultOfVariable, IsFlushedRun, IsGiven, IsRefused, IsRun, IsShown, IsTextFault, SaysCalls, SaysCallsOfRun, IsRunFrom, SaysProgram, SaysRunFrom, SaysSuite, SaysVariables, contents_given, variables_given, with_variables}
 use Rattle.gk_program.specs.Asked.{files_to_put, names_given}
 use Rattle.gk_program.specs.WorldFiles.{ArePut, StopsPutting}
 use Rattle.gk_program.specs.FaultListing.{IsListedAs}
@@ -39,20 +37,9 @@ use Rattle.gk_program.specs.declared.fault.Fault.{Fault}
 use Rattle.gk_program.specs.declared.fault.Fault.TheVariants.{NotUtf8, Usage, Env, File, NotText, TextTooLong, CannotRead, TooLong, OfRun, Unread, Write, Memory}
 
 -- what holds of a result, by what is known of it
-pub if_ok_both : {T E : Type 0} (P Q : T → Type 0) (r : Result T E) → IfOk r P → IfOk r Q → IfOk r (λ x. P x × Q x)
-if_ok_both P Q (Ok x) h k = (h, k)
-if_ok_both P Q (Err e) h k = h
-
 pub if_err_by : {T E : Type 0} {P Q : E → Type 0} (r : Result T E) → ((e : E) → P e → Q e) → IfErr r P → IfErr r Q
 if_err_by (Ok x) f h = h
 if_err_by (Err e) f h = f e h
-
--- what is written and what a fault says, in a mode that is known
-pub in_mode : (mode known : Mode) (files : FilesValue) (r : Request) (c : Contents) (old new : Device) (result : Result ℕ RunFault) → mode ≡ known → IfOk result (IsWrittenAs known files r c old new) → IfOk result (IsWrittenAs mode files r c old new)
-in_mode mode known files r c old new result is written = subst (λ (m : Mode). IfOk result (IsWrittenAs m files r c old new)) (sym is) written
-
-pub fault_in_mode : (mode known : Mode) (files : FilesValue) (r : Request) (c : Contents) (old new : Device) (result : Result ℕ RunFault) → mode ≡ known → IfErr result (SaysFaultAs known files r c old new) → IfErr result (SaysFaultAs mode files r c old new)
-fault_in_mode mode known files r c old new result is says = subst (λ (m : Mode). IfErr result (SaysFaultAs m files r c old new)) (sym is) says
 
 -- a device that isn't called
 pub untouched : (d : Device) → IsUntouched d d
@@ -99,51 +86,20 @@ named_as_before old new (run.Hooks f) _ same is = absurd is
 named_as_before old new (run.Select input f) (OfRun name g) same is = (is.0, is.1 ∙ same_name old new (run.Select input f) same)
 named_as_before old new (run.Select input f) _ same is = absurd is
 
--- what is left of the files, in a mode that is known
-pub left_in_mode : (mode known : Mode) (old new : FilesValue) → mode ≡ known → AreLeft known old new → AreLeft mode old new
-left_in_mode mode known old new is left = subst (λ (m : Mode). AreLeft m old new) (sym is) left
-
 -- so the program's fault is that of the files before
-pub fault_as_before : (mode : Mode) (old new : FilesValue) (by : RunFault) (fault : Fault) → AreLeft mode old new → IsFaultAs mode new by fault → IsFaultAs mode old by fault
-fault_as_before Report old new by fault left is = named_as_before old new by fault left is
-fault_as_before Explanation old new by fault left is = named_as_before old new by fault left is
-fault_as_before Findings old new by fault left is = subst (λ (files : FilesValue). IsFaultAs Findings files by fault) left is
-
--- what a fault says of a run whose report was asked for, of one whose explanation was, and of what is found before one
-pub of_report : (files : FilesValue) (r : Request) (c : Contents) (old new : Device) (by : RunFault) → SaysFault r c old new by → SaysFaultAs Report files r c old new by
-of_report files r c old new run.Write says = (says.0, (says.1, says.2))
-of_report files r c old new run.Memory (inl nothing) = inl nothing
-of_report files r c old new run.Memory (inr cut) = inr (cut.0, (cut.1, cut.2))
-of_report files r c old new (run.Read input fault) says = says
-of_report files r c old new (run.Library fault) says = says
-of_report files r c old new (run.Hooks fault) says = says
-of_report files r c old new (run.Select input fault) says = says
-
-pub of_explanation : (files : FilesValue) (r : Request) (c : Contents) (old new : Device) (by : RunFault) → SaysExplanationFault r (hooks_name files) c old new by → SaysFaultAs Explanation files r c old new by
-of_explanation files r c old new run.Write says = says
-of_explanation files r c old new run.Memory says = says
-of_explanation files r c old new (run.Read input fault) says = says
-of_explanation files r c old new (run.Library fault) says = says
-of_explanation files r c old new (run.Hooks fault) says = says
-of_explanation files r c old new (run.Select input fault) says = says
-
-pub of_findings : (files : FilesValue) (r : Request) (c : Contents) (old new : Device) (by : RunFault) → SaysLintFault r (library_name files) (hooks_name files) old new by → SaysFaultAs Findings files r c old new by
-of_findings files r c old new run.Write says = says
-of_findings files r c old new run.Memory says = inl says
-of_findings files r c old new (run.Read input fault) says = says
-of_findings files r c old new (run.Library fault) says = says
-of_findings files r c old new (run.Hooks fault) says = says
-of_findings files r c old new (run.Select input fault) says = says
+pub fault_as_before : (mode : Mode) (result : Result ℕ RunFault) (old new : FilesValue) (by : RunFault) (fault : Fault) → AreLeft mode result old new → IsFaultAs mode new by fault → IsFaultAs mode old by fault
+fault_as_before Report result old new by fault left is = named_as_before old new by fault left.names is
+fault_as_before Explanation result old new by fault left is = named_as_before old new by fault left.names is
+fault_as_before Findings result old new by fault left is = subst (λ (files : FilesValue). IsFaultAs Findings files by fault) left is
 
 -- why a run was stopped
 stopped_by : (mode : Mode) (files : FilesValue) (r : Request) (c : Contents) (old new : Device) (by : RunFault) → IsStoppedAs mode files r c old new by → StopsBy old new by
-stopped_by Report files r c old new by stopped = stopped.1
+stopped_by Report files r c old new by stopped = stopped.2.why
 stopped_by Explanation files r c old new by stopped = elim stopped.2 [
   | inl part ↦ part.stopped.why
   | inr short ↦ short.stopped.why
 ]
-stopped_by Findings files r c old new run.Write stopped = stopped.2.why
-stopped_by Findings files r c old new _ stopped = absurd stopped
+stopped_by Findings files r c old new by stopped = stopped.2.why
 
 pub fewer : (a b : ℕ) → a < 2 ^ 64 - 1 → b ≡ one_more a → a < b
 fewer a b room e = omega (arith, e)

@@ -1,6 +1,6 @@
 -- A text of one byte that is shown or is not, with each call worked out by hand.
 use Rattle.std.proofs.Common.{refl, inl, inr, arith, ℕ, List, [], ◌∷◌, Some}
-use Rattle.gk_cli.specs.Suite.{Device}
+use Rattle.gk_cli.specs.Writing.{Device}
 use Rattle.gk_program.specs.Program.{IsShown, IsTextFault}
 use Rattle.gk_program.specs.declared.fault.Fault.TheVariants.{Write}
 use Rattle.gk_program.proofs.ProgramLemmas.{kept}

@@ -1,5 +1,5 @@
 -- What the arguments ask for.
-use Rattle.std.specs.Prelude.{◌≡◌, ◌⊎◌, ◌++◌, ℕ, List, [], map, Result, Ok, Err, String, Vec, string_bytes}
+use Rattle.std.specs.Prelude.{◌≡◌, ◌≢◌, ◌⊎◌, ◌++◌, ℕ, List, [], map, Result, Ok, Err, String, Vec, string_bytes}
 use Rattle.std.specs.declared.alloc.Global.{Global}
 use Rattle.clap.specs.Words.{IsAmong, Text, kind_of}
 use Rattle.clap.specs.declared.error.Error.{Error}
@@ -70,6 +70,9 @@ abbrev pub names_asked : Result Asked Fault → List (List ℕ)
 names_asked (Ok (Run w)) = names_asked_by w
 names_asked asked = []
 
--- These are the names of the files that the arguments ask for. Nothing is said if memory was refused.
-abbrev pub AreNamesAsked : Result (List Text) ArgumentsFault → List (List ℕ) → Type 0
-AreNamesAsked arguments names = (asked : Result Asked Fault) × SaysGiven arguments asked × (names ≡ names_asked asked)
+-- These are the names of the files that the arguments ask for.
+pub record AreNamesAsked (arguments : Result (List Text) ArgumentsFault) (names : List (List ℕ)) : Type 0 where
+  pub asked : Result Asked Fault
+  pub says : SaysGiven arguments asked
+  pub decided : asked ≢ Err Memory
+  pub names_are : names ≡ names_asked asked

@@ -1,9 +1,9 @@
 -- What the program writes, and how it ends.
-use Rattle.std.specs.Prelude.{◌≡◌, ℕ, Bool, true, false, List, Option, Result, Ok, Err}
+use Rattle.std.specs.Prelude.{◌≡◌, ◌⊎◌, ℕ, List, Result, Ok, Err}
 use Rattle.std.specs.Io.KnownBytes.{Appends}
 use Rattle.clap.specs.Words.{Text}
 use Rattle.gk_cli.specs.Counted.{one_more}
-use Rattle.gk_cli.specs.Suite.{Device}
+use Rattle.gk_cli.specs.Writing.{Device}
 use Rattle.gk_program.specs.Fault.{place_of, row_of, text_of}
 use Rattle.gk_program.specs.FaultPlace.{nowhere}
 use Rattle.gk_program.specs.Files.{Reading}
@@ -28,16 +28,20 @@ abbrev pub SaysDone : {S : Type 0} → Reading S → Result (List Text) Argument
 SaysDone reads arguments before after old new (Ok status) = IsDoneFor reads arguments before after old new status × (new.failures ≡ old.failures) × (new.flushes ≡ one_more old.flushes)
 SaysDone reads arguments before after old new (Err fault) = IsFaultFor reads arguments before after old new fault × SaysCallsOfRun old new fault
 
--- What was written to standard error. If it took all that was to be written, that is the text of the fault, and nothing without a fault.
-abbrev pub IsTold : Result ℕ Fault → Option (List ℕ) → Option (List ℕ) → Bool → Type 0
-IsTold (Ok status) old new all = (new ≡ old) × (all ≡ true)
-IsTold (Err fault) old new true = Appends old new (text_of fault)
-IsTold (Err fault) old new false = Unit {0}
+-- The writer took the whole text, and didn't fail.
+pub record IsTextTold (text : List ℕ) (old new : Device) : Type 0 where
+  pub text_is : Appends old.bytes new.bytes text
+  pub quiet : new.failures ≡ old.failures
+
+-- What was written to standard error: the text of the fault, or standard error failed. Without a fault it was not called.
+abbrev pub IsTold : Result ℕ Fault → Device → Device → Type 0
+IsTold (Ok status) old new = new ≡ old
+IsTold (Err fault) old new = IsTextTold (text_of fault) old new ⊎ (new.failures ≡ one_more old.failures)
 
 -- The program ended so with these arguments: its status and the place of its fault, what it wrote to standard output, and what it wrote to standard error.
-pub record IsEnded {S : Type 0} (reads : Reading S) (arguments : Result (List Text) ArgumentsFault) (before after : S) (old new : Device) (errors_old errors_new : Option (List ℕ)) (ended : Ended) : Type 0 where
+pub record IsEnded {S : Type 0} (reads : Reading S) (arguments : Result (List Text) ArgumentsFault) (before after : S) (old new errors_old errors_new : Device) (ended : Ended) : Type 0 where
   pub done : Result ℕ Fault
   pub says : SaysDone reads arguments before after old new done
   pub status : ended.status ≡ status_of done
   pub place : ended.place ≡ place_of_done done
-  pub said : IsTold done errors_old errors_new ended.is_told
+  pub said : IsTold done errors_old errors_new

@@ -11,15 +11,12 @@ use Rattle.gk_world.specs.declared.refusals.WorldFault.TheVariants as world
 use Rattle.gk_cli.specs.Arguments.{PairValue, pair_value}
 use Rattle.gk_cli.specs.Counted.{one_more}
 use Rattle.gk_cli.specs.Inputs.{Request}
-use Rattle.gk_cli.specs.GrowingReport.{IsStopped, IsWritten, StopsBy}
-use Rattle.gk_cli.specs.RunFault.{IsUnread}
-use Rattle.gk_cli.specs.Suite.{CutShort, Device, IsUntouched, JudgedReport, OnlyReport}
-use Rattle.gk_cli.specs.ExplainedSuite.{Explained, ExplainedInPart}
-use Rattle.gk_cli.specs.LintedSuite.{Linted, LintedInPart}
+use Rattle.gk_cli.specs.Writing.{Device, IsUntouched, IsStopped, IsWritten, StopsBy}
+use Rattle.gk_cli.specs.Modes.{IsStoppedAs, IsWrittenAs, SaysFaultAs}
 use Rattle.gk_cli.specs.FaultNotes.{name_at_fault}
-use Rattle.gk_cli.specs.SuiteFiles.{FilesValue, HaveSameNames, hooks_name, library_name, request_of_files}
+use Rattle.gk_cli.specs.SuiteFiles.{FilesValue, request_of_files}
 use Rattle.gk_cli.specs.declared.arguments.Mode.{Mode}
-use Rattle.gk_cli.specs.declared.arguments.Mode.TheVariants.{Report, Explanation, Findings}
+use Rattle.gk_cli.specs.declared.arguments.Mode.TheVariants.{Findings}
 use Rattle.gk_cli.specs.declared.arguments.Words.{Words}
 use Rattle.gk_cli.specs.declared.run_fault.RunFault.{RunFault}
 use Rattle.gk_cli.specs.declared.run_fault.RunFault.TheVariants as run
@@ -32,19 +29,11 @@ use Rattle.gk_program.specs.declared.fault.Fault.TheVariants.{NotUtf8, Usage, En
 use Rattle.gk_program.specs.declared.asked.ArgumentsFault.{ArgumentsFault}
 use Rattle.gk_program.specs.declared.asked.Asked.{Asked}
 use Rattle.gk_program.specs.declared.asked.Asked.TheVariants.{Help, Run}
-use Rattle.gk_program.specs.declared.program.Manner.{Manner}
 
 -- Standard output failed, and moved a byte in each call except the one that failed, or it was not called at all.
 abbrev pub SaysCalls : Device → Device → Fault → Type 0
 SaysCalls old new Write = (old.failures < new.failures) × (new.idle ≤ old.idle + 1)
 SaysCalls old new _ = IsUntouched old new
-
--- What was written if this fault ended a run: a prefix of its report, of its explanation, or of what is found before the run. Standard output failed, and moved a byte in each other call. Or it didn't fail, and moved one in each call.
-abbrev pub IsStoppedAs : Mode → FilesValue → Request → Contents → Device → Device → RunFault → Type 0
-IsStoppedAs Report files request contents old new by = CutShort request contents old new × StopsBy old new by
-IsStoppedAs Explanation files request contents old new by = ExplainedInPart request (hooks_name files) contents old new by
-IsStoppedAs Findings files request contents old new run.Write = LintedInPart request (library_name files) (hooks_name files) old new run.Write
-IsStoppedAs Findings files request contents old new by = ⊥
 
 -- A prefix of the output of some run was written, and then memory was refused.
 abbrev pub IsCutShortForSome : Device → Device → Type 0
@@ -122,23 +111,6 @@ IsFaultAs Findings files run.Memory fault = IsFaultOfRun files run.Memory fault
 IsFaultAs Findings files by fault = IsListedAs files by fault
 IsFaultAs mode files by fault = IsFaultOfRun files by fault
 
--- The output of a run was written, and its status is returned. The output is the report of a judged list, which at each status other than 4 is the one that plain maps give; or the explanation of a run with judged results; or all that is found before a run.
-abbrev pub IsWrittenAs : Mode → FilesValue → Request → Contents → Device → Device → ℕ → Type 0
-IsWrittenAs Report files request contents old new status = JudgedReport request contents old new status × OnlyReport request contents old new status
-IsWrittenAs Explanation files request contents old new status = Explained request (hooks_name files) contents old new status
-IsWrittenAs Findings files request contents old new status = Linted request (library_name files) (hooks_name files) old new status
-
--- What each fault of a run says. At `Write`, a prefix of the run's output was written; at `Memory`, such a prefix or nothing. At any other fault nothing was written, and the request is invalid.
-abbrev pub SaysFaultAs : Mode → FilesValue → Request → Contents → Device → Device → RunFault → Type 0
-SaysFaultAs mode files request contents old new run.Write = IsStoppedAs mode files request contents old new run.Write
-SaysFaultAs mode files request contents old new run.Memory = IsUntouched old new ⊎ IsStoppedAs mode files request contents old new run.Memory
-SaysFaultAs mode files request contents old new by = IsUnread request by × IsUntouched old new
-
--- The files of a run after it. With `--lint` they are unchanged. Otherwise sources may have dropped their bytes, and the names are unchanged.
-abbrev pub AreLeft : Mode → FilesValue → FilesValue → Type 0
-AreLeft Findings old new = new ≡ old
-AreLeft mode old new = HaveSameNames old new
-
 -- The output of a run was written and flushed, and its status is returned.
 pub record IsFlushedRun (mode : Mode) (files : FilesValue) (request : Request) (contents : Contents) (old new : Device) (status : ℕ) : Type 0 where
   pub written : Device
@@ -173,16 +145,6 @@ variables_given w = map pair_value w.env.items
 -- The contents with the variables alone.
 abbrev pub contents_given : Words → Contents
 contents_given w = with_variables nothing_yet (variables_given w)
-
--- A fault of the run of these files, or of the flush.
-abbrev pub SaysRun : Manner → FilesValue → Contents → Device → Device → Fault → Type 0
-SaysRun manner files contents old new fault =
-    SaysSuite manner.mode files (request_of_files manner.options.now files) contents old new fault
-
--- The output of a run of these files was written and flushed.
-abbrev pub IsRunOfFiles : Manner → FilesValue → Contents → Device → Device → ℕ → Type 0
-IsRunOfFiles manner files contents old new status =
-    IsFlushedRun manner.mode files (request_of_files manner.options.now files) contents old new status
 
 -- The given files, and no others, were read from the system, in order. The output and the status are those of one run of the bytes that it returned, which begins with these contents.
 pub record IsRunFrom {S : Type 0} (reads : Reading S) (w : Words) (contents : Contents) (before after : S) (old new : Device) (status : ℕ) : Type 0 where

@@ -108,17 +108,19 @@ fn names_of(alloc: Global, words: Words) -> Result<Vec<String>, AllocError>
 }
 
 /// Returns the names of the files that these arguments ask for, in the order in which they are read: those of
-/// `--file`, the library file, the hooks file, the feature files. There are none if the arguments ask for no run, or if
-/// memory was refused.
-pub fn files_asked(alloc: Global, arguments: Result<Vec<String>, ArgumentsFault>) -> Vec<String>
-    ensures { AreNamesAsked (given_value arguments) (map string_bytes result.items) }
+/// `--file`, the library file, the hooks file, the feature files. There are none if the arguments ask for no run. An
+/// error comes if memory was refused.
+pub fn files_asked(
+    alloc: Global,
+    arguments: Result<Vec<String>, ArgumentsFault>,
+) -> Result<Vec<String>, AllocError>
+    ensures { IfOk result (λ names.
+        AreNamesAsked (given_value arguments) (map string_bytes names.items)) }
 {
     match asked_with(alloc, arguments) {
-        Ok(Asked::Run(words)) => match names_of(alloc, words) {
-            Ok(names) => names,
-            Err(_) => Vec::new(alloc),
-        },
-        Ok(Asked::Help { .. }) => Vec::new(alloc),
-        Err(_) => Vec::new(alloc),
+        Ok(Asked::Run(words)) => names_of(alloc, words),
+        Ok(Asked::Help { .. }) => Ok(Vec::new(alloc)),
+        Err(Fault::Memory) => Err(AllocError),
+        Err(_) => Ok(Vec::new(alloc)),
     }
 }

@@ -1,18 +1,14 @@
-//! The program as one call, and how it ended.
-ghost use Rattle.std.specs.Prelude.{◌≡◌, true};
+//! How the program ended, and telling why.
+ghost use Rattle.std.specs.Prelude.{◌≡◌, OnErr, OnOk};
 ghost use Rattle.std.specs.Io.KnownBytes.{Appends};
-ghost use Rattle.gk_cli.specs.Counted.{FailuresCanRise};
-ghost use Rattle.gk_cli.specs.Suite.{device_of};
-ghost use Rattle.gk_program.specs.Asked.{given_value};
-ghost use Rattle.gk_program.specs.Ended.{IsEnded, IsTold, place_of_done, status_of};
+ghost use Rattle.gk_cli.specs.Counted.{HasFailedOnce, HasNotFailed, inner_of};
+ghost use Rattle.gk_cli.specs.Writing.{device_of};
+ghost use Rattle.gk_program.specs.Ended.{IsTold, place_of_done, status_of};
 ghost use Rattle.gk_program.specs.Fault.{text_of};
 
-use crate::asked::ArgumentsFault;
 use crate::fault::Fault;
 use crate::fault_place::{FaultPlace, NOWHERE};
-use crate::files::System;
-use crate::program::run_given;
-use gk_cli::Counted;
+use gk_cli::{Counted, NotWritten, write_displayed, write_whole};
 use std::alloc::Global;
 use std::io::Write;
 
@@ -24,57 +20,41 @@ pub struct Ended {
     /// The place of the fault that ended it, if that is a fault of a file. With `--lint` and several invalid files, it
     /// is the first fault's.
     pub place: FaultPlace,
-    /// Whether the writer for errors took all that was to be written. If not, there is nothing left to write to.
-    pub is_told: bool,
 }
 
-// Writes the lines of a fault: in one piece, if there is memory for it. Returns whether the writer took all of them.
-fn tell<E: Write>(alloc: Global, fault: &Fault, errors: &mut E) -> bool
-    ensures { result ≡ true → Appends (E.contents errors.old) (E.contents errors.new)
-        (text_of fault.now) }
+// Writes the lines of a fault: in one piece, if there is memory for it.
+fn tell<E: Write>(alloc: Global, fault: &Fault, errors: &mut Counted<E>) -> Result<(), NotWritten>
+    ensures told { OnOk result
+        (Appends (E.contents (inner_of errors.old)) (E.contents (inner_of errors.new))
+        (text_of fault.now)) }
+    ensures quiet { OnOk result (HasNotFailed errors.old errors.new) }
+    ensures failed { OnErr result (HasFailedOnce errors.old errors.new) }
 {
     match format!(in alloc; "{fault}") {
-        Ok(text) => errors.write_all(text.as_bytes()).is_ok(),
-        Err(_) => write!(errors, "{fault}").is_ok(),
+        Ok(text) => write_whole(errors, text.as_bytes()),
+        Err(_) => write_displayed(errors, fault),
     }
 }
 
-// Writes the fault that ended the program, if there is one, and returns how the program ended.
-#[tactic(auto, using(crate::proofs::EndedLemmas::told_by))]
-fn ending<E: Write>(alloc: Global, done: &Result<u8, Fault>, errors: &mut E) -> Ended
+/// Writes the fault that ended the program, if there is one, and returns how the program ended. If the writer fails,
+/// there is nothing left to write to.
+pub fn ending<E: Write>(alloc: Global, done: &Result<u8, Fault>, errors: &mut Counted<E>) -> Ended
     ensures status { result.status ≡ status_of done.now }
     ensures place { result.place ≡ place_of_done done.now }
     ensures said { IsTold done.now
-        (E.contents errors.old) (E.contents errors.new) result.is_told }
+        (device_of E.contents errors.old) (device_of E.contents errors.new) }
 {
     match done {
         Ok(status) => Ended {
             status: *status,
             place: NOWHERE,
-            is_told: true,
         },
-        Err(fault) => Ended {
-            status: fault.status(),
-            place: fault.place(),
-            is_told: tell(alloc, fault, errors),
-        },
+        Err(fault) => {
+            let _ = tell(alloc, fault, errors);
+            Ended {
+                status: fault.status(),
+                place: fault.place(),
+            }
+        }
     }
-}
-
-/// Runs the program on its arguments, with the files of this system.
-#[tactic(auto, using(crate::proofs::EndedLemmas::says_done))]
-pub fn run<S: System, W: Write, E: Write>(
-    alloc: Global,
-    system: &mut S,
-    arguments: Result<Vec<String>, ArgumentsFault>,
-    out: &mut Counted<W>,
-    errors: &mut E,
-) -> Ended
-    requires room { FailuresCanRise out.old }
-    ensures { IsEnded S.reads (given_value arguments) system.old system.new
-        (device_of W.contents out.old) (device_of W.contents out.new)
-        (E.contents errors.old) (E.contents errors.new) result }
-{
-    let done = run_given(alloc, system, arguments, out);
-    ending(alloc, &done, errors)
 }

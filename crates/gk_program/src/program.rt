@@ -3,22 +3,23 @@ ghost use Rattle.std.specs.Prelude.{◌≡◌, map, IfOk, IfErr, OnOk, Some, opt
 ghost use Rattle.gk_world.specs.Sandbox.{depth, new_sandbox};
 ghost use Rattle.gk_cli.specs.Arguments.{pair_value};
 ghost use Rattle.gk_cli.specs.Counted.{FailuresCanRise, flushes_of, failures_of, one_more};
-ghost use Rattle.gk_cli.specs.Suite.{device_of};
+ghost use Rattle.gk_cli.specs.Writing.{device_of};
 ghost use Rattle.gk_cli.specs.Source.{source_value};
 ghost use Rattle.gk_cli.specs.SuiteFiles.{suite_value, request_of_files};
 ghost use Rattle.gk_cli.specs.FaultNotes.{name_at_fault};
 ghost use Rattle.gk_program.specs.Asked.{given_value};
+ghost use Rattle.gk_program.specs.Ended.{IsEnded};
 ghost use Rattle.gk_program.specs.Fault.{said_line, text_of};
-ghost use Rattle.gk_program.specs.Program.{IsTextFault, IsFaultOfVariable, SaysVariables, IsFaultOfRun, IsFaultAs, AreLeft, IsRunOfFiles, IsWrittenAs, SaysFaultAs, SaysRun, SaysCalls, SaysCallsOfRun, SaysProgram, SaysRunFrom, IsRun, IsRunFrom, IsShown, IsDoneFor, IsFaultFor};
+ghost use Rattle.gk_program.specs.Program.{IsTextFault, IsFaultOfVariable, SaysVariables, IsFaultOfRun, IsFaultAs, IsFlushedRun, SaysSuite, SaysCalls, SaysCallsOfRun, SaysProgram, SaysRunFrom, IsRun, IsRunFrom, IsShown, IsDoneFor, IsFaultFor};
 
 use crate::asked::{ArgumentsFault, Asked, asked_with};
+use crate::ended::{Ended, ending};
 use crate::fault::Fault;
 use crate::fault_listing::fault_listed;
 use crate::files::{System, read_run_files};
 use crate::world_files::put_files;
 use gk_cli::{
-    Counted, Mode, Options, RunFault, Source, SuiteFiles, Words, explain_suite, lint_suite,
-    report_suite, write_whole,
+    Counted, Mode, Options, RunFault, Source, SuiteFiles, Words, write_suite, write_whole,
 };
 use gk_world::{Sandbox, WorldFault};
 use std::alloc::Global;
@@ -143,79 +144,42 @@ fn fault_as(alloc: Global, mode: Mode, fault: RunFault, files: SuiteFiles<Source
     }
 }
 
-/// The options of a run, and what is written for it or in place of it.
-#[derive(Clone, Copy)]
-pub struct Manner<'a> {
-    options: &'a Options,
-    mode: Mode,
-}
-
-// Runs the suite, and writes its report or its explanation; or runs nothing, and writes what is found in it. Sources
-// that are run drop their bytes once they are read.
-fn write_run<W: Write>(
-    alloc: Global,
-    sandbox: &mut Sandbox,
-    manner: Manner<'_>,
-    files: &mut SuiteFiles<Source>,
-    out: &mut Counted<W>,
-) -> Result<u8, RunFault>
-    requires room { FailuresCanRise out.old }
-    requires outside { depth sandbox.old ≡ 0 }
-    // Files whose findings are written keep their bytes. The names stay in every mode.
-    ensures left { AreLeft manner.entry.mode
-        (suite_value source_value files.old) (suite_value source_value files.new) }
-    ensures quiet { OnOk result (failures_of out.new ≡ failures_of out.old) }
-    ensures written { IfOk result (IsWrittenAs manner.entry.mode
-        (suite_value source_value files.old)
-        (request_of_files manner.entry.options.now (suite_value source_value files.old))
-        sandbox.old.now
-        (device_of W.contents out.old) (device_of W.contents out.new)) }
-    ensures fault { IfErr result (SaysFaultAs manner.entry.mode (suite_value source_value files.old)
-        (request_of_files manner.entry.options.now (suite_value source_value files.old))
-        sandbox.old.now
-        (device_of W.contents out.old) (device_of W.contents out.new)) }
-{
-    let options = manner.options;
-    match manner.mode {
-        Mode::Report => report_suite(alloc, sandbox, options, files, out),
-        Mode::Explanation => explain_suite(alloc, sandbox, options, files, out),
-        Mode::Findings => lint_suite(alloc, options, files, out),
-    }
-}
-
-/// Does what `write_run` does, and flushes the output. A fault names the file that it comes from. `Write` comes if a
+/// Writes what the mode asks for, and flushes the output. A fault names the file that it comes from. `Write` comes if a
 /// write or the flush failed; a prefix of the output, or all of it, was written then. At `Memory`, nothing or a prefix
 /// of it was written. At any other fault nothing was written. With `--lint`, such a fault includes that of each invalid
 /// file.
 fn run_sources<W: Write>(
     alloc: Global,
     sandbox: &mut Sandbox,
-    manner: Manner<'_>,
+    options: &Options,
+    mode: Mode,
     files: SuiteFiles<Source>,
     out: &mut Counted<W>,
 ) -> Result<u8, Fault>
     requires room { FailuresCanRise out.old }
     requires outside { depth sandbox.old ≡ 0 }
     // The output and the status are those of one run of these inputs, or of what is found in them.
-    ensures run { IfOk result (IsRunOfFiles manner.entry (suite_value source_value files)
+    ensures run { IfOk result (IsFlushedRun mode (suite_value source_value files)
+        (request_of_files options.now (suite_value source_value files))
         sandbox.old.now (device_of W.contents out.old) (device_of W.contents out.new)) }
     // A status comes only if the writer did not fail, and was flushed once.
     ensures quiet { OnOk result (failures_of out.new ≡ failures_of out.old) }
     ensures flushed { OnOk result (flushes_of out.new ≡ one_more (flushes_of out.old)) }
     // A fault is that of the run, or the flush failed.
-    ensures fault { IfErr result (SaysRun manner.entry (suite_value source_value files)
+    ensures fault { IfErr result (SaysSuite mode (suite_value source_value files)
+        (request_of_files options.now (suite_value source_value files))
         sandbox.old.now (device_of W.contents out.old) (device_of W.contents out.new)) }
     // If standard output isn't at fault, it was not called, or memory was refused after a prefix of the run's output.
     ensures calls { IfErr result
         (SaysCallsOfRun (device_of W.contents out.old) (device_of W.contents out.new)) }
 {
     let mut files = files;
-    match write_run(alloc, sandbox, manner, &mut files, out) {
+    match write_suite(alloc, sandbox, options, mode, &mut files, out) {
         Ok(status) => match out.flush() {
             Ok(()) => Ok(status),
             Err(_) => Err(Fault::Write),
         },
-        Err(fault) => Err(fault_as(alloc, manner.mode, fault, files)),
+        Err(fault) => Err(fault_as(alloc, mode, fault, files)),
     }
 }
 
@@ -239,11 +203,7 @@ fn run_files<S: System, W: Write>(
         (SaysCallsOfRun (device_of W.contents out.old) (device_of W.contents out.new)) }
 {
     let files = read_run_files(alloc, system, words.library, words.hooks, words.files)?;
-    let manner = Manner {
-        options: &words.options,
-        mode: words.mode,
-    };
-    run_sources(alloc, sandbox, manner, files, out)
+    run_sources(alloc, sandbox, &words.options, words.mode, files, out)
 }
 
 // Does what `run_words` does, in a new sandbox.
@@ -296,9 +256,9 @@ fn run_words<S: System, W: Write>(
     run_in(alloc, system, &mut sandbox, words, out)
 }
 
-/// Does what the arguments ask for, with the files of this system, and returns the status to end with. A fault is that
-/// of the arguments, or says why what they ask for was not done.
-pub fn run_given<S: System, W: Write>(
+// Does what the arguments ask for, with the files of this system, and returns the status to end with. A fault is that
+// of the arguments, or says why what they ask for was not done.
+fn run_given<S: System, W: Write>(
     alloc: Global,
     system: &mut S,
     arguments: Result<Vec<String>, ArgumentsFault>,
@@ -320,4 +280,23 @@ pub fn run_given<S: System, W: Write>(
         Ok(Asked::Run(words)) => run_words(alloc, system, words, out),
         Err(fault) => Err(fault),
     }
+}
+
+/// Runs the program on its arguments, with the files of this system, and tells on `errors` why what they ask for was not
+/// done.
+#[tactic(auto, using(crate::proofs::EndedLemmas::says_done))]
+pub fn run<S: System, W: Write, E: Write>(
+    alloc: Global,
+    system: &mut S,
+    arguments: Result<Vec<String>, ArgumentsFault>,
+    out: &mut Counted<W>,
+    errors: &mut Counted<E>,
+) -> Ended
+    requires room { FailuresCanRise out.old }
+    ensures { IsEnded S.reads (given_value arguments) system.old system.new
+        (device_of W.contents out.old) (device_of W.contents out.new)
+        (device_of E.contents errors.old) (device_of E.contents errors.new) result }
+{
+    let done = run_given(alloc, system, arguments, out);
+    ending(alloc, &done, errors)
 }

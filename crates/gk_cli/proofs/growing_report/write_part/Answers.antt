@@ -2,8 +2,7 @@ use Rattle.std.proofs.Common.{List, ℕ, subst, sym}
 use Rattle.gk_run.specs.Results.{feature_row}
 use Rattle.gk_report.specs.Report.{part}
 use Rattle.gk_report.specs.PartPieces.{rest, IsPiece}
-use Rattle.gk_cli.specs.Suite.{device_of}
-use Rattle.gk_cli.specs.GrowingReport.{IsStopped}
+use Rattle.gk_cli.specs.Writing.{device_of, IsStopped}
 use Rattle.gk_cli.proofs.GrowingReportLemmas.{none_written, piece_refused, piece_stopped, piece_written}
 use Rattle.gk_cli.proofs.ResultLemmas.{passed_on}
 use Rattle.gk_cli.proofs.growing_report.write_part.Goals as goal

@@ -1,17 +1,16 @@
 use Rattle.std.proofs.Common.{map, take, sym, subst, string_bytes}
 use Rattle.gk_cli.specs.FindingLines.{noted_library_value}
-use Rattle.gk_cli.specs.Source.{source_value}
 use Rattle.gk_cli.specs.LintedSources.{IsLintOf}
 use Rattle.gk_cli.proofs.InputsLemmas.{at_place, take_one, first_unread}
 use Rattle.gk_cli.proofs.LintedSourcesLemmas.{are_read, lint_of_more}
 use Rattle.gk_cli.proofs.linted_sources.lint_sources.Goals as goal
 
 pub returns-in-Err : goal.returns-in-Err
-returns-in-Err c =
+returns-in-Err g c =
     let library = noted_library_value c.args.library.now in
-    let sources = map source_value c.args.sources.now in
-    let source = source_value c.index-sources-input.result in
-    let place = at_place source_value c.args.sources.now c.loop-input.input c.index-sources-input.result c.loop-input-test.true c.index-sources-input.is in
+    let sources = map g.S.FeatureSource.value c.args.sources.now in
+    let source = g.S.FeatureSource.value c.index-sources-input.result in
+    let place = at_place g.S.FeatureSource.value c.args.sources.now c.loop-input.input c.index-sources-input.result c.loop-input-test.true c.index-sources-input.is in
     let before = c.loop-input.invariant in
     record {
       linted = tt;
@@ -21,10 +20,10 @@ returns-in-Err c =
     }
 
 pub loop-input-preserved : goal.loop-input-preserved
-loop-input-preserved c =
+loop-input-preserved g c =
     let library = noted_library_value c.args.library.now in
-    let sources = map source_value c.args.sources.now in
-    let source = source_value c.index-sources-input.result in
-    let place = at_place source_value c.args.sources.now c.loop-input.input c.index-sources-input.result c.loop-input-test.true c.index-sources-input.is in
+    let sources = map g.S.FeatureSource.value c.args.sources.now in
+    let source = g.S.FeatureSource.value c.index-sources-input.result in
+    let place = at_place g.S.FeatureSource.value c.args.sources.now c.loop-input.input c.index-sources-input.result c.loop-input-test.true c.index-sources-input.is in
     subst (λ ss. IsLintOf library ss c.lint_source.new.so_far) (sym (take_one sources c.loop-input.input source place))
     (lint_of_more library (take c.loop-input.input sources) source c.loop-input.so_far c.lint_source.new.so_far c.loop-input.invariant c.in_default.ensures.ok)

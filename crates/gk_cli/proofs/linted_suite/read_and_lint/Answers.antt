@@ -3,7 +3,6 @@ use Rattle.gk_gherkin.specs.Hooks.{hooks_value}
 use Rattle.gk_select.specs.Choice.{is_chosen}
 use Rattle.gk_select.specs.TagRules.{tag_rule_value}
 use Rattle.gk_steps.specs.Finding.{library_value}
-use Rattle.gk_cli.specs.Source.{source_value}
 use Rattle.gk_cli.specs.SuiteFiles.{suite_value, request_of_files}
 use Rattle.gk_cli.specs.LintedSources.{AreLinted}
 use Rattle.gk_cli.specs.LintedSuite.{read_of}
@@ -11,7 +10,7 @@ use Rattle.gk_cli.proofs.InputsLemmas.{sources_unread}
 use Rattle.gk_cli.proofs.linted_suite.read_and_lint.Goals as goal
 
 pub returns-in-Ok-lint_sources-clause-linted : goal.returns-in-Ok-lint_sources-clause-linted
-returns-in-Ok-lint_sources-clause-linted c =
+returns-in-Ok-lint_sources-clause-linted g c =
     let read = rw (c.bytes_of-library.ensures, c.bytes_of-hooks.ensures) at c.in-Ok.ensures.read in
     let lint = rw (c.as_slice.ensures.value) at c.in-Ok-lint_sources.ensures.linted in
     record {
@@ -21,18 +20,18 @@ returns-in-Ok-lint_sources-clause-linted c =
       hooks = read.hooks;
       readings = lint.readings;
       features = lint.features;
-      sources = subst (λ noted. AreLinted noted (map source_value c.args.files.now.sources.items) lint.readings (string_bytes c.in-Ok-lint_sources.so_far.text)) c.in_ok-noted.ensures lint.linted;
+      sources = subst (λ noted. AreLinted noted (map g.S.FeatureSource.value c.args.files.now.sources.items) lint.readings (string_bytes c.in-Ok-lint_sources.so_far.text)) c.in_ok-noted.ensures lint.linted;
       whole = c.in_ok-whole_text-in-Ok-lint_sources.ensures;
     }
 
 pub returns-in-Err-clause-fault : goal.returns-in-Err-clause-fault
-returns-in-Err-clause-fault c =
-    let unread = rw (c.bytes_of-library.ensures, c.bytes_of-hooks.ensures) at c.in-Err.ensures.fault (map source_value c.args.files.now.sources.items) in
+returns-in-Err-clause-fault g c =
+    let unread = rw (c.bytes_of-library.ensures, c.bytes_of-hooks.ensures) at c.in-Err.ensures.fault (map g.S.FeatureSource.value c.args.files.now.sources.items) in
     unread
 
 pub returns-clause-fault : goal.returns-clause-fault
-returns-clause-fault c =
-    let request = request_of_files c.args.options.now (suite_value source_value c.args.files.now) in
+returns-clause-fault g c =
+    let request = request_of_files c.args.options.now (suite_value g.S.FeatureSource.value c.args.files.now) in
     let rules = map tag_rule_value c.in-Ok.before.rules.items in
     let read = rw (c.bytes_of-library.ensures, c.bytes_of-hooks.ensures) at c.in-Ok.ensures.read in
     let says = rw (c.as_slice.ensures.value) at c.in-Err-lint_sources.ensures.fault in

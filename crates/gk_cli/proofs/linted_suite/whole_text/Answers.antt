@@ -8,7 +8,6 @@ use Rattle.gk_lint.specs.NamedTags.{nowhere}
 use Rattle.gk_lint.specs.ScenarioLines.{without_scenario}
 use Rattle.gk_lint.specs.TagUse.{hooks_of_no_tag}
 use Rattle.gk_lint.specs.WrittenSteps.{of_hooks, found_in}
-use Rattle.gk_cli.specs.Source.{source_value}
 use Rattle.gk_cli.specs.SuiteFiles.{bytes_of, library_name, hooks_name, suite_value}
 use Rattle.gk_cli.specs.FindingLines.{noted_lines, tag_lines, idle_lines}
 use Rattle.gk_cli.specs.LintedSuite.{noted_library, noted_hooks, library_lines}
@@ -16,8 +15,8 @@ use Rattle.gk_cli.proofs.LintedSuiteLemmas.{five_parts}
 use Rattle.gk_cli.proofs.linted_suite.whole_text.Goals as goal
 
 pub returns : goal.returns
-returns c =
-    let files = suite_value source_value c.args.files.now in
+returns g c =
+    let files = suite_value g.S.FeatureSource.value c.args.files.now in
     let library = library_value c.args.before.now.library in
     let hooks = hooks_value c.args.before.now.hooks in
     let found = c.in_ok-of_hooks.of_hooks.findings.items in

@@ -4,7 +4,7 @@ use Rattle.std.specs.Vec.Iter.{into_iter_items}
 use Rattle.gk_steps.specs.Finding.{library_value}
 use Rattle.gk_run.specs.Chosen.{ChosenValue, chosen_value, IsFormed}
 use Rattle.gk_run.specs.DryRun.{AreDryFeatures}
-use Rattle.gk_cli.specs.Suite.{device_of}
+use Rattle.gk_cli.specs.Writing.{device_of}
 use Rattle.gk_cli.specs.ToldRun.{TellsDryFeature, IsDryResult, AreToldUpTo, stays_begun}
 use Rattle.gk_cli.proofs.ResultLemmas.{passed_on}
 use Rattle.gk_cli.proofs.SuiteLemmas.{nothing_in}

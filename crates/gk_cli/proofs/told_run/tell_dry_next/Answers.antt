@@ -2,7 +2,7 @@ use Rattle.std.proofs.Common.{inl, refl, subst, true}
 use Rattle.gk_steps.specs.Finding.{library_value}
 use Rattle.gk_run.specs.Chosen.{chosen_value}
 use Rattle.gk_run.specs.Results.{feature_row}
-use Rattle.gk_cli.specs.Suite.{device_of}
+use Rattle.gk_cli.specs.Writing.{device_of}
 use Rattle.gk_cli.specs.ToldRun.{TellsDryFeature, IsDryResult}
 use Rattle.gk_cli.proofs.ResultLemmas.{on_both, if_err}
 use Rattle.gk_cli.proofs.ToldRunLemmas.{next_stopped}

@@ -6,14 +6,14 @@ use Rattle.gk_world.specs.Sandbox.{IsSame}
 use Rattle.gk_run.specs.Run.{run_of}
 use Rattle.gk_run.specs.Chosen.{chosen_value, IsFormed}
 use Rattle.gk_run.specs.OpenRun.{IsKept, opens_features}
-use Rattle.gk_cli.specs.Suite.{device_of}
+use Rattle.gk_cli.specs.Writing.{device_of}
 use Rattle.gk_cli.specs.ToldRun.{TellsFeature}
 use Rattle.gk_cli.proofs.ToldRunLemmas.{TellingRun}
 use Rattle.gk_cli.proofs.told_run.tell_features.Given as goal
 
 abbrev pub invariant-loop-feature : goal.invariant-loop-feature
 invariant-loop-feature g l = record {
-  held : TellingRun (TellsFeature g.R.Observer.hears g.R.Observer.ends g.R.Reporter.begins g.R.Reporter.adds (run_of l.glue.library.now l.glue.hooks.now l.fn.suite.stop) (state_of l.fn.sandbox.now)) (run_of l.glue.library.now l.glue.hooks.now l.fn.suite.stop) (state_of l.fn.sandbox.now) (opens_features l.fn.suite)
+  held : TellingRun (TellsFeature g.R.Observer.hears g.R.Observer.ends g.R.Reporter.begins g.R.Reporter.adds (run_of l.parts.library.now l.parts.hooks.now l.fn.suite.stop) (state_of l.fn.sandbox.now)) (run_of l.parts.library.now l.parts.hooks.now l.fn.suite.stop) (state_of l.fn.sandbox.now) (opens_features l.fn.suite)
       (map chosen_value l.fn.features.items) (device_of g.W.Write.contents l.fn.out) l.fn.told (map chosen_value (into_iter_items l.feature-iterator)) (opens_features l.suite) (device_of g.W.Write.contents l.out) l.told;
   same : IsSame l.fn.sandbox l.sandbox;
   kept : IsKept l.fn.suite l.suite;

@@ -5,7 +5,7 @@ use Rattle.gk_run.specs.Chosen.{chosen_value}
 use Rattle.gk_run.specs.Features.{IsFeatureResult}
 use Rattle.gk_run.specs.Results.{feature_row}
 use Rattle.gk_run.specs.Run.{run_of}
-use Rattle.gk_cli.specs.Suite.{device_of}
+use Rattle.gk_cli.specs.Writing.{device_of}
 use Rattle.gk_cli.specs.ToldRun.{TellsFeature}
 use Rattle.gk_cli.proofs.ResultLemmas.{on_both, if_err}
 use Rattle.gk_cli.proofs.ToldRunLemmas.{next_stopped}
@@ -25,7 +25,7 @@ returns-in-Ok-clause-ok g c =
 
 pub returns-in-Ok-clause-err : goal.returns-in-Ok-clause-err
 returns-in-Ok-clause-err g c =
-    let run = run_of c.args.glue.now.library.now c.args.glue.now.hooks.now c.args.suite.now.stop in
+    let run = run_of c.args.parts.now.library.now c.args.parts.now.hooks.now c.args.suite.now.stop in
     let now = state_of c.args.sandbox.now.now in
     let is_open = opens_features c.args.suite.now in
     let this = chosen_value c.args.feature in

@@ -5,7 +5,7 @@ use Rattle.gk_run.specs.Run.{run_of}
 use Rattle.gk_run.specs.Chosen.{chosen_value}
 use Rattle.gk_run.specs.OpenRun.{AreFeatures, IsFinishTold, SuiteValue, opens_features}
 use Rattle.gk_cli.specs.declared.told_run.Told.{Told}
-use Rattle.gk_cli.specs.Suite.{device_of}
+use Rattle.gk_cli.specs.Writing.{device_of}
 use Rattle.gk_cli.specs.ToldRun.{TellsFeature, TellsFeatures, AreTold, AreToldUpTo, stays}
 use Rattle.gk_cli.proofs.ResultLemmas.{if_ok, if_err}
 use Rattle.gk_cli.proofs.ToldRunLemmas.{run_told, whole_told, whole_stopped, part_told}
@@ -13,8 +13,8 @@ use Rattle.gk_cli.proofs.told_run.tell_run.Goals as goal
 
 pub returns-in-Ok : goal.returns-in-Ok
 returns-in-Ok g c =
-    let library = c.args.glue.now.library.now in
-    let hooks = c.args.glue.now.hooks.now in
+    let library = c.args.parts.now.library.now in
+    let hooks = c.args.parts.now.hooks.now in
     let run = run_of library hooks c.args.stop in
     let contents = c.args.sandbox.now.now in
     let features = map chosen_value c.args.features.items in
@@ -47,8 +47,8 @@ returns-in-Ok g c =
 
 pub returns-in-Err-clause-err : goal.returns-in-Err-clause-err
 returns-in-Err-clause-err g c =
-    let library = c.args.glue.now.library.now in
-    let hooks = c.args.glue.now.hooks.now in
+    let library = c.args.parts.now.library.now in
+    let hooks = c.args.parts.now.hooks.now in
     let run = run_of library hooks c.args.stop in
     let features = map chosen_value c.args.features.items in
     let hears = g.R.Observer.hears in

@@ -2,7 +2,8 @@ use Rattle.std.proofs.Common.{Bool, false, ap, map, rules, sym, subst, ◌∙◌
 use Rattle.gk_run.specs.Run.{Run}
 use Rattle.gk_run.specs.Chosen.{chosen_value}
 use Rattle.gk_cli.specs.Inputs.{inputs_value}
-use Rattle.gk_cli.specs.Suite.{device_of, run_by}
+use Rattle.gk_cli.specs.Suite.{run_by}
+use Rattle.gk_cli.specs.Writing.{device_of}
 use Rattle.gk_cli.specs.GrowingReport.{style_of, prints_nothing}
 use Rattle.gk_cli.specs.WrittenRun.{IsWhole, IsPrefix}
 use Rattle.gk_cli.proofs.ResultLemmas.{if_ok, if_err, passed_on}

@@ -1,5 +1,5 @@
 use Rattle.std.proofs.Common.{subst, sym}
-use Rattle.gk_cli.specs.Suite.{device_of}
+use Rattle.gk_cli.specs.Writing.{device_of}
 use Rattle.gk_cli.specs.Source.{source_value}
 use Rattle.gk_cli.specs.SuiteFiles.{suite_value}
 use Rattle.gk_program.specs.Program.{SaysCallsOfRun, SaysRunFrom}

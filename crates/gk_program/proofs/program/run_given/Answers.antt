@@ -1,6 +1,6 @@
 use Rattle.std.proofs.Common.{Ok, subst}
 use Rattle.std.specs.Prelude.{IfErr, IfOk}
-use Rattle.gk_cli.specs.Suite.{device_of}
+use Rattle.gk_cli.specs.Writing.{device_of}
 use Rattle.gk_program.specs.Asked.{SaysGiven, given_value}
 use Rattle.gk_program.specs.Program.{IsShown, IsTextFault}
 use Rattle.gk_program.proofs.EndedLemmas.{help_fails, help_shown, run_done, run_fails}

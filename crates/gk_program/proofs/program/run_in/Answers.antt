@@ -1,6 +1,6 @@
 use Rattle.std.proofs.Common.{map, subst, sym}
 use Rattle.gk_cli.specs.Arguments.{pair_value}
-use Rattle.gk_cli.specs.Suite.{device_of}
+use Rattle.gk_cli.specs.Writing.{device_of}
 use Rattle.gk_program.specs.Program.{SaysCallsOfRun, SaysProgram}
 use Rattle.gk_program.proofs.FilesLemmas.{passed_on}
 use Rattle.gk_program.proofs.ProgramLemmas.{calls_of_putting, calls_of_variables, fails_from, of_variables, put_from, put_in, runs_from, stops_from, taken_in}

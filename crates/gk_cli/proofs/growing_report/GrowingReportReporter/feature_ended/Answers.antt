@@ -2,8 +2,7 @@ use Rattle.std.proofs.Common.{◌&&◌, inr, refl, subst, sym}
 use Rattle.gk_run.specs.Results.{feature_row}
 use Rattle.gk_report.specs.Report.{is_empty, part}
 use Rattle.gk_cli.specs.declared.growing_report.GrowingReport.{GrowingReport}
-use Rattle.gk_cli.specs.Suite.{device_of}
-use Rattle.gk_cli.specs.GrowingReport.{IsStopped}
+use Rattle.gk_cli.specs.Writing.{device_of, IsStopped}
 use Rattle.gk_cli.proofs.ResultLemmas.{passed_on}
 use Rattle.gk_cli.proofs.growing_report.GrowingReportReporter.feature_ended.Goals as goal
 

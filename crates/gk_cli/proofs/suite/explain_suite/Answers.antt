@@ -1,0 +1,45 @@
+use Rattle.std.proofs.Common.{◌≡◌, ◌∙◌, ap}
+use Rattle.gk_cli.specs.ExplainedSuite.{ExplainedInPart}
+use Rattle.gk_cli.specs.Inputs.{inputs_value}
+use Rattle.gk_cli.specs.SuiteFiles.{name_of, suite_value, request_of_files, hooks_name}
+use Rattle.gk_cli.specs.Writing.{device_of}
+use Rattle.gk_cli.proofs.ExplainedSuiteLemmas.{unflushed_so, why_stopped}
+use Rattle.gk_cli.proofs.GrowingReportLemmas.{untouched}
+use Rattle.gk_cli.proofs.ResultLemmas.{if_ok, if_err, ok_known}
+use Rattle.gk_cli.proofs.SuiteLemmas.{cut_says, unread_says, used_by_run}
+use Rattle.gk_cli.proofs.suite.explain_suite.Goals as goal
+
+pub returns-in-Ok-clause-explained : goal.returns-in-Ok-clause-explained
+returns-in-Ok-clause-explained g c =
+    let named : c.name_of-hooks.result.now ≡ hooks_name (suite_value g.S.FeatureSource.value c.args.files.now) = c.name_of-hooks.ensures ∙ ap name_of c.read_inputs.ensures.names.hooks in
+    let done = rw (named) at c.write_explanation.ensures.ok in
+    if_ok c.write_explanation.result (λ status said. (inputs_value c.in-Ok.inputs, c.in-Ok.ensures.read, said)) done
+
+pub returns-in-Ok-clause-fault : goal.returns-in-Ok-clause-fault
+returns-in-Ok-clause-fault g c =
+    let request = request_of_files c.args.options.now (suite_value g.S.FeatureSource.value c.args.files.now) in
+    let hooks = hooks_name (suite_value g.S.FeatureSource.value c.args.files.now) in
+    let old = device_of g.W.Write.contents c.args.out.now in
+    let new = device_of g.W.Write.contents c.write_explanation.new.out in
+    let named : c.name_of-hooks.result.now ≡ hooks = c.name_of-hooks.ensures ∙ ap name_of c.read_inputs.ensures.names.hooks in
+    let done = rw (named) at c.write_explanation.ensures.err in
+    if_err c.write_explanation.result (λ fault part. cut_says (ExplainedInPart request hooks c.args.sandbox.now.now old new) request old new fault (why_stopped _ _ _ _ old new fault part) (inputs_value c.in-Ok.inputs, c.in-Ok.ensures.read, part)) done
+
+pub returns-in-Err-clause-fault : goal.returns-in-Err-clause-fault
+returns-in-Err-clause-fault g c =
+    let request = request_of_files c.args.options.now (suite_value g.S.FeatureSource.value c.args.files.now) in
+    let device = device_of g.W.Write.contents c.args.out.now in
+    unread_says (ExplainedInPart request (hooks_name (suite_value g.S.FeatureSource.value c.args.files.now)) c.args.sandbox.now.now device device) request device device c.in-Err.fault c.in-Err.ensures.fault (untouched device)
+
+pub returns-in-Ok-clause-left : goal.returns-in-Ok-clause-left
+returns-in-Ok-clause-left g c = record {
+  names = c.read_inputs.ensures.names;
+  in_turn = c.read_inputs.ensures.in_turn;
+  given_up = ok_known c.write_explanation.result (λ status said. c.in-Ok.ensures.given_up) c.write_explanation.ensures.ok;
+}
+
+pub returns-in-Ok-clause-used : goal.returns-in-Ok-clause-used
+returns-in-Ok-clause-used g c =
+    let old = device_of g.W.Write.contents c.args.out.now in
+    let new = device_of g.W.Write.contents c.write_explanation.new.out in
+    used_by_run c.write_explanation.result old new (λ status said. (said.text, said.written)) (λ fault part. unflushed_so _ _ _ _ old new fault part) c.write_explanation.ensures.ok c.write_explanation.ensures.err

@@ -1,0 +1,33 @@
+-- What is written for a suite in each mode, and what is left of its files.
+use Rattle.std.specs.Prelude.{◌≡◌, ℕ, Result}
+use Rattle.gk_world.specs.State.{Contents}
+use Rattle.gk_cli.specs.declared.arguments.Mode.{Mode}
+use Rattle.gk_cli.specs.declared.arguments.Mode.TheVariants.{Report, Explanation, Findings}
+use Rattle.gk_cli.specs.declared.run_fault.RunFault.{RunFault}
+use Rattle.gk_cli.specs.ExplainedSuite.{Explained, ExplainedInPart}
+use Rattle.gk_cli.specs.Inputs.{Request}
+use Rattle.gk_cli.specs.LintedSuite.{Linted, LintedInPart}
+use Rattle.gk_cli.specs.Suite.{JudgedReport, OnlyReport, ReportedInPart, SaysFaultBy}
+use Rattle.gk_cli.specs.SuiteFiles.{AreLeftByRun, FilesValue, hooks_name, library_name}
+use Rattle.gk_cli.specs.Writing.{Device}
+
+-- The output of a suite was written, and its status is returned. The output is the report of a judged list, which at each status other than 4 is the one that plain maps give; or the explanation of a run with judged results; or all that is found before a run.
+abbrev pub IsWrittenAs : Mode → FilesValue → Request → Contents → Device → Device → ℕ → Type 0
+IsWrittenAs Report files request contents old new status = JudgedReport request contents old new status × OnlyReport request contents old new status
+IsWrittenAs Explanation files request contents old new status = Explained request (hooks_name files) contents old new status
+IsWrittenAs Findings files request contents old new status = Linted request (library_name files) (hooks_name files) old new status
+
+-- A prefix of the output of a suite was written when it ended with this fault.
+abbrev pub IsStoppedAs : Mode → FilesValue → Request → Contents → Device → Device → RunFault → Type 0
+IsStoppedAs Report files request contents old new = ReportedInPart request contents old new
+IsStoppedAs Explanation files request contents old new = ExplainedInPart request (hooks_name files) contents old new
+IsStoppedAs Findings files request contents old new = LintedInPart request (library_name files) (hooks_name files) old new
+
+-- What each fault of a suite says.
+abbrev pub SaysFaultAs : Mode → FilesValue → Request → Contents → Device → Device → RunFault → Type 0
+SaysFaultAs mode files request contents old new by = SaysFaultBy (IsStoppedAs mode files request contents old new) request old new by
+
+-- What is left of the files: a run leaves their names. Files whose findings are written are unchanged.
+abbrev pub AreLeft : Mode → Result ℕ RunFault → FilesValue → FilesValue → Type 0
+AreLeft Findings result old new = new ≡ old
+AreLeft mode result old new = AreLeftByRun result old new
