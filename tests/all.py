@@ -19,9 +19,9 @@ import driver
 
 TESTS = os.path.join(driver.HOME, "tests")
 # Those that take long begin first.
-LONGEST = ("test_scripts.Release", "test_random.RandomRuns", "test_ready.Building", "test_random.HostileBytes",
-           "test_refused_memory.RefusedMemory", "test_sizes.Sizes", "test_scripts.Install", "test_scripts.Page",
-           "test_spread.Spread")
+LONGEST = ("test_release.Stopped", "test_random.RandomRuns", "test_ready.Building", "test_random.HostileBytes",
+           "test_refused_memory.RefusedMemory", "test_sizes.Sizes", "test_page.Use", "test_install.Stopped", "test_spread.Spread",
+           "test_pytest.Plugin", "test_release.Release")
 CLOSING = re.compile(r"^(\d+) passed, (\d+) failed$", re.MULTILINE)
 STARTED = []
 

@@ -15,7 +15,6 @@ WORDS = ["--headless=new", "--no-sandbox", "--disable-gpu", "--disable-dev-shm-u
 # The keys that tests press: the name, the code, the number, and the text that they type.
 KEYS = {"Tab": (9, ""), "Enter": (13, "\r"), " ": (32, " "), "ArrowDown": (40, ""), "ArrowUp": (38, ""),
         "ArrowLeft": (37, ""), "ArrowRight": (39, "")}
-SHIFT = 8
 
 
 def installed():
@@ -111,11 +110,11 @@ class Browser:
         self.ask("Page.navigate", url=url)
         self.wait(f"location.href.startsWith({json.dumps(url.split('#')[0])}) && document.readyState === 'complete'")
 
-    def press(self, key, modifiers=0):
+    def press(self, key):
         """Presses and releases a key."""
         number, text = KEYS[key]
         for kind in ("keyDown" if text else "rawKeyDown", "keyUp"):
-            self.ask("Input.dispatchKeyEvent", type=kind, key=key, code="Space" if key == " " else key, modifiers=modifiers,
+            self.ask("Input.dispatchKeyEvent", type=kind, key=key, code="Space" if key == " " else key,
                      windowsVirtualKeyCode=number, **({"text": text} if kind == "keyDown" else {}))
 
     def type(self, text):

@@ -7,9 +7,7 @@ It goes on after one that fails. The last line that is printed is 'N passed, M f
 import atexit
 import collections
 import os
-import re
 import shutil
-import subprocess
 import tempfile
 import unittest
 
@@ -38,10 +36,15 @@ class Checks(unittest.TestCase):
 
     @classmethod
     def setUpClass(cls):
-        missing = [it for it in cls.NEEDS if not shutil.which(it)]
+        cls.needs(*cls.NEEDS)
+        cls.room = cls.new_room()
+
+    @classmethod
+    def needs(cls, *tools):
+        """Leaves out the tests of this class, or the one that runs, if one of these commands is missing."""
+        missing = [it for it in tools if not shutil.which(it)]
         if missing:
             cls.leave_out(f"there is no {' and no '.join(missing)}")
-        cls.room = cls.new_room()
 
     @classmethod
     def leave_out(cls, reason):
@@ -73,6 +76,10 @@ class Checks(unittest.TestCase):
         """Counts a check, which fails with a trouble unless something holds."""
         self.check(driver.unless(trouble, holds, *shown))
 
+    def same(self, what, found, wanted):
+        """Counts a check, which fails unless two values are equal."""
+        self.check("" if found == wanted else f"{what}: {driver.cut(repr(found))}\n    and not {driver.cut(repr(wanted))}")
+
     def compare(self, name, ended, wanted):
         """Counts a check, which fails unless a run ended as wanted. Both are a status and the bytes on two streams."""
         self.check(driver.trouble(name, ended, wanted))
@@ -95,19 +102,3 @@ class Refusing(Checks):
     def setUpClass(cls):
         super().setUpClass()
         driver.build_shim(cls.room)
-
-
-class Script(Checks):
-    """The test of a script of this folder that counts its own checks."""
-
-    def run_script(self, name, *words):
-        """Runs a script, prints what it says, and adds its counts. A bad end without a failure is one, too."""
-        done = subprocess.run([os.path.join(driver.HOME, "tests", name), *words], stdin=subprocess.DEVNULL,
-                              stdout=subprocess.PIPE, stderr=subprocess.STDOUT, check=False)
-        said, _, last = ("\n" + done.stdout.decode("utf-8", "backslashreplace").rstrip("\n")).rpartition("\n")
-        print(said[1:])
-        passed, failed = map(int, re.fullmatch(r"(\d+) passed, (\d+) failed", last).groups())
-        COUNTS["passed"] += passed
-        COUNTS["failed"] += failed
-        self.assertEqual(failed, 0, name)
-        self.unless(f"{name} ended with {done.returncode}", done.returncode == 0)

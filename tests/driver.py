@@ -1,4 +1,4 @@
-"""What the tests share: running the program, saying what differs, counting what the old scripts check.
+"""What the tests share: running the program, and saying what differs.
 
 A check has a trouble, a text that says what is wrong, or none.
 """
@@ -8,6 +8,7 @@ import functools
 import os
 import resource
 import select
+import stat
 import subprocess
 import time
 
@@ -17,9 +18,7 @@ PATIENCE = 60  # seconds
 SHOWN = 1200  # characters of a text that are shown whole
 STREAMS = ("stdout", "stderr")
 
-# Tests may take longer than tests/setup.sh allows: each of their runs has its patience. None may leave a core dump.
-_most = resource.getrlimit(resource.RLIMIT_CPU)[1]
-resource.setrlimit(resource.RLIMIT_CPU, (_most, _most))
+# No run may leave a core dump.
 resource.setrlimit(resource.RLIMIT_CORE, (0, resource.getrlimit(resource.RLIMIT_CORE)[1]))
 
 
@@ -31,18 +30,45 @@ def read(path):
         return file.read()
 
 
-def write(folder, files):
-    """Writes files, texts or bytes by their names, to a folder. The folder may be there or not."""
+def write(folder, files, mode=None):
+    """Writes files, texts or bytes by their names, to a folder, and makes the folders that are missing."""
     os.makedirs(folder, exist_ok=True)
     for name, text in files.items():
-        with open(os.path.join(folder, name), "wb") as file:
+        path = os.path.join(folder, name)
+        if os.sep in name:
+            os.makedirs(os.path.dirname(path), exist_ok=True)
+        with open(path, "wb") as file:
             file.write(text if isinstance(text, bytes) else text.encode())
+        if mode is not None:
+            os.chmod(path, mode)
 
 
 def write_program(path, text):
     """Writes a script that can be run."""
-    write(os.path.dirname(path), {os.path.basename(path): text})
-    os.chmod(path, 0o755)
+    write(os.path.dirname(path), {os.path.basename(path): text}, 0o755)
+
+
+def link_tools(folder, without):
+    """Makes a folder with links to all commands but one."""
+    os.mkdir(folder)
+    for path in (os.path.join(place, name) for place in ("/bin", "/usr/bin") for name in os.listdir(place)):
+        link = os.path.join(folder, os.path.basename(path))
+        if os.path.basename(path) != without and not os.path.lexists(link):
+            os.symlink(path, link)
+    return folder
+
+
+def tree(folder):
+    """What is below a folder: of each path its mode, and the bytes of a file or the target of a link."""
+    paths = (os.path.join(at, name) for at, folders, files in os.walk(folder) for name in (*folders, *files))
+    return {os.path.relpath(it, folder): (stat.filemode(os.lstat(it).st_mode), contents(it)) for it in paths}
+
+
+def contents(path):
+    """The bytes of a file or of the target of a link, or nothing for a folder."""
+    if os.path.islink(path):
+        return os.fsencode(os.readlink(path))
+    return None if os.path.isdir(path) else read(path)
 
 
 def examples():
@@ -134,6 +160,13 @@ def ends_until(end, process):
         os.close(descriptor)
 
 
+def wait_until(holds, seconds=PATIENCE):
+    """Waits until a condition holds, or until some seconds are over."""
+    end = time.monotonic() + seconds
+    while not holds() and time.monotonic() < end:
+        time.sleep(0.02)
+
+
 def milliseconds_to(end):
     """How long it is to a time."""
     return max(0, 1000 * (end - time.monotonic()))
@@ -170,10 +203,14 @@ def in_processes(work, items):
 
 # ---- saying what differs
 
+def cut(text):
+    """A text without its middle if it is long."""
+    return text if len(text) <= SHOWN else text[:800] + " .. " + text[-300:]
+
+
 def shown(text):
-    """Bytes as a part of a message, cut where they are many."""
-    text = text.decode("utf-8", "backslashreplace")
-    return repr(text if len(text) <= SHOWN else text[:800] + " .. " + text[-300:])
+    """Bytes as a part of a message."""
+    return repr(cut(text.decode("utf-8", "backslashreplace")))
 
 
 def first_difference(printed, wanted):
@@ -213,32 +250,3 @@ def trouble(name, ended, wanted):
 def unless(claim, holds, *shown):
     """A trouble if a claim doesn't hold."""
     return "" if holds else "\n".join([claim, *(f"  {it}" for it in shown)])
-
-
-# ---- counting tests
-
-class Tests:
-    """Counts the tests that passed and failed. Of many troubles only the first ones are printed."""
-
-    def __init__(self, most_shown=1000):
-        self.passed = self.failed = 0
-        self.most_shown = most_shown
-
-    def add(self, found):
-        """Counts a test, which has passed if its trouble is empty, and prints that trouble."""
-        if found:
-            self.failed += 1
-            if self.failed <= self.most_shown:
-                print(found)
-        else:
-            self.passed += 1
-
-    def add_all(self, troubles):
-        """Counts a test for each of these troubles."""
-        for found in troubles:
-            self.add(found)
-
-    def close(self):
-        """Prints the closing line, and answers the status that the driver ends with."""
-        print(f"{self.passed} passed, {self.failed} failed")
-        return 1 if self.failed else 0

@@ -1,50 +1,20 @@
-"""Runs of the program over files in memory, against the stored runs and against the program itself.
+"""Runs over files in memory, and how the program ends over the same files on disk.
 
-A caller's `asked` returns the names of the files that some arguments ask for, and its `call` runs them over a dictionary of
-files and returns the status, the output and the errors. Arguments and names are bytes.
+The files of a case are those that its arguments ask for, and no others.
 """
 
+import collections
 import os
+import random
 import stat
 
 import driver
 import stored_cases
 
-# Arguments, and the names of the files that they ask for, in order.
-ASKED = [
-    ([b"b", b"--hooks", b"h", b"a", b"--library=l", b"--", b"-c", b"b"], [b"l", b"h", b"b", b"a", b"-c", b"b"]),
-    ([b"--lint", b"--library", b"l", b"a"], [b"l", b"a"]),
-    ([b"--tags", b"and", b"a"], [b"a"]),
-    ([b"--hooks=h", b"--file", b"n=x", b"a", b"--file=m=y=z"], [b"x", b"y=z", b"h", b"a"]),
-    *([words, []] for words in ([], [b"--stop"], [b"a", b"--help"], [b"-V", b"a"], [b"a", b"--none"], [b"a", b"\xff"], [b"--env", b"A", b"a"])),
-]
-
-
-def is_in_memory(case):
-    """Whether a stored run reads files alone, and both of its streams are compared."""
-    return not any(case.targets) and not case.link and not any(b"/dev/" in it for it in case.arguments)
-
-
-def stored(asked, call):
-    """Yields a trouble for each stored run. A call gets the files that the arguments ask for, and no others."""
-    for case in filter(is_in_memory, stored_cases.cases()):
-        files = {os.fsencode(name): it if isinstance(it, bytes) else it.encode() for name, it in case.files.items()}
-        found = call(case.arguments, {name: files[name] for name in asked(case.arguments) if name in files})
-        yield driver.trouble(f"tests/runs/{case.page}.md in memory: {case.name}", found, (case.status, case.stdout, case.stderr))
-
-
-def names(asked):
-    """Yields a trouble for each row of ASKED."""
-    for words, wanted in ASKED:
-        found = asked(words)
-        yield "" if found == wanted else f"{words} ask for {found}, and not {wanted}"
-
-
-def alike(asked, call, program, words, folder=driver.HOME):
-    """Returns what differs between a call and the program, which runs in a folder. Files that can't be read are left out."""
-    words = [os.fsencode(it) for it in words]
-    found = call(words, {name: driver.read(path) for name, path in ((it, os.path.join(os.fsencode(folder), it)) for it in asked(words)) if is_file(path)})
-    return driver.trouble(f"{words} in memory", found, driver.start(program, words, folder))
+# Arguments and names are bytes. The end is a status, the output and the errors.
+Case = collections.namedtuple("Case", "name arguments files ended")
+FORMS = [["--format", "plain"], ["--format", "progress"], ["--format", "json"], ["--explain"], ["--lint"]]
+CHANGED = 300  # files
 
 
 def is_file(path):
@@ -53,3 +23,50 @@ def is_file(path):
         return stat.S_ISREG(os.stat(path).st_mode) and not path.startswith(b"/proc")
     except OSError:
         return False
+
+
+def case(asked, program, words, folder=driver.HOME):
+    """The case of some arguments in a folder."""
+    words = [os.fsencode(it) for it in words]
+    paths = {it: os.path.join(os.fsencode(folder), it) for it in asked(words)}
+    files = {it: driver.read(path) for it, path in paths.items() if is_file(path)}
+    return Case(f"{words} in memory", words, files, driver.start(program, words, folder))
+
+
+def stored(asked):
+    """The stored runs that read files alone, and whose two streams are compared."""
+    for it in stored_cases.cases():
+        if not any(it.targets) and not it.link and not any(b"/dev/" in word for word in it.arguments):
+            files = {os.fsencode(name): text if isinstance(text, bytes) else text.encode() for name, text in it.files.items()}
+            files = {name: files[name] for name in asked(it.arguments) if name in files}
+            yield Case(f"tests/runs/{it.page}.md in memory: {it.name}", it.arguments, files, (it.status, it.stdout, it.stderr))
+
+
+def sources():
+    """The feature files of the examples."""
+    return [driver.read(os.path.join(driver.HOME, words[-1])) for words in driver.examples()]
+
+
+def changed(source, lines, chance):
+    """The bytes of a feature file with some changes."""
+    made = bytearray(source)
+    for _ in range(chance.randrange(4)):
+        place, kind = chance.randrange(len(made) + 1), chance.randrange(4)
+        if kind == 0:
+            made[place:place + 1] = bytes([chance.randrange(256)])
+        elif kind == 1:
+            made[place:place] = b"\n" + chance.choice(lines) + b"\n"
+        elif kind == 2:
+            del made[place:place + chance.randrange(30)]
+        else:
+            del made[place:]
+    return bytes(made)
+
+
+def changed_files(room, seed, forms):
+    """Writes examples with random changes to a folder, one after another, and yields the arguments of a run of each."""
+    chance, texts = random.Random(seed), sources()
+    lines = [line for source in texts for line in source.split(b"\n")]
+    for _ in range(CHANGED):
+        driver.write(room, {"changed.feature": changed(chance.choice(texts), lines, chance)})
+        yield [*chance.choice(forms), "changed.feature"]

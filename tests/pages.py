@@ -1,4 +1,4 @@
-"""Tests that are blocks of the pages of tests/recipes/: commands of a shell over the files above them."""
+"""Tests that are blocks of the pages of tests/recipes/, of python.md and of pytest.md: commands of a shell over the files above them."""
 
 import os
 import re
@@ -6,11 +6,13 @@ import re
 import blocks
 import driver
 
-PAGES = os.path.join(driver.HOME, "tests", "recipes")
+TESTS = os.path.join(driver.HOME, "tests")
 
 
-def lay(folder, files):
-    """Makes a folder with these files, the program as `run`, the repository's examples, and one for temporary files."""
+def lay(folder, files, programs):
+    """Makes a folder with these files, the program as `run`, the repository's examples, and one for temporary files. Some
+    programs may be called by their names."""
+    driver.write(os.path.join(folder, "bin"), programs, 0o755)
     driver.write(os.path.join(folder, "temporary"), {})
     driver.write(folder, files)
     for name, text in files.items():
@@ -21,7 +23,7 @@ def lay(folder, files):
 
 def troubles(folder, block):
     """What is wrong with each command of a block, or nothing."""
-    environment, ended = {**os.environ, "TMPDIR": os.path.join(folder, "temporary")}, 0
+    environment, ended = {**os.environ, "TMPDIR": os.path.join(folder, "temporary"), "PATH": f"{folder}/bin:{os.environ['PATH']}"}, 0
     for command, wanted in blocks.commands(block):
         if command == b"echo $?":
             yield driver.unless(f"status {ended}, and not {wanted.decode()}", wanted == b"%d\n" % ended)
@@ -33,19 +35,19 @@ def troubles(folder, block):
                              wanted) or driver.unless(f"{command.decode()} leaves {left}", not left)
 
 
-def tests(*pages):
-    """Adds a test for each block of some pages to a class."""
+def tests(*pages, programs=dict):
+    """Adds a test for each block of some pages to a class. A function returns the programs that it may call."""
     def test_of(name, files, block):
         def test(self):
             folder = os.path.join(self.room, name)
-            lay(folder, files)
+            lay(folder, files, programs())
             self.check_all(troubles(folder, block))
         return test
 
     def added(test_class):
         for page in pages:
-            for heading, files, block in blocks.runs(driver.read(os.path.join(PAGES, page)).decode()):
-                name = "_".join(["test", *re.findall("[a-z0-9]+", f"{page.removesuffix('.md')} {heading}".lower())])
+            for heading, files, block in blocks.runs(driver.read(os.path.join(TESTS, page)).decode()):
+                name = "_".join(["test", *re.findall("[a-z0-9]+", f"{os.path.basename(page).removesuffix('.md')} {heading}".lower())])
                 setattr(test_class, name, test_of(name, files, block))
         return test_class
     return added

@@ -1,4 +1,4 @@
-"""How the pages for users read: what documents.py finds of README.md, docs/guide/, docs/FAULTS.md and the READMEs of folders.
+"""How the pages for users read: what test_documents.py finds of README.md, docs/guide/, docs/FAULTS.md and the READMEs of folders.
 
 Such a page has lines of at most 100 columns outside of tables and fenced blocks, sentences of at most 30 words, cells of
 at most 25, at most one mark for 1,000 words, and a page of docs/guide/ at most 200 lines. A mark is a word or a phrase that

@@ -20,7 +20,7 @@ import random
 import re
 
 import search
-from generator import LIBRARY, TAGS, Maker, Part, Scenario, first_given, text_of, text_of_hooks  # LIBRARY for plugin.py
+from generator import TAGS, Maker, Part, Scenario, first_given, text_of, text_of_hooks
 from reports import (AROUND, Feature, Report, Scenario as Row, Style, one_line, read_json_feature, read_json_scenario,
                      verdict)
 

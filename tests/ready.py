@@ -8,7 +8,6 @@ import shutil
 import signal
 import subprocess
 import tempfile
-import time
 
 import driver
 from driver import HOME
@@ -101,8 +100,7 @@ class Clone:
         """Ends a script by a signal while it reads the sources: its status. `at` begins a name in out/."""
         commands = self.commands(True, sha256sum="sleep 0.5")
         process = self.start(*words, script=self.path(name), PATH=commands, **more)
-        while process.poll() is None and not glob.glob(self.path(f"out/{at}*")):
-            time.sleep(0.01)
+        driver.wait_until(lambda: process.poll() is not None or glob.glob(self.path(f"out/{at}*")))
         process.send_signal(by)
         process.communicate(timeout=60)
         return process.returncode

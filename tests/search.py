@@ -216,11 +216,14 @@ def tried(tester, room, options):
 def main():
     options = parser()
     options.add_argument("tester", choices=("random_runs", "random_changes", "hostile_bytes"))
-    options, tests = options.parse_args(), driver.Tests()
+    options, counts = options.parse_args(), collections.Counter()
     with tempfile.TemporaryDirectory() as room:
         driver.build_shim(room)
-        tests.add_all(tried(importlib.import_module(options.tester).TESTER, room, options))
-    return tests.close()
+        for trouble in tried(importlib.import_module(options.tester).TESTER, room, options):
+            counts["failed" if trouble else "passed"] += 1
+            print(trouble, end="\n" * bool(trouble))
+    print(f"{counts['passed']} passed, {counts['failed']} failed")
+    return counts["failed"] > 0
 
 
 if __name__ == "__main__":

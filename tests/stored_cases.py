@@ -46,10 +46,7 @@ def case(page, name, files, commands):
 
 def lay(found, folder):
     """Writes the files of a stored run to a folder, and its link."""
-    os.makedirs(folder)
-    for name, content in found.files.items():
-        place, name = os.path.split(os.path.join(folder, name))
-        driver.write(place, {name: content})
+    driver.write(folder, found.files)
     if found.link:
         os.symlink(found.link, os.path.join(folder, "link.feature"))
 

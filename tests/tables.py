@@ -22,9 +22,9 @@ VALUED = [f"--{it.name}" for it in OPTIONS if it.takes != "Nothing"]
 
 # Changes of the tables, and in how many written files each has to be seen.
 CHANGES = (
-    (written.OPTION_TABLE, 'name: "stop"', 'name: "halt"', "halt", 6),
+    (written.OPTION_TABLE, 'name: "stop"', 'name: "halt"', "halt", 9),
     (written.OPTION_TABLE, "leave later scenarios untested", "leave others", "leave others", 5),
-    (written.ARGUMENTS, '"progress" => Some', '"dots" => Some', "dots", 3),
+    (written.ARGUMENTS, '"progress" => Some', '"dots" => Some', "dots", 5),
     (written.DEFAULT_FILE, "step it fails =>", "step it breaks =>", "it breaks", 4),
     (written.ACTION_TABLE, '["name", "n"], ["name", "n"]', '["name", "n"], ["name", "n", "by"]', "{by}", 1),
 )
@@ -53,7 +53,7 @@ def copied(folder):
     """Copies tools/tables.py with all that it reads and writes. Returns how to call the copy."""
     sources = {written.OPTION_TABLE, written.ARGUMENTS, written.ACTION_TABLE, written.DEFAULT_FILE}
     for path in ("tools/tables.py", *sources, *written.texts()):
-        driver.write(os.path.join(folder, os.path.dirname(path)), {os.path.basename(path): read(path)})
+        driver.write(folder, {path: read(path)})
     return lambda option: driver.start(sys.executable, [os.path.join(folder, "tools", "tables.py"), option])
 
 
@@ -63,7 +63,7 @@ def unseen(path, old, new, text, files):
         call = copied(folder)
         if call("--check") != (0, b"", b""):
             return "tools/tables.py --check finds something in a copy without a change"
-        driver.write(os.path.join(folder, os.path.dirname(path)), {os.path.basename(path): read(path).replace(old, new)})
+        driver.write(folder, {path: read(path).replace(old, new)})
         statuses = [call(it)[0] for it in ("--check", "--write", "--check", "--json")]
         found = [it for it in written.texts() if text in read(it, folder)]
     return "" if (statuses, len(found)) == ([1, 0, 0, 0], files) else f"{new!r}: statuses {statuses}, seen in {found}"

@@ -44,7 +44,7 @@ class Dist(Checks):
         self.compare_built("gherkin_run", self.program)
 
     def test_libraries(self):
-        """GHERKIN_ARCHIVE names the static library of `rt lib`. The wheel is compared by python.sh."""
+        """GHERKIN_ARCHIVE names the static library of `rt lib`. test_python compares the wheel."""
         archive = os.environ.get("GHERKIN_ARCHIVE")
         if not archive:
             self.leave_out("the libraries aren't compared: GHERKIN_ARCHIVE names no archive")

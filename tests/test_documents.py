@@ -88,7 +88,7 @@ def code_names():
 PLAIN_WORDS = set("""
     gherkin_world gherkin_scenario
     abbrev unfoldable Global Memory Option None Result Err Some String Vec Display Serialize write_all read_to_end ensures requires refl clap indexmap serde serde_json thiserror std rt cc jq malloc
-    GHERKIN_RUN NAME TEXT TO N E R EXAMPLES LINE FILE KEYWORD VERDICT STATUS REASON TYPE PATTERN ACTION h x n main run test given when then step
+    GHERKIN_RUN WEB_MODULE NAME TEXT TO N E R EXAMPLES LINE FILE KEYWORD VERDICT STATUS REASON TYPE PATTERN ACTION h x n main run test given when then step
     all Andorra EU EN en json name text to absent present differs passed failed skipped undefined untested memory
 """.split())
 GUIDE = [it for it in PAGES if it.startswith("docs/guide/")]

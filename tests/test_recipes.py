@@ -14,7 +14,6 @@ import shlex
 import shutil
 import signal
 import subprocess
-import time
 import xml.etree.ElementTree
 
 import blocks
@@ -168,7 +167,7 @@ def seconds_of(folder, command, **more):
     return ended, after.ru_utime + after.ru_stime - before.ru_utime - before.ru_stime
 
 
-@pages.tests("usage.md", "makers.md", "check.md", "again.md", "long.md")
+@pages.tests("recipes/usage.md", "recipes/makers.md", "recipes/check.md", "recipes/again.md", "recipes/long.md", "recipes/escapes.md")
 class Pages(Checks):
     NEEDS = ("jq",)
 
@@ -248,7 +247,6 @@ class Recipes(Checks):
         whole = self.one_run(folder, "--format", "json")
         self.try_sum(folder, "long.sh", long, whole)
         self.try_sum(folder, "long.sh in small parts", long.replace("long.sh ./run", "long.sh --files 2 ./run"), whole)
-        self.try_killed_part(folder, long)
         self.try_divided(folder, part, add)
         if shutil.which("parallel"):
             self.try_sum(folder, "spread.sh", spread, whole)
@@ -256,15 +254,6 @@ class Recipes(Checks):
                          self.one_run(folder, "--format", "json", "--tags", "~@broken"))
         else:
             print("examples/spread.sh isn't tried: there is no parallel")
-
-    def try_killed_part(self, folder, long):
-        """A part that is killed leaves no report."""
-        driver.write_program(os.path.join(folder, "killed"),
-                             '#!/bin/sh\n./run "$@"\ncase " $* " in *passes*) kill -9 "$PPID" ;; esac\n')
-        ended = shell(folder, long.replace("long.sh ./run", "long.sh --files 2 ./killed"))
-        self.unless("long.sh, killed: another end", ended[0] == 3 and ended[2] == b"long: a part was killed\n",
-                    ended[2].decode())
-        self.unless("long.sh, killed: a report", driver.read(os.path.join(folder, "report.json")) == b"")
 
     def try_divided(self, folder, part, add):
         """Three machines run a part each; the sum of their reports is one run over the files in their order."""
@@ -316,33 +305,6 @@ class Recipes(Checks):
                     fault.decode())
         self.unless(f"{name}: a fault with a report", driver.read(os.path.join(folder, "report.json")) == b"")
 
-    def test_escapes(self):
-        """No name reaches the terminal with control characters: neither by check.sh, nor in a message."""
-        folder = self.folder("escaped")
-        name = "a\n::error::b\x1b[31m\x9b"
-        driver.write(folder, {name: f"Feature: {ODD}\n  Scenario: {ODD}\n    Given it fails\n    Given it passes {ODD}\n", "other": f"Feature: f\n  Scenario: {ODD}\n    Given it fails\n"})
-        for words in ("other", '"$name"'):
-            status, printed, fault = shell(folder, f"examples/recipes/check.sh ./run {words}", name=name)
-            self.unless(f"check.sh {words}: control characters",
-                        status == 1 and fault == b"" and b"\\x1b" in printed and not CONTROL.search(printed.decode()),
-                        printed, fault)
-        status, printed, fault = shell(folder, 'examples/add_reports.sh "$name"', name=name)
-        self.unless("add_reports.sh: another message", (status, printed) == (3, b"") and fault.endswith(b"add_reports: a\\n::error::b\\x1b[31m\\x9b is no report\n"), fault)
-        for script in ("recipes/long.sh", "recipes/check.sh"):
-            status, printed, fault = shell(folder, f'examples/{script} ./run "$word" < /dev/null',
-                                           word="--format=" + name)
-            self.unless(f"{script}: another message",
-                        status == 2 and fault.count(b"\n") == 1 and not CONTROL.search(fault.decode()), fault)
-        for text, wanted in (("a\nb", "a\\nb\n"), ("", "\n"), ("-n", "-n\n"), ("\\x1b%s é€😀", "\\x1b%s é€😀\n"), (ODD, readable(ODD).replace("\ufffd\ufffd", "\ufffe\uffff").replace("\t", "\\x09").replace("\r", "\\x0d") + "\n")):
-            ended = driver.start(os.path.join(RECIPES, "visible.sh"), [text.replace("\0", "")], folder)
-            self.compare(f"visible.sh {text!r}", ended, (0, wanted.replace("\\x00", "").encode(), b""))
-        driver.write(folder, {"text": f"{ODD}\n\n{ODD}\nend"})
-        ended = shell(folder, "examples/recipes/visible.sh < text")
-        line = readable(ODD).replace("\ufffd\ufffd", "\ufffe\uffff").replace("\t", "\\x09").replace("\r", "\\x0d")
-        self.compare("visible.sh with lines", ended, (0, f"{line}\n\n{line}\nend".encode(), b""))
-        ended = shell(folder, "examples/recipes/visible.sh < text", LC_ALL="C.UTF-8")
-        self.compare("visible.sh in a locale with UTF-8", ended, (0, f"{line}\n\n{line}\nend".encode(), b""))
-
     def test_hostile_names(self):
         """Files and options with names that a shell or an option parser would read as something else are run as they
         are."""
@@ -368,36 +330,11 @@ class Recipes(Checks):
             self.unless(f"again.sh {words} with such names", (status, runs, fault) == (1, len(names), b""),
                         printed.decode(), fault.decode())
         self.unless("a name was run as a command", not os.path.exists(os.path.join(folder, "pwned")))
-        many = [f"{number}.feature" for number in range(10, 30)]
-        driver.write(folder, {it: f"Feature: {it}\n" for it in many})
-        ended = shell(folder, "ls [12]?.feature | examples/recipes/long.sh --files 1 ./run")
-        self.compare("long.sh with twenty parts", ended,
-                     driver.start(self.program, ["--format", "json", *many], folder))
-
-    def test_settings(self):
-        """Variables that nobody set for a script change nothing."""
-        folder = self.folder("settings")
-        settings = {**dict.fromkeys(("PART", "PARTS", "files", "report", "rest", "lines", "start", "length", "comma", "worst", "runs", "part", "ended", "status", "word"), "x"),
-                    "PARALLEL": "--dry-run", "CDPATH": "/", "POSIXLY_CORRECT": "1", "GREP_OPTIONS": "-v"}
-        whole, names = self.one_run(folder, "--format", "json"), "ls features/*.feature"
-        for name, command in (("long.sh", f"{names} | examples/recipes/long.sh ./run"), ("add_reports.sh", "./run --format json features/*.feature > all.json; examples/add_reports.sh all.json")):
-            self.compare(f"{name} with other variables", shell(folder, command, **settings), whole)
-        for name, command in (("check.sh", "examples/recipes/check.sh ./run features/*.feature"),
-                              ("again.sh", "examples/recipes/again.sh all.json ./run")):
-            self.compare(f"{name} with other variables", shell(folder, command, **settings), shell(folder, command))
-        status, printed, fault = shell(folder, f"{names} | TMPDIR=-t examples/recipes/long.sh --files 2 ./run; mkdir ./-t; {names} | TMPDIR=-t examples/recipes/long.sh --files 2 ./run && ls ./-t")
-        self.unless("long.sh with a TMPDIR that looks like an option", printed == whole[1], status, printed[:100],
-                    fault)
 
     def test_missing_jq(self):
         """Without jq each script that needs it says so."""
         folder = self.folder("missing")
-        tools = os.path.join(folder, "tools")
-        os.mkdir(tools)
-        for place in ("/bin", "/usr/bin"):
-            for name in os.listdir(place):
-                if name != "jq" and not os.path.lexists(os.path.join(tools, name)):
-                    os.symlink(os.path.join(place, name), os.path.join(tools, name))
+        tools = driver.link_tools(os.path.join(folder, "tools"), "jq")
         driver.write(folder, {"one.json": self.one_run(folder, "--format", "json")[1]})
         for script, words in (("add_reports.sh", "one.json"), ("recipes/again.sh", "one.json ./run"),
                               ("recipes/long.sh", "./run < one.json")):
@@ -424,9 +361,7 @@ class Recipes(Checks):
         with open(os.path.join(folder, "names"), "rb") as names, \
                 subprocess.Popen([os.path.join(EXAMPLES, script), *others], cwd=folder, env=environment_of(folder), stdin=names, stdout=subprocess.DEVNULL,
                                  preexec_fn=lambda: signal.signal(number, signal.SIG_DFL)) as process:
-            end = time.monotonic() + PATIENCE
-            while not os.path.exists(os.path.join(folder, "begun")) and time.monotonic() < end:
-                time.sleep(0.02)
+            driver.wait_until(lambda: os.path.exists(os.path.join(folder, "begun")), PATIENCE)
             process.send_signal(number)
             status = process.wait(PATIENCE)
         return status, os.listdir(os.path.join(folder, "temporary"))

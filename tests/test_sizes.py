@@ -424,6 +424,15 @@ def entries_of_libraries():
     yield "literals alike", with_library(one(*steps), each(f"step {ALIKE} {{}} => pass\n", 30_000))
 
 
+growing(3000, {
+    # Each line is compared with those before it that may be ambiguous with it.
+    "entries of a library": lambda count: with_library(
+        one("w0", f"w{count - 1}", Step("w", "undefined")), each("step w{} => pass\n", count)),
+    "entries of a library with fields": lambda count: with_library(
+        one(f"w0 is 1 of {count}", Step("w0 is", "undefined")), each("step w{} is {{n:d}} of {{m:d}} => pass\n", count)),
+})
+
+
 @group
 def hopeless_patterns():
     """Taking the fields' lengths one after another would not end."""

@@ -9,7 +9,6 @@ import os
 import signal
 import subprocess
 import tempfile
-import time
 
 import driver
 import pages
@@ -32,37 +31,6 @@ OTHERS = {
     "all.hooks": 'before_feature:\n  Given the value "n" is set to "1"\nafter_scenario:\n  Given the value "n" should be "1"\n',
 }
 FILES = sorted(SUITE)
-# Dies in the part with 14.feature, $TIMES times, after a part of the report. $DIES names what is killed: the program, or its job.
-DYING = """#!/bin/sh
-case " $* " in
-*" 14.feature "*)
-    echo started >> "$PLACE/starts"
-    if [ "$(wc -l < "$PLACE/starts")" -le "$TIMES" ]; then
-        "$PROGRAM" "$@" 2> /dev/null | head -c 200
-        [ "$DIES" != job ] || kill -9 "$PPID"
-        kill -9 "$$"
-    fi
-    ;;
-*) echo started >> "$PLACE/others" ;;
-esac
-exec "$PROGRAM" "$@"
-"""
-# Runs out of memory in that part: in a step, with a whole report, or elsewhere, with a report that is cut.
-SHORT_OF_MEMORY = """#!/bin/sh
-case " $* " in
-*" 14.feature "*)
-    echo started >> "$PLACE/starts"
-    if [ "$CUT" = yes ]; then
-        "$PROGRAM" "$@" 2> /dev/null | head -c 200
-        echo "gherkin_run: out of memory" >&2
-    else
-        "$PROGRAM" "$@" | sed 's/"status":0,"summary"/"status":4,"summary"/'
-    fi
-    exit 4
-    ;;
-esac
-exec "$PROGRAM" "$@"
-"""
 # In place of ssh: runs here what it is given, as ssh does, with its words joined, and outside of its session. What runs there notices
 # when ssh has ended. The machine `broken` is never reached.
 SSH = """#!/bin/sh
@@ -83,27 +51,12 @@ cd / || exit
 setsid sh -c "$*" &
 wait "$!"
 """
-# Has a fault in its first run only.
-ONCE = """#!/bin/sh
-mkdir "$PLACE/was here" 2> /dev/null || exec "$PROGRAM" "$@"
-echo "gherkin_run: a: cannot read" >&2
-exit 3
-"""
 # Notes its words, and runs the program without those that are no files.
 RECORD = """#!/bin/sh
 printf '%s\\0' "$@" > "$PLACE/words"
 printf '%s\\0' "${TMPDIR-unset}${USERS_TMPDIR+, another one}${PARALLEL_HOME+, a home}${PARALLEL_SHELL+, a shell}" >> "$PLACE/words"
 while [ "$1" != --format ]; do shift; done
 exec "$PROGRAM" "$@"
-"""
-# Notes if another one runs at the same time.
-ALONE = """#!/bin/sh
-mkdir "$PLACE/busy" || echo "$*" >> "$PLACE/others"
-sleep 0.2
-"$PROGRAM" "$@"
-status=$?
-rmdir "$PLACE/busy"
-exit "$status"
 """
 # Notes that it has begun, and waits to be ended.
 WAITING = """#!/bin/sh
@@ -202,7 +155,7 @@ def goes_on(process):
         return False
 
 
-@pages.tests("spread.md")
+@pages.tests("recipes/spread.md", "recipes/spread_jobs.md")
 class Spread(Checks):
     NEEDS = ("parallel", "jq", "bash")
 
@@ -247,37 +200,6 @@ class Spread(Checks):
         ended = place.start("sh", ["-c", 'exec "$0" "$@" < "$PLACE/names"', SPREAD, "--files", "2", PROGRAM, "--"])
         self.compare("names from standard input", ended, self.whole())
 
-    def test_spaces(self):
-        """Names from standard input keep the spaces around them, and the last one may have no line feed."""
-        place, names = self.place(), ["  first.feature", "last.feature\t "]
-        driver.write(place.folder, {**dict.fromkeys(names, PASSES), "names": "\n".join(names)})
-        ended = place.start("sh", ["-c", 'exec "$0" "$1" -- < names', SPREAD, PROGRAM], place.folder)
-        self.compare("spaces around names", ended, self.whole(files=names, folder=place.folder))
-
-    def test_short_fault(self):
-        """A fault that the run over all files doesn't have leaves the report of that run."""
-        place = self.place(once=ONCE)
-        self.compare("a short fault", place.spread("--files", "99", place.path("once"), "--", *FILES), self.whole())
-
-    def test_no_room(self):
-        """Without a folder for temporary files it runs nothing."""
-        place = self.place(record=RECORD)
-        status, printed, fault = place.spread(place.path("record"), "--", *FILES, TMPDIR=place.path("none"))
-        self.unless("no folder for temporary files",
-                    (status, printed, place.words(), fault.count(b"\n")) == (3, b"", [], 1), status, fault)
-
-    def test_link(self):
-        """A link to the script runs it."""
-        place = self.place()
-        os.symlink(SPREAD, place.path("linked"))
-        self.compare("a link to the script", place.start(place.path("linked"), [PROGRAM, "--", *FILES]), self.whole())
-
-    def test_one_job(self):
-        """With --jobs 1 no two jobs run at the same time."""
-        place = self.place(alone=ALONE)
-        status, _, fault = place.spread("--jobs", "1", "--files", "4", place.path("alone"), "--", *FILES)
-        self.unless("one job at a time", (status, fault) == (1, b"") and not place.noted("others"), status, fault)
-
     def test_many_files(self):
         """A fault is found among more names than one command may have."""
         place, names = self.place(), [f"{'missing' * 30}{number}" for number in range(1500)]
@@ -285,40 +207,6 @@ class Spread(Checks):
         ended = place.start("sh", ["-c", 'ulimit -s 1024; exec "$0" "$1" -- < "$PLACE/names"', SPREAD, PROGRAM])
         wanted = f"gherkin_run: {names[0]}: cannot read\n".encode()
         self.unless("a fault among many files", ended[:2] == (3, b"") and ended[2].endswith(wanted), *ended)
-
-    # ---- jobs that are lost
-
-    def test_killed_jobs(self):
-        """A job that is killed at first runs again. One that is killed each time is lost."""
-        def killed(case):
-            dies, times = case
-            name, place = f"the {dies} is killed {times} times", self.place(dying=DYING)
-            ended = place.spread("--jobs", "4", "--files", "2", place.path("dying"), "--", *FILES, DIES=dies,
-                                 TIMES=str(times))
-            # In the order of the suite that the part counts on: 14.feature is in the third part.
-            if times < 3:
-                yield driver.trouble(name, ended, self.whole())
-                yield driver.unless(f"{name}: another part ran again", len(place.noted("others")) == 6)
-            else:
-                status, printed, fault = ended
-                yield driver.unless(f"{name}: status {status}", status == 3)
-                yield driver.unless(f"{name}: a report", printed == b"")
-                yield driver.unless(f"{name}: another message",
-                                    fault.startswith(b"spread: part 3 is lost, which begins with 14.feature: "), fault)
-                yield driver.unless(f"{name}: more than a message", fault.count(b"\n") == 1, fault)
-            yield driver.unless(f"{name}: other starts", len(place.noted("starts")) == min(times + 1, 3))
-        self.each(killed, [(dies, times) for dies in ("program", "job") for times in (1, 2, 9)])
-
-    def test_memory(self):
-        """Memory runs out in a part: in a step, with a whole report, or elsewhere, with a report that is cut."""
-        whole = self.whole()[1].replace(b'"status":1,"summary"', b'"status":4,"summary"')
-        for cut, wanted in (("no", (4, whole, b"")), ("yes", (4, b"", b"gherkin_run: out of memory\n"))):
-            place = self.place(short=SHORT_OF_MEMORY)
-            ended = place.spread("--files", "2", place.path("short"), "--", *FILES, CUT=cut)
-            self.unless(f"memory, cut {cut}: other starts", len(place.noted("starts")) == 3)
-            self.unless(f"memory, cut {cut}: status {ended[0]}", ended[0] == wanted[0])
-            self.unless(f"memory, cut {cut}: another report", ended[1] == wanted[1])
-            self.unless(f"memory, cut {cut}: another fault", cut == "no" or ended[2] == wanted[2], ended[2])
 
     # ---- machines
 
@@ -399,23 +287,11 @@ class Spread(Checks):
         self.unless("a relative TMPDIR: something is left", not place.left())
 
     def test_missing_tools(self):
-        """The folders of PATH have links to all other tools."""
         for tool, shown in (("jq", "jq"), ("parallel", "GNU parallel")):
             place = self.place()
-            tools = place.path("tools")
-            os.mkdir(tools)
-            for folder in ("/bin", "/usr/bin"):
-                for name in os.listdir(folder):
-                    if name != tool and not os.path.lexists(os.path.join(tools, name)):
-                        os.symlink(os.path.join(folder, name), os.path.join(tools, name))
-            ended = place.spread(PROGRAM, "--", *FILES, PATH=tools)
+            ended = place.spread(PROGRAM, "--", *FILES, PATH=driver.link_tools(place.path("tools"), tool))
             self.compare(f"without {tool}", ended,
                          (2, b"", f"spread: {shown} is needed, and isn't installed\n".encode()))
-
-    def test_another_parallel(self):
-        place = self.place(parallel='#!/bin/sh\necho "parallel: invalid option" >&2\nexit 1\n')
-        ended = place.spread(PROGRAM, "--", *FILES)
-        self.compare("another parallel", ended, (2, b"", b"spread: GNU parallel is needed, and isn't installed\n"))
 
     # ---- ended by a signal
 
@@ -432,7 +308,7 @@ class Spread(Checks):
         with subprocess.Popen([SPREAD, *words], cwd=self.suite, env=place.environment(), stdin=subprocess.DEVNULL,
                               stdout=subprocess.PIPE, stderr=subprocess.STDOUT, start_new_session=True,
                               preexec_fn=lambda: signal.signal(number, signal.SIG_DFL)) as process:
-            wait_until(lambda: place.noted("begun"), PATIENCE)
+            driver.wait_until(lambda: place.noted("begun"), PATIENCE)
             process.send_signal(number)
             try:
                 printed = process.communicate(timeout=40)[0]
@@ -441,36 +317,12 @@ class Spread(Checks):
                 yield f"{name}: it goes on"
                 return
         # A machine ends its job within a second after it has lost the connection.
-        wait_until(lambda: not any(map(goes_on, place.noted("begun"))), 40)
+        driver.wait_until(lambda: not any(map(goes_on, place.noted("begun"))), 40)
         waiting = [it for it in place.noted("begun") if goes_on(it)]
         yield driver.unless(f"{name}: status {process.returncode}", process.returncode == 128 + number)
         yield driver.unless(f"{name}: something is printed", printed == b"", printed)
         yield driver.unless(f"{name}: something is left", not place.left(), *place.left())
         yield driver.unless(f"{name}: a job goes on", not waiting)
-
-    # ---- what is refused
-
-    def test_no_program(self):
-        status, printed, fault = self.place().spread("./no\x1bsuch", "--", *FILES)
-        said = fault.decode("utf-8", "replace")
-        self.unless("no program", (status, printed, fault.count(b"\n")) == (3, b"", 1) and "no\\x1bsuch: not found" in said and "\x1b" not in said, status, said)
-
-    def test_fault_with_an_escape(self):
-        """A message has no control character of a name in it."""
-        place, name = self.place(dying="#!/bin/sh\nkill -9 $$\n"), "\x1b[31m\n::error::pwned"
-        driver.write(place.folder, {name: PASSES})
-        status, printed, fault = place.spread(place.path("dying"), "--", name, folder=place.folder)
-        is_named = fault.startswith(b"spread: part 1 is lost, which begins with \\x1b[31m\\n::error::pwned: ")
-        self.unless("a name with an escape",
-                    (status, printed, fault.count(b"\n")) == (3, b"", 1) and is_named and b"\x1b" not in fault, status,
-                    fault)
-
-    def test_fault_of_bytes(self):
-        """A message of a lost part that is no text comes as it is, on one line."""
-        place = self.place(dying="#!/bin/sh\nprintf 'a\\0\\377b\\n' >&2\nexit 9\n")
-        ended = place.spread(place.path("dying"), "--", "10.feature", LC_ALL="C.UTF-8")
-        self.compare("a message of bytes", ended,
-                     (3, b"", b"spread: part 1 is lost, which begins with 10.feature: a\xffb\n"))
 
     def test_lost_words(self):
         """A machine that gets only some of the words runs nothing."""
@@ -478,23 +330,3 @@ class Spread(Checks):
         ended = self.place(ssh=SSH,
                            base64=base64).spread("--files", "99", "--sshlogin", "1/one", PROGRAM, "--", *FILES * 3)
         self.unless("lost words", ended[:2] == (3, b"") and ended[2].startswith(b"spread: part 1 is lost, "), *ended)
-
-    def test_long_option(self):
-        """An option that doesn't fit into a command loses the part, and the message says why."""
-        status, printed, fault = self.place().spread(PROGRAM, "--env", "A=" + "x" * 100000, "--", *FILES)
-        self.unless("a long option",
-                    (status, printed, fault.count(b"\n")) == (3, b"", 1) and b"Command line too long" in fault, status,
-                    fault)
-
-    def test_full_output(self):
-        """A report that can't be written has the status that it has from the program."""
-        with open("/dev/full", "wb") as full:
-            ended = self.place().start(SPREAD, [PROGRAM, "--", "10.feature"], stdout=full)
-        self.unless("a full output", ended[0] == 3 and ended[2].endswith(b"add_reports: cannot write\n"), *ended)
-
-
-def wait_until(holds, seconds):
-    """Waits until a condition holds, or until some seconds are over."""
-    end = time.monotonic() + seconds
-    while not holds() and time.monotonic() < end:
-        time.sleep(0.05)

@@ -4,12 +4,12 @@ Of each example, and of each stored run with a JSON report, jq makes the plain r
 rows. Runs over several files are compared with the sum of runs over one of them each, by examples/add_reports.sh.
 """
 
-import json
 import os
 import re
 import subprocess
 
 import driver
+import pages
 import stored_cases
 from checks import Checks
 
@@ -53,6 +53,7 @@ def without_format(arguments):
     return [it for it in rest if not it.startswith("--format=") and not (it == "--format" and next(rest))]
 
 
+@pages.tests("recipes/add.md")
 class WithJq(Checks):
     NEEDS = ("jq",)
 
@@ -89,11 +90,6 @@ class WithJq(Checks):
                 stored_cases.lay(case, folder)
                 self.compare(f"{case.page}: {case.name}", case.arguments, folder)
 
-    def test_names_with_line_feeds(self):
-        driver.write(self.room, {"lines.feature": "Feature: f\n  Scenario Outline: <n>\n    Given <n>\n    Examples:\n"
-                                                  "      | n |\n      | a\\nb\\nc |\n"})
-        self.compare("names with line feeds", [os.path.join(self.room, "lines.feature")])
-
     def test_sums(self):
         none = os.path.join(self.room, "none.feature")
         driver.write(self.room, {"none.feature": "# nothing\n"})
@@ -115,42 +111,3 @@ class WithJq(Checks):
         failed = re.findall(rb"^  [A-Z].* \.\.\. failed$", text, re.MULTILINE)
         self.unless("the guide's list of failed scenarios", listed.count(b"\n") == len(failed))
         self.unless("the guide's list has scenarios", listed)
-
-    def test_broken_reports(self):
-        report = self.json("examples/first.feature")[1]
-        parts = {key: json.loads(report)[key] for key in ("features", "status", "run", "summary")}
-        broken = {
-            "empty": b"", "cut": report[:100], "two": report * 2, "two_in_a_line": (report * 2).replace(b"\n", b""),
-            "other": b"{}\n", "in_lines": json.dumps(json.loads(report), indent=2).encode() + b"\n",
-            "in_another_order": json.dumps(parts, separators=(",", ":")).encode() + b"\n",
-            "indented": b" " + report, "with_a_space": report[:-1] + b" \n",
-            "with_another_number": report.replace(b'"status":0,"summary"', b'"status":0.0,"summary"'),
-            "with_an_empty_line": report + b"\n"}
-        driver.write(self.room, {"json": report, **broken})
-        for name in broken:
-            status, printed, fault = self.add("json", name, folder=self.room)
-            self.unless(f"a report that is {name}: another status", status == 3)
-            self.unless(f"a report that is {name}: something is printed", not printed)
-            self.unless(f"a report that is {name}: it isn't named",
-                        b"add_reports: %s is no report" % name.encode() in fault)
-
-    def test_worst_end(self):
-        report = self.json("examples/first.feature")[1]
-        ends = {it: report.replace(b'"run":"passed","status":0', b'"run":"%s","status":%d' % (it.encode(), status))
-                for it, status in (("memory", 4), ("failed", 1))}
-        driver.write(self.room, {"json": report, **ends})
-        for order in (["json", "failed", "memory"], ["memory", "failed", "json"], ["failed", "memory", "failed"]):
-            status, printed, _ = self.add(*order, folder=self.room)
-            self.unless(f"{order}: another status", status == 4)
-            self.unless(f"{order}: another end of the run", json.loads(printed)["run"] == "memory")
-
-    def test_counts_of_memory(self):
-        text, report = driver.start(self.program, ["examples/first.feature"])[1], self.json("examples/first.feature")[1]
-        wanted = [it + b", 2 memory" for it in text.splitlines()[-3:]]
-        found = plain(report.replace(b'"memory":0', b'"memory":2')).splitlines()[-3:]
-        self.unless("plain.jq: other counts of what ran out of memory", found == wanted, found)
-
-    def test_report_without_its_line_feed(self):
-        report = self.json("examples/first.feature")[1]
-        driver.write(self.room, {"without": report[:-1]})
-        self.unless("another sum", self.add("without", folder=self.room)[1] == report)

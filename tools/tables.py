@@ -1,7 +1,8 @@
 #!/usr/bin/env python3
 """Writes what repeats the tables of the sources: tools/tables.py --write | --check | --json
 
-    --write   renews the man page, the completions, the tables of the guide, the stored help and examples/default.steps
+    --write   renews the man page, the completions, the options of Python's calls and of the page, the tables of the guide,
+              the stored help and examples/default.steps
     --check   names those that differ from what --write would write; the status is 1 if there are any
     --json    prints the tables: options, formats, steps and actions
 
@@ -42,6 +43,8 @@ PAGES = {
     "stop": "choosing.md#stopping-at-the-first-failure", "format": "reports.md#formats", "explain": "explaining.md",
     "lint": "linting.md",
 }
+# The label of a flag on the page in the browser, unless it is its name.
+LABELS = {"stop": "Stop at the first failure", "no-skipped": "Leave out skipped scenarios"}
 # The tables of the guide's page on steps, each with its first action.
 STEP_TABLES = {"write_file": "Files", "set_env": "Variables", "set_value": "Values and numbers", "at_cleanup": "Others"}
 # What the step of an action does, and its reasons for failing.
@@ -227,6 +230,64 @@ def fish():
         yield f"complete -c gherkin_run -l {option.name}{value} -d '{text}'"
 
 
+# ---- the options of Python's calls, and of the page in the browser
+
+def asked_for(option):
+    """Whether an option asks for another output. Python has a call for each of these, and the page a tab."""
+    return option.name in ("explain", "lint")
+
+
+def accepting(option):
+    """The tabs of the page on which an option is used."""
+    return ["report", *["explanation"] * option.beside_explain, *["findings"] * option.beside_lint]
+
+
+def type_in_python(option):
+    """The type and the first value of an option's keyword argument."""
+    several = {"Texts": "str", "Lines": "int"}.get(option.takes)
+    return ("bool = False" if option.takes == "Nothing" else 'Format = "plain"' if option.name == "format"
+            else "Optional[Mapping[str, WorldFile]] = None" if option.name == "file"
+            else "Optional[Mapping[str, str]] = None" if "=" in option.value
+            else f"Union[{several}, Iterable[{several}], None] = None")
+
+
+def python_options(tab):
+    """The keyword arguments of the call for a tab. The files of a run are arguments before them."""
+    for option in options():
+        if tab in accepting(option) and not asked_for(option) and not takes_file(option):
+            name = "files" if option.name == "file" else option.name.replace("-", "_")
+            yield f"    {name}: {type_in_python(option)},"
+
+
+def python_formats():
+    yield f"Format = Literal[{', '.join(map(json.dumps, formats()))}]"
+
+
+def field(option):
+    """The name of an option's field on the page."""
+    first, *others = option.name.split("-")
+    return first + "".join(map(str.capitalize, others))
+
+
+def flags():
+    return [it for it in options() if it.takes == "Nothing" and not asked_for(it)]
+
+
+def page_flags():
+    for it in flags():
+        label = LABELS.get(it.name, it.name.replace("-", " ").capitalize())
+        yield f'            <label class="option"><input type="checkbox" id="{field(it)}"> {label}</label>'
+
+
+def page_formats():
+    yield from (f"                <option>{it}</option>" for it in formats())
+
+
+def script_flags():
+    for it in flags():
+        yield f'    {{ option: "--{it.name}", field: "{field(it)}", kind: "flag", tabs: {json.dumps(accepting(it))} }},'
+
+
 # ---- the help, as clap prints it
 
 def stored_help(command):
@@ -321,6 +382,14 @@ PARTS = {
     "share/gherkin_run.bash": {"options": bash},
     "share/_gherkin_run": {"options": zsh},
     "share/gherkin_run.fish": {"options": fish},
+    "python/gherkin_run/runs.py": {
+        "formats": python_formats,
+        "run": lambda: python_options("report"),
+        "explain": lambda: python_options("explanation"),
+        "lint": lambda: python_options("findings"),
+    },
+    "web/source/page.html": {"formats": page_formats, "flags": page_flags},
+    "web/source/page.js": {"flags": script_flags},
     "docs/guide/command_line.md": {"options": guide_options},
     "docs/guide/steps.md": {"steps": guide_steps},
     "docs/guide/library_files.md": {"actions": guide_actions},

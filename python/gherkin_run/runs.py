@@ -12,7 +12,9 @@ from gherkin_run import library as calls
 from gherkin_run.data import ReportData
 from gherkin_run.printing import printable_lines
 
+# tools/tables.py: formats
 Format = Literal["plain", "progress", "json"]
+# tools/tables.py: end
 # The bytes that a file may have.
 LONGEST_FILE = 16_777_216
 PROGRAM = "gherkin_run: "
@@ -199,14 +201,16 @@ def run(
     library: Optional[File] = None,
     hooks: Optional[File] = None,
     *,
+    # tools/tables.py: run
     tags: Union[str, Iterable[str], None] = None,
     line: Union[int, Iterable[int], None] = None,
     env: Optional[Mapping[str, str]] = None,
     files: Optional[Mapping[str, WorldFile]] = None,
-    format: Format = "plain",
     dry_run: bool = False,
     stop: bool = False,
+    format: Format = "plain",
     no_skipped: bool = False,
+    # tools/tables.py: end
 ) -> Report:
     """Runs one or more feature files, in their order, and returns the report.
 
@@ -226,11 +230,13 @@ def explain(
     library: Optional[File] = None,
     hooks: Optional[File] = None,
     *,
+    # tools/tables.py: explain
     tags: Union[str, Iterable[str], None] = None,
     line: Union[int, Iterable[int], None] = None,
     env: Optional[Mapping[str, str]] = None,
     files: Optional[Mapping[str, WorldFile]] = None,
     stop: bool = False,
+    # tools/tables.py: end
 ) -> Explanation:
     """Runs feature files as `run` does, and returns what happened in each scenario that failed."""
     return Explanation(*_called(explain=True, **locals()))
@@ -241,8 +247,10 @@ def lint(
     library: Optional[File] = None,
     hooks: Optional[File] = None,
     *,
+    # tools/tables.py: lint
     tags: Union[str, Iterable[str], None] = None,
     line: Union[int, Iterable[int], None] = None,
+    # tools/tables.py: end
 ) -> Findings:
     """Runs nothing, and returns what in the files is ignored, can't work or isn't used. Raises what `run` raises."""
     return Findings(*_called(lint=True, **locals()))

@@ -20,6 +20,11 @@ def read(*path):
         return file.read()
 
 
+def source(name):
+    """Returns the text of a file of web/source, without the lines that say which parts are written by a tool."""
+    return re.sub(r"^.*tools/tables\.py: .*\n", "", read("web", "source", name), flags=re.MULTILINE)
+
+
 def examples():
     """Returns the arguments of each example, and the texts of the files that they name, by the example's name, as JSON."""
     found = {}
@@ -57,10 +62,10 @@ def main():
     """Prints the page."""
     with open(sys.argv[1], "rb") as file:
         module = base64.b64encode(file.read()).decode()
-    caller = read("web", "source", "gherkin_run.js").replace("export ", "")
-    page = filled(read("web", "source", "page.html"), {"page": read("web", "source", "page.js")})
+    caller = source("gherkin_run.js").replace("export ", "")
+    page = filled(source("page.html"), {"page": source("page.js")})
     page = filled(page, hashes_of(page))
-    parts = {"module": module, "worker": "\n" + caller + read("web", "source", "worker.js"), "examples": examples()}
+    parts = {"module": module, "worker": "\n" + caller + source("worker.js"), "examples": examples()}
     sys.stdout.buffer.write(filled(page, parts).encode("utf-8"))
 
 

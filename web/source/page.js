@@ -17,9 +17,11 @@ const OPTIONS = [
     { option: "--line", field: "lines", kind: "text", between: /[\s,]+/, tabs: ["report", "explanation", "findings"] },
     { option: "--env", field: "variables", kind: "text", between: "\n", tabs: ["report", "explanation"] },
     { option: "--file", field: "written", kind: "put", tabs: ["report", "explanation"] },
-    { option: "--stop", field: "stop", kind: "flag", tabs: ["report", "explanation"] },
+    // tools/tables.py: flags
     { option: "--dry-run", field: "dryRun", kind: "flag", tabs: ["report"] },
+    { option: "--stop", field: "stop", kind: "flag", tabs: ["report", "explanation"] },
     { option: "--no-skipped", field: "noSkipped", kind: "flag", tabs: ["report"] },
+    // tools/tables.py: end
     { option: "--format", field: "format", kind: "text", between: "\n", tabs: ["report"] },
 ];
 // The fields with a text, and what they hold at first.

@@ -1,5 +1,5 @@
 /* Wraps the allocator of a shared library, which is linked with --wrap=malloc, --wrap=realloc and --wrap=free: counts
- * growths, and refuses one of them. For tests/python.py, in one thread. */
+ * growths, and refuses one of them. For tests/calling.py, in one thread. */
 #include <stddef.h>
 
 void *__real_malloc(size_t size);

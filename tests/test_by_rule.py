@@ -1,0 +1,86 @@
+"""What each row of the tables of options and actions refuses, with texts by rule.
+
+The texts are those of clap and of a library's faults. The stored runs of usage.md, usage_explain_lint.md and
+library_fields.md have one case of each kind, written by hand.
+"""
+
+import driver
+import tables
+from checks import Checks
+
+FEATURE = "Feature: one\n  Scenario: first\n    Given it passes\n"
+USAGE = "\nUsage: gherkin_run [OPTIONS] <FILE>...\n"
+HELP = "\nFor more information, try '--help'.\n"
+# A value that an option takes, by the name of its value.
+VALUES = {"T": "@a", "N": "3", "FILE": "a.feature", "NAME=VALUE": "A=b", "NAME=PATH": "a=a.feature", "F": "json"}
+KINDS = {"n": ":d"}
+
+
+def named(option):
+    """An option as clap names it, with its value."""
+    return f"--{option.name} <{option.value}>" if option.value else f"--{option.name}"
+
+
+def given(option):
+    """An option as an argument, with a value."""
+    return f"--{option.name}={VALUES[option.value]}" if option.value else f"--{option.name}"
+
+
+def pattern(fields, other=""):
+    """A pattern with these fields. The field `other` is of the kind that it should not be."""
+    kinds = {it: ("" if it in KINDS else ":d") if it == other else KINDS.get(it, "") for it in fields}
+    return " and ".join(f'"{{{it}{kind}}}"' for it, kind in kinds.items()) or "nothing"
+
+
+class ByRule(Checks):
+    def setUp(self):
+        driver.write(self.room, {"a.feature": FEATURE})
+
+    def refuses(self, words, status, text):
+        """Counts a check, which fails unless the program refuses these arguments with this text."""
+        ended = driver.start(self.program, [*words, "a.feature"], self.room)
+        self.compare(" ".join(words), ended, (status, b"", text.encode()))
+
+    def test_options_given_twice(self):
+        for it in tables.OPTIONS:
+            if it.takes in ("Nothing", "Text"):
+                self.refuses([given(it)] * 2, 2, f"error: the argument '{named(it)}' cannot be used multiple times\n{USAGE}{HELP}")
+
+    def test_options_without_value(self):
+        for it in tables.OPTIONS:
+            if it.value:
+                text = f"error: a value is required for '{named(it)}' but none was supplied\n{HELP}"
+                ended = driver.start(self.program, ["a.feature", f"--{it.name}"], self.room)
+                self.compare(f"--{it.name} without a value", ended, (2, b"", text.encode()))
+
+    def test_flags_with_value(self):
+        for it in tables.OPTIONS:
+            if not it.value:
+                usage = f"\nUsage: gherkin_run --{it.name} <FILE>...\n"
+                text = f"error: unexpected value 'yes' for '--{it.name}' found; no more were expected\n{usage}{HELP}"
+                self.refuses([f"--{it.name}=yes"], 2, text)
+
+    def test_options_that_clash(self):
+        for option, others in tables.written.excluded():
+            for it in others:
+                # --explain and --lint exclude each other, and --explain is named first.
+                first, second = (it, option) if it.name == "explain" else (option, it)
+                text = f"error: the argument '--{first.name}' cannot be used with '--{second.name}'\n{USAGE}{HELP}"
+                self.refuses([given(option), given(it)], 2, text)
+                self.refuses([given(it), given(option)], 2, text)
+
+    def library_refuses(self, entry, fault):
+        """Counts a check, which fails unless a library with this entry has this fault."""
+        driver.write(self.room, {"lib.steps": f"{entry}\n"})
+        self.refuses(["--library=lib.steps"], 3, f"gherkin_run: lib.steps:1: {fault}\n")
+
+    def test_missing_fields(self):
+        for action in tables.ACTIONS:
+            for field in action.needs:
+                fields = [it for it in action.uses if it != field]
+                self.library_refuses(f"step {pattern(fields)} => {action.name}", "missing field")
+
+    def test_fields_of_the_wrong_kind(self):
+        for action in tables.ACTIONS:
+            for field in action.uses:
+                self.library_refuses(f"step {pattern(action.uses, field)} => {action.name}", "wrong kind of field")
