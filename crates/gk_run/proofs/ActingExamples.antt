@@ -11,8 +11,9 @@ use Rattle.gk_steps.specs.Finding.{LibraryValue}
 use Rattle.gk_world.specs.State.{State, nothing, with_text, see}
 use Rattle.gk_world.specs.Refusals.{is_too_long}
 use Rattle.gk_run.specs.declared.results.Reason.TheVariants as reasons
+use Rattle.gk_run.specs.declared.results.Outcome.TheVariants as outcomes
 use Rattle.gk_steps.specs.Decimal.{number_of}
-use Rattle.gk_run.specs.Acting.{Done, files_of, arguments_of, ArgumentsValue, passes, fails, table, with_file, without_file, with_env, without_env, with_own, without_own, unless}
+use Rattle.gk_run.specs.Acting.{Done, stays, arguments_of, ArgumentsValue, passes, fails, table, with_file, without_file, with_env, without_env, with_own, without_own, unless}
 
 -- a file, a variable, a value of an outer layer, and one of the innermost
 abbrev start : State
@@ -47,6 +48,10 @@ two a b = a ∷ b ∷ []
 abbrev listing : List (List (List ℕ)) → ArgumentsValue
 listing rows = under (Table (two (codes "name") (codes "text") ∷ rows))
 
+-- a check that passes
+abbrev agrees : State → Done
+agrees s = stays s outcomes.Passed
+
 -- an action with each of these arguments does this
 abbrev Does : Action → List (ArgumentsValue × Done) → Type 0
 Does action cases = map (λ c. table action c.0 start) cases ≡ map (λ c. c.1) cases
@@ -71,16 +76,16 @@ remove_file : Does actions.RemoveFile
 remove_file = refl
 
 rename_file : Does actions.RenameFile
-    ((renaming (codes "a") (codes "b"), passes (without_file (with_file start (codes "b") (codes "one")) (codes "a"))) ∷
+    ((renaming (codes "a") (codes "b"), record (passes (without_file (with_file start (codes "b") (codes "one")) (codes "a"))) { files = (codes "b", codes "one") ∷ [] }) ∷
     (renaming (codes "a") (codes "a"), passes start) ∷
     (renaming (codes "b") [], fails start reasons.Absent) ∷
     (renaming (codes "a") [], fails start reasons.BadName) ∷ [])
 rename_file = refl
 
 write_files : Does actions.WriteFiles
-    ((listing (two (codes "b") (codes "1") ∷ two (codes "c") (codes "2") ∷ []), passes (with_file (with_file start (codes "b") (codes "1")) (codes "c") (codes "2"))) ∷
+    ((listing (two (codes "b") (codes "1") ∷ two (codes "c") (codes "2") ∷ []), record (passes (with_file (with_file start (codes "b") (codes "1")) (codes "c") (codes "2"))) { files = (codes "b", codes "1") ∷ (codes "c", codes "2") ∷ [] }) ∷
     (listing [], passes start) ∷
-    (listing (two (codes "b") (codes "1") ∷ two [] (codes "2") ∷ two (codes "c") (codes "3") ∷ []), record (fails (with_file start (codes "b") (codes "1")) reasons.BadName) { part_passed = true }) ∷
+    (listing (two (codes "b") (codes "1") ∷ two [] (codes "2") ∷ two (codes "c") (codes "3") ∷ []), record (fails (with_file start (codes "b") (codes "1")) reasons.BadName) { takes_memory = true; files = (codes "b", codes "1") ∷ [] }) ∷
     (under Empty, fails start reasons.NoTable) ∷
     (under (Text (codes "name")), fails start reasons.NoTable) ∷
     (under (Table []), fails start reasons.BadTable) ∷
@@ -89,37 +94,37 @@ write_files : Does actions.WriteFiles
 write_files = refl
 
 file_is : Does actions.FileIs
-    ((named (codes "a") (Some (codes "one")), passes start) ∷
+    ((named (codes "a") (Some (codes "one")), agrees start) ∷
     (named (codes "b") None, fails start reasons.NoText) ∷
     (named (codes "b") (Some (codes "x")), fails start reasons.Absent) ∷
     (named (codes "a") (Some (codes "y")), fails start reasons.Differs) ∷ [])
 file_is = refl
 
 file_absent : Does actions.FileAbsent
-    ((named (codes "b") None, passes start) ∷
+    ((named (codes "b") None, agrees start) ∷
     (named (codes "a") None, fails start reasons.Present) ∷ [])
 file_absent = refl
 
 env_is : Does actions.EnvIs
-    ((named (codes "V") (Some (codes "x")), passes start) ∷
+    ((named (codes "V") (Some (codes "x")), agrees start) ∷
     (named (codes "b") None, fails start reasons.NoText) ∷
     (named (codes "b") (Some (codes "x")), fails start reasons.Absent) ∷
     (named (codes "V") (Some (codes "y")), fails start reasons.Differs) ∷ [])
 env_is = refl
 
 env_absent : Does actions.EnvAbsent
-    ((named (codes "b") None, passes start) ∷
+    ((named (codes "b") None, agrees start) ∷
     (named (codes "V") None, fails start reasons.Present) ∷ [])
 env_absent = refl
 
 file_exists : Does actions.FileExists
-    ((named (codes "a") None, passes start) ∷
+    ((named (codes "a") None, agrees start) ∷
     (named [] None, fails start reasons.Absent) ∷ [])
 file_exists = refl
 
 file_contains : Does actions.FileContains
-    ((named (codes "a") (Some (codes "ne")), passes start) ∷
-    (named (codes "a") (Some []), passes start) ∷
+    ((named (codes "a") (Some (codes "ne")), agrees start) ∷
+    (named (codes "a") (Some []), agrees start) ∷
     (named (codes "a") (Some (codes "en")), fails start reasons.Differs) ∷
     (named (codes "b") (Some (codes "x")), fails start reasons.Absent) ∷
     (named (codes "b") None, fails start reasons.NoText) ∷ [])
@@ -151,14 +156,14 @@ delete_value : Does actions.DeleteValue
 delete_value = refl
 
 value_is : Does actions.ValueIs
-    ((named (codes "n") (Some (codes "+007")), passes start) ∷
+    ((named (codes "n") (Some (codes "+007")), agrees start) ∷
     (named (codes "n") (Some (codes "7")), fails start reasons.Differs) ∷
     (named (codes "m") (Some (codes "7")), fails start reasons.Absent) ∷
     (named (codes "m") None, fails start reasons.NoText) ∷ [])
 value_is = refl
 
 value_absent : Does actions.ValueAbsent
-    ((named (codes "m") None, passes start) ∷
+    ((named (codes "m") None, agrees start) ∷
     (named (codes "n") None, fails start reasons.Present) ∷ [])
 value_absent = refl
 
@@ -179,13 +184,13 @@ unfolding digits
 add_number = refl
 
 number_is : Does actions.NumberIs
-    ((counting (codes "n") (pos 7), passes start) ∷
+    ((counting (codes "n") (pos 7), agrees start) ∷
     (counting (codes "n") (pos 8), fails start reasons.Differs) ∷
     (counting (codes "k") (pos 8), fails start reasons.NotNumber) ∷
     (counting (codes "m") (pos 8), fails start reasons.Absent) ∷ [])
 number_is = refl
 
-pass : Does actions.Pass ((under Empty, passes start) ∷ [])
+pass : Does actions.Pass ((under Empty, agrees start) ∷ [])
 pass = refl
 
 fail : Does actions.Fail ((under Empty, fails start reasons.Asked) ∷ [])
@@ -211,14 +216,6 @@ hidden = (table actions.SetValue (named (codes "n") (Some (codes "9"))) start).s
 
 hides_the_outer_value : hidden.outer (codes "n") ∷ see hidden (codes "n") ∷ [] ≡ Some (codes "+007") ∷ Some (codes "9") ∷ []
 hides_the_outer_value = refl
-
--- If memory is refused in one of these actions, it may have written these files: with a row that is refused, those above it.
-files_written :
-    files_of actions.RenameFile (renaming (codes "a") (codes "b")) start ∷
-    files_of actions.RenameFile (renaming (codes "a") (codes "a")) start ∷
-    files_of actions.WriteFiles (listing (two (codes "b") (codes "1") ∷ two [] (codes "2") ∷ two (codes "c") (codes "3") ∷ [])) start ∷ [] ≡
-    ((codes "b", codes "one") ∷ []) ∷ [] ∷ ((codes "b", codes "1") ∷ []) ∷ []
-files_written = refl
 
 numbers : map number_of (codes "+007" ∷ codes "-0" ∷ codes "-9223372036854775808" ∷ codes "9223372036854775807" ∷ []) ≡
     Some (pos 7) ∷ Some (pos 0) ∷ Some (negsuc 9223372036854775807) ∷ Some (pos 9223372036854775807) ∷ []

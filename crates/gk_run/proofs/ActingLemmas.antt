@@ -19,16 +19,19 @@ use Rattle.gk_world.specs.Sandbox.{SandboxValue, Becomes}
 use Rattle.gk_run.specs.declared.results.Outcome.{Outcome}
 use Rattle.gk_run.specs.declared.results.Outcome.TheVariants as outcomes
 use Rattle.gk_run.specs.declared.acting.Site.{Site}
+use Rattle.gk_run.specs.declared.acting.Site.TheVariants as sites
 use Rattle.gk_run.specs.declared.results.Reason.{Reason}
 use Rattle.gk_run.specs.declared.results.Reason.TheVariants as reasons
 use Rattle.gk_steps.specs.Decimal.{is_number, is_numeral, number_of, is_i64}
 use Rattle.gk_steps.specs.declared.action.Action.{Action}
 use Rattle.gk_steps.specs.declared.action.Action.TheVariants as actions
 use Rattle.std.specs.Option.{option_or}
+use Rattle.std.specs.Ordering.{int_eq}
 use Rattle.gk_steps.specs.declared.used_fields.UsedFields.{UsedFields}
 use Rattle.gk_steps.specs.Finding.{found_any, HasUsedFields, LibraryValue, FoundValue, action_of}
 use Rattle.gk_gherkin.specs.Feature.{BlockValue, texts}
-use Rattle.gk_run.specs.Acting.{IsActedWith, WritesFirst, WritesFile, row_file, first_file, rows_files, ArgumentsValue, arguments_of, arguments_by_uses, doc_string, table, act, at_site, without_cleanups, registers, registers_at, may_register, skips, CleanupValue, HasRegistered, write_row, write_rows, have_two_cells, Done, add_number, is_pass, is_fail, is_refused, and_then, set_own, passes, fails, unless, unless_for, with_T, absent, differs, outcome_of, IsExactly, IsDone, IsActed, IsText, HasText, IsNumber, lacks, not_number, differs_from, with_file, without_file, with_env, without_env, with_own, without_own}
+use Rattle.gk_run.specs.declared.acting.Arguments.{Arguments}
+use Rattle.gk_run.specs.Acting.{WritesFirst, WritesFile, row_file, ArgumentsValue, arguments_of, arguments_by_uses, arguments_value, doc_string, table, act, at_site, without_cleanups, registers, registers_at, may_register, CleanupValue, HasRegistered, write_row, write_rows, have_two_cells, Done, add_number, is_pass, and_then, put, passes, fails, stays, unless, unless_for, outcome_of, IsDone, IsActed, Performs, exists, is_absent, agreement, agrees, equals, is_number as number_check, skip_outcome, with_file, without_file, with_env, without_env, with_own, without_own}
 
 not_so : (b : Bool) (P : Type 0) → (b ≡ true → P) → (P → ⊥) → b ≡ false
 not_so true P so never = absurd (never (so refl))
@@ -99,10 +102,10 @@ first_reason [] = refl
 first_reason ((true, fault) ∷ ws) = refl
 first_reason ((false, fault) ∷ ws) = first_reason ws
 
-carried : (s : State) (ws : List (Bool × WorldFault)) (after new : State) → first_true ws ≡ None → new ≡ after → IsExactly (unless s (reasons_of ws) after) outcomes.Passed new
+carried : (s : State) (ws : List (Bool × WorldFault)) (after new : State) → first_true ws ≡ None → new ≡ after → IsDone (unless s (reasons_of ws) after) outcomes.Passed new
 carried s ws after new none e = let f : first_true (reasons_of ws) ≡ None = first_reason ws ∙ ap (option_map reason_of) none in rw f (refl, e)
 
-failed : (s : State) (ws : List (Bool × WorldFault)) (after : State) (fault : WorldFault) → first_true ws ≡ Some fault → IsExactly (unless s (reasons_of ws) after) (outcomes.Failed (reason_of fault)) s
+failed : (s : State) (ws : List (Bool × WorldFault)) (after : State) (fault : WorldFault) → first_true ws ≡ Some fault → IsDone (unless s (reasons_of ws) after) (outcomes.Failed (reason_of fault)) s
 failed s ws after fault why = let f : first_true (reasons_of ws) ≡ Some (reason_of fault) = first_reason ws ∙ ap (option_map reason_of) why in rw f (refl, refl)
 
 -- a refused change
@@ -112,6 +115,11 @@ refused s ws after faults.Absent why = failed s ws after faults.Absent why
 refused s ws after faults.TextTooLong why = failed s ws after faults.TextTooLong why
 refused s ws after faults.BadName why = failed s ws after faults.BadName why
 refused s ws after faults.OtherLayer why = failed s ws after faults.OtherLayer why
+
+-- none of some files was written
+pub none_written : (files : List (List ℕ × List ℕ)) (old new : SandboxValue) → new ≡ old → WritesFirst files old new
+none_written [] old new same = same
+none_written (file ∷ files) old new same = inl same
 
 acted_so : (ws : List (Bool × WorldFault)) (r : Result ⊤ WorldFault) (old new : SandboxValue) (changed : Contents) (after : State)
     → OnOk r (Becomes changed old new) → IsAnswer (first_true ws) r → OnErr r (new ≡ old) → state_of changed ≡ after
@@ -123,7 +131,7 @@ acted_so ws (Ok x) old new changed after ok answer err e = record {
 }
 acted_so ws (Err fault) old new changed after ok answer err e =
     let P : SandboxValue → Type 0 = λ v. IsActed (unless (state_of old.now) (reasons_of ws) after) old (outcome_of {A = ⊤} (Err fault)) v in
-    subst P (sym err) (record { carried_out = refused (state_of old.now) ws after fault answer; layers = record { layers = refl; marks = refl }; kept = λ m. refl })
+    subst P (sym err) (record { carried_out = refused (state_of old.now) ws after fault answer; layers = record { layers = refl; marks = refl }; kept = λ m. none_written _ old old refl })
 
 -- a change of the world by one call
 pub acted : (ws : List (Bool × WorldFault)) (r : Result ⊤ WorldFault) (o : Outcome) (old new : SandboxValue) (changed : Contents) (after : State) → o ≡ outcome_of r
@@ -162,81 +170,117 @@ remove_tests held name = (is_bad_name name, faults.BadName) ∷ (is_none (held n
 abbrev pub delete_tests : State → List ℕ → List (Bool × WorldFault)
 delete_tests s name = (is_bad_name name, faults.BadName) ∷ (is_none (see s name), faults.Absent) ∷ (is_none (s.own name), faults.OtherLayer) ∷ []
 
-and_false : (b : Bool) → (b && false) ≡ false
-and_false true = refl
-and_false false = refl
+-- memory was refused
+abbrev pub refuses : Outcome → Bool
+refuses outcomes.Memory = true
+refuses _ = false
 
--- an action that changes nothing is carried out as well
-pub exact_done : (done : Done) (o : Outcome) (s : State) → IsExactly done o s → IsDone done o s
-exact_done done outcomes.Passed s h = h
-exact_done done outcomes.Skip s h = h
-exact_done done (outcomes.Failed why) s h = h
-exact_done done outcomes.Memory s h = ap (λ o. not done.part_passed && is_fail o) (sym h.0) ∙ and_false (not done.part_passed)
+-- no check takes memory
+pub exists_free : (held : Option (List ℕ)) → refuses (exists held) ≡ false
+exists_free None = refl
+exists_free (Some held) = refl
 
-pub unchanged : (done : Done) (old : SandboxValue) (o : Outcome) → IsExactly done o (state_of old.now) → IsActed done old o old
-unchanged done old o h = record { carried_out = exact_done done o (state_of old.now) h; layers = record { layers = refl; marks = refl }; kept = λ m. refl }
+pub absent_free : (held : Option (List ℕ)) → refuses (is_absent held) ≡ false
+absent_free None = refl
+absent_free (Some held) = refl
 
--- the text that is held, by its look-up
-pub text_checked : (held looked : Option (List ℕ)) (text : Option (List ℕ)) (o : Outcome) (s : State) → held ≡ looked → IsText held text o
-    → IsExactly (with_T s text (λ t. unless s (absent looked ∷ differs looked t ∷ []) s)) o s
-text_checked held looked text o s e h = let P : Option (List ℕ) → Type 0 = λ x. IsText x text o in subst P e h s
+agreement_free : (b : Bool) → refuses (agreement b) ≡ false
+agreement_free true = refl
+agreement_free false = refl
 
-pub part_checked : (held looked : Option (List ℕ)) (text : Option (List ℕ)) (o : Outcome) (s : State) → held ≡ looked → HasText held text o
-    → IsExactly (with_T s text (λ t. unless s (absent looked ∷ lacks looked t ∷ []) s)) o s
-part_checked held looked text o s e h = let P : Option (List ℕ) → Type 0 = λ x. HasText x text o in subst P e h s
+pub agrees_free : (holds : List ℕ → List ℕ → Bool) (held text : Option (List ℕ)) → refuses (agrees holds held text) ≡ false
+agrees_free holds None None = refl
+agrees_free holds (Some held) None = refl
+agrees_free holds None (Some text) = refl
+agrees_free holds (Some held) (Some text) = agreement_free (holds text held)
 
-pub number_checked : (held looked : Option (List ℕ)) (n : ℤ) (o : Outcome) (s : State) → held ≡ looked → IsNumber held n o
-    → IsExactly (unless s (absent looked ∷ not_number looked ∷ differs_from looked n ∷ []) s) o s
-number_checked held looked n o s e h = let P : Option (List ℕ) → Type 0 = λ x. IsNumber x n o in subst P e h s
+equals_free : (number : Option ℤ) (n : ℤ) → refuses (equals number n) ≡ false
+equals_free None n = refl
+equals_free (Some m) n = agreement_free (int_eq m n)
+
+pub number_free : (held : Option (List ℕ)) (n : ℤ) → refuses (number_check held n) ≡ false
+number_free None n = refl
+number_free (Some held) n = equals_free (number_of held) n
+
+pub skip_free : (site : Site) → refuses (skip_outcome site) ≡ false
+skip_free sites.Step = refl
+skip_free sites.CaseHook = refl
+skip_free sites.Hook = refl
+skip_free sites.Cleanup = refl
+
+stayed_so : (old : SandboxValue) (o : Outcome) → refuses o ≡ false → IsActed (stays (state_of old.now) o) old o old
+stayed_so old outcomes.Passed free = record { carried_out = (refl, refl); layers = record { layers = refl; marks = refl }; kept = λ m. refl }
+stayed_so old outcomes.Skip free = record { carried_out = (refl, refl); layers = record { layers = refl; marks = refl }; kept = λ m. refl }
+stayed_so old (outcomes.Failed why) free = record { carried_out = (refl, refl); layers = record { layers = refl; marks = refl }; kept = λ m. refl }
+stayed_so old outcomes.Memory free = absurd (true≢false free)
+
+-- an action that changes nothing
+pub stayed : (old : SandboxValue) (o p : Outcome) → o ≡ p → refuses p ≡ false → IsActed (stays (state_of old.now) p) old o old
+stayed old o p e free = subst (λ (x : Outcome). IsActed (stays (state_of old.now) p) old x old) (sym e) (stayed_so old p free)
+
+-- a check, by its row
+pub checked : (action row : Action) (arguments : Arguments) (old : SandboxValue) (o p : Outcome) → action ≡ row → o ≡ p → refuses p ≡ false
+    → table row (arguments_value arguments) (state_of old.now) ≡ stays (state_of old.now) p → Performs action arguments old o old
+checked action row arguments old o p is e free by =
+    let P : Done → Type 0 = λ d. IsActed d old o old in
+    subst (λ (a : Action). Performs a arguments old o old) (sym is) (subst P (sym by) (stayed old o p e free))
 
 -- a part that comes after one that passed
-pub went_on : (d : Done) (o : Outcome) (s : State) → IsDone d o s → IsDone (record d { part_passed = true }) o s
-went_on d outcomes.Passed s h = h
-went_on d outcomes.Skip s h = h
-went_on d (outcomes.Failed why) s h = h
-went_on d outcomes.Memory s h = refl
+pub went_on : (d : Done) (files : List (List ℕ × List ℕ)) (o : Outcome) (s : State) → IsDone d o s → IsDone (record d { takes_memory = true; files = files }) o s
+went_on d files outcomes.Passed s h = h
+went_on d files outcomes.Skip s h = h
+went_on d files (outcomes.Failed why) s h = h
+went_on d files outcomes.Memory s h = refl
+
+-- a change that is refused, or only one, writes no files of several
+no_files : (s new : State) (why : Option Reason) → (unless_for s why new).files ≡ []
+no_files s new None = refl
+no_files s new (Some why) = refl
+
+pub put_no_files : (s : State) (name text : List ℕ) (new : State) → (put s name text new).files ≡ []
+put_no_files s name text new = no_files s new (first_true ((is_bad_name name, reasons.BadName) ∷ (is_too_long text, reasons.TextTooLong) ∷ []))
+
+pub row_no_files : (s : State) (row : List (List ℕ)) → (write_row s row).files ≡ []
+row_no_files s [] = refl
+row_no_files s (name ∷ []) = refl
+row_no_files s (name ∷ text ∷ []) = put_no_files s name text (with_file s name text)
+row_no_files s (name ∷ text ∷ other ∷ more) = refl
 
 -- where memory may be refused in the first of two parts, it may be in both
-may_end : (b : Bool) (this next : Done) → is_refused this ≡ false → is_refused (cond b (record next { part_passed = true }) this) ≡ false
-may_end true this next h = refl
-may_end false this next h = h
-
--- none of some files was written
-pub none_written : (files : List (List ℕ × List ℕ)) (old new : SandboxValue) → new ≡ old → WritesFirst files old new
-none_written [] old new same = same
-none_written (file ∷ files) old new same = inl same
+may_end : (b : Bool) (file : List ℕ × List ℕ) (this next : Done) → this.takes_memory ≡ true → (cond b (record next { takes_memory = true; files = file ∷ next.files }) this).takes_memory ≡ true
+may_end true file this next h = refl
+may_end false file this next h = h
 
 -- an action in two parts, of which the first wrote a file and passed
-pub part_passes : (file : List ℕ × List ℕ) (files : State → List (List ℕ × List ℕ)) (this : Done) (next : State → Done) (old mid new : SandboxValue) (written o : Outcome) → written ≡ outcomes.Passed
-    → IsActed this old written mid → WritesFile file old written mid → IsActedWith (files (state_of mid.now)) (next (state_of mid.now)) mid o new
-    → IsActedWith (first_file this file (files this.state)) (and_then this (next this.state)) old o new
-part_passes file files this next old mid new written o is h puts k =
+pub part_passes : (file : List ℕ × List ℕ) (this : Done) (next : State → Done) (old mid new : SandboxValue) (written o : Outcome) → written ≡ outcomes.Passed
+    → IsActed this old written mid → WritesFile file old written mid → IsActed (next (state_of mid.now)) mid o new → IsActed (and_then file this (next this.state)) old o new
+part_passes file this next old mid new written o is h puts k =
     let W : Outcome → Type 0 = λ w. IsActed this old w mid in
     let first : IsActed this old outcomes.Passed mid = subst W is h in
-    let P : State → Type 0 = λ s. IsActedWith (files s) (next s) mid o new in
-    let second : IsActedWith (files this.state) (next this.state) mid o new = subst P first.carried_out.1 k in
-    let Q : Done → Type 0 = λ d. IsDone d o (state_of new.now) in
-    let R : List (List ℕ × List ℕ) → Type 0 = λ fs. WritesFirst fs old new in
-    let e : record (next this.state) { part_passed = true } ≡ and_then this (next this.state) = ap (λ p. cond (is_pass p) (record (next this.state) { part_passed = true }) this) first.carried_out.0 in
-    let f : file ∷ files this.state ≡ first_file this file (files this.state) = ap (λ p. cond (is_pass p) (file ∷ files this.state) []) first.carried_out.0 in
-    record {
-      carried_out = subst Q e (went_on (next this.state) o (state_of new.now) second.carried_out);
+    let P : State → Type 0 = λ s. IsActed (next s) mid o new in
+    let second : IsActed (next this.state) mid o new = subst P first.carried_out.1 k in
+    let both : Done = let done = next this.state in record done { takes_memory = true; files = file ∷ done.files } in
+    let Q : Done → Type 0 = λ d. IsActed d old o new in
+    let e : both ≡ and_then file this (next this.state) = ap (λ p. cond (is_pass p) both this) first.carried_out.0 in
+    subst Q e (record {
+      carried_out = went_on (next this.state) both.files o (state_of new.now) second.carried_out;
       layers = record { layers = second.layers.layers ∙ first.layers.layers; marks = second.layers.marks ∙ first.layers.marks };
-      kept = λ m. subst R f (inr (mid, puts is, second.kept m));
-    }
+      kept = λ m. inr (mid, puts is, second.kept m);
+    })
+
+ended_so : (file : List ℕ × List ℕ) (this next : Done) (old new : SandboxValue) (o : Outcome) → is_pass o ≡ false → o ≡ this.outcome → IsActed this old o new → IsActed (and_then file this next) old o new
+ended_so file this next old new o fails is h =
+    let both = record next { takes_memory = true; files = file ∷ next.files } in
+    subst (λ (d : Done). IsActed d old o new) (ap (λ b. cond b both this) (sym fails ∙ ap is_pass is)) h
 
 -- an action in two parts, which ended with the first
-pub part_ends : (files : List (List ℕ × List ℕ)) (this next : Done) (old new : SandboxValue) (o : Outcome) → (o ≡ outcomes.Passed → ⊥) → IsActed this old o new → IsActedWith files (and_then this next) old o new
-part_ends files this next old new outcomes.Passed never h = absurd (never refl)
-part_ends files this next old new outcomes.Skip never h =
-    let Q : Done → Type 0 = λ d. IsDone d outcomes.Skip (state_of new.now) in
-    let e : this ≡ and_then this next = ap (λ p. cond (is_pass p) (record next { part_passed = true }) this) h.carried_out.0 in
-    record { carried_out = subst Q e h.carried_out; layers = h.layers; kept = λ m. none_written files old new (h.kept m) }
-part_ends files this next old new outcomes.Memory never h = record { carried_out = may_end (is_pass this.outcome) this next h.carried_out; layers = h.layers; kept = λ m. none_written files old new (h.kept m) }
-part_ends files this next old new (outcomes.Failed why) never h =
-    let Q : Done → Type 0 = λ d. IsDone d (outcomes.Failed why) (state_of new.now) in
-    let e : this ≡ and_then this next = ap (λ p. cond (is_pass p) (record next { part_passed = true }) this) h.carried_out.0 in
-    record { carried_out = subst Q e h.carried_out; layers = h.layers; kept = λ m. none_written files old new (h.kept m) }
+pub part_ends : (file : List ℕ × List ℕ) (this next : Done) (old new : SandboxValue) (o : Outcome) → this.files ≡ [] → (o ≡ outcomes.Passed → ⊥) → IsActed this old o new → IsActed (and_then file this next) old o new
+part_ends file this next old new outcomes.Passed none never h = absurd (never refl)
+part_ends file this next old new outcomes.Skip none never h = ended_so file this next old new outcomes.Skip refl h.carried_out.0 h
+part_ends file this next old new (outcomes.Failed why) none never h = ended_so file this next old new (outcomes.Failed why) refl h.carried_out.0 h
+part_ends file this next old new outcomes.Memory none never h =
+    let same : new ≡ old = subst (λ (fs : List (List ℕ × List ℕ)). WritesFirst fs old new) none (h.kept refl) in
+    record { carried_out = may_end (is_pass this.outcome) file this next h.carried_out; layers = h.layers; kept = λ m. none_written _ old new same }
 
 -- a number's text is short
 short_number : (z : ℤ) (text : List ℕ) → FitsSigned w64 z → text ≡ signed_decimal z → is_too_long text ≡ false
@@ -245,7 +289,7 @@ short_number z text fits e =
     let same = ap (λ (bs : List ℕ). length bs) e in
     not_so (is_too_long text) (1048576 < length text) ((Decides-ltb 1048576 (length text)).0) (λ more. omega (arith, few, same, more))
 
-pub number_set : (s : State) (name text : List ℕ) (z : ℤ) → is_bad_name name ≡ false → FitsSigned w64 z → text ≡ signed_decimal z → set_own s name text ≡ passes (with_own s name (signed_decimal z))
+pub number_set : (s : State) (name text : List ℕ) (z : ℤ) → is_bad_name name ≡ false → FitsSigned w64 z → text ≡ signed_decimal z → put s name text (with_own s name text) ≡ passes (with_own s name (signed_decimal z))
 number_set s name text z good fits e =
     let short = short_number z text fits e in
     let a = ap (λ (b : Bool). unless s ((b, reasons.BadName) ∷ (is_too_long text, reasons.TextTooLong) ∷ []) (with_own s name text)) good in
@@ -253,7 +297,7 @@ number_set s name text z good fits e =
     a ∙ b ∙ ap (λ (bs : List ℕ). passes (with_own s name bs)) e
 
 pub number_acted : (s : State) (name text : List ℕ) (z : ℤ) (old new : SandboxValue) (o : Outcome) → is_bad_name name ≡ false → FitsSigned w64 z → text ≡ signed_decimal z
-    → IsActed (set_own s name text) old o new → IsActed (passes (with_own s name (signed_decimal z))) old o new
+    → IsActed (put s name text (with_own s name text)) old o new → IsActed (passes (with_own s name (signed_decimal z))) old o new
 number_acted s name text z old new o good fits e h = let P : Done → Type 0 = λ d. IsActed d old o new in subst P (number_set s name text z good fits e) h
 
 -- a row's cells, as they lie in memory
@@ -273,7 +317,7 @@ rows_left rows i row some is =
 
 -- rows in turn, as files that are written
 abbrev pub RowsActed : List RowInMemory → SandboxValue → Outcome → SandboxValue → Type 0
-RowsActed rows old o new = let rs = map (λ (row : RowInMemory). texts row.items) rows in IsActedWith (rows_files (state_of old.now) rs) (write_rows (state_of old.now) rs) old o new
+RowsActed rows old o new = IsActed (write_rows (state_of old.now) (map (λ (row : RowInMemory). texts row.items) rows)) old o new
 
 -- a row that was written, before the others
 pub row_passed : (rows : List RowInMemory) (i : ℕ) (row : RowInMemory) (held : List (String Global)) (old mid new : SandboxValue) (written o : Outcome) → i < length rows → row ≡ get_or rows i row → held ≡ row.items
@@ -284,7 +328,7 @@ row_passed rows i row held old mid new written o some is items passed h puts k =
     let W : List (String Global) → Type 0 = λ cs. WritesFile (row_file (texts cs)) old written mid in
     let left = map (λ (row : RowInMemory). texts row.items) (drop (i + 1) rows) in
     subst (λ (rs : List RowInMemory). RowsActed rs old o new) (sym (rows_left rows i row some is))
-    (part_passes (row_file (cells row)) (λ s. rows_files s left) (write_row (state_of old.now) (cells row)) (λ s. write_rows s left) old mid new written o passed (subst P items h) (subst W items puts) k)
+    (part_passes (row_file (cells row)) (write_row (state_of old.now) (cells row)) (λ s. write_rows s left) old mid new written o passed (subst P items h) (subst W items puts) k)
 
 -- a row that ended the writing
 pub row_ended : (rows : List RowInMemory) (i : ℕ) (row : RowInMemory) (held : List (String Global)) (old new : SandboxValue) (o : Outcome) → i < length rows → row ≡ get_or rows i row → held ≡ row.items
@@ -292,7 +336,7 @@ pub row_ended : (rows : List RowInMemory) (i : ℕ) (row : RowInMemory) (held : 
 row_ended rows i row held old new o some is items never h =
     let P : List (String Global) → Type 0 = λ cs. IsActed (write_row (state_of old.now) (texts cs)) old o new in
     subst (λ (rs : List RowInMemory). RowsActed rs old o new) (sym (rows_left rows i row some is))
-    (part_ends (rows_files (state_of old.now) (cells row ∷ map (λ (row : RowInMemory). texts row.items) (drop (i + 1) rows))) (write_row (state_of old.now) (cells row)) (write_rows ((write_row (state_of old.now) (cells row)).state) (map (λ row. texts row.items) (drop (i + 1) rows))) old new o never (subst P items h))
+    (part_ends (row_file (cells row)) (write_row (state_of old.now) (cells row)) (write_rows ((write_row (state_of old.now) (cells row)).state) (map (λ row. texts row.items) (drop (i + 1) rows))) old new o (row_no_files (state_of old.now) (cells row)) never (subst P items h))
 
 -- no row is left
 pub rows_end : (rows : List RowInMemory) (i : ℕ) (s : SandboxValue) → length rows ≤ i → RowsActed (drop i rows) s outcomes.Passed s
@@ -337,15 +381,15 @@ out_of_range_row s name text n m good number far =
     let c = ap (λ b. unless_for s (first_true ((not b, reasons.OutOfRange) ∷ [])) (with_own s name (signed_decimal (m +ℤ n)))) far in
     a ∙ b ∙ c
 
-pub failed_acted : (files : List (List ℕ × List ℕ)) (old : SandboxValue) (why : Reason) → IsActedWith files (fails (state_of old.now) why) old (outcomes.Failed why) old
-failed_acted files old why = record { carried_out = (refl, refl); layers = record { layers = refl; marks = refl }; kept = λ m. none_written files old old refl }
+pub failed_acted : (old : SandboxValue) (why : Reason) → IsActed (fails (state_of old.now) why) old (outcomes.Failed why) old
+failed_acted old why = stayed_so old (outcomes.Failed why) refl
 
 pub out_of_range_acted : (old : SandboxValue) (name text : List ℕ) (looked : Option (List ℕ)) (n m : ℤ) → is_bad_name name ≡ false → Some text ≡ looked → number_of text ≡ Some m → is_i64 (m +ℤ n) ≡ false
     → IsActed (add_number (state_of old.now) name looked n) old (outcomes.Failed reasons.OutOfRange) old
 out_of_range_acted old name text looked n m good is number far =
     let P : Option (List ℕ) → Type 0 = λ x. IsActed (add_number (state_of old.now) name x n) old (outcomes.Failed reasons.OutOfRange) old in
     let Q : Done → Type 0 = λ d. IsActed d old (outcomes.Failed reasons.OutOfRange) old in
-    subst P is (subst Q (sym (out_of_range_row (state_of old.now) name text n m good number far)) (failed_acted [] old reasons.OutOfRange))
+    subst P is (subst Q (sym (out_of_range_row (state_of old.now) name text n m good number far)) (failed_acted old reasons.OutOfRange))
 
 in_range_row : (s : State) (name text : List ℕ) (n m : ℤ) → is_bad_name name ≡ false → number_of text ≡ Some m → is_i64 (m +ℤ n) ≡ true
     → sum_row s name n (is_bad_name name) (number_of text) ≡ passes (with_own s name (signed_decimal (m +ℤ n)))
@@ -418,11 +462,6 @@ none_registered done cleanups outcomes.Memory = refl
 none_registered done cleanups outcomes.Passed = sym (append-nil cleanups)
 none_registered done cleanups outcomes.Skip = sym (append-nil cleanups)
 none_registered done cleanups (outcomes.Failed why) = sym (append-nil cleanups)
-
--- skip_scenario changes nothing
-pub skip_exact : (b : Bool) (s : State) (o : Outcome) → o ≡ cond b outcomes.Skip (outcomes.Failed reasons.NotHere) → IsExactly (cond b (skips s) (fails s reasons.NotHere)) o s
-skip_exact true s o h = (h, refl)
-skip_exact false s o h = (h, refl)
 
 -- what the used fields of what was found give
 pub used_given : (library : LibraryValue) (f : FoundValue) (u : UsedFields) (block : BlockValue) → HasUsedFields library f u → arguments_by_uses u block ≡ arguments_of library f block

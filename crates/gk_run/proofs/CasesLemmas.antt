@@ -10,17 +10,14 @@ use Rattle.gk_run.specs.declared.results.Mark.{Mark}
 use Rattle.gk_run.specs.declared.results.Mark.TheVariants.{Skipped, Untested}
 use Rattle.gk_run.specs.declared.results.Status.{Status}
 use Rattle.gk_run.specs.declared.results.Status.TheVariants as statuses
-use Rattle.gk_run.specs.Run.{Run}
-use Rattle.gk_run.specs.Running.{AreEventsTold, alone, reached_row, unrun_row, unreached_row, unselected_row, same_marks}
+use Rattle.gk_run.specs.OpenSection.{Run}
+use Rattle.gk_run.specs.Running.{AreEventsTold, alone, reached_row, unrun_row, unreached_row, unselected_row, same_marks, all_stay_open, case_events, case_of, cases_of, stays_open}
 use Rattle.gk_run.specs.Walk.{row_of_step, rows_of_steps}
-use Rattle.gk_run.specs.Chosen.{MemberValue, has_selected, member_of, members_of}
-use Rattle.gk_run.specs.Cases.{all_stay_open, case_events, case_of, cases_of, stays_open}
-use Rattle.gk_run.specs.Events.{Event}
-use Rattle.gk_run.specs.FeatureContracts.{AreCases, IsMember, RunsCases, TakesMember, members_in}
-use Rattle.gk_run.specs.Observer.{Ended, IsRan, Told, happens, has_ended, of_case, tells}
+use Rattle.gk_run.specs.Chosen.{MemberValue, has_selected, member_of, members_of, falls_from, members_of_rank}
+use Rattle.gk_run.specs.Events.{Event, Ended, IsRan, Told, happens, has_ended, of_case, tells}
+use Rattle.gk_run.specs.PrivateContracts.{AreCases, IsMember, RunsCases, TakesMember, members_in}
 use Rattle.gk_run.proofs.EventLemmas.{heard_both}
 use Rattle.gk_run.proofs.ToldLemmas.{heard_told}
-use Rattle.gk_run.specs.Grouping.{falls_from, members_of_rank}
 use Rattle.gk_run.proofs.GroupingLemmas.{and_left, first_of_rank, none_of_rank, not_of_rank}
 use Rattle.gk_run.specs.declared.cases.Cases.{Cases}
 use Rattle.gk_run.specs.declared.cases.Member.{Member}

@@ -9,10 +9,10 @@ use Rattle.gk_run.specs.declared.results.Outcome.{Outcome}
 use Rattle.gk_run.specs.declared.results.Outcome.TheVariants as outcomes
 use Rattle.gk_run.specs.declared.section.Level.{Level}
 use Rattle.gk_run.specs.Acting.{CleanupValue, Done, IsDone}
-use Rattle.gk_run.specs.SectionEnd.{clean_each, cleanup_done}
+use Rattle.gk_run.specs.SectionHooks.{clean_each, cleanup_done}
 use Rattle.gk_run.specs.Ending.{ending_of, is_memory_ending, worse}
 use Rattle.gk_run.specs.Events.{Event, Stand, of_cleanup, outcomes_of}
-use Rattle.gk_run.specs.WalkContracts.{Goes, Happens}
+use Rattle.gk_run.specs.PrivateContracts.{Goes, Happens}
 use Rattle.gk_run.proofs.EventLemmas.{outcomes_append}
 use Rattle.gk_run.proofs.GoesLemmas.{begin, behind, chain, unrefused, with_rest}
 use Rattle.gk_run.proofs.WalkLemmas.{at}

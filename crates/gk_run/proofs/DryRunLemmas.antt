@@ -11,12 +11,11 @@ use Rattle.gk_run.specs.declared.results.Status.{Status}
 use Rattle.gk_run.specs.declared.results.Status.TheVariants as statuses
 use Rattle.gk_world.specs.State.{nothing_yet, state_of}
 use Rattle.gk_run.specs.Events.{cut_at, event_marks}
-use Rattle.gk_run.specs.Running.{row_of_case, unrun_row, unselected_row, same_marks}
+use Rattle.gk_run.specs.Running.{row_of_case, unrun_row, unselected_row, same_marks, case_statuses}
 use Rattle.gk_run.specs.Walk.{IsLookedUp, row_of_step, looked_up}
 use Rattle.gk_run.specs.Chosen.{ChosenValue, MemberValue}
 use Rattle.gk_run.specs.DryRun.{AreDrySteps, IsDryStep, dry_case_of, dry_cases_of, dry_events, dry_feature_of, dry_row, dry_rules_of, dry_step, dry_verdict}
 use Rattle.gk_run.specs.Ending.{is_memory_mark}
-use Rattle.gk_run.specs.Cases.{case_statuses}
 use Rattle.gk_run.specs.Features.{FeatureCuts, feature_verdict, rule_statuses}
 use Rattle.gk_run.specs.Results.{CaseRow, FeatureRow, RuleRow, StepRow}
 use Rattle.gk_run.specs.Section.{Cut, Events, happened, in_steps, nowhere}

@@ -7,18 +7,14 @@ use Rattle.gk_run.specs.declared.results.Status.{Status}
 use Rattle.gk_run.specs.declared.results.Status.TheVariants as statuses
 use Rattle.gk_run.specs.declared.section.Level.TheVariants as levels
 use Rattle.std.specs.List.{FoldsTo}
-use Rattle.gk_run.specs.Cases.{all_stay_open, case_statuses, cases_of}
-use Rattle.gk_run.specs.Events.{Event}
-use Rattle.gk_run.specs.FeatureContracts.{IsFeatureEnd, IsInside, RunsCases, RunsFeature, RunsRules, members_in}
-use Rattle.gk_run.specs.Observer.{Ended, IsRan, Ran, Told, happens, tells}
+use Rattle.gk_run.specs.Running.{all_stay_open, case_statuses, cases_of}
+use Rattle.gk_run.specs.Events.{Event, Ended, IsRan, Ran, Told, happens, tells}
+use Rattle.gk_run.specs.PrivateContracts.{IsFeatureEnd, IsInside, RunsCases, RunsFeature, RunsRules, members_in}
 use Rattle.gk_run.proofs.EventLemmas.{heard_both}
-use Rattle.gk_run.specs.Chosen.{ChosenValue, HeadValue, MemberValue, has_selected}
-use Rattle.gk_run.specs.Features.{FeatureCuts, FeaturesWithoutRulesHaveTheirCases, feature_row_of, feature_verdict, inside_by, inside_of, rule_statuses}
-use Rattle.gk_run.specs.Grouping.{CasesFallIntoRules, Group, groups_from, members_of_rank, own_members, rule_groups}
-use Rattle.gk_run.specs.OpenSection.{SectionRow, happened_in, section_of, section_state}
+use Rattle.gk_run.specs.Chosen.{ChosenValue, HeadValue, MemberValue, has_selected, CasesFallIntoRules, Group, groups_from, members_of_rank, own_members, rule_groups}
+use Rattle.gk_run.specs.Features.{FeatureCuts, FeaturesWithoutRulesHaveTheirCases, feature_row_of, feature_verdict, inside_by, inside_of, rule_statuses, Inside, rules_of}
+use Rattle.gk_run.specs.OpenSection.{SectionRow, happened_in, section_of, section_state, Run}
 use Rattle.gk_run.specs.Results.{CaseRow, FeatureRow, case_row, rule_row}
-use Rattle.gk_run.specs.Rules.{Inside, rules_of}
-use Rattle.gk_run.specs.Run.{Run}
 use Rattle.gk_run.specs.Section.{around_of, before_passed, nowhere}
 use Rattle.gk_run.proofs.GroupingLemmas.{and_left, groups_all, groups_same}
 

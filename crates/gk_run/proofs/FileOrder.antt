@@ -3,16 +3,12 @@ use Rattle.std.proofs.Common.{Bool, List, [], ap, cond, false, flat_map, map, re
 use Rattle.std.proofs.lemmas.List.{map-append}
 use Rattle.gk_world.specs.State.{State}
 use Rattle.gk_run.specs.declared.section.Level.TheVariants as levels
-use Rattle.gk_run.specs.Cases.{all_stay_open, case_of, cases_of, first_or, later, stays_open}
-use Rattle.gk_run.specs.Chosen.{HeadValue, MemberValue, has_selected}
-use Rattle.gk_run.specs.Features.{ResultsStandInFileOrder}
-use Rattle.gk_run.specs.Grouping.{Group, groups_from, own_members, rule_groups}
-use Rattle.gk_run.specs.Observer.{result_of}
-use Rattle.gk_run.specs.OpenSection.{happened_in, section_state}
+use Rattle.gk_run.specs.Running.{all_stay_open, case_of, cases_of, first_or, later, stays_open, reached_row, unreached_row, unselected_row}
+use Rattle.gk_run.specs.Chosen.{HeadValue, MemberValue, has_selected, Group, groups_from, own_members, rule_groups}
+use Rattle.gk_run.specs.Features.{ResultsStandInFileOrder, RuleCuts, rule_of, rule_stays_open, rules_of, uncut_rule}
+use Rattle.gk_run.specs.Events.{result_of}
+use Rattle.gk_run.specs.OpenSection.{happened_in, section_state, Run}
 use Rattle.gk_run.specs.Results.{CaseRow, RuleRow}
-use Rattle.gk_run.specs.Rules.{RuleCuts, rule_of, rule_stays_open, rules_of, uncut_rule}
-use Rattle.gk_run.specs.Run.{Run}
-use Rattle.gk_run.specs.Running.{reached_row, unreached_row, unselected_row}
 use Rattle.gk_run.specs.Section.{Cut, before_passed, nowhere}
 use Rattle.gk_run.proofs.GroupingLemmas.{groups_all}
 

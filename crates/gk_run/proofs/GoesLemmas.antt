@@ -4,7 +4,7 @@ use Rattle.gk_run.specs.declared.ending.Ending.{Ending}
 use Rattle.gk_run.specs.declared.ending.Ending.TheVariants as endings
 use Rattle.gk_run.specs.Ending.{has_passed, is_memory_ending, worse}
 use Rattle.gk_run.specs.Events.{Event, IsCutOff, SoFar, Stand, ended_in, left_by, refused}
-use Rattle.gk_run.specs.WalkContracts.{Goes}
+use Rattle.gk_run.specs.PrivateContracts.{Goes}
 use Rattle.gk_run.proofs.EndingLemmas.{memory_of, worse_assoc, worse_passed}
 use Rattle.gk_run.proofs.EventLemmas.{ended_both, heard_both, left_both}
 

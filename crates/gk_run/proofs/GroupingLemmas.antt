@@ -5,8 +5,7 @@ use Rattle.std.proofs.lemmas.Bool.{eq-eqb, eqb-false, eqb-true, le-leb, leb-true
 use Rattle.std.proofs.lemmas.List.{drop_all, drop_more, get_or_default, length-map}
 use Rattle.gk_select.specs.declared.case.Case.{Case}
 use Rattle.gk_select.specs.RuleOrder.{rank, FallFrom, FallIntoRules}
-use Rattle.gk_run.specs.Chosen.{HeadValue, MemberValue, head_value, member_of, members_of}
-use Rattle.gk_run.specs.Grouping.{FormedCasesFallIntoRules, Group, GroupsAreAll, falls_from, groups_from, members_of_rank}
+use Rattle.gk_run.specs.Chosen.{HeadValue, MemberValue, head_value, member_of, members_of, FormedCasesFallIntoRules, Group, GroupsAreAll, falls_from, groups_from, members_of_rank}
 
 pub and_left : (a b : Bool) → (a && b) ≡ true → a ≡ true
 and_left true b h = refl

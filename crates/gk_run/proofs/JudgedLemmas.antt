@@ -3,10 +3,10 @@ use Rattle.std.proofs.Common.{Bool, List, [], ap, cond, refl, sym, ◌++◌, ◌
 use Rattle.gk_steps.specs.Finding.{LibraryValue}
 use Rattle.gk_world.specs.State.{Contents, state_of}
 use Rattle.gk_run.specs.declared.results.Status.TheVariants as statuses
-use Rattle.gk_run.specs.Run.{Run}
+use Rattle.gk_run.specs.OpenSection.{Run}
 use Rattle.gk_run.specs.Chosen.{ChosenValue}
 use Rattle.gk_run.specs.DryRun.{dry_feature_of, dry_features_of}
-use Rattle.gk_run.specs.Cases.{first_or, later}
+use Rattle.gk_run.specs.Running.{first_or, later}
 use Rattle.gk_run.specs.Features.{FeatureCuts, uncut_feature}
 use Rattle.gk_run.specs.Judged.{Cuts, DryRunsAreJudged, UnfinishedDryRunsAreJudged, dry_results, results_from, results_of}
 use Rattle.gk_run.specs.Results.{FeatureRow, Results}

@@ -10,19 +10,14 @@ use Rattle.gk_run.specs.declared.results.Status.{Status}
 use Rattle.gk_run.specs.declared.results.Status.TheVariants as statuses
 use Rattle.gk_run.specs.declared.section.Level.{Level}
 use Rattle.gk_run.specs.declared.section.Level.TheVariants as levels
-use Rattle.gk_run.specs.Cases.{all_stay_open, case_of, cases_of, first_or, is_bad, later, stays_open}
-use Rattle.gk_run.specs.Chosen.{ChosenValue, MemberValue, has_selected}
+use Rattle.gk_run.specs.Running.{all_stay_open, case_of, cases_of, first_or, is_bad, later, stays_open, reached_row, unreached_row, unselected_row}
+use Rattle.gk_run.specs.Chosen.{ChosenValue, MemberValue, has_selected, Group, own_members, rule_groups}
 use Rattle.gk_run.specs.DryRun.{dry_case_of, dry_cases_of, dry_feature_of, dry_features_of, dry_row, dry_rules_of}
-use Rattle.gk_run.specs.Features.{FeatureCuts, feature_of, feature_row_of, features_of, inside_by, uncut_feature}
-use Rattle.gk_run.specs.Grouping.{Group, own_members, rule_groups}
-use Rattle.gk_run.specs.Judged.{Cuts, Judged, dry_results, results_from}
-use Rattle.gk_run.specs.JudgedInWords.{CaseInWords, CasesInWords, DryCaseInWords, DryFeatureInWords, DryRunInWords, Each, FeatureInWords, FeaturesInWords, InsideInWords, IsGoodCase, IsGoodFeature, IsGoodRule, IsHeaded, JudgedAreInWords, JudgedInWords, RuleInWords, SectionInWords, StepsHaveTheirResults, rule_rows}
-use Rattle.gk_run.specs.Observer.{Ran, result_of}
-use Rattle.gk_run.specs.OpenSection.{SectionRow, happened_in, no_events, section_events, section_of, section_state}
+use Rattle.gk_run.specs.Features.{FeatureCuts, feature_of, feature_row_of, features_of, inside_by, uncut_feature, Inside, RuleCuts, rule_of, rule_stays_open, rules_of, uncut_rule}
+use Rattle.gk_run.specs.Judged.{Cuts, Judged, dry_results, results_from, CaseInWords, CasesInWords, DryCaseInWords, DryFeatureInWords, DryRunInWords, Each, FeatureInWords, FeaturesInWords, InsideInWords, IsGoodCase, IsGoodFeature, IsGoodRule, IsHeaded, JudgedAreInWords, JudgedInWords, RuleInWords, SectionInWords, StepsHaveTheirResults, rule_rows}
+use Rattle.gk_run.specs.Events.{Ran, result_of}
+use Rattle.gk_run.specs.OpenSection.{SectionRow, happened_in, no_events, section_events, section_of, section_state, Run}
 use Rattle.gk_run.specs.Results.{CaseRow, FeatureRow, Results, RuleRow}
-use Rattle.gk_run.specs.Rules.{Inside, RuleCuts, rule_of, rule_stays_open, rules_of, uncut_rule}
-use Rattle.gk_run.specs.Run.{Run}
-use Rattle.gk_run.specs.Running.{reached_row, unreached_row, unselected_row}
 use Rattle.gk_run.specs.Section.{Cut, Events, around_of, before_passed, happened, nowhere}
 use Rattle.gk_run.specs.Walk.{row_of_step, rows_of_steps}
 use Rattle.gk_run.proofs.CasesLemmas.{and_assoc, and_true}

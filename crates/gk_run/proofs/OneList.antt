@@ -11,18 +11,13 @@ use Rattle.gk_run.specs.declared.results.Status.{Status}
 use Rattle.gk_run.specs.declared.results.Status.TheVariants as statuses
 use Rattle.gk_run.specs.declared.section.Level.{Level}
 use Rattle.gk_run.specs.declared.section.Level.TheVariants as levels
-use Rattle.gk_run.specs.Run.{Run}
-use Rattle.gk_run.specs.Running.{alone, reached_row, row_of_case, unreached_row, unselected_row, verdict_of}
-use Rattle.gk_run.specs.Chosen.{ChosenValue, MemberValue, has_selected}
+use Rattle.gk_run.specs.OpenSection.{Run, SectionRow, happened_in, section_events, section_of, section_state}
+use Rattle.gk_run.specs.Running.{alone, reached_row, row_of_case, unreached_row, unselected_row, verdict_of, all_stay_open, case_of, cases_of, first_or, later, stays_open}
+use Rattle.gk_run.specs.Chosen.{ChosenValue, MemberValue, has_selected, Group, own_members, rule_groups}
 use Rattle.gk_run.specs.DryRun.{dry_case_of, dry_cases_of, dry_events, dry_feature_of, dry_features_of, dry_row, dry_rules_of, dry_step, dry_verdict}
 use Rattle.gk_run.specs.Ending.{around_status, is_memory_mark, verdict_status}
-use Rattle.gk_run.specs.Events.{cut_at, ended_in, event_marks}
-use Rattle.gk_run.specs.Cases.{all_stay_open, case_of, cases_of, first_or, later, stays_open}
-use Rattle.gk_run.specs.Features.{FeatureCuts, feature_of, feature_row_of, features_of, inside_by, inside_of, uncut_feature}
-use Rattle.gk_run.specs.Grouping.{Group, own_members, rule_groups}
-use Rattle.gk_run.specs.Observer.{Ran, result_of}
-use Rattle.gk_run.specs.OpenSection.{SectionRow, happened_in, section_events, section_of, section_state}
-use Rattle.gk_run.specs.Rules.{Inside, RuleCuts, rule_of, rule_stays_open, rules_of, uncut_rule}
+use Rattle.gk_run.specs.Events.{cut_at, ended_in, event_marks, Ran, result_of}
+use Rattle.gk_run.specs.Features.{FeatureCuts, feature_of, feature_row_of, features_of, inside_by, inside_of, uncut_feature, Inside, RuleCuts, rule_of, rule_stays_open, rules_of, uncut_rule}
 use Rattle.gk_run.specs.Judged.{Cuts, OneList, dry_results, has_memory, is_memory_case, is_memory_feature, is_memory_rule, results_from, uncut}
 use Rattle.gk_run.specs.Results.{CaseRow, FeatureRow, RuleRow, Results, is_memory}
 use Rattle.gk_run.specs.Section.{Cut, Events, around_events, around_of, before_passed, happened, in_after, in_before, in_cleanups, in_order, in_steps, has_event, nowhere}

@@ -3,17 +3,15 @@ use Rattle.std.proofs.Common.{Bool, List, [], ap, false, not, refl, subst, sym, 
 use Rattle.gk_world.specs.State.{State, state_of}
 use Rattle.gk_run.specs.declared.results.Status.{Status}
 use Rattle.gk_run.specs.declared.section.Level.TheVariants as levels
-use Rattle.gk_run.specs.Run.{Run, run_of}
-use Rattle.gk_run.specs.FeatureContracts.{RunsFeature}
+use Rattle.gk_run.specs.OpenSection.{Run, run_of, section_events, section_state}
+use Rattle.gk_run.specs.PrivateContracts.{RunsFeature}
 use Rattle.gk_gherkin.specs.declared.hooks.HookFile.{HookFile}
 use Rattle.gk_steps.specs.declared.library.Library.{Library}
 use Rattle.gk_run.specs.Chosen.{ChosenValue}
 use Rattle.gk_run.specs.Ending.{has_passed, is_memory_ending}
-use Rattle.gk_run.specs.Events.{Event, ended_in, stand_of}
-use Rattle.gk_run.specs.Observer.{Ended, result_of}
-use Rattle.gk_run.specs.Cases.{first_or, later, stays_open}
+use Rattle.gk_run.specs.Events.{Event, ended_in, stand_of, Ended, result_of}
+use Rattle.gk_run.specs.Running.{first_or, later, stays_open}
 use Rattle.gk_run.specs.Features.{FeatureCuts, feature_of, features_of, uncut_feature}
-use Rattle.gk_run.specs.OpenSection.{section_events, section_state}
 use Rattle.gk_run.specs.Judged.{Cuts, results_of}
 use Rattle.gk_run.specs.OpenRun.{FinishedRunsAreJudged, UnfinishedRunsAreJudged, opens_features}
 use Rattle.gk_run.specs.Results.{FeatureRow, Results}

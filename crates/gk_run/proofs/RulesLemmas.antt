@@ -8,18 +8,15 @@ use Rattle.gk_run.specs.declared.results.Status.TheVariants as statuses
 use Rattle.gk_run.specs.declared.rules.RuleEnd.{RuleEnd}
 use Rattle.gk_run.specs.declared.section.Level.TheVariants as levels
 use Rattle.std.specs.List.{FoldsTo}
-use Rattle.gk_run.specs.Cases.{cases_of, stays_open, stays_open_by}
-use Rattle.gk_run.specs.Events.{Event}
-use Rattle.gk_run.specs.FeatureContracts.{AreCases, IsRule, IsRuleBegun, RunsRule, RunsRules, members_in}
-use Rattle.gk_run.specs.Observer.{Ended, IsRan, Ran, Told, has_ended, of_rule, tells}
+use Rattle.gk_run.specs.Running.{cases_of, stays_open, stays_open_by}
+use Rattle.gk_run.specs.Events.{Event, Ended, IsRan, Ran, Told, has_ended, of_rule, tells}
+use Rattle.gk_run.specs.PrivateContracts.{AreCases, IsRule, RunsRule, RunsRules, members_in}
 use Rattle.gk_run.proofs.EventLemmas.{heard_both}
-use Rattle.gk_run.specs.Chosen.{HeadValue, MemberValue, has_selected}
-use Rattle.gk_run.specs.Grouping.{Group, falls_from, groups_from, members_of_rank}
-use Rattle.gk_run.specs.OpenSection.{SectionRow, section_of, section_state}
+use Rattle.gk_run.specs.Chosen.{HeadValue, MemberValue, has_selected, Group, falls_from, groups_from, members_of_rank}
+use Rattle.gk_run.specs.OpenSection.{SectionRow, section_of, section_state, Run}
 use Rattle.gk_run.specs.Results.{CaseRow, RuleRow, case_row, rule_row}
-use Rattle.gk_run.specs.Rules.{Inside, RuleCuts, rule_of, rule_stays_open, rules_of}
-use Rattle.gk_run.specs.Run.{Run}
-use Rattle.gk_run.specs.Section.{nowhere}
+use Rattle.gk_run.specs.Features.{Inside, RuleCuts, rule_of, rule_stays_open, rules_of}
+use Rattle.gk_run.specs.Section.{Cut, nowhere}
 use Rattle.gk_run.proofs.GroupingLemmas.{and_left, groups_same}
 
 never_stops : (stop : Bool) → stays_open_by stop statuses.Passed ≡ true
@@ -31,7 +28,7 @@ passed_stays run = never_stops run.stop
 
 -- a rule that was begun, from what its section came to
 pub rule_begun : {S : Type 0} (told : S → Told → S → Type 0) (run : Run) (now : State) (is_open is_begun : Bool) (tags : List (List ℕ)) (g : Group) (row : SectionRow (List CaseRow)) (first last : S) → is_begun ≡ (is_open && has_selected g.members) → is_begun ≡ true → tags ≡ g.head.tags →
-    IsRuleBegun told run now tags g.members row first last → IsRule told run now is_open g row first last
+    (cut : Cut) × (cuts : List Cut) × IsRan told (section_of run levels.Rule tags now true cut (λ section is_ready. cases_of run section is_ready cuts g.members)) row first last → IsRule told run now is_open g row first last
 rule_begun told run now is_open is_begun tags g row first last begins begun same known outside opens =
     let inside : State → Bool → Ran (List CaseRow) = λ section is_ready. cases_of run section is_ready known.1 g.members in
     let here : now ≡ outside = opens (and_left is_open (has_selected g.members) (sym begins ∙ begun)) in (

@@ -11,17 +11,15 @@ use Rattle.gk_run.specs.declared.results.Status.{Status}
 use Rattle.gk_run.specs.declared.section.Level.{Level}
 use Rattle.gk_run.specs.declared.section.Level.TheVariants as levels
 use Rattle.gk_run.specs.Acting.{CleanupValue}
-use Rattle.gk_run.specs.SectionEnd.{cleaned}
+use Rattle.gk_run.specs.SectionHooks.{cleaned, after_lists, begun, entered, walk_each}
 use Rattle.gk_run.specs.Ending.{around_status, has_passed, is_memory_ending, verdict_status, worse}
 use Rattle.gk_run.specs.Events.{Event, IsCutOff, SoFar, Stand, cut_at, ended_in, event_marks, left_by, outcomes_of, stand_of}
-use Rattle.gk_run.specs.OpenSection.{EndsAround, IsBegun, IsSectionEnd, section_events, section_state}
+use Rattle.gk_run.specs.OpenSection.{EndsAround, IsBegun, IsSectionEnd, section_events, section_state, Run}
 use Rattle.gk_run.specs.Results.{CaseRow, StepRow}
-use Rattle.gk_run.specs.Run.{Run}
 use Rattle.gk_run.specs.Running.{AreEventsTold, alone, row_of_case, verdict_of}
 use Rattle.gk_run.specs.Section.{Cut, Events, around_of, before_passed, happened, in_after, in_before, in_cleanups, in_order, in_steps, has_event, nowhere}
-use Rattle.gk_run.specs.SectionHooks.{after_lists, begun, entered, walk_each}
 use Rattle.gk_run.specs.Walk.{rows_of_steps, steps_from}
-use Rattle.gk_run.specs.WalkContracts.{Happens, IsClosing}
+use Rattle.gk_run.specs.PrivateContracts.{Happens, IsClosing}
 use Rattle.gk_run.proofs.EndingLemmas.{passed_unrefused, worse_assoc}
 use Rattle.gk_run.proofs.EventLemmas.{cut_there, ended_both, heard_both, place_there}
 use Rattle.gk_run.proofs.GoesLemmas.{all_told, stays_refused}

@@ -4,10 +4,8 @@ use Rattle.std.proofs.Common.{Bool, List, [], ap, map, subst, true, ℕ, ◌++�
 use Rattle.gk_world.specs.State.{State}
 use Rattle.gk_run.specs.declared.results.Status.{Status}
 use Rattle.gk_run.specs.declared.section.Level.{Level}
-use Rattle.gk_run.specs.Events.{Event}
-use Rattle.gk_run.specs.Observer.{Ended, IsRan, Ran, happens, tells}
-use Rattle.gk_run.specs.OpenSection.{IsSectionEnd, SectionRow, section_events, section_of, section_state}
-use Rattle.gk_run.specs.Run.{Run}
+use Rattle.gk_run.specs.Events.{Event, Ended, IsRan, Ran, happens, tells}
+use Rattle.gk_run.specs.OpenSection.{IsSectionEnd, SectionRow, section_events, section_of, section_state, Run}
 use Rattle.gk_run.specs.Section.{around_of, before_passed, happened}
 use Rattle.gk_run.proofs.EventLemmas.{heard_both}
 

@@ -21,14 +21,14 @@ use Rattle.gk_run.specs.declared.results.Outcome.{Outcome}
 use Rattle.gk_run.specs.declared.results.Outcome.TheVariants as outcomes
 use Rattle.gk_run.specs.declared.section.Level.{Level}
 use Rattle.gk_run.specs.declared.section.Stage.{Stage}
-use Rattle.gk_run.specs.Acting.{Acted as ActedValue, CleanupValue, ArgumentsValue, arguments_of, arguments_by_uses, act, at_site, done_of, files_of, IsDone, HasRegistered, WritesFirst}
+use Rattle.gk_run.specs.Acting.{Acted as ActedValue, CleanupValue, ArgumentsValue, arguments_by_uses, act, at_site, done_of, IsDone, HasRegistered, WritesFirst}
 use Rattle.gk_run.specs.Ending.{ending_of, has_passed, is_memory_ending, is_memory_mark, worse}
 use Rattle.gk_run.specs.Events.{Event, SoFar, Stand, ended_in, event_marks, left_by, mark_of, of_step}
 use Rattle.gk_run.specs.Results.{StepRow}
 use Rattle.gk_run.specs.Section.{after_of, site_of, steps_of_case}
 use Rattle.gk_run.specs.SectionHooks.{hook_steps, walk_each}
 use Rattle.gk_run.specs.Walk.{IsLookedUp, Stepped, event_of, looked_up, one_step, row_of_step, rows_of_steps, stepped, steps_from, unrun_step, walk}
-use Rattle.gk_run.specs.WalkContracts.{Goes, Happens, IsNext, IsStepRun, step_files, told_next}
+use Rattle.gk_run.specs.PrivateContracts.{Goes, Happens, IsNext, IsStepRun, told_next}
 use Rattle.gk_run.proofs.ActingLemmas.{called_is, used_given}
 use Rattle.gk_run.proofs.GoesLemmas.{all_told, begin, behind, chain, unrefused, with_rest}
 
@@ -343,7 +343,7 @@ steps_found (hook ∷ hooks) kind tag = step_found hook hooks kind tag (is_for h
 
 -- a step whose action was carried out
 acted_step : (acted : ActedValue) (cleanups new_cleanups : List CleanupValue) (o : Outcome) (new : State) → IsDone (done_of acted) o new → HasRegistered acted cleanups o new_cleanups
-    → IsStepRun (record { mark = Acted acted.done.outcome; state = acted.done.state; registered = acted.registered }) cleanups (Acted o) new new_cleanups
+    → IsStepRun (record { mark = Acted acted.done.outcome; state = acted.done.state; registered = acted.registered; files = acted.done.files }) cleanups (Acted o) new new_cleanups
 acted_step acted cleanups new_cleanups outcomes.Memory new done registered = registered
 acted_step acted cleanups new_cleanups outcomes.Passed new done registered = (ap (λ o. Acted o) done.0, done.1, registered)
 acted_step acted cleanups new_cleanups outcomes.Skip new done registered = (ap (λ o. Acted o) done.0, done.1, registered)
@@ -362,13 +362,13 @@ used_step library site s new cleanups new_cleanups step (Some f) u g o looked h 
     (subst (λ (a : ActedValue). HasRegistered a cleanups o new_cleanups) is registered)
 
 -- what such a step wrote where memory was refused in its action
-pub used_kept : (library : LibraryValue) (old new : SandboxValue) (step : StepValue) (x : Option FoundValue) (u : FoundUse) (g : ArgumentsValue)
+pub used_kept : (library : LibraryValue) (site : Site) (old new : SandboxValue) (step : StepValue) (x : Option FoundValue) (u : FoundUse) (g : ArgumentsValue)
     → IsUseOf library x (Some u) → g ≡ arguments_by_uses u.fields step.block
-    → WritesFirst (files_of u.action g (state_of old.now)) old new → WritesFirst (step_files library (state_of old.now) step x) old new
-used_kept library old new step None u g looked h kept = absurd looked
-used_kept library old new step (Some f) u g looked h kept =
-    subst (λ (a : Action). WritesFirst (files_of a (arguments_of library f step.block) (state_of old.now)) old new) looked.action
-    (subst (λ (y : ArgumentsValue). WritesFirst (files_of u.action y (state_of old.now)) old new) (h ∙ used_given library f u.fields step.block looked.fields) kept)
+    → WritesFirst (done_of (at_site u.action site library g (state_of old.now))).files old new → WritesFirst (stepped library site (state_of old.now) step x).files old new
+used_kept library site old new step None u g looked h kept = absurd looked
+used_kept library site old new step (Some f) u g looked h kept =
+    let is = called_is library site f step.block (state_of old.now) u.action g looked.action (h ∙ used_given library f u.fields step.block looked.fields) in
+    subst (λ (a : ActedValue). WritesFirst a.done.files old new) is kept
 
 only_skipped : (b : Bool) → is_memory_mark (cond b Skipped Undefined) ≡ false
 only_skipped true = refl

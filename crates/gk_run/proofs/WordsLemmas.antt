@@ -17,8 +17,7 @@ use Rattle.gk_run.specs.Acting.{CleanupValue}
 use Rattle.gk_run.specs.Ending.{ending_of, has_passed}
 use Rattle.gk_run.specs.Events.{Event, Stand, event_marks, left_by}
 use Rattle.gk_run.specs.Section.{site_of, steps_of_case}
-use Rattle.gk_run.specs.Walk.{event_of, looked_up, one_step, stepped, steps_from, unrun_step, walk}
-use Rattle.gk_run.specs.WalkInWords.{Above, CarriesOut, EndsAt, EndsAtTheLeastStop, HasNoStop, IsStop, StepsEndAtTheLeastStop, StoppedCasesRunNoStep, Stops, StopsAt, WalksEndAtTheLeastStop, after, carried_on, event_at, no_others, outcome_from, unrun_steps}
+use Rattle.gk_run.specs.Walk.{event_of, looked_up, one_step, stepped, steps_from, unrun_step, walk, Above, CarriesOut, EndsAt, EndsAtTheLeastStop, HasNoStop, IsStop, StepsEndAtTheLeastStop, StoppedCasesRunNoStep, Stops, StopsAt, WalksEndAtTheLeastStop, after, carried_on, event_at, outcome_from, unrun_steps}
 
 -- ---- one step
 
@@ -189,7 +188,7 @@ module _ (library : LibraryValue) (place : Stage) (above : Above) (events_of : S
       by_first start step steps (in_words (onward library place start step steps) steps) (decided_by library (site_of place) start.state step (found library step.step_type step.text) refl)
 
 pub walks_in_words : WalksEndAtTheLeastStop
-walks_in_words library place start steps = in_words library place no_others (walk library place) (λ s. refl) (λ s step steps. refl) (λ stand ended steps. refl) start steps
+walks_in_words library place start steps = in_words library place (λ ended s others. []) (walk library place) (λ s. refl) (λ s step steps. refl) (λ stand ended steps. refl) start steps
 
 -- ---- the steps of a case
 

@@ -20,6 +20,7 @@ use Rattle.gk_world.specs.State.{State, with_text, without, see, state_of}
 use Rattle.gk_world.specs.Refusals.{first_true, is_bad_name, is_too_long, joined}
 use Rattle.gk_world.specs.Sandbox.{SandboxValue, PutsFile, KeepsLayers}
 use Rattle.gk_run.specs.declared.acting.Arguments.{Arguments}
+use Rattle.gk_run.specs.declared.cleanups.Cleanup.{Cleanup}
 use Rattle.gk_run.specs.declared.acting.Site.{Site}
 use Rattle.gk_run.specs.declared.acting.Site.TheVariants as sites
 use Rattle.gk_run.specs.declared.results.Reason.{Reason}
@@ -27,11 +28,12 @@ use Rattle.gk_run.specs.declared.results.Reason.TheVariants as reasons
 use Rattle.gk_run.specs.declared.results.Outcome.{Outcome}
 use Rattle.gk_run.specs.declared.results.Outcome.TheVariants as outcomes
 
--- What an action leaves: a state and its outcome. `part_passed` says whether a part of the action passed.
+-- What an action leaves: a state and its outcome. `takes_memory` says whether memory may be refused in it. `files` are those that an action of more than one change writes, in order.
 pub record Done : Type 0 where
   pub state : State
   pub outcome : Outcome
-  pub part_passed : Bool
+  pub takes_memory : Bool
+  pub files : List (List ℕ × List ℕ)
 
 -- The arguments of an action: the fields that it uses, the text that it works with, which is called T, and the step's block.
 pub record ArgumentsValue : Type 0 where
@@ -64,13 +66,17 @@ abbrev pub arguments_of : LibraryValue → FoundValue → BlockValue → Argumen
 arguments_of library found =
     arguments_with (text_field library found (codes "name")) (text_field library found (codes "to")) (text_field library found (codes "step")) (number_field library found (codes "n")) (text_field library found (codes "text"))
 
--- An action that passes and leaves this state.
-abbrev pub passes : State → Done
-passes s = record { state = s; outcome = outcomes.Passed; part_passed = true }
+-- An action that changes nothing, takes no memory and has this outcome.
+abbrev pub stays : State → Outcome → Done
+stays s outcome = record { state = s; outcome = outcome; takes_memory = false; files = [] }
 
--- An action that fails for this reason and leaves this state.
+-- An action that takes memory, passes and leaves this state.
+abbrev pub passes : State → Done
+passes s = record { state = s; outcome = outcomes.Passed; takes_memory = true; files = [] }
+
+-- An action that fails for this reason and changes nothing.
 abbrev pub fails : State → Reason → Done
-fails s why = record { state = s; outcome = outcomes.Failed why; part_passed = false }
+fails s why = stays s (outcomes.Failed why)
 
 -- An action that fails if there is a reason, and otherwise passes with a new state.
 abbrev pub unless_for : State → Option Reason → State → Done
@@ -91,9 +97,9 @@ abbrev pub is_pass : Outcome → Bool
 is_pass outcomes.Passed = true
 is_pass _ = false
 
--- Two parts of an action. The second counts only if the first passed.
-abbrev pub and_then : Done → Done → Done
-and_then this next = cond (is_pass this.outcome) (record next { part_passed = true }) this
+-- Two parts of an action, of which the first writes this file. The second counts only if the first passed.
+abbrev pub and_then : List ℕ × List ℕ → Done → Done → Done
+and_then file this next = cond (is_pass this.outcome) (record next { takes_memory = true; files = file ∷ next.files }) this
 
 -- The reason if a name has no bytes, or too many.
 abbrev pub bad_name : List ℕ → Bool × Reason
@@ -107,42 +113,35 @@ too_long text = (is_too_long text, reasons.TextTooLong)
 abbrev pub absent : Option (List ℕ) → Bool × Reason
 absent held = (is_none held, reasons.Absent)
 
--- The reason if something is held.
-abbrev pub present : Option (List ℕ) → Bool × Reason
-present held = (is_some held, reasons.Present)
+-- A check that something is held.
+abbrev pub exists : Option (List ℕ) → Outcome
+exists None = outcomes.Failed reasons.Absent
+exists (Some held) = outcomes.Passed
 
--- Nothing is held, or something of which this doesn't hold.
-abbrev pub is_not : {A : Type 0} → Option A → (A → Bool) → Bool
-is_not None holds = true
-is_not (Some held) holds = not (holds held)
+-- A check that nothing is held.
+abbrev pub is_absent : Option (List ℕ) → Outcome
+is_absent None = outcomes.Passed
+is_absent (Some held) = outcomes.Failed reasons.Present
 
--- The reason if the text that is held isn't this one.
-abbrev pub differs : Option (List ℕ) → List ℕ → Bool × Reason
-differs held text = (is_not held (λ other. bytes_eq other text), reasons.Differs)
+-- The outcome of a check, by whether what is held agrees with what the step says.
+abbrev pub agreement : Bool → Outcome
+agreement agrees = cond agrees outcomes.Passed (outcomes.Failed reasons.Differs)
 
--- The reason if the text that is held doesn't contain this one.
-abbrev pub lacks : Option (List ℕ) → List ℕ → Bool × Reason
-lacks held text = (is_not held (λ other. stands_in text other), reasons.Differs)
+-- A check that this holds of T and of the text that is held.
+abbrev pub agrees : (List ℕ → List ℕ → Bool) → Option (List ℕ) → Option (List ℕ) → Outcome
+agrees holds held None = outcomes.Failed reasons.NoText
+agrees holds None (Some text) = outcomes.Failed reasons.Absent
+agrees holds (Some held) (Some text) = agreement (holds text held)
 
--- The number that is held.
-abbrev pub number_held : Option (List ℕ) → Option ℤ
-number_held held = number_of (unwrap_or held [])
+-- A check that a number, if there is one, is this one.
+abbrev pub equals : Option ℤ → ℤ → Outcome
+equals None n = outcomes.Failed reasons.NotNumber
+equals (Some m) n = agreement (int_eq m n)
 
--- The reason if what is held isn't a number.
-abbrev pub not_number : Option (List ℕ) → Bool × Reason
-not_number held = (is_none (number_held held), reasons.NotNumber)
-
--- The reason if a sum isn't a signed 64-bit number.
-abbrev pub out_of_range : ℤ → Bool × Reason
-out_of_range z = (not (is_i64 z), reasons.OutOfRange)
-
--- The reason if the number that is held isn't this one.
-abbrev pub differs_from : Option (List ℕ) → ℤ → Bool × Reason
-differs_from held n = (is_not (number_held held) (λ other. int_eq other n), reasons.Differs)
-
--- The reason if the innermost layer has no value of this name. It comes after `absent`, so an outer layer has one. (behave's documentation: context layers)
-abbrev pub other_layer : Option (List ℕ) → Bool × Reason
-other_layer own = (is_none own, reasons.OtherLayer)
+-- A check that the text that is held is this number.
+abbrev pub is_number : Option (List ℕ) → ℤ → Outcome
+is_number None n = outcomes.Failed reasons.Absent
+is_number (Some held) n = equals (number_of held) n
 
 -- The state in which a file has this text.
 abbrev pub with_file : State → List ℕ → List ℕ → State
@@ -168,29 +167,25 @@ with_own s name text = record s { own = with_text s.own name text }
 abbrev pub without_own : State → List ℕ → State
 without_own s name = record s { own = without s.own name }
 
--- A value of the innermost layer is set to a text, as by `set_value`.
-abbrev pub set_own : State → List ℕ → List ℕ → Done
-set_own s name text = unless s (bad_name name ∷ too_long text ∷ []) (with_own s name text)
-
--- A text is written to a file, as by `write_file`.
-abbrev pub write_file : State → List ℕ → List ℕ → Done
-write_file s name text = unless s (bad_name name ∷ too_long text ∷ []) (with_file s name text)
+-- A text is put under a name, which leaves this state.
+abbrev pub put : State → List ℕ → List ℕ → State → Done
+put s name text new = unless s (bad_name name ∷ too_long text ∷ []) new
 
 -- A file is removed, as by `remove_file`.
 abbrev pub remove_file : State → List ℕ → Done
 remove_file s name = unless s (bad_name name ∷ absent (s.files name) ∷ []) (without_file s name)
 
--- The reason if there is no file of this name. A bad name belongs to no file.
-abbrev pub no_file : State → List ℕ → Bool × Reason
-no_file s name = (is_bad_name name || is_none (s.files name), reasons.Absent)
-
 -- A file's text moves to a new name, and the old name is removed. If the names are equal, nothing changes.
 abbrev pub moved : State → List ℕ → List ℕ → State
 moved s name to = cond (bytes_eq name to) s (without_file (with_file s to (unwrap_or (s.files name) [])) name)
 
--- A file is renamed. The file must exist, and the new name must be a good one.
+-- The file of the new name, unless the names are equal.
+abbrev pub renamed_files : State → List ℕ → List ℕ → List (List ℕ × List ℕ)
+renamed_files s name to = cond (bytes_eq name to) [] ((to, unwrap_or (s.files name) []) ∷ [])
+
+-- A file is renamed. The file must exist, which a bad name has none of, and the new name must be a good one.
 abbrev pub rename_file : State → List ℕ → List ℕ → Done
-rename_file s name to = unless s (no_file s name ∷ bad_name to ∷ []) (moved s name to)
+rename_file s name to = let done = unless s ((is_bad_name name || is_none (s.files name), reasons.Absent) ∷ bad_name to ∷ []) (moved s name to) in record done { files = cond (is_pass done.outcome) (renamed_files s name to) [] }
 
 -- The first row of a table of files: its cells are `name` and `text`.
 abbrev pub is_head : List (List ℕ) → Bool
@@ -208,13 +203,18 @@ is_files_table (head ∷ rows) = is_head head && have_two_cells rows
 
 -- A row of a table of files, written as a file. A row of such a table has two cells.
 abbrev pub write_row : State → List (List ℕ) → Done
-write_row s (name ∷ text ∷ []) = write_file s name text
+write_row s (name ∷ text ∷ []) = put s name text (with_file s name text)
 write_row s _ = fails s reasons.BadTable
+
+-- A row of a table of files: a name and a text.
+abbrev pub row_file : List (List ℕ) → List ℕ × List ℕ
+row_file (name ∷ text ∷ []) = (name, text)
+row_file _ = ([], [])
 
 -- Rows that are written one after another. The first refused row ends this, and earlier rows stay.
 abbrev pub write_rows : State → List (List (List ℕ)) → Done
 write_rows s [] = passes s
-write_rows s (row ∷ rows) = let written = write_row s row in and_then written (write_rows written.state rows)
+write_rows s (row ∷ rows) = let written = write_row s row in and_then (row_file row) written (write_rows written.state rows)
 
 -- A table of files that is written, from its second row on. If the block isn't such a table, nothing is written.
 abbrev pub write_table : State → BlockValue → Done
@@ -224,39 +224,46 @@ write_table s (Table rows) = cond (is_files_table rows) (write_rows s (drop 1 ro
 
 -- The innermost layer's value becomes the number that is held plus another, in decimal.
 abbrev pub add_number : State → List ℕ → Option (List ℕ) → ℤ → Done
-add_number s name held n = let sum = unwrap_or (number_held held) (pos 0) +ℤ n in unless s (bad_name name ∷ absent held ∷ not_number held ∷ out_of_range sum ∷ []) (with_own s name (signed_decimal sum))
+add_number s name held n =
+    let number = number_of (unwrap_or held []) in
+    let sum = unwrap_or number (pos 0) +ℤ n in
+    unless s (bad_name name ∷ absent held ∷ (is_none number, reasons.NotNumber) ∷ (not (is_i64 sum), reasons.OutOfRange) ∷ []) (with_own s name (signed_decimal sum))
 
--- The table of the actions, one row each. A row says whether the action works with T, the reasons for which it fails, in order, and the state that it otherwise leaves. At a site that allows them, at_cleanup and skip_scenario do something else, which isn't in the table.
+-- The table of the actions, one row each. The row of a check says its outcome. Any other row says whether the action works with T, the reasons for which it fails, in order, and the state that it otherwise leaves. An outer layer has a value that the innermost one has not, so `delete_value` then has the reason OtherLayer. At a site that allows them, at_cleanup and skip_scenario do something else, which isn't in the table. (behave's documentation: context layers)
 abbrev pub table : Action → ArgumentsValue → State → Done
-table actions.WriteFile g s = with_T s g.text (λ text. write_file s g.name text)
+table actions.WriteFile g s = with_T s g.text (λ text. put s g.name text (with_file s g.name text))
 table actions.AppendFile g s = with_T s g.text (λ text. unless s (bad_name g.name ∷ absent (s.files g.name) ∷ too_long (joined s.files g.name text) ∷ []) (with_file s g.name (joined s.files g.name text)))
 table actions.RemoveFile g s = remove_file s g.name
 table actions.RenameFile g s = rename_file s g.name g.to
 table actions.WriteFiles g s = write_table s g.block
-table actions.FileExists g s = unless s (absent (s.files g.name) ∷ []) s
-table actions.FileAbsent g s = unless s (present (s.files g.name) ∷ []) s
-table actions.FileIs g s = with_T s g.text (λ text. unless s (absent (s.files g.name) ∷ differs (s.files g.name) text ∷ []) s)
-table actions.FileContains g s = with_T s g.text (λ text. unless s (absent (s.files g.name) ∷ lacks (s.files g.name) text ∷ []) s)
-table actions.SetEnv g s = with_T s g.text (λ text. unless s (bad_name g.name ∷ too_long text ∷ []) (with_env s g.name text))
+table actions.FileExists g s = stays s (exists (s.files g.name))
+table actions.FileAbsent g s = stays s (is_absent (s.files g.name))
+table actions.FileIs g s = stays s (agrees bytes_eq (s.files g.name) g.text)
+table actions.FileContains g s = stays s (agrees stands_in (s.files g.name) g.text)
+table actions.SetEnv g s = with_T s g.text (λ text. put s g.name text (with_env s g.name text))
 table actions.RemoveEnv g s = unless s (bad_name g.name ∷ absent (s.env g.name) ∷ []) (without_env s g.name)
-table actions.EnvIs g s = with_T s g.text (λ text. unless s (absent (s.env g.name) ∷ differs (s.env g.name) text ∷ []) s)
-table actions.EnvAbsent g s = unless s (present (s.env g.name) ∷ []) s
-table actions.SetValue g s = with_T s g.text (λ text. set_own s g.name text)
-table actions.DeleteValue g s = unless s (bad_name g.name ∷ absent (see s g.name) ∷ other_layer (s.own g.name) ∷ []) (without_own s g.name)
-table actions.ValueIs g s = with_T s g.text (λ text. unless s (absent (see s g.name) ∷ differs (see s g.name) text ∷ []) s)
-table actions.ValueAbsent g s = unless s (present (see s g.name) ∷ []) s
+table actions.EnvIs g s = stays s (agrees bytes_eq (s.env g.name) g.text)
+table actions.EnvAbsent g s = stays s (is_absent (s.env g.name))
+table actions.SetValue g s = with_T s g.text (λ text. put s g.name text (with_own s g.name text))
+table actions.DeleteValue g s = unless s (bad_name g.name ∷ absent (see s g.name) ∷ (is_none (s.own g.name), reasons.OtherLayer) ∷ []) (without_own s g.name)
+table actions.ValueIs g s = stays s (agrees bytes_eq (see s g.name) g.text)
+table actions.ValueAbsent g s = stays s (is_absent (see s g.name))
 table actions.SetNumber g s = unless s (bad_name g.name ∷ []) (with_own s g.name (signed_decimal g.number))
 table actions.AddNumber g s = add_number s g.name (see s g.name) g.number
-table actions.NumberIs g s = unless s (absent (see s g.name) ∷ not_number (see s g.name) ∷ differs_from (see s g.name) g.number ∷ []) s
+table actions.NumberIs g s = stays s (is_number (see s g.name) g.number)
 table actions.AtCleanup g s = fails s reasons.NotHere
 table actions.SkipScenario g s = fails s reasons.NotHere
-table actions.Pass g s = passes s
+table actions.Pass g s = stays s outcomes.Passed
 table actions.Fail g s = fails s reasons.Asked
 
 -- A registered cleanup: what the look-up of its text found, and the block of the step that registered it. (behave's documentation: cleanups)
 pub record CleanupValue : Type 0 where
   pub found : FoundValue
   pub block : BlockValue
+
+-- The value of a `Cleanup`.
+abbrev pub cleanup_value : Cleanup → CleanupValue
+cleanup_value c = record { found = found_value c.found; block = block_value c.block }
 
 -- What an action leaves, and the cleanups that it registers.
 pub record Acted : Type 0 where
@@ -271,24 +278,20 @@ done_of acted = acted.done
 abbrev pub without_cleanups : Done → Acted
 without_cleanups done = record { done = done; registered = [] }
 
--- A step, or a before hook of a scenario, may skip the scenario.
-abbrev pub may_skip : Site → Bool
-may_skip sites.Step = true
-may_skip sites.CaseHook = true
-may_skip _ = false
+-- The outcome of skip_scenario: a step, or a before hook of a scenario, may skip the scenario. (behave's documentation: skipping scenarios)
+abbrev pub skip_outcome : Site → Outcome
+skip_outcome sites.Step = outcomes.Skip
+skip_outcome sites.CaseHook = outcomes.Skip
+skip_outcome _ = outcomes.Failed reasons.NotHere
 
 -- Everything except a cleanup may register a cleanup.
 abbrev pub may_register : Site → Bool
 may_register sites.Cleanup = false
 may_register _ = true
 
--- The scenario is skipped. (behave's documentation: skipping scenarios)
-abbrev pub skips : State → Done
-skips s = record { state = s; outcome = outcomes.Skip; part_passed = true }
-
--- What a look-up found is registered with a block. If it found nothing, there is no such step; the look-up is then a part that passed. (behave's documentation: cleanups)
+-- What a look-up found is registered with a block. If it found nothing, there is no such step, but memory may be refused in the look-up. (behave's documentation: cleanups)
 abbrev pub registers : State → BlockValue → Option FoundValue → Acted
-registers s block None = without_cleanups (record (fails s reasons.NoStep) { part_passed = true })
+registers s block None = without_cleanups (record (fails s reasons.NoStep) { takes_memory = true })
 registers s block (Some f) = record { done = passes s; registered = record { found = f; block = block } ∷ [] }
 
 -- A text is looked up and registered, if the site allows this.
@@ -298,46 +301,17 @@ registers_at site s library g = cond (may_register site) (registers s g.block (f
 -- What an action does at a site. at_cleanup looks up the field `step` among the entries of type `step`, and skip_scenario skips the scenario. At a site that doesn't allow them, these two fail, as their rows of the table say. Every other action does what its row says.
 abbrev pub at_site : Action → Site → LibraryValue → ArgumentsValue → State → Acted
 at_site actions.AtCleanup site library g s = registers_at site s library g
-at_site actions.SkipScenario site library g s = without_cleanups (cond (may_skip site) (skips s) (fails s reasons.NotHere))
+at_site actions.SkipScenario site library g s = without_cleanups (stays s (skip_outcome site))
 at_site action site library g s = without_cleanups (table action g s)
 
 -- What the action of a found step leaves and registers.
 unfoldable pub act : LibraryValue → Site → FoundValue → BlockValue → State → Acted
 act library site found block s = at_site (action_of library found) site library (arguments_of library found block) s
 
--- The actions that change nothing: the checks, `skip_scenario`, `pass` and `fail`. Their rows leave the state as it is, and they take no memory.
-abbrev pub changes_nothing : Action → Bool
-changes_nothing actions.FileExists = true
-changes_nothing actions.FileAbsent = true
-changes_nothing actions.FileIs = true
-changes_nothing actions.FileContains = true
-changes_nothing actions.EnvIs = true
-changes_nothing actions.EnvAbsent = true
-changes_nothing actions.ValueIs = true
-changes_nothing actions.ValueAbsent = true
-changes_nothing actions.NumberIs = true
-changes_nothing actions.SkipScenario = true
-changes_nothing actions.Pass = true
-changes_nothing actions.Fail = true
-changes_nothing _ = false
-
--- An action was carried out, with this outcome, and left this state.
-abbrev pub IsExactly : Done → Outcome → State → Type 0
-IsExactly done outcome new = (outcome ≡ done.outcome) × (new ≡ done.state)
-
--- An outcome that has a reason.
-abbrev pub is_fail : Outcome → Bool
-is_fail (outcomes.Failed why) = true
-is_fail _ = false
-
--- A refused action: it fails before a part of it passed, and doesn't allocate.
-abbrev pub is_refused : Done → Bool
-is_refused done = not done.part_passed && is_fail done.outcome
-
--- An action was carried out, or memory was refused in it. Memory can't be refused in an action that is itself refused.
+-- An action was carried out, or memory was refused in it, which can be only if it takes memory.
 abbrev pub IsDone : Done → Outcome → State → Type 0
-IsDone done outcomes.Memory new = is_refused done ≡ false
-IsDone done outcome new = IsExactly done outcome new
+IsDone done outcomes.Memory new = done.takes_memory ≡ true
+IsDone done outcome new = (outcome ≡ done.outcome) × (new ≡ done.state)
 
 -- What the action of a found step leaves and registers, for the program's `Library`, `Found` and `Block`.
 abbrev pub act_of : Library → Site → Found → Block → State → Acted
@@ -348,73 +322,33 @@ abbrev pub HasRegistered : Acted → List CleanupValue → Outcome → List Clea
 HasRegistered acted before outcomes.Memory after = after ≡ before
 HasRegistered acted before outcome after = after ≡ before ++ acted.registered
 
--- An action that changes nothing was carried out: memory is never its outcome.
-abbrev pub IsExact : Action → Done → Outcome → State → Type 0
-IsExact action done outcome new = changes_nothing action ≡ true → IsExactly done outcome new
-
 -- If no entry of type `step` matches a text, memory is refused only if the text has the ends of such an entry.
 abbrev pub NeedsCandidate : LibraryValue → List ℕ → Outcome → Type 0
 NeedsCandidate library text outcome = found_any library text ≡ None → outcome ≡ outcomes.Memory → HasCandidate library None text
 
 -- If no entry of type `step` matches the step that at_cleanup registers, memory is refused only if that step has the ends of such an entry.
-abbrev pub CleanupNeedsCandidate : LibraryValue → Action → ArgumentsValue → Outcome → Type 0
-CleanupNeedsCandidate library action g outcome = action ≡ actions.AtCleanup → NeedsCandidate library g.step outcome
-
--- A row of a table of files: a name and a text.
-abbrev pub row_file : List (List ℕ) → List ℕ × List ℕ
-row_file (name ∷ text ∷ []) = (name, text)
-row_file _ = ([], [])
-
--- The files that an action of several parts writes, in order. The first part writes one file. If it passed, they are that file and those of the other parts; otherwise there are none.
-abbrev pub first_file : Done → List ℕ × List ℕ → List (List ℕ × List ℕ) → List (List ℕ × List ℕ)
-first_file written file files = cond (is_pass written.outcome) (file ∷ files) []
-
--- The files that rows write, in order, up to the first row that is refused.
-abbrev pub rows_files : State → List (List (List ℕ)) → List (List ℕ × List ℕ)
-rows_files s [] = []
-rows_files s (row ∷ rows) = let written = write_row s row in first_file written (row_file row) (rows_files written.state rows)
-
--- The files that a table of files writes, in order.
-abbrev pub table_files : State → BlockValue → List (List ℕ × List ℕ)
-table_files s (Table rows) = rows_files s (drop 1 rows)
-table_files s _ = []
-
--- The file of the new name, unless the names are equal.
-abbrev pub renamed_files : State → List ℕ → List ℕ → List (List ℕ × List ℕ)
-renamed_files s name to = cond (bytes_eq name to) [] ((to, unwrap_or (s.files name) []) ∷ [])
-
--- The files that an action with more than one change writes, in order. An action with one change has none.
-abbrev pub files_of : Action → ArgumentsValue → State → List (List ℕ × List ℕ)
-files_of actions.RenameFile g s = renamed_files s g.name g.to
-files_of actions.WriteFiles g s = table_files s g.block
-files_of _ g s = []
+abbrev pub CleanupNeedsCandidate : Library → Found → Block → Outcome → Type 0
+CleanupNeedsCandidate library found block outcome =
+    let f = found_value found in
+    let g = arguments_of (library_value library) f (block_value block) in
+    action_of (library_value library) f ≡ actions.AtCleanup → NeedsCandidate (library_value library) g.step outcome
 
 -- Some number of these files, from the first on, were written one after another, and nothing else changed.
 abbrev pub WritesFirst : List (List ℕ × List ℕ) → SandboxValue → SandboxValue → Type 0
 WritesFirst [] old new = new ≡ old
 WritesFirst (file ∷ files) old new = (new ≡ old) ⊎ ((mid : SandboxValue) × PutsFile old file.0 file.1 mid × WritesFirst files mid new)
 
--- If memory was refused, an action made some number of its changes, from the first on, and no others. An action with one change changed nothing.
-abbrev pub KeepsAtMemory : Action → ArgumentsValue → SandboxValue → Outcome → SandboxValue → Type 0
-KeepsAtMemory action g old outcome new = outcome ≡ outcomes.Memory → WritesFirst (files_of action g (state_of old.now)) old new
-
--- The action of a found step, for the program's `Library` and `Found`.
-abbrev pub action_in : Library → Found → Action
-action_in library found = action_of (library_value library) (found_value found)
-
--- The arguments of a found step, for the program's `Library`, `Found` and `Block`.
-abbrev pub arguments_in : Library → Found → Block → ArgumentsValue
-arguments_in library found block = arguments_of (library_value library) (found_value found) (block_value block)
+-- An action was carried out in a sandbox, or memory was refused in it. Then some number of its files, from the first on, were written, and nothing else changed. The open layers stay as they are.
+pub record IsActed (done : Done) (old : SandboxValue) (outcome : Outcome) (new : SandboxValue) : Type 0 where
+  pub carried_out : IsDone done outcome (state_of new.now)
+  pub layers : KeepsLayers old new
+  pub kept : outcome ≡ outcomes.Memory → WritesFirst done.files old new
 
 -- Proof machinery, from here on: what the code's calls do.
 
 -- The value of an `Arguments`.
 abbrev pub arguments_value : Arguments → ArgumentsValue
 arguments_value a = record { name = a.name.now; to = a.to.now; step = a.step.now; number = a.number; text = option_copied a.text; block = block_value a.block.now }
-
--- The outcome of skip_scenario at a site.
-abbrev pub skip_outcome : Site → Outcome
-skip_outcome site = cond (may_skip site) outcomes.Skip (outcomes.Failed reasons.NotHere)
 
 -- The outcome for what a change of the world returned.
 abbrev pub outcome_of : {A : Type 0} → Result A WorldFault → Outcome
@@ -425,23 +359,9 @@ outcome_of (Err faults.BadName) = outcomes.Failed reasons.BadName
 outcome_of (Err faults.OtherLayer) = outcomes.Failed reasons.OtherLayer
 outcome_of (Err faults.Memory) = outcomes.Memory
 
--- An action was carried out in a sandbox, or memory was refused in it after some number of these files, from the first on, were written. The open layers stay as they are.
-pub record IsActedWith (files : List (List ℕ × List ℕ)) (done : Done) (old : SandboxValue) (outcome : Outcome) (new : SandboxValue) : Type 0 where
-  pub carried_out : IsDone done outcome (state_of new.now)
-  pub layers : KeepsLayers old new
-  pub kept : outcome ≡ outcomes.Memory → WritesFirst files old new
-
--- An action with one change was carried out in a sandbox, or memory was refused in it and nothing changed. The open layers stay as they are.
-abbrev pub IsActed : Done → SandboxValue → Outcome → SandboxValue → Type 0
-IsActed = IsActedWith []
-
 -- A text is written under a new name, and then the old name is removed.
 abbrev pub put_and_remove : State → List ℕ → List ℕ → List ℕ → Done
-put_and_remove s name to text = let written = write_file s to text in and_then written (remove_file written.state name)
-
--- The file that `put_and_remove` writes, if the write passes.
-abbrev pub put_files : State → List ℕ → List ℕ → List (List ℕ × List ℕ)
-put_files s to text = first_file (write_file s to text) (to, text) []
+put_and_remove s name to text = let written = put s to text (with_file s to text) in and_then (to, text) written (remove_file written.state name)
 
 -- If the outcome is `Passed`, this file was written.
 abbrev pub WritesFile : List ℕ × List ℕ → SandboxValue → Outcome → SandboxValue → Type 0
@@ -449,29 +369,7 @@ WritesFile file old outcome new = outcome ≡ outcomes.Passed → PutsFile old f
 
 -- An action was carried out as its row of the table says, or memory was refused in it.
 abbrev pub Performs : Action → Arguments → SandboxValue → Outcome → SandboxValue → Type 0
-Performs action arguments old outcome new =
-    let g = arguments_value arguments in
-    IsActedWith (files_of action g (state_of old.now)) (table action g (state_of old.now)) old outcome new
-
--- An action that changes nothing was carried out as its row of the table says.
-abbrev pub Checks : Action → Arguments → SandboxValue → Outcome → Type 0
-Checks action arguments now outcome = IsExactly (table action (arguments_value arguments) (state_of now.now)) outcome (state_of now.now)
-
--- An action that changes nothing has this outcome at every state.
-abbrev pub IsOutcome : (State → Done) → Outcome → Type 0
-IsOutcome row outcome = (s : State) → IsExactly (row s) outcome s
-
--- The text that is held must be T.
-abbrev pub IsText : Option (List ℕ) → Option (List ℕ) → Outcome → Type 0
-IsText held text = IsOutcome (λ s. with_T s text (λ t. unless s (absent held ∷ differs held t ∷ []) s))
-
--- The text that is held must contain T.
-abbrev pub HasText : Option (List ℕ) → Option (List ℕ) → Outcome → Type 0
-HasText held text = IsOutcome (λ s. with_T s text (λ t. unless s (absent held ∷ lacks held t ∷ []) s))
-
--- The number that is held must be this one.
-abbrev pub IsNumber : Option (List ℕ) → ℤ → Outcome → Type 0
-IsNumber held n = IsOutcome (λ s. unless s (absent held ∷ not_number held ∷ differs_from held n ∷ []) s)
+Performs action arguments old outcome new = IsActed (table action (arguments_value arguments) (state_of old.now)) old outcome new
 
 -- The arguments for these used fields and this block.
 abbrev pub arguments_by_uses : UsedFields → BlockValue → ArgumentsValue

@@ -14,9 +14,8 @@ use Rattle.gk_run.specs.Ending.{is_memory_mark}
 use Rattle.gk_run.specs.Events.{Event, cut_at, event_marks}
 use Rattle.gk_run.specs.Section.{Events, Cut, has_event, nowhere, happened}
 use Rattle.gk_run.specs.Walk.{IsLookedUp, looked_up, rows_of_steps, unrun_step}
-use Rattle.gk_run.specs.Running.{row_of_case, unselected_row}
+use Rattle.gk_run.specs.Running.{row_of_case, unselected_row, first_or, later}
 use Rattle.gk_run.specs.Chosen.{HeadValue, MemberValue, ChosenValue}
-use Rattle.gk_run.specs.Cases.{first_or, later}
 use Rattle.gk_run.specs.Features.{FeatureCuts, uncut_feature, feature_row_of}
 
 -- A step of a dry run. It is looked up, and untested if the library matches it. Nothing is carried out, so the state is the one in which nothing exists. (behave's documentation: `--dry-run`)

@@ -1,4 +1,4 @@
--- The events of a run: what happens in it, one after another, and what each leaves.
+-- The events of a run: what happens in it, one after another, what each leaves, and what an observer is told.
 use Rattle.std.specs.Prelude.{zero, suc, Bool, true, false, List, [], ◌∷◌, ◌++◌, map, ℕ, ◌≡◌}
 use Rattle.gk_gherkin.specs.Feature.{StepValue}
 use Rattle.gk_world.specs.Sandbox.{SandboxValue}
@@ -12,6 +12,8 @@ use Rattle.gk_run.specs.declared.section.Level.{Level}
 use Rattle.gk_run.specs.declared.section.Stage.{Stage}
 use Rattle.gk_run.specs.Acting.{CleanupValue}
 use Rattle.gk_run.specs.Ending.{ended_of}
+use Rattle.std.specs.List.{FoldsTo}
+use Rattle.gk_run.specs.Results.{CaseRow, RuleRow}
 
 -- An event: a step, with its stage, its mark, the cleanups that it registered and the state that it left; or a cleanup of a section of this level, with its outcome and the state that it left.
 pub data Event : Type 0 where
@@ -81,3 +83,32 @@ abbrev pub SoFar : Bool → Bool → List Event → List Event → List Event �
 SoFar true now all rest told = told ≡ []
 SoFar false true all rest told = IsCutOff all told
 SoFar false false all rest told = all ≡ told ++ rest
+
+-- The end of a case or a rule, with its result.
+pub data Ended : Type 0 where
+  of_case : CaseRow → Ended
+  of_rule : RuleRow → Ended
+
+-- What an observer is told: an event, or that a case or a rule has ended.
+pub data Told : Type 0 where
+  happens : Event → Told
+  has_ended : Ended → Told
+
+-- The result of a part of a run, and what is told of it, in order.
+pub record Ran (A : Type 0) : Type 0 where
+  pub result : A
+  pub told : List Told
+
+-- The result of a part of a run.
+abbrev pub result_of : {A : Type 0} → Ran A → A
+result_of ran = ran.result
+
+-- What an observer may become when it is told this, given what it may become when it is told an event or an end.
+abbrev pub tells : {S : Type 0} → (S → Event → S → Type 0) → (S → Ended → S → Type 0) → S → Told → S → Type 0
+tells hears ends old (happens event) new = hears old event new
+tells hears ends old (has_ended ended) new = ends old ended new
+
+-- A part of a run had this result, and an observer was told all of it.
+pub record IsRan {S A : Type 0} (told : S → Told → S → Type 0) (ran : Ran A) (row : A) (first last : S) : Type 0 where
+  pub is : row ≡ ran.result
+  pub heard : FoldsTo told first ran.told last

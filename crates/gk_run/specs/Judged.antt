@@ -1,16 +1,22 @@
--- The results that a run may have.
-use Rattle.std.specs.Prelude.{◌≡◌, Bool, true, false, cond, ◌||◌, List, [], ◌++◌}
+-- The results that a run may have, and the same in words: what holds of each result, by its place in its list.
+use Rattle.std.specs.Prelude.{◌≡◌, Bool, true, false, cond, ◌||◌, List, [], ◌++◌, ℕ, ◌↔◌, All, map, length, take, zip, flat_map, Some, slice_get, unwrap_or}
 use Rattle.std.specs.List.{list_any}
 use Rattle.gk_world.specs.State.{Contents, State, state_of}
 use Rattle.gk_run.specs.declared.results.Status.TheVariants as statuses
 use Rattle.gk_run.specs.declared.section.Level.TheVariants as levels
 use Rattle.gk_run.specs.Results.{CaseRow, RuleRow, FeatureRow, Results, is_memory}
-use Rattle.gk_run.specs.Chosen.{ChosenValue}
-use Rattle.gk_run.specs.Section.{Cut, nowhere}
-use Rattle.gk_run.specs.Run.{Run}
-use Rattle.gk_run.specs.Features.{FeatureCuts, features_of}
-use Rattle.gk_run.specs.OpenSection.{section_of}
-use Rattle.gk_run.specs.DryRun.{dry_features_of, AreDryFeatures}
+use Rattle.gk_run.specs.Chosen.{ChosenValue, MemberValue, has_selected, Group, own_members, rule_groups}
+use Rattle.gk_run.specs.Section.{Cut, nowhere, Events, around_of, before_passed, happened}
+use Rattle.gk_run.specs.OpenSection.{Run, section_of, SectionRow, no_events, section_events, section_state}
+use Rattle.gk_run.specs.Features.{FeatureCuts, features_of, feature_verdict, rule_statuses, Inside}
+use Rattle.gk_run.specs.DryRun.{dry_features_of, AreDryFeatures, dry_row, dry_rules_of}
+use Rattle.gk_gherkin.specs.Feature.{StepValue}
+use Rattle.gk_steps.specs.Finding.{LibraryValue}
+use Rattle.gk_run.specs.declared.results.Mark.{Mark}
+use Rattle.gk_run.specs.declared.results.Mark.TheVariants.{Untested}
+use Rattle.gk_run.specs.declared.section.Level.{Level}
+use Rattle.gk_run.specs.Running.{case_statuses, is_bad, IsReached, unreached_row, unselected_row}
+use Rattle.gk_run.specs.Walk.{row_of_step, rows_of_steps}
 
 -- The cuts of a run: in its own hooks and cleanups, and in its features.
 pub record Cuts : Type 0 where
@@ -77,3 +83,104 @@ DryRunsAreJudged = (run : Run) (contents : Contents) (features : List ChosenValu
 abbrev pub UnfinishedDryRunsAreJudged : Type 0
 UnfinishedDryRunsAreJudged = (run : Run) (contents : Contents) (features others : List ChosenValue) (rows : List FeatureRow) →
     run.dry_run ≡ true → AreDryFeatures run.library features rows → BeginsJudged run contents (features ++ others) rows
+
+-- There is one result for each element of a list, in order, and this holds of the element and the result at place k, counted from 0.
+pub record Each {A R : Type 0} (Holds : ℕ → A → R → Type 0) (xs : List A) (rows : List R) : Type 0 where
+  pub count : length rows ≡ length xs
+  pub each : (k : ℕ) (x : A) (row : R) → slice_get xs k ≡ Some x → slice_get rows k ≡ Some row → Holds k x row
+
+-- A case is neither failed nor memory.
+abbrev pub IsGoodCase : CaseRow → Type 0
+IsGoodCase row = is_bad row.status ≡ false
+
+-- A rule is neither failed nor memory: its hooks and cleanups aren't, and none of its cases is.
+abbrev pub IsGoodRule : SectionRow (List CaseRow) → Type 0
+IsGoodRule end = (is_bad end.around ≡ false) × All IsGoodCase end.inside
+
+-- A feature is neither failed nor memory.
+abbrev pub IsGoodFeature : FeatureRow → Type 0
+IsGoodFeature row = is_bad row.status ≡ false
+
+-- A section that is begun if `Begun` holds. Its events are those of its before list, its after lists and its cleanups, or these cut at one event. If it isn't begun, there are none. `around` is how they ended. What is inside it, from its own state, is ready if the section is begun and its before list, cut or not, passed whole. (behave's documentation: environment file functions)
+pub record SectionInWords {A : Type 0} (run : Run) (level : Level) (tags : List (List ℕ)) (outside : State) (Begun : Type 0) (Holds : State → Type 0 → A → Type 0) (end : SectionRow A) : Type 0 where
+  pub events : Events
+  pub begun : Begun → (cut : Cut) × (events ≡ happened cut (section_events run level tags outside))
+  pub unbegun : (Begun → ⊥) → events ≡ no_events
+  pub around : end.around ≡ around_of events
+  pub inside : Holds (section_state run level tags outside) (Begun × (before_passed events ≡ true)) end.inside
+
+-- A case. If it is unselected, it and its steps are skipped. If it is selected and reached, its result is that of the case alone from its section's state, or that cut at one event. If it is selected and not reached, it and its steps are untested. (behave's documentation: `--tags`, `--stop`)
+pub record CaseInWords (run : Run) (section : State) (Reached : Type 0) (m : MemberValue) (row : CaseRow) : Type 0 where
+  pub unselected : m.selected ≡ false → row ≡ unselected_row m.scenario
+  pub reached : m.selected ≡ true → Reached → IsReached run section m.scenario row
+  pub unreached : m.selected ≡ true → (Reached → ⊥) → row ≡ unreached_row m.scenario
+
+-- The cases of a section. A selected one is reached if the section is ready and, if the run is to stop, no earlier case of the section is failed or memory. (behave's documentation: `--stop`)
+abbrev pub CasesInWords : Run → State → Type 0 → List MemberValue → List CaseRow → Type 0
+CasesInWords run section Ready members rows = Each (λ k m row. CaseInWords run section (Ready × (run.stop ≡ true → All IsGoodCase (take k rows))) m row) members rows
+
+-- A rule. It is begun if its feature is open for it and it has a selected case. (Cucumber's Gherkin reference: rule)
+abbrev pub RuleInWords : Run → State → Type 0 → Group → SectionRow (List CaseRow) → Type 0
+RuleInWords run outside Open g end =
+    SectionInWords run levels.Rule g.head.tags outside (Open × (has_selected g.members ≡ true)) (λ section Ready rows. CasesInWords run section Ready g.members rows) end
+
+-- The result of a rule without its cases: its line, and how its hooks and cleanups ended.
+abbrev pub rule_rows : List Group → List (SectionRow (List CaseRow)) → List RuleRow
+rule_rows groups ends = map (λ p. record { line = p.0.head.line; around = p.1.around }) (zip groups ends)
+
+-- What is inside a feature: its cases that aren't in a rule, and then its rules. The feature is open for a rule if it is ready and, if the run is to stop, none of these cases and no earlier rule is failed or memory. (Cucumber's Gherkin reference: rule)
+pub record InsideInWords (run : Run) (section : State) (Ready : Type 0) (f : ChosenValue) (inside : Inside) : Type 0 where
+  pub own : List CaseRow
+  pub ends : List (SectionRow (List CaseRow))
+  pub cases : CasesInWords run section Ready (own_members f) own
+  pub rules : Each (λ k g end. RuleInWords run section (Ready × (run.stop ≡ true → All IsGoodCase own × All IsGoodRule (take k ends))) g end) (rule_groups f) ends
+  pub case_results : inside.cases ≡ own ++ flat_map (λ end. end.inside) ends
+  pub rule_results : inside.rules ≡ rule_rows (rule_groups f) ends
+
+-- The heading of a feature's result, and its verdict, by `around`, by its rules and by its cases.
+pub record IsHeaded (f : ChosenValue) (row : FeatureRow) : Type 0 where
+  pub source : row.source ≡ f.source
+  pub name : row.name ≡ f.name
+  pub line : row.line ≡ f.line
+  pub verdict : row.status ≡ feature_verdict row.around (rule_statuses row.rules) (case_statuses row.cases)
+
+-- A feature. It is begun if the run is open for it and it has a selected case. (behave's documentation: environment file functions)
+pub record FeatureInWords (run : Run) (outside : State) (Open : Type 0) (f : ChosenValue) (row : FeatureRow) : Type 0 where
+  pub heading : IsHeaded f row
+  pub goes : SectionInWords run levels.Feature f.tags outside (Open × (has_selected f.members ≡ true)) (λ section Ready inside. InsideInWords run section Ready f inside)
+      (record { around = row.around; inside = record { rules = row.rules; cases = row.cases } })
+
+-- The features of a run. The run is open for one if it is ready and, if it is to stop, no earlier feature is failed or memory. (behave's documentation: `--stop`)
+abbrev pub FeaturesInWords : Run → State → Type 0 → List ChosenValue → List FeatureRow → Type 0
+FeaturesInWords run section Ready features rows = Each (λ k f row. FeatureInWords run section (Ready × (run.stop ≡ true → All IsGoodFeature (take k rows))) f row) features rows
+
+-- A case of a dry run. If it is unselected, it and its steps are skipped. If it is selected, it is untested, each step that the library matches is untested, and the others are undefined; or its result is that cut at one step. (behave's documentation: `--dry-run`)
+pub record DryCaseInWords (library : LibraryValue) (m : MemberValue) (row : CaseRow) : Type 0 where
+  pub unselected : m.selected ≡ false → row ≡ unselected_row m.scenario
+  pub selected : m.selected ≡ true → (cut : Cut) × (row ≡ dry_row library cut m.scenario)
+
+-- A feature of a dry run: neither it nor a rule of it is begun, so each `around` is passed. (behave's documentation: `--dry-run`)
+pub record DryFeatureInWords (library : LibraryValue) (f : ChosenValue) (row : FeatureRow) : Type 0 where
+  pub heading : IsHeaded f row
+  pub around : row.around ≡ statuses.Passed
+  pub rules : row.rules ≡ dry_rules_of f.rules
+  pub cases : Each (λ k m case. DryCaseInWords library m case) f.members row.cases
+
+-- A dry run: whether it is to stop has no effect. (behave's documentation: `--dry-run`)
+pub record DryRunInWords (run : Run) (features : List ChosenValue) (results : Results) : Type 0 where
+  pub around : results.around ≡ statuses.Passed
+  pub inside : Each (λ k f row. DryFeatureInWords run.library f row) features results.features
+
+-- The results of a run, in words: those of a dry run, or those of a run that is begun from these contents.
+pub record JudgedInWords (run : Run) (contents : Contents) (features : List ChosenValue) (results : Results) : Type 0 where
+  pub dry : run.dry_run ≡ true → DryRunInWords run features results
+  pub real : run.dry_run ≡ false →
+      SectionInWords run levels.Run [] (state_of contents) (run.dry_run ≡ false) (λ section Ready rows. FeaturesInWords run section Ready features rows) (record { around = results.around; inside = results.features })
+
+-- Results are judged exactly if these words hold of them.
+abbrev pub JudgedAreInWords : Type 0
+JudgedAreInWords = (run : Run) (contents : Contents) (features : List ChosenValue) (results : Results) → Judged run contents features results ↔ JudgedInWords run contents features results
+
+-- Each step of a case has one result, in order, by its mark. It is untested if its event didn't happen.
+abbrev pub StepsHaveTheirResults : Type 0
+StepsHaveTheirResults = (steps : List StepValue) (marks : List Mark) → Each (λ k step row. row ≡ row_of_step step (unwrap_or (slice_get marks k) Untested)) steps (rows_of_steps steps marks)

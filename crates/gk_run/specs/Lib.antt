@@ -1,27 +1,17 @@
 -- The results of running feature files, in reading order. A definition whose comment names no source is part of this project's profile, or a word that other definitions use.
 pub mod Results
 pub mod Acting
-pub mod Cleanups
 pub mod Ending
 pub mod Events
-pub mod Observer
 pub mod Section
-pub mod Run
 pub mod Walk
-pub mod WalkInWords
 pub mod SectionHooks
-pub mod SectionEnd
 pub mod OpenSection
 pub mod Running
 pub mod Chosen
-pub mod Grouping
-pub mod Cases
-pub mod Rules
 pub mod Features
 pub mod DryRun
 pub mod Judged
-pub mod JudgedInWords
 pub mod OpenRun
 -- Proof machinery: definitions that the contracts of private functions use.
-pub mod WalkContracts
-pub mod FeatureContracts
+pub mod PrivateContracts

@@ -9,12 +9,10 @@ use Rattle.gk_run.specs.declared.section.Level.TheVariants as levels
 use Rattle.gk_run.specs.Acting.{CleanupValue}
 use Rattle.gk_run.specs.Results.{FeatureRow}
 use Rattle.gk_run.specs.Ending.{has_passed}
-use Rattle.gk_run.specs.Events.{Event, stand_of}
-use Rattle.gk_run.specs.Observer.{result_of}
-use Rattle.gk_run.specs.OpenSection.{IsBegun, IsEndTold, IsOpened, IsSectionEnd}
-use Rattle.gk_run.specs.Run.{Run}
+use Rattle.gk_run.specs.Events.{Event, stand_of, result_of}
+use Rattle.gk_run.specs.OpenSection.{IsBegun, IsEndTold, IsOpened, IsSectionEnd, Run}
 use Rattle.gk_run.specs.Chosen.{ChosenValue}
-use Rattle.gk_run.specs.Cases.{is_bad, stays_open_by}
+use Rattle.gk_run.specs.Running.{is_bad, stays_open_by}
 use Rattle.gk_run.specs.Features.{FeatureCuts, IsFeatureResult, features_of}
 use Rattle.gk_run.specs.Judged.{Judged, BeginsJudged}
 

@@ -1,19 +1,32 @@
--- The course of a section. It is the same for the run, a feature, a rule and a scenario.
+-- What stays the same during a run, and the course of a section. It is the same for the run, a feature, a rule and a scenario.
+use Rattle.std.specs.Prelude.{Bool, false, List, cond, ◌&&◌, [], ◌∷◌, ◌++◌, length, map, ℕ, ◌≡◌}
+use Rattle.gk_gherkin.specs.Hooks.{HookValue, hooks_value}
+use Rattle.gk_gherkin.specs.declared.hooks.HookFile.{HookFile}
+use Rattle.gk_steps.specs.Finding.{LibraryValue, library_value}
+use Rattle.gk_steps.specs.declared.library.Library.{Library}
+use Rattle.gk_run.specs.declared.section.Run as shared
 use Rattle.std.specs.List.{FoldsTo}
-use Rattle.std.specs.Prelude.{Bool, false, cond, ◌&&◌, List, [], ◌∷◌, ◌++◌, length, map, ℕ, ◌≡◌}
 use Rattle.gk_world.specs.Sandbox.{SandboxValue, depth}
 use Rattle.gk_world.specs.State.{State, state_of}
 use Rattle.gk_run.specs.declared.ending.Ending.{Ending}
 use Rattle.gk_run.specs.declared.results.Status.{Status}
 use Rattle.gk_run.specs.declared.section.Level.{Level}
 use Rattle.gk_run.specs.Acting.{CleanupValue}
-use Rattle.gk_run.specs.SectionEnd.{cleaned}
+use Rattle.gk_run.specs.SectionHooks.{cleaned, after_lists, begun, entered, walk_each}
 use Rattle.gk_run.specs.Ending.{is_memory_ending}
-use Rattle.gk_run.specs.Events.{Event, SoFar, Stand, ended_in, left_by, stand_of}
-use Rattle.gk_run.specs.Observer.{Ran, happens}
-use Rattle.gk_run.specs.Run.{Run}
+use Rattle.gk_run.specs.Events.{Event, SoFar, Stand, ended_in, left_by, stand_of, Ran, happens}
 use Rattle.gk_run.specs.Section.{Events, Cut, happened, around_of, before_passed}
-use Rattle.gk_run.specs.SectionHooks.{after_lists, begun, entered, walk_each}
+
+-- What stays the same during a run: the step library, the hooks, whether it is a dry run, and whether the first scenario, rule or feature that is failed or memory stops it. Nothing is carried out in a dry run. (behave's documentation: `--dry-run`, `--stop`)
+pub record Run : Type 0 where
+  pub library : LibraryValue
+  pub hooks : List HookValue
+  pub dry_run : Bool
+  pub stop : Bool
+
+-- The run with this `Library` and this `HookFile`. It isn't a dry run.
+abbrev pub run_of : Library → HookFile → Bool → Run
+run_of library hooks stop = record { library = library_value library; hooks = hooks_value hooks; dry_run = false; stop = stop }
 
 -- The events of a section that starts from the state outside and enters its own layer: its before list; its steps, from how the before list ended and the state that it left; its after lists and its cleanups. (behave's documentation: context layers, environment file functions, cleanups)
 abbrev pub events_with : (Ending → State → List Event) → Run → Level → List (List ℕ) → State → Events
@@ -86,6 +99,10 @@ abbrev pub IsEndTold : {S : Type 0} → (S → Event → S → Type 0) → Run �
 IsEndTold hears run level tags outside around first begin end = (last : List Event) × FoldsTo hears begin last end × IsSectionEnd run level tags outside around first last
 
 -- Proof machinery, from here on: what the code's calls do.
+
+-- The value of the code's `Run`.
+abbrev pub run_value : shared.Run → Run
+run_value r = run_of r.library.now r.hooks.now.file.now r.stop
 
 -- The end of a section was told. Its before list had ended with `ended`, and `now` is its state and cleanups.
 abbrev pub EndsAround : {S : Type 0} → (S → Event → S → Type 0) → Run → Level → List (List ℕ) → Ending → Stand → Status → S → S → Type 0

@@ -1,5 +1,5 @@
--- The hooks of a section: the run, a feature, a rule or a scenario.
-use Rattle.std.specs.Prelude.{cond, List, [], ◌∷◌, ◌++◌, map, Option, Some, None, ℕ}
+-- The hooks and the cleanups of a section: the run, a feature, a rule or a scenario.
+use Rattle.std.specs.Prelude.{cond, List, [], ◌∷◌, ◌++◌, map, Option, Some, None, ℕ, reverse}
 use Rattle.gk_gherkin.specs.Feature.{StepValue}
 use Rattle.gk_gherkin.specs.Hooks.{HookValue, is_for}
 use Rattle.gk_gherkin.specs.declared.hooks.HookKind.{HookKind}
@@ -8,9 +8,11 @@ use Rattle.gk_steps.specs.Finding.{LibraryValue}
 use Rattle.gk_world.specs.State.{State, enter}
 use Rattle.gk_run.specs.declared.section.Level.{Level}
 use Rattle.gk_run.specs.declared.section.Level.TheVariants as levels
-use Rattle.gk_run.specs.Events.{Event, Stand, left_by}
+use Rattle.gk_run.specs.Events.{Event, Stand, left_by, of_cleanup}
 use Rattle.gk_run.specs.Section.{after_of, before_of}
 use Rattle.gk_run.specs.Walk.{walk}
+use Rattle.gk_run.specs.declared.acting.Site.TheVariants as sites
+use Rattle.gk_run.specs.Acting.{CleanupValue, Done, done_of, act}
 
 -- The kind of the hook before a section. (behave's documentation: environment file functions)
 abbrev pub before_kind : Level → HookKind
@@ -58,3 +60,16 @@ walk_each library level stand [] = []
 walk_each library level stand (steps ∷ others) =
     let this = walk library (after_of level) stand.state steps in
     this ++ walk_each library level (left_by stand this) others
+
+-- What a cleanup leaves.
+abbrev pub cleanup_done : LibraryValue → CleanupValue → State → Done
+cleanup_done library c s = done_of (act library sites.Cleanup c.found c.block s)
+
+-- The events of cleanups. Each runs from the state that the one before left, whatever the others did. (behave's documentation: cleanups)
+abbrev pub clean_each : LibraryValue → Level → State → List CleanupValue → List Event
+clean_each library level s [] = []
+clean_each library level s (c ∷ cs) = let done = cleanup_done library c s in of_cleanup level c done.outcome done.state ∷ clean_each library level done.state cs
+
+-- The events of registered cleanups, which run last in, first out. (behave's documentation: cleanups)
+abbrev pub cleaned : LibraryValue → Level → Stand → List Event
+cleaned library level stand = clean_each library level stand.state (reverse stand.cleanups)

@@ -1,5 +1,5 @@
--- Walking through steps.
-use Rattle.std.specs.Prelude.{cond, List, [], ◌∷◌, ◌≡◌, ◌⊎◌, Option, Some, None, is_some}
+-- Walking through steps: the events of a walk, the step at which it ends, what that step leaves, and the mark of each step.
+use Rattle.std.specs.Prelude.{cond, List, [], ◌∷◌, ◌≡◌, ◌⊎◌, Option, Some, None, is_some, zero, suc, length, drop, map, option_map, slice_get, ℕ, ◌++◌, ◌≢◌, ◌<◌}
 use Rattle.gk_gherkin.specs.Feature.{StepValue}
 use Rattle.gk_steps.specs.Finding.{LibraryValue, FoundValue, HasCandidateFor, found}
 use Rattle.gk_world.specs.State.{State}
@@ -13,20 +13,22 @@ use Rattle.gk_run.specs.declared.results.Outcome.TheVariants as outcomes
 use Rattle.gk_run.specs.declared.section.Stage.{Stage}
 use Rattle.gk_run.specs.Acting.{CleanupValue, act}
 use Rattle.gk_run.specs.Ending.{ending_of, has_passed, status_of_mark, reason_of_mark}
-use Rattle.gk_run.specs.Events.{Event, of_step}
+use Rattle.gk_run.specs.Events.{Event, of_step, Stand, event_marks, left_by}
 use Rattle.gk_run.specs.Results.{StepRow}
 use Rattle.gk_run.specs.Section.{site_of, steps_of_case}
+use Rattle.gk_run.specs.declared.results.Outcome.{Outcome}
 
--- One step: its mark, the state that it leaves, and the cleanups that it registers.
+-- One step: its mark, the state that it leaves, the cleanups that it registers, and the files that it writes, in order, if its action has more than one change.
 pub record Stepped : Type 0 where
   pub mark : Mark
   pub state : State
   pub registered : List CleanupValue
+  pub files : List (List ℕ × List ℕ)
 
 -- A step is carried out if the library matches it; otherwise it is undefined and changes nothing. (behave's documentation: step matching)
 abbrev pub stepped : LibraryValue → Site → State → StepValue → Option FoundValue → Stepped
-stepped library site s step None = record { mark = Undefined; state = s; registered = [] }
-stepped library site s step (Some f) = let acted = act library site f step.block s in record { mark = Acted acted.done.outcome; state = acted.done.state; registered = acted.registered }
+stepped library site s step None = record { mark = Undefined; state = s; registered = []; files = [] }
+stepped library site s step (Some f) = let acted = act library site f step.block s in record { mark = Acted acted.done.outcome; state = acted.done.state; registered = acted.registered; files = acted.done.files }
 
 -- One step from a state.
 abbrev pub one_step : LibraryValue → Site → State → StepValue → Stepped
@@ -70,6 +72,92 @@ abbrev pub rows_of_steps : List StepValue → List Mark → List StepRow
 rows_of_steps [] marks = []
 rows_of_steps (step ∷ steps) [] = row_of_step step Untested ∷ rows_of_steps steps []
 rows_of_steps (step ∷ steps) (mark ∷ marks) = row_of_step step mark ∷ rows_of_steps steps marks
+
+-- The state and the cleanups of a section after one step, if there is such a step, whatever becomes of it.
+abbrev pub carried_on : LibraryValue → Site → Stand → Option StepValue → Stand
+carried_on library site before None = before
+carried_on library site before (Some step) = let this = one_step library site before.state step in record { state = this.state; cleanups = before.cleanups ++ this.registered }
+
+-- The state and the cleanups of a section after the first k steps of a list, whatever becomes of them.
+abbrev pub after : LibraryValue → Site → Stand → List StepValue → ℕ → Stand
+after library site start steps zero = start
+after library site start steps (suc k) = carried_on library site (after library site start steps k) (slice_get steps k)
+
+-- The event of step k, counted from 0: it is carried out from the state that the first k steps leave.
+abbrev pub event_at : LibraryValue → Stage → Stand → List StepValue → ℕ → Option Event
+event_at library stage start steps k =
+    let before = after library (site_of stage) start steps k in
+    option_map (λ step. event_of stage step (one_step library (site_of stage) before.state step)) (slice_get steps k)
+
+-- The outcome of a step's action from a state, if the library matches the step like this.
+abbrev pub outcome_from : LibraryValue → Site → State → StepValue → FoundValue → Outcome
+outcome_from library site s step f = let acted = act library site f step.block s in acted.done.outcome
+
+-- A step from this state isn't found, or its outcome isn't Passed.
+abbrev pub Stops : LibraryValue → Site → State → StepValue → Type 0
+Stops library site s step =
+    (found library step.step_type step.text ≡ None)
+    ⊎ ((f : FoundValue) × (found library step.step_type step.text ≡ Some f) × (outcome_from library site s step f ≢ outcomes.Passed))
+
+-- There is a step k, and after the first k steps it isn't found or its outcome isn't Passed.
+abbrev pub StopsAt : LibraryValue → Site → Stand → List StepValue → ℕ → Type 0
+StopsAt library site start steps k =
+    let before = after library site start steps k in
+    (step : StepValue) × (slice_get steps k ≡ Some step) × Stops library site before.state step
+
+-- The least such step, counted from 0.
+abbrev pub IsStop : LibraryValue → Site → Stand → List StepValue → ℕ → Type 0
+IsStop library site start steps stop = StopsAt library site start steps stop × ((i : ℕ) → i < stop → StopsAt library site start steps i → ⊥)
+
+-- There is no such step.
+abbrev pub HasNoStop : LibraryValue → Site → Stand → List StepValue → Type 0
+HasNoStop library site start steps = (i : ℕ) → StopsAt library site start steps i → ⊥
+
+-- The first `count` steps of a list are carried out, each from the state that the ones before it left, and the first `passed` of them passed. The section is left as the last of them left it, and their events come before these others.
+pub record CarriesOut (library : LibraryValue) (stage : Stage) (start : Stand) (steps : List StepValue) (events : List Event) (count passed : ℕ) (others : List Event) : Type 0 where
+  pub each : (i : ℕ) → i < count → slice_get events i ≡ event_at library stage start steps i
+  pub passes : (i : ℕ) → i < passed → slice_get (event_marks events) i ≡ Some (Acted outcomes.Passed)
+  pub leaves : left_by start events ≡ after library (site_of stage) start steps count
+  pub rest : drop count events ≡ others
+
+-- The events of the steps above one that ended like this and left this state.
+abbrev pub Above : Type 0
+Above = Ending → State → List StepValue → List Event
+
+-- A list ends at a step, counted from 0. The steps up to it are carried out, those below it passed, and the events of those above it follow from how it ended.
+abbrev pub EndsAt : LibraryValue → Stage → Stand → List StepValue → Above → List Event → ℕ → Type 0
+EndsAt library stage start steps above events stop =
+    let left = after library (site_of stage) start steps (suc stop) in
+    (mark : Mark) × (slice_get (event_marks events) stop ≡ Some mark) × CarriesOut library stage start steps events (suc stop) stop (above (ending_of mark) left.state (drop (suc stop) steps))
+
+-- A list of steps ends at the least one that isn't found or whose outcome isn't Passed. If there is none, it passes whole: all steps are carried out, and passed. (behave's documentation: a failed step ends its scenario)
+pub record EndsAtTheLeastStop (library : LibraryValue) (stage : Stage) (start : Stand) (steps : List StepValue) (above : Above) (events : List Event) : Type 0 where
+  pub ends : (stop : ℕ) → IsStop library (site_of stage) start steps stop → EndsAt library stage start steps above events stop
+  pub passes : HasNoStop library (site_of stage) start steps → CarriesOut library stage start steps events (length steps) (length steps) []
+  pub either : ((stop : ℕ) × IsStop library (site_of stage) start steps stop) ⊎ HasNoStop library (site_of stage) start steps
+
+-- Each walk ends like this, and the steps above its end have no events, whatever its steps, its stage, and the state and the cleanups of the section before it.
+abbrev pub WalksEndAtTheLeastStop : Type 0
+WalksEndAtTheLeastStop = (library : LibraryValue) (stage : Stage) (start : Stand) (steps : List StepValue) → EndsAtTheLeastStop library stage start steps (λ ended s others. []) (walk library stage start.state steps)
+
+-- The mark of a step of a case that isn't carried out, after this ending: after a skip it is skipped; otherwise it is skipped if the library matches it, and undefined if it doesn't. (behave's documentation: a failed step ends its scenario)
+abbrev pub mark_above : LibraryValue → Ending → StepValue → Mark
+mark_above library endings.Skipped step = Skipped
+mark_above library ended step = looked_up library Skipped step
+
+-- The events of the steps of a case that aren't carried out: they change nothing.
+abbrev pub unrun_steps : LibraryValue → Above
+unrun_steps library ended s steps = map (λ step. unrun_step step (mark_above library ended step) s) steps
+
+-- The steps of each case whose before list passed whole end like this.
+abbrev pub StepsEndAtTheLeastStop : Type 0
+StepsEndAtTheLeastStop = (library : LibraryValue) (start : Stand) (steps : List StepValue) →
+    EndsAtTheLeastStop library steps_of_case start steps (unrun_steps library) (steps_from library endings.Passed start.state steps)
+
+-- If the before list of a case didn't pass whole, none of its steps is carried out: all are skipped after a skip; otherwise each is skipped or undefined. (behave's documentation: environment file functions)
+abbrev pub StoppedCasesRunNoStep : Type 0
+StoppedCasesRunNoStep = (library : LibraryValue) (ended : Ending) (s : State) (steps : List StepValue) →
+    ended ≢ endings.Passed → steps_from library ended s steps ≡ unrun_steps library ended s steps
 
 -- Proof machinery, from here on: what the code's calls do.
 

@@ -1,31 +1,26 @@
 //! What a step's action does.
-ghost use Rattle.std.specs.Prelude.{◌≡◌, ◌<◌, ◌∷◌, [], option_copied};
+ghost use Rattle.std.specs.Prelude.{◌≡◌, ◌<◌, option_copied, bytes_eq};
 ghost use Rattle.gk_gherkin.specs.Feature.{block_value};
-ghost use Rattle.gk_steps.specs.Finding.{library_value, found_any};
+ghost use Rattle.gk_gherkin.specs.Text.{stands_in};
+ghost use Rattle.gk_steps.specs.declared.action.Action.TheVariants as actions;
+ghost use Rattle.gk_steps.specs.Finding.{library_value};
 ghost use Rattle.gk_world.specs.State.{State, state_of};
-ghost use Rattle.gk_world.specs.Sandbox.{depth, KeepsLayers};
+ghost use Rattle.gk_world.specs.Sandbox.{depth};
 ghost use Rattle.gk_run.specs.Acting as words;
-ghost use Rattle.gk_run.specs.Acting.{arguments_by_uses, arguments_in, arguments_value, table, registers, act_of, action_in, called, Performs, may_register, IsDone, IsExact, HasRegistered, KeepsAtMemory, IsOutcome, IsText, absent, present, unless, HasText, NeedsCandidate, CleanupNeedsCandidate};
+ghost use Rattle.gk_run.specs.Acting.{arguments_by_uses, arguments_value, act_of, agrees, called, Performs, IsActed, IsDone, HasRegistered, NeedsCandidate, CleanupNeedsCandidate};
 
 mod file_actions;
-mod number_actions;
 mod value_actions;
-mod variable_actions;
 
 use crate::cleanups::Cleanups;
 use crate::results::{Outcome, Reason};
-use file_actions::{
-    append_file, file_absent, file_contains, file_exists, file_is, remove_file, rename_file,
-    write_file, write_files,
-};
+use file_actions::{append_file, remove_file, rename_file, write_file, write_files};
 use gk_gherkin::Block;
 use gk_gherkin::text::stands_in;
-use gk_steps::{Action, Found, Library, UsedFields};
+use gk_steps::{Action, Found, Library, UsedFields, number_of};
 use gk_world::{Sandbox, WorldFault};
-use number_actions::{add_number, number_is, set_number};
 use std::alloc::{AllocError, Global};
-use value_actions::{delete_value, set_value, value_absent, value_is};
-use variable_actions::{env_absent, env_is, remove_env, set_env};
+use value_actions::{add_number, delete_value, remove_env, set_env, set_number, set_value};
 
 /// The site at which an action is carried out.
 #[derive(Clone, Copy, Debug, PartialEq, Eq)]
@@ -73,7 +68,7 @@ fn outcome_of(answer: Result<(), WorldFault>) -> Outcome
 
 // Passes if something is held.
 fn exists(held: Option<&str>) -> Outcome
-    ensures { IsOutcome (λ s. unless s (absent (option_copied held.entry) ∷ []) s) result }
+    ensures { result ≡ words.exists (option_copied held.entry) }
 {
     match held {
         Some(_) => Outcome::Passed,
@@ -83,7 +78,7 @@ fn exists(held: Option<&str>) -> Outcome
 
 // Passes if nothing is held.
 fn is_absent(held: Option<&str>) -> Outcome
-    ensures { IsOutcome (λ s. unless s (present (option_copied held.entry) ∷ []) s) result }
+    ensures { result ≡ words.is_absent (option_copied held.entry) }
 {
     match held {
         Some(_) => Outcome::Failed(Reason::Present),
@@ -91,37 +86,49 @@ fn is_absent(held: Option<&str>) -> Outcome
     }
 }
 
-// Passes if `held` equals `text`.
-fn is_text(held: Option<&str>, text: Option<&str>) -> Outcome
-    ensures { IsText (option_copied held.entry) (option_copied text.entry) result }
+// Passes if what is held agrees with what the step says.
+fn agreement(agrees: bool) -> Outcome
+    ensures { result ≡ words.agreement agrees }
 {
-    let Some(text) = text else {
-        return Outcome::Failed(Reason::NoText);
-    };
-    let Some(held) = held else {
-        return Outcome::Failed(Reason::Absent);
-    };
-    if held == text {
+    if agrees {
         Outcome::Passed
     } else {
         Outcome::Failed(Reason::Differs)
     }
 }
 
+// Passes if `held` equals `text`.
+fn is_text(held: Option<&str>, text: Option<&str>) -> Outcome
+    ensures { result ≡ agrees bytes_eq (option_copied held.entry) (option_copied text.entry) }
+{
+    match (held, text) {
+        (_, None) => Outcome::Failed(Reason::NoText),
+        (None, Some(_)) => Outcome::Failed(Reason::Absent),
+        (Some(held), Some(text)) => agreement(text == held),
+    }
+}
+
 // Passes if `held` contains `text`.
 fn has_text(held: Option<&str>, text: Option<&str>) -> Outcome
-    ensures { HasText (option_copied held.entry) (option_copied text.entry) result }
+    ensures { result ≡ agrees stands_in (option_copied held.entry) (option_copied text.entry) }
 {
-    let Some(text) = text else {
-        return Outcome::Failed(Reason::NoText);
-    };
+    match (held, text) {
+        (_, None) => Outcome::Failed(Reason::NoText),
+        (None, Some(_)) => Outcome::Failed(Reason::Absent),
+        (Some(held), Some(text)) => agreement(stands_in(text, held)),
+    }
+}
+
+// Passes if `held` is this number.
+fn is_number(held: Option<&str>, number: i64) -> Outcome
+    ensures { result ≡ words.is_number (option_copied held.entry) number }
+{
     let Some(held) = held else {
         return Outcome::Failed(Reason::Absent);
     };
-    if stands_in(text, held) {
-        Outcome::Passed
-    } else {
-        Outcome::Failed(Reason::Differs)
+    match number_of(held) {
+        None => Outcome::Failed(Reason::NotNumber),
+        Some(held) => agreement(held == number),
     }
 }
 
@@ -157,32 +164,29 @@ fn perform(
     arguments: &Arguments<'_>,
 ) -> Outcome
     requires { 0 < depth sandbox.old }
-    ensures acted { Performs action arguments.now sandbox.old result sandbox.new }
-    ensures exact { IsExact action
-        (table action (arguments_value arguments.now) (state_of sandbox.old.now))
-        result (state_of sandbox.new.now) }
+    ensures { Performs action arguments.now sandbox.old result sandbox.new }
 {
     match action {
         Action::WriteFile => write_file(sandbox, arguments),
         Action::AppendFile => append_file(sandbox, arguments),
-        Action::RemoveFile => remove_file(sandbox, arguments),
+        Action::RemoveFile => remove_file(sandbox, arguments.name),
         Action::RenameFile => rename_file(alloc, sandbox, arguments),
         Action::WriteFiles => write_files(sandbox, arguments),
-        Action::FileExists => file_exists(sandbox, arguments),
-        Action::FileAbsent => file_absent(sandbox, arguments),
-        Action::FileIs => file_is(sandbox, arguments),
-        Action::FileContains => file_contains(sandbox, arguments),
+        Action::FileExists => exists(sandbox.file(arguments.name)),
+        Action::FileAbsent => is_absent(sandbox.file(arguments.name)),
+        Action::FileIs => is_text(sandbox.file(arguments.name), arguments.text),
+        Action::FileContains => has_text(sandbox.file(arguments.name), arguments.text),
         Action::SetEnv => set_env(sandbox, arguments),
         Action::RemoveEnv => remove_env(sandbox, arguments),
-        Action::EnvIs => env_is(sandbox, arguments),
-        Action::EnvAbsent => env_absent(sandbox, arguments),
+        Action::EnvIs => is_text(sandbox.env(arguments.name), arguments.text),
+        Action::EnvAbsent => is_absent(sandbox.env(arguments.name)),
         Action::SetValue => set_value(sandbox, arguments),
         Action::DeleteValue => delete_value(sandbox, arguments),
-        Action::ValueIs => value_is(sandbox, arguments),
-        Action::ValueAbsent => value_absent(sandbox, arguments),
+        Action::ValueIs => is_text(sandbox.value(arguments.name), arguments.text),
+        Action::ValueAbsent => is_absent(sandbox.value(arguments.name)),
         Action::SetNumber => set_number(alloc, sandbox, arguments),
         Action::AddNumber => add_number(alloc, sandbox, arguments),
-        Action::NumberIs => number_is(sandbox, arguments),
+        Action::NumberIs => is_number(sandbox.value(arguments.name), arguments.number),
         Action::AtCleanup => Outcome::Failed(Reason::NotHere),
         Action::SkipScenario => Outcome::Failed(Reason::NotHere),
         Action::Pass => Outcome::Passed,
@@ -191,7 +195,7 @@ fn perform(
 }
 
 fn may_register(site: Site) -> bool
-    ensures { result ≡ may_register site }
+    ensures { result ≡ words.may_register site }
 {
     !matches!(site, Site::Cleanup)
 }
@@ -206,33 +210,7 @@ fn skip(site: Site) -> Outcome
     }
 }
 
-// Registers what a text finds among the entries of type `step`.
-fn register(
-    alloc: Global,
-    cleanups: &mut Cleanups,
-    library: &Library,
-    text: &str,
-    block: &Block,
-) -> Outcome
-    ensures done { (s : State) → IsDone (words.done_of
-        (registers s (block_value block.now) (found_any (library_value library.now) text.now)))
-        result s }
-    ensures registered { (s : State) → HasRegistered
-        (registers s (block_value block.now) (found_any (library_value library.now) text.now))
-        cleanups.old result cleanups.new }
-    ensures memory { NeedsCandidate (library_value library.now) text.now result }
-{
-    match library.find_any(alloc, text) {
-        Err(AllocError) => Outcome::Memory,
-        Ok(None) => Outcome::Failed(Reason::NoStep),
-        Ok(Some(found)) => match cleanups.add(found, block) {
-            Ok(()) => Outcome::Passed,
-            Err(AllocError) => Outcome::Memory,
-        },
-    }
-}
-
-// Registers a cleanup, if the site allows it.
+// Registers what the field `step` finds among the entries of type `step`, if the site allows it.
 fn at_cleanup(
     alloc: Global,
     cleanups: &mut Cleanups,
@@ -250,7 +228,14 @@ fn at_cleanup(
     if !may_register(site) {
         return Outcome::Failed(Reason::NotHere);
     }
-    register(alloc, cleanups, library, arguments.step, arguments.block)
+    match library.find_any(alloc, arguments.step) {
+        Err(AllocError) => Outcome::Memory,
+        Ok(None) => Outcome::Failed(Reason::NoStep),
+        Ok(Some(found)) => match cleanups.add(found, arguments.block) {
+            Ok(()) => Outcome::Passed,
+            Err(AllocError) => Outcome::Memory,
+        },
+    }
 }
 
 /// Carries out an action at a site, as `act` does.
@@ -265,20 +250,14 @@ pub(crate) fn act_by(
     arguments: &Arguments<'_>,
 ) -> Outcome
     requires in_layer { 0 < depth sandbox.old }
-    ensures done { IsDone (words.done_of
+    ensures acted { IsActed (words.done_of
         (called library.now site action arguments.now (state_of sandbox.old.now)))
-        result (state_of sandbox.new.now) }
-    ensures exact { IsExact action (words.done_of
-        (called library.now site action arguments.now (state_of sandbox.old.now)))
-        result (state_of sandbox.new.now) }
+        sandbox.old result sandbox.new }
     ensures registered { HasRegistered
         (called library.now site action arguments.now (state_of sandbox.old.now))
         cleanups.old result cleanups.new }
-    ensures memory { CleanupNeedsCandidate (library_value library.now) action
-        (arguments_value arguments.now) result }
-    ensures kept { KeepsAtMemory action (arguments_value arguments.now)
-        sandbox.old result sandbox.new }
-    ensures layers { KeepsLayers sandbox.old sandbox.new }
+    ensures memory { action ≡ actions.AtCleanup →
+        NeedsCandidate (library_value library.now) arguments.now.step.now result }
 {
     match action {
         Action::AtCleanup => at_cleanup(alloc, cleanups, library, site, arguments),
@@ -308,20 +287,13 @@ pub fn act(
     block: &Block,
 ) -> Outcome
     requires in_layer { 0 < depth sandbox.old }
-    ensures done { IsDone (words.done_of
+    ensures acted { IsActed (words.done_of
         (act_of library.now site found.now block.now (state_of sandbox.old.now)))
-        result (state_of sandbox.new.now) }
-    ensures exact { IsExact (action_in library.now found.now) (words.done_of
-        (act_of library.now site found.now block.now (state_of sandbox.old.now)))
-        result (state_of sandbox.new.now) }
+        sandbox.old result sandbox.new }
     ensures registered { HasRegistered
         (act_of library.now site found.now block.now (state_of sandbox.old.now))
         cleanups.old result cleanups.new }
-    ensures memory { CleanupNeedsCandidate (library_value library.now)
-        (action_in library.now found.now) (arguments_in library.now found.now block.now) result }
-    ensures kept { KeepsAtMemory (action_in library.now found.now)
-        (arguments_in library.now found.now block.now) sandbox.old result sandbox.new }
-    ensures layers { KeepsLayers sandbox.old sandbox.new }
+    ensures memory { CleanupNeedsCandidate library.now found.now block.now result }
 {
     let arguments = arguments_by(library.used_fields(found), block);
     let action = library.action(found);

@@ -1,6 +1,6 @@
 //! The cases of a feature, taken one after another.
 ghost use Rattle.std.specs.Prelude.{◌≡◌, true, [], ◌+◌, ◌≤◌, length, vec_capacity};
-ghost use Rattle.gk_run.specs.Grouping.{falls_from};
+ghost use Rattle.gk_run.specs.Chosen.{falls_from};
 
 mod section_cases;
 

@@ -28,8 +28,7 @@ pub struct Cleanups {
 
 impl Model for Cleanups {
     ghost use Rattle.std.specs.Prelude.{List, map, ◌≡◌, ◌≤◌, [], length, vec_capacity};
-    ghost use Rattle.gk_run.specs.Acting.{CleanupValue};
-    ghost use Rattle.gk_run.specs.Cleanups.{cleanup_value};
+    ghost use Rattle.gk_run.specs.Acting.{CleanupValue, cleanup_value};
 
     ghost Value = { List CleanupValue };
 

@@ -1,14 +1,13 @@
 //! Dry runs.
 ghost use Rattle.std.specs.Prelude.{◌≡◌, false, cond, List, map, IfOk};
 ghost use Rattle.gk_gherkin.specs.Feature.{step_value};
-ghost use Rattle.gk_select.specs.Case.{case_value};
 ghost use Rattle.gk_steps.specs.Finding.{library_value};
 ghost use Rattle.gk_run.specs.declared.results.Status.TheVariants as statuses;
 ghost use Rattle.gk_run.specs.Results.{step_row, case_row, rule_row, feature_row};
 ghost use Rattle.gk_run.specs.Section.{Cut};
 ghost use Rattle.gk_run.specs.Chosen.{head_value, member_of, members_of, chosen_value, IsPaired};
 ghost use Rattle.gk_run.specs.Features.{FeatureCuts};
-ghost use Rattle.gk_run.specs.DryRun.{dry_row, dry_case_of, dry_cases_of, dry_rules_of, dry_feature_of, IsDryStep, AreDrySteps};
+ghost use Rattle.gk_run.specs.DryRun.{dry_case_of, dry_cases_of, dry_rules_of, dry_feature_of, IsDryStep, AreDrySteps};
 
 use crate::cases::either;
 use crate::chosen::{Chosen, RuleHead};
@@ -68,11 +67,19 @@ fn dry_status(is_refused: bool) -> Status
     Status::Untested
 }
 
-// Returns the result of a selected case.
-fn dry_case(alloc: Global, library: &Library, case: Case) -> Result<CaseResult, NoRoom>
+// Returns the result of a case, selected or not.
+fn dry_member(
+    alloc: Global,
+    library: &Library,
+    case: Case,
+    selected: bool,
+) -> Result<CaseResult, NoRoom>
     ensures { IfOk result (λ r. (cut : Cut) × (case_row r
-        ≡ dry_row (library_value library.now) cut (case_value case))) }
+        ≡ dry_case_of (library_value library.now) cut (member_of case selected))) }
 {
+    if !selected {
+        return unrun_case(alloc, case, Status::Skipped, Mark::Skipped);
+    }
     let Case {
         keyword,
         name,
@@ -92,22 +99,6 @@ fn dry_case(alloc: Global, library: &Library, case: Case) -> Result<CaseResult, 
         cleanups: Vec::new(alloc),
         steps: looked.results,
     })
-}
-
-// Returns the result of a case, selected or not.
-fn dry_member(
-    alloc: Global,
-    library: &Library,
-    case: Case,
-    selected: bool,
-) -> Result<CaseResult, NoRoom>
-    ensures { IfOk result (λ r. (cut : Cut) × (case_row r
-        ≡ dry_case_of (library_value library.now) cut (member_of case selected))) }
-{
-    if !selected {
-        return unrun_case(alloc, case, Status::Skipped, Mark::Skipped);
-    }
-    dry_case(alloc, library, case)
 }
 
 // Returns the results of a feature's cases.

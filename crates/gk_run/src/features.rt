@@ -3,14 +3,14 @@ ghost use Rattle.std.specs.Prelude.{◌≡◌, ◌<◌, ◌∷◌, ◌||◌, tru
 ghost use Rattle.std.specs.List.{list_any};
 ghost use Rattle.gk_world.specs.State.{state_of, layers};
 ghost use Rattle.gk_world.specs.Sandbox.{depth, IsSame};
-ghost use Rattle.gk_run.specs.Cases.{case_statuses};
+ghost use Rattle.gk_run.specs.Running.{case_statuses};
 ghost use Rattle.gk_run.specs.Results as rows;
 ghost use Rattle.gk_run.specs.Results.{case_row, rule_row, feature_row};
-ghost use Rattle.gk_run.specs.Run.{run_of, run_value};
+ghost use Rattle.gk_run.specs.OpenSection.{run_of, run_value};
 ghost use Rattle.gk_run.specs.Chosen.{chosen_value, IsFormed};
 ghost use Rattle.gk_run.specs.Features as spec;
 ghost use Rattle.gk_run.specs.Features.{IsFeatureResult, rule_statuses, feature_verdict};
-ghost use Rattle.gk_run.specs.FeatureContracts.{EndsFeature, RunsFeature, RunsInside};
+ghost use Rattle.gk_run.specs.PrivateContracts.{EndsFeature, RunsFeature, RunsInside};
 
 use crate::cases::{Cases, Content, both, either, run_cases};
 use crate::chosen::Chosen;
@@ -19,8 +19,7 @@ use crate::observer::{Observer, Unwatched};
 use crate::open_section::{end_around, leave_section, open_section};
 use crate::results::{CaseResult, FeatureResult, NoRoom, RuleResult, Status, reserve};
 use crate::rules::run_rules;
-use crate::run::Run;
-use crate::section::{Level, Section};
+use crate::section::{Level, Run, Section};
 use gk_gherkin::{HookFile, HookTable};
 use gk_steps::Library;
 use gk_world::Sandbox;
@@ -64,19 +63,27 @@ struct FeatureEnd {
     inside: InsideResults,
 }
 
-// Runs a feature in its own layer.
-fn begin_feature<O: Observer>(
+// Runs a feature in its own layer if it is begun; otherwise returns the results of what is inside it.
+fn feature_end<O: Observer>(
     run: &Run<'_>,
     sandbox: &mut Sandbox,
+    is_begun: bool,
     tags: &[String],
     content: Content,
     observer: &mut O,
 ) -> Result<FeatureEnd, NoRoom>
     requires layer { suc (suc (depth sandbox.old)) < layers }
     ensures end { IfOk result (EndsFeature O.hears O.ends run.now (state_of sandbox.old.now)
-        true tags.now content observer.old observer.new) }
+        is_begun tags.now content observer.old observer.new) }
     ensures same { IsSame sandbox.old sandbox.new }
 {
+    if !is_begun {
+        let inside = run_inside(run, sandbox, false, content, observer)?;
+        return Ok(FeatureEnd {
+            around: Status::Passed,
+            inside,
+        });
+    }
     let section = Section {
         level: Level::Feature,
         tags,
@@ -92,30 +99,6 @@ fn begin_feature<O: Observer>(
             inside,
         }),
     }
-}
-
-// Runs a feature if it is begun; otherwise returns the results of what is inside it.
-fn feature_end<O: Observer>(
-    run: &Run<'_>,
-    sandbox: &mut Sandbox,
-    is_begun: bool,
-    tags: &[String],
-    content: Content,
-    observer: &mut O,
-) -> Result<FeatureEnd, NoRoom>
-    requires layer { suc (suc (depth sandbox.old)) < layers }
-    ensures end { IfOk result (EndsFeature O.hears O.ends run.now (state_of sandbox.old.now)
-        is_begun tags.now content observer.old observer.new) }
-    ensures same { IsSame sandbox.old sandbox.new }
-{
-    if is_begun {
-        return begin_feature(run, sandbox, tags, content, observer);
-    }
-    let inside = run_inside(run, sandbox, false, content, observer)?;
-    Ok(FeatureEnd {
-        around: Status::Passed,
-        inside,
-    })
 }
 
 fn has_selected(selected: &[bool]) -> bool

@@ -1,10 +1,9 @@
 //! Laws of the results of running. Each is the contract of an empty function, which a proof can call.
 ghost use Rattle.gk_run.specs.Features.{FeaturesWithoutRulesHaveTheirCases, ResultsStandInFileOrder};
-ghost use Rattle.gk_run.specs.Grouping.{FormedCasesFallIntoRules, GroupsAreAll};
-ghost use Rattle.gk_run.specs.Judged.{OneList, DryRunsAreJudged, UnfinishedDryRunsAreJudged};
-ghost use Rattle.gk_run.specs.JudgedInWords.{JudgedAreInWords, StepsHaveTheirResults};
+ghost use Rattle.gk_run.specs.Chosen.{FormedCasesFallIntoRules, GroupsAreAll};
+ghost use Rattle.gk_run.specs.Judged.{OneList, DryRunsAreJudged, UnfinishedDryRunsAreJudged, JudgedAreInWords, StepsHaveTheirResults};
 ghost use Rattle.gk_run.specs.OpenRun.{FinishedRunsAreJudged, UnfinishedRunsAreJudged};
-ghost use Rattle.gk_run.specs.WalkInWords.{StepsEndAtTheLeastStop, StoppedCasesRunNoStep, WalksEndAtTheLeastStop};
+ghost use Rattle.gk_run.specs.Walk.{StepsEndAtTheLeastStop, StoppedCasesRunNoStep, WalksEndAtTheLeastStop};
 
 /// A walk through steps ends at the least step that isn't found or whose outcome isn't `Passed`, with
 /// what that step left. If there is no such step, it passes whole. (behave's documentation: a failed

@@ -14,7 +14,6 @@ mod ending;
 
 // The observer of a run, what stays the same during it, and its sections.
 mod observer;
-mod run;
 mod section;
 
 // The walks through steps and hooks.

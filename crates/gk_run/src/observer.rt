@@ -5,8 +5,7 @@ ghost use Rattle.gk_steps.specs.Finding.{found_value};
 ghost use Rattle.gk_world.specs.State.{state_of};
 ghost use Rattle.gk_run.specs.Acting.{CleanupValue};
 ghost use Rattle.gk_run.specs.Results.{case_row, rule_row};
-ghost use Rattle.gk_run.specs.Events.{Event, of_step, of_cleanup};
-ghost use Rattle.gk_run.specs.Observer.{Ended, of_case, of_rule};
+ghost use Rattle.gk_run.specs.Events.{Event, of_step, of_cleanup, Ended, of_case, of_rule};
 
 use crate::results::{CaseResult, Mark, Outcome, RuleResult};
 use crate::section::{Level, Stage};

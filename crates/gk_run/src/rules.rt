@@ -2,10 +2,9 @@
 ghost use Rattle.std.specs.Prelude.{◌≡◌, true, ◌<◌, suc, map, IfOk};
 ghost use Rattle.gk_world.specs.State.{state_of, layers};
 ghost use Rattle.gk_world.specs.Sandbox.{depth, IsSame};
-ghost use Rattle.gk_run.specs.Grouping.{falls_from};
-ghost use Rattle.gk_run.specs.Chosen.{head_value};
-ghost use Rattle.gk_run.specs.FeatureContracts.{BeginsRule, RunsRule, RunsRules};
-ghost use Rattle.gk_run.specs.Run.{run_value};
+ghost use Rattle.gk_run.specs.Chosen.{falls_from, head_value};
+ghost use Rattle.gk_run.specs.PrivateContracts.{RunsRule, RunsRules};
+ghost use Rattle.gk_run.specs.OpenSection.{run_value};
 
 use crate::cases::{Cases, both, run_cases, stays_open};
 use crate::chosen::RuleHead;
@@ -13,8 +12,7 @@ use crate::ending::has_passed;
 use crate::observer::Observer;
 use crate::open_section::{end_around, leave_section, open_section};
 use crate::results::{NoRoom, Reserved, RuleResult, Status};
-use crate::run::Run;
-use crate::section::{Level, Section};
+use crate::section::{Level, Run, Section};
 use gk_world::Sandbox;
 
 /// The result of a rule without its cases.
@@ -25,22 +23,31 @@ pub struct RuleEnd {
     pub stays_open: bool,
 }
 
-// Runs a rule in its own layer.
-fn begin_rule<O: Observer>(
+// Runs the next rule of a feature, in its own layer if it is begun.
+fn run_rule<O: Observer>(
     run: &Run<'_>,
     sandbox: &mut Sandbox,
-    tags: &[String],
+    is_open: bool,
+    head: &RuleHead,
     cases: &mut Cases,
     observer: &mut O,
 ) -> Result<RuleEnd, NoRoom>
     requires layer { suc (depth sandbox.old) < layers }
-    ensures rule { IfOk result (BeginsRule O.hears O.ends run.now (state_of sandbox.old.now)
-        tags.now cases.old cases.new observer.old observer.new) }
+    ensures rule { IfOk result (RunsRule O.hears O.ends (run_value run.now)
+        (state_of sandbox.old.now) is_open (head_value head.now)
+        cases.old cases.new observer.old observer.new) }
     ensures same { IsSame sandbox.old sandbox.new }
 {
+    if !both(is_open, cases.has_selected()) {
+        let all_stay = run_cases(run, sandbox, false, cases, observer)?;
+        return Ok(RuleEnd {
+            around: Status::Passed,
+            stays_open: all_stay,
+        });
+    }
     let section = Section {
         level: Level::Rule,
-        tags,
+        tags: head.tags.as_slice(),
     };
     let opened = open_section(run, sandbox, &section, observer);
     match run_cases(run, sandbox, has_passed(opened.before), cases, observer) {
@@ -56,30 +63,6 @@ fn begin_rule<O: Observer>(
             })
         }
     }
-}
-
-// Runs the next rule of a feature.
-fn run_rule<O: Observer>(
-    run: &Run<'_>,
-    sandbox: &mut Sandbox,
-    is_open: bool,
-    head: &RuleHead,
-    cases: &mut Cases,
-    observer: &mut O,
-) -> Result<RuleEnd, NoRoom>
-    requires layer { suc (depth sandbox.old) < layers }
-    ensures rule { IfOk result (RunsRule O.hears O.ends (run_value run.now)
-        (state_of sandbox.old.now) is_open (head_value head.now)
-        cases.old cases.new observer.old observer.new) }
-    ensures same { IsSame sandbox.old sandbox.new }
-{
-    if both(is_open, cases.has_selected()) {
-        return begin_rule(run, sandbox, head.tags.as_slice(), cases, observer);
-    }
-    Ok(RuleEnd {
-        around: Status::Passed,
-        stays_open: run_cases(run, sandbox, false, cases, observer)?,
-    })
 }
 
 /// Runs the rules of a feature, one after another. `is_open` says whether the feature is open. No case

@@ -5,7 +5,7 @@ ghost use Rattle.gk_select.specs.Case.{case_value};
 ghost use Rattle.gk_world.specs.State.{state_of, layers};
 ghost use Rattle.gk_world.specs.Sandbox.{depth, IsSame};
 ghost use Rattle.gk_run.specs.Results.{step_row, case_row};
-ghost use Rattle.gk_run.specs.Run.{run_of, run_value};
+ghost use Rattle.gk_run.specs.OpenSection.{run_of, run_value};
 ghost use Rattle.gk_run.specs.Running.{unrun_row, AreEventsTold, IsCaseTold, IsReached, same_marks};
 ghost use Rattle.gk_run.specs.Walk.{row_of_step};
 
@@ -13,9 +13,8 @@ use crate::ending::{around_status, verdict_status, worse};
 use crate::observer::{Observer, Unwatched};
 use crate::open_section::{end_section, open_section};
 use crate::results::{CaseResult, Mark, NoRoom, Reserved, Status, StepResult, reserve};
-use crate::run::Run;
-use crate::section::{Level, Section};
-use crate::walk::{StepsEnd, row_of, run_steps};
+use crate::section::{Level, Run, Section};
+use crate::walk::{row_of, run_steps};
 use gk_gherkin::{HookFile, HookTable, Step};
 use gk_select::Case;
 use gk_steps::Library;
@@ -51,14 +50,8 @@ pub(crate) fn case_in<O: Observer>(
     };
     let mut opened = open_section(run, sandbox, &section, observer);
     let before = opened.before;
-    let StepsEnd { ending, results } = run_steps(
-        run,
-        sandbox,
-        &mut opened.cleanups,
-        before,
-        steps,
-        observer,
-    );
+    let stepped = run_steps(run, sandbox, &mut opened.cleanups, before, steps, observer);
+    let ending = stepped.ending;
     let closed = end_section(run, sandbox, &section, opened, ending, observer);
     Ok(CaseResult {
         keyword,
@@ -67,7 +60,7 @@ pub(crate) fn case_in<O: Observer>(
         status: verdict_status(worse(ending, closed.ending)),
         around: around_status(worse(before, closed.ending)),
         cleanups: closed.outcomes,
-        steps: results,
+        steps: stepped.results,
     })
 }
 

@@ -1,8 +1,21 @@
-//! The sections of a run: the run itself, a feature, a rule, a scenario.
+//! What stays the same during a run, and its sections: the run itself, a feature, a rule, a scenario.
 ghost use Rattle.std.specs.Prelude.{◌≡◌};
 ghost use Rattle.gk_run.specs.Section as spec;
 
 use crate::acting::Site;
+use gk_gherkin::HookTable;
+use gk_steps::Library;
+use std::alloc::Global;
+
+/// What stays the same during a run, and the allocator of its memory.
+#[derive(Clone, Copy)]
+pub struct Run<'a> {
+    pub alloc: Global,
+    pub library: &'a Library,
+    pub hooks: &'a HookTable<'a>,
+    /// The first case, rule or feature that is failed or memory stops the run.
+    pub stop: bool,
+}
 
 /// The level of a section of a run. Each section has its own layer. (behave's documentation: context
 /// layers)

@@ -3,19 +3,17 @@ ghost use Rattle.std.specs.Prelude.{◌<◌};
 ghost use Rattle.gk_world.specs.State.{state_of};
 ghost use Rattle.gk_world.specs.Sandbox.{depth, KeepsLayers};
 ghost use Rattle.gk_steps.specs.Finding.{library_value};
-ghost use Rattle.gk_run.specs.Acting.{action_in, arguments_in, IsDone, IsExact, KeepsAtMemory};
-ghost use Rattle.gk_run.specs.Cleanups.{cleanup_value};
-ghost use Rattle.gk_run.specs.SectionEnd.{cleanup_done};
+ghost use Rattle.gk_run.specs.Acting.{IsActed, cleanup_value};
+ghost use Rattle.gk_run.specs.SectionHooks.{cleanup_done};
 ghost use Rattle.gk_run.specs.Events.{of_cleanup};
-ghost use Rattle.gk_run.specs.WalkContracts.{Cleans, Closes};
+ghost use Rattle.gk_run.specs.PrivateContracts.{Cleans, Closes};
 
 use crate::acting::{Site, act};
 use crate::cleanups::{Cleanup, Cleanups};
 use crate::ending::{Ending, ending_of, is_memory, worse};
 use crate::observer::Observer;
 use crate::results::{Mark, Outcome};
-use crate::run::Run;
-use crate::section::{Level, Section};
+use crate::section::{Level, Run, Section};
 use crate::section_hooks::walk_after;
 use gk_world::Sandbox;
 
@@ -36,17 +34,10 @@ fn clean_one<O: Observer>(
     observer: &mut O,
 ) -> Outcome
     requires in_layer { 0 < depth sandbox.old }
-    ensures cleaned { IsDone (cleanup_done (library_value run.now.library.now)
-        (cleanup_value cleanup) (state_of sandbox.old.now)) result (state_of sandbox.new.now) }
-    ensures exact { IsExact (action_in run.now.library.now cleanup.found) (cleanup_done
-        (library_value run.now.library.now) (cleanup_value cleanup) (state_of sandbox.old.now))
-        result (state_of sandbox.new.now) }
-    ensures kept { KeepsAtMemory (action_in run.now.library.now cleanup.found)
-        (arguments_in run.now.library.now cleanup.found cleanup.block)
-        sandbox.old result sandbox.new }
+    ensures acted { IsActed (cleanup_done (library_value run.now.library.now)
+        (cleanup_value cleanup) (state_of sandbox.old.now)) sandbox.old result sandbox.new }
     ensures told { O.hears observer.old (of_cleanup level (cleanup_value cleanup)
         result (state_of sandbox.new.now)) observer.new }
-    ensures layers { KeepsLayers sandbox.old sandbox.new }
 {
     // A cleanup registers no cleanups.
     let mut none = Cleanups::new(run.alloc);

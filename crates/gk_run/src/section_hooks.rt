@@ -4,13 +4,12 @@ ghost use Rattle.gk_gherkin.specs.Feature.{step_value};
 ghost use Rattle.gk_gherkin.specs.Hooks.{hooks_value};
 ghost use Rattle.gk_world.specs.Sandbox.{depth, KeepsLayers};
 ghost use Rattle.gk_run.specs.SectionHooks as spec;
-ghost use Rattle.gk_run.specs.WalkContracts.{WalksBefore, WalksAfter};
+ghost use Rattle.gk_run.specs.PrivateContracts.{WalksBefore, WalksAfter};
 
 use crate::cleanups::Cleanups;
 use crate::ending::{Ending, has_passed, is_memory, worse};
 use crate::observer::Observer;
-use crate::run::Run;
-use crate::section::{Level, Part, Section, Stage};
+use crate::section::{Level, Part, Run, Section, Stage};
 use crate::walk::walk_hook;
 use gk_gherkin::{HookKind, HookTable, Step};
 use gk_world::Sandbox;

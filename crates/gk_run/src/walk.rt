@@ -3,17 +3,17 @@ ghost use Rattle.std.specs.Prelude.{◌≡◌, ◌<◌};
 ghost use Rattle.gk_gherkin.specs.Feature.{step_value};
 ghost use Rattle.gk_steps.specs.Finding.{library_value};
 ghost use Rattle.gk_world.specs.Sandbox.{depth, KeepsLayers};
+ghost use Rattle.gk_run.specs.declared.acting.Site.TheVariants as sites;
 ghost use Rattle.gk_run.specs.Results.{step_row};
 ghost use Rattle.gk_run.specs.Walk.{IsLookedUp, row_of_step};
-ghost use Rattle.gk_run.specs.WalkContracts.{RunsStep, StepNeedsCandidate, StepKeepsAtMemory, WalksHook, TakesNext, TellsNext, RunsSteps};
+ghost use Rattle.gk_run.specs.PrivateContracts.{RunsStep, StepNeedsCandidate, StepKeepsAtMemory, WalksHook, TakesNext, TellsNext, RunsSteps};
 
 use crate::acting::{Site, act_by, arguments_by};
 use crate::cleanups::Cleanups;
 use crate::ending::{Ending, ending_of, has_passed, is_memory, reason_of, status_of, worse};
 use crate::observer::Observer;
 use crate::results::{Mark, Outcome, Reserved, StepResult};
-use crate::run::Run;
-use crate::section::{Level, Part, Stage, site_of};
+use crate::section::{Level, Part, Run, Stage, site_of};
 use gk_gherkin::Step;
 use gk_steps::Library;
 use gk_world::Sandbox;
@@ -31,7 +31,7 @@ fn run_step(
     ensures ran { RunsStep run.now site step.now
         sandbox.old cleanups.old result sandbox.new cleanups.new }
     ensures memory { StepNeedsCandidate run.now step.now result }
-    ensures kept { StepKeepsAtMemory run.now step.now sandbox.old result sandbox.new }
+    ensures kept { StepKeepsAtMemory run.now site step.now sandbox.old result sandbox.new }
     ensures layers { KeepsLayers sandbox.old sandbox.new }
 {
     match run
@@ -105,7 +105,7 @@ fn next_step(
     ensures next { TakesNext run.now ending step.now
         sandbox.old cleanups.old result sandbox.new cleanups.new }
     ensures memory { StepNeedsCandidate run.now step.now result }
-    ensures kept { StepKeepsAtMemory run.now step.now sandbox.old result sandbox.new }
+    ensures kept { StepKeepsAtMemory run.now sites.Step step.now sandbox.old result sandbox.new }
     ensures layers { KeepsLayers sandbox.old sandbox.new }
 {
     match ending {

@@ -1,13 +1,12 @@
 //! Actions on files.
-ghost use Rattle.std.specs.Prelude.{◌≡◌, bytes_eq, map};
-ghost use Rattle.std.specs.String.{string_bytes};
+ghost use Rattle.std.specs.Prelude.{◌≡◌, map};
 ghost use Rattle.gk_gherkin.specs.Feature.{texts};
 ghost use Rattle.gk_steps.specs.declared.action.Action.TheVariants as actions;
 ghost use Rattle.gk_world.specs.State.{state_of};
 ghost use Rattle.gk_run.specs.Acting as words;
-ghost use Rattle.gk_run.specs.Acting.{IsActed, IsActedWith, WritesFile, Performs, Checks};
+ghost use Rattle.gk_run.specs.Acting.{IsActed, WritesFile, Performs};
 
-use crate::acting::{Arguments, exists, has_text, is_absent, is_text, outcome_of};
+use crate::acting::{Arguments, outcome_of};
 use crate::results::{Outcome, Reason};
 use gk_gherkin::Block;
 use gk_world::{Sandbox, is_bad_name};
@@ -15,14 +14,15 @@ use std::alloc::{AllocError, Global};
 
 // Writes a text to a file.
 fn put(sandbox: &mut Sandbox, name: &str, text: &str) -> Outcome
-    ensures acted { IsActed (words.write_file (state_of sandbox.old.now) name.now text.now)
+    ensures acted { IsActed (words.put (state_of sandbox.old.now) name.now text.now
+        (words.with_file (state_of sandbox.old.now) name.now text.now))
         sandbox.old result sandbox.new }
     ensures written { WritesFile (name.now, text.now) sandbox.old result sandbox.new }
 {
     outcome_of(sandbox.put_file(name, text))
 }
 
-fn remove(sandbox: &mut Sandbox, name: &str) -> Outcome
+pub fn remove_file(sandbox: &mut Sandbox, name: &str) -> Outcome
     ensures { IsActed (words.remove_file (state_of sandbox.old.now) name.now)
         sandbox.old result sandbox.new }
 {
@@ -47,21 +47,15 @@ pub fn append_file(sandbox: &mut Sandbox, arguments: &Arguments<'_>) -> Outcome
     }
 }
 
-pub fn remove_file(sandbox: &mut Sandbox, arguments: &Arguments<'_>) -> Outcome
-    ensures { Performs actions.RemoveFile arguments.now sandbox.old result sandbox.new }
-{
-    remove(sandbox, arguments.name)
-}
-
 // Writes a text under the new name, and then removes the old name.
 fn put_and_remove(sandbox: &mut Sandbox, name: &str, to: &str, text: &str) -> Outcome
-    ensures { IsActedWith (words.put_files (state_of sandbox.old.now) to.now text.now)
+    ensures { IsActed
         (words.put_and_remove (state_of sandbox.old.now) name.now to.now text.now)
         sandbox.old result sandbox.new }
 {
     let written = put(sandbox, to, text);
     match written {
-        Outcome::Passed => remove(sandbox, name),
+        Outcome::Passed => remove_file(sandbox, name),
         _ => written,
     }
 }
@@ -90,18 +84,12 @@ pub fn rename_file(alloc: Global, sandbox: &mut Sandbox, arguments: &Arguments<'
     }
 }
 
-fn is_word(cell: &String, word: &str) -> bool
-    ensures { result ≡ bytes_eq (string_bytes cell.now) word.now }
-{
-    cell.as_str() == word
-}
-
 // Reports whether a row is `name`, `text`.
 fn is_head(row: &[String]) -> bool
     ensures { result ≡ words.is_head (texts row.now) }
 {
     match row {
-        [name, text] => is_word(name, "name") && is_word(text, "text"),
+        [name, text] => name.as_str() == "name" && text.as_str() == "text",
         _ => false,
     }
 }
@@ -131,8 +119,7 @@ fn write_row(sandbox: &mut Sandbox, row: &[String]) -> Outcome
 
 // Writes rows as files, one after another, up to the first that is refused.
 fn write_rows(sandbox: &mut Sandbox, rows: &[Vec<String>]) -> Outcome
-    ensures { IsActedWith
-        (words.rows_files (state_of sandbox.old.now) (map (λ row. texts row.items) rows.now))
+    ensures { IsActed
         (words.write_rows (state_of sandbox.old.now) (map (λ row. texts row.items) rows.now))
         sandbox.old result sandbox.new }
 {
@@ -160,28 +147,4 @@ pub fn write_files(sandbox: &mut Sandbox, arguments: &Arguments<'_>) -> Outcome
     } else {
         Outcome::Failed(Reason::BadTable)
     }
-}
-
-pub fn file_exists(sandbox: &Sandbox, arguments: &Arguments<'_>) -> Outcome
-    ensures { Checks actions.FileExists arguments.now sandbox.now result }
-{
-    exists(sandbox.file(arguments.name))
-}
-
-pub fn file_absent(sandbox: &Sandbox, arguments: &Arguments<'_>) -> Outcome
-    ensures { Checks actions.FileAbsent arguments.now sandbox.now result }
-{
-    is_absent(sandbox.file(arguments.name))
-}
-
-pub fn file_is(sandbox: &Sandbox, arguments: &Arguments<'_>) -> Outcome
-    ensures { Checks actions.FileIs arguments.now sandbox.now result }
-{
-    is_text(sandbox.file(arguments.name), arguments.text)
-}
-
-pub fn file_contains(sandbox: &Sandbox, arguments: &Arguments<'_>) -> Outcome
-    ensures { Checks actions.FileContains arguments.now sandbox.now result }
-{
-    has_text(sandbox.file(arguments.name), arguments.text)
 }

@@ -1,18 +1,38 @@
-//! Actions on values.
-ghost use Rattle.std.specs.Prelude.{◌<◌};
+//! Actions on variables and values.
+ghost use Rattle.std.specs.Prelude.{◌≡◌, ◌<◌, false};
+ghost use Rattle.std.specs.Fmt.{signed_decimal};
 ghost use Rattle.gk_steps.specs.declared.action.Action.TheVariants as actions;
 ghost use Rattle.gk_world.specs.State.{state_of};
+ghost use Rattle.gk_world.specs.Refusals as refusals;
 ghost use Rattle.gk_world.specs.Sandbox.{depth};
-ghost use Rattle.gk_run.specs.Acting.{set_own, IsActed, Performs, Checks};
+ghost use Rattle.gk_run.specs.Acting.{passes, put, with_own, IsActed, Performs};
 
-use crate::acting::{Arguments, is_absent, is_text, outcome_of};
+use crate::acting::{Arguments, outcome_of};
 use crate::results::{Outcome, Reason};
-use gk_world::Sandbox;
+use gk_steps::number_of;
+use gk_world::{Sandbox, is_bad_name};
+use std::alloc::{AllocError, Global};
 
-/// Sets the innermost layer's value to a text.
-pub fn set(sandbox: &mut Sandbox, name: &str, text: &str) -> Outcome
+pub fn set_env(sandbox: &mut Sandbox, arguments: &Arguments<'_>) -> Outcome
+    ensures { Performs actions.SetEnv arguments.now sandbox.old result sandbox.new }
+{
+    match arguments.text {
+        None => Outcome::Failed(Reason::NoText),
+        Some(text) => outcome_of(sandbox.put_env(arguments.name, text)),
+    }
+}
+
+pub fn remove_env(sandbox: &mut Sandbox, arguments: &Arguments<'_>) -> Outcome
+    ensures { Performs actions.RemoveEnv arguments.now sandbox.old result sandbox.new }
+{
+    outcome_of(sandbox.remove_env(arguments.name))
+}
+
+// Sets the innermost layer's value to a text.
+fn set(sandbox: &mut Sandbox, name: &str, text: &str) -> Outcome
     requires { 0 < depth sandbox.old }
-    ensures { IsActed (set_own (state_of sandbox.old.now) name.now text.now)
+    ensures { IsActed (put (state_of sandbox.old.now) name.now text.now
+        (with_own (state_of sandbox.old.now) name.now text.now))
         sandbox.old result sandbox.new }
 {
     // The innermost layer has its values.
@@ -38,14 +58,45 @@ pub fn delete_value(sandbox: &mut Sandbox, arguments: &Arguments<'_>) -> Outcome
     outcome_of(sandbox.delete_value(arguments.name))
 }
 
-pub fn value_is(sandbox: &Sandbox, arguments: &Arguments<'_>) -> Outcome
-    ensures { Checks actions.ValueIs arguments.now sandbox.now result }
+// Sets the innermost layer's value to a number.
+fn put_number(alloc: Global, sandbox: &mut Sandbox, name: &str, number: i64) -> Outcome
+    requires open { 0 < depth sandbox.old }
+    requires good { refusals.is_bad_name name.now ≡ false }
+    ensures { IsActed
+        (passes (with_own (state_of sandbox.old.now) name.now (signed_decimal number)))
+        sandbox.old result sandbox.new }
 {
-    is_text(sandbox.value(arguments.name), arguments.text)
+    match number.to_string(alloc) {
+        Err(AllocError) => Outcome::Memory,
+        Ok(text) => set(sandbox, name, text.as_str()),
+    }
 }
 
-pub fn value_absent(sandbox: &Sandbox, arguments: &Arguments<'_>) -> Outcome
-    ensures { Checks actions.ValueAbsent arguments.now sandbox.now result }
+pub fn set_number(alloc: Global, sandbox: &mut Sandbox, arguments: &Arguments<'_>) -> Outcome
+    requires { 0 < depth sandbox.old }
+    ensures { Performs actions.SetNumber arguments.now sandbox.old result sandbox.new }
 {
-    is_absent(sandbox.value(arguments.name))
+    if is_bad_name(arguments.name) {
+        return Outcome::Failed(Reason::BadName);
+    }
+    put_number(alloc, sandbox, arguments.name, arguments.number)
+}
+
+pub fn add_number(alloc: Global, sandbox: &mut Sandbox, arguments: &Arguments<'_>) -> Outcome
+    requires { 0 < depth sandbox.old }
+    ensures { Performs actions.AddNumber arguments.now sandbox.old result sandbox.new }
+{
+    if is_bad_name(arguments.name) {
+        return Outcome::Failed(Reason::BadName);
+    }
+    let Some(held) = sandbox.value(arguments.name) else {
+        return Outcome::Failed(Reason::Absent);
+    };
+    let Some(number) = number_of(held) else {
+        return Outcome::Failed(Reason::NotNumber);
+    };
+    let Some(sum) = number.checked_add(arguments.number) else {
+        return Outcome::Failed(Reason::OutOfRange);
+    };
+    put_number(alloc, sandbox, arguments.name, sum)
 }

@@ -3,18 +3,17 @@ ghost use Rattle.std.specs.Prelude.{◌≡◌, true, ◌+◌, ◌≤◌, ◌<◌
 ghost use Rattle.gk_select.specs.RuleOrder as order;
 ghost use Rattle.gk_world.specs.State.{state_of, layers};
 ghost use Rattle.gk_world.specs.Sandbox.{depth, IsSame};
-ghost use Rattle.gk_run.specs.Cases as spec;
-ghost use Rattle.gk_run.specs.FeatureContracts.{IsMember, RunsCases, TakesMember, members_in};
-ghost use Rattle.gk_run.specs.Chosen.{has_selected, member_of};
-ghost use Rattle.gk_run.specs.Grouping.{falls_from, members_of_rank};
+ghost use Rattle.gk_run.specs.Running as spec;
+ghost use Rattle.gk_run.specs.PrivateContracts.{IsMember, RunsCases, TakesMember, members_in};
+ghost use Rattle.gk_run.specs.Chosen.{has_selected, member_of, falls_from, members_of_rank};
 ghost use Rattle.gk_run.specs.Results.{case_row};
-ghost use Rattle.gk_run.specs.Run.{run_value};
+ghost use Rattle.gk_run.specs.OpenSection.{run_value};
 
 use crate::cases::{Cases, Member};
 use crate::observer::Observer;
 use crate::results::{CaseResult, Mark, NoRoom, Reserved, Status};
-use crate::run::Run;
 use crate::running::{case_in, unrun_case};
+use crate::section::Run;
 use gk_select::Case;
 use gk_world::Sandbox;
 use std::collections::VecDeque;

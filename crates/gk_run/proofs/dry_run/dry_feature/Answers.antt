@@ -7,7 +7,7 @@ use Rattle.gk_run.specs.Section.{Cut}
 use Rattle.gk_run.specs.Chosen.{MemberValue, chosen_value, head_value, members_of}
 use Rattle.gk_run.specs.declared.results.RuleResult.{RuleResult}
 use Rattle.gk_run.specs.declared.chosen.RuleHead.{RuleHead}
-use Rattle.gk_run.specs.Cases.{case_statuses}
+use Rattle.gk_run.specs.Running.{case_statuses}
 use Rattle.gk_run.specs.Features.{feature_verdict, rule_statuses}
 use Rattle.gk_run.specs.DryRun.{dry_cases_of, dry_rules_of}
 use Rattle.gk_run.proofs.DryRunLemmas.{dry_feature_is}

@@ -1,12 +1,16 @@
-use Rattle.std.proofs.Common.{◌≡◌}
+use Rattle.std.proofs.Common.{◌≡◌, ◌∙◌, false, List, map, ap, subst}
 use Rattle.gk_steps.specs.Finding.{library_value}
 use Rattle.gk_run.specs.declared.results.CaseResult.{CaseResult}
-use Rattle.gk_run.specs.Results.{case_row}
+use Rattle.gk_run.specs.Results.{case_row, CaseRow, step_row}
 use Rattle.gk_run.specs.Section.{Cut, nowhere}
 use Rattle.gk_run.specs.Chosen.{member_of}
-use Rattle.gk_run.specs.DryRun.{dry_case_of}
+use Rattle.gk_run.specs.DryRun.{dry_case_of, AreDrySteps}
 use Rattle.gk_run.proofs.CasesLemmas.{of_ok}
-use Rattle.gk_run.proofs.DryRunLemmas.{dry_unselected, dry_selected}
+use Rattle.gk_run.proofs.DryRunLemmas.{dry_unselected, dry_selected, dry_is}
+use Rattle.gk_gherkin.specs.Feature.{StepValue, step_value}
+use Rattle.gk_select.specs.Case.{case_value}
+use Rattle.gk_run.specs.declared.results.Outcome.{Outcome}
+use Rattle.gk_run.specs.declared.results.Status.TheVariants as statuses
 use Rattle.gk_run.proofs.dry_run.dry_member.Goals as goal
 
 pub returns-then-not-selected : goal.returns-then-not-selected
@@ -18,5 +22,11 @@ returns-then-not-selected c =
 pub returns : goal.returns
 returns c =
     let library = library_value c.args.library.now in
-    let m = member_of c.args.case c.args.selected in
-    of_ok (λ (r : CaseResult). (x : Cut) × (case_row r ≡ dry_case_of library x m)) c.dry_case.result c.dry_case.ensures (λ r e. dry_selected library m (case_row r) c.if-not-selected.false e)
+    let case = case_value c.args.case in
+    let looked = c.dry_steps-looked.result in
+    let rows = map step_row looked.results.items in
+    let steps = ap (λ ss. map step_value ss.items) c.in_ok-reserve.ensures in
+    let are = subst (λ (ss : List StepValue). AreDrySteps library false ss rows looked.is_refused) steps c.dry_steps-looked.ensures in
+    let is = dry_is library case rows looked.is_refused c.dry_status.result c.dry_status.ensures are in
+    let row : List Outcome → CaseRow = λ os. record { keyword = case.keyword; name = case.name; line = case.line; status = c.dry_status.result; around = statuses.Passed; cleanups = os; steps = rows } in
+    dry_selected library (member_of c.args.case c.args.selected) _ c.if-not-selected.false (is.0, ap row c.new.ensures.items ∙ is.1)

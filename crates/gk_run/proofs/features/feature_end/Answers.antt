@@ -1,20 +1,47 @@
-use Rattle.std.proofs.Common.{Bool, map, subst, sym, IfOk}
+use Rattle.std.proofs.Common.{◌∙◌, Bool, true, List, map, subst, sym}
 use Rattle.gk_gherkin.specs.Feature.{texts}
-use Rattle.gk_world.specs.State.{state_of}
-use Rattle.gk_run.specs.Chosen.{head_value}
-use Rattle.gk_run.specs.FeatureContracts.{EndsFeature, inside_value, members_in}
-use Rattle.gk_run.specs.Grouping.{groups_from, members_of_rank}
-use Rattle.gk_run.specs.Run.{run_value}
-use Rattle.gk_run.specs.Observer.{tells}
+use Rattle.gk_world.specs.State.{State, state_of}
+use Rattle.gk_run.specs.declared.section.Level.TheVariants as levels
+use Rattle.gk_run.specs.Chosen.{head_value, groups_from, members_of_rank}
+use Rattle.gk_run.specs.PrivateContracts.{inside_value, members_in}
+use Rattle.gk_run.specs.Features.{inside_by, Inside}
+use Rattle.gk_run.specs.Events.{stand_of, IsRan, Ran, tells}
+use Rattle.gk_run.specs.OpenSection.{IsBegun, SectionRow, section_of, section_state, run_value}
 use Rattle.gk_run.proofs.FeaturesLemmas.{feature_unbegun}
+use Rattle.gk_run.proofs.SectionLemmas.{begun_still, passed_state, ready}
+use Rattle.gk_run.proofs.ToldLemmas.{section_ran}
 use Rattle.gk_run.proofs.features.feature_end.Goals as goal
 
-pub returns-then-is_begun-clause-end : goal.returns-then-is_begun-clause-end
-returns-then-is_begun-clause-end g c =
-    subst (λ (b : Bool). IfOk c.begin_feature.result (EndsFeature g.O.Observer.hears g.O.Observer.ends c.args.run.now (state_of c.args.sandbox.now.now) b c.args.tags.now c.args.content c.args.observer.now c.begin_feature.new.observer)) (sym c.if-is_begun.true) c.begin_feature.ensures.end
-
-pub returns-clause-end : goal.returns-clause-end
-returns-clause-end g c =
+pub returns-then-not-is_begun-clause-end : goal.returns-then-not-is_begun-clause-end
+returns-then-not-is_begun-clause-end g c =
     let members = members_in c.args.content.cases in
     feature_unbegun (tells g.O.Observer.hears g.O.Observer.ends) (run_value c.args.run.now) (state_of c.args.sandbox.now.now) c.args.is_begun (texts c.args.tags.now) (members_of_rank 0 members) (groups_from 1 (map head_value c.args.content.rules.list.items) members) (inside_value c.in_ok-inside.inside)
-    c.args.observer.now c.run_inside.new.observer c.if-is_begun.false c.in_ok-inside.ensures.inside
+    c.args.observer.now c.run_inside.new.observer c.if-not-is_begun.true c.in_ok-inside.ensures.inside
+
+pub returns-in-Ok-clause-end : goal.returns-in-Ok-clause-end
+returns-in-Ok-clause-end g c = λ there open_at.
+    let hears = g.O.Observer.hears in
+    let ends = g.O.Observer.ends in
+    let run = run_value c.args.run.now in
+    let outside = state_of c.args.sandbox.now.now in
+    let tags = texts c.args.tags.now in
+    let opened = c.open_section-opened.result in
+    let now = c.open_section-opened.new.sandbox in
+    let opens = c.open_section-opened.ensures in
+    let first = opens.0.first in
+    let own = members_of_rank 0 (members_in c.args.content.cases) in
+    let groups = groups_from 1 (map head_value c.args.content.rules.list.items) (members_in c.args.content.cases) in
+    let around = c.end_around.result in
+    let before = opened.before in
+    let begins : IsBegun run levels.Feature tags there first before (stand_of now opened.cleanups) = subst (λ (x : State). IsBegun run levels.Feature tags x first before (stand_of now opened.cleanups)) (open_at c.if-not-is_begun.false) opens.0.begins in
+    let known = c.in-Ok.ensures.inside (section_state run levels.Feature tags there) (λ o. passed_state run levels.Feature tags there first before (stand_of now opened.cleanups) begins (sym c.has_passed.ensures ∙ o)) in
+    let end = c.end_around.ensures.around there first (begun_still run levels.Feature tags there first before opened.cleanups now c.run_inside-2.new.sandbox c.in-Ok.ensures.same.contents begins) in
+    let passes = c.has_passed.ensures ∙ ready run levels.Feature tags there around first end.0 before begins.ends end.2 in
+    let inside : State → Bool → Ran Inside = λ section is_ready. inside_by run section is_ready known.0 known.1 own groups in
+    let end_inside = inside_value c.in-Ok.inside in (
+      end.2.cut,
+      known.0,
+      known.1,
+      subst (λ (b : Bool). IsRan (tells hears ends) (section_of run levels.Feature tags there b end.2.cut inside) (record { around = around; inside = end_inside }) c.args.observer.now c.end_around.new.observer) (sym c.if-not-is_begun.false)
+          (section_ran hears ends run levels.Feature tags there c.has_passed.result around first end.0 end_inside inside c.args.observer.now c.open_section-opened.new.observer c.run_inside-2.new.observer c.end_around.new.observer end.2 passes opens.1 known.2 end.1),
+    )

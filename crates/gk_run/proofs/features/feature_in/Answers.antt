@@ -5,19 +5,16 @@ use Rattle.gk_select.specs.declared.case.Case.{Case}
 use Rattle.gk_world.specs.State.{state_of}
 use Rattle.gk_run.specs.declared.results.CaseResult.{CaseResult}
 use Rattle.gk_run.specs.declared.results.RuleResult.{RuleResult}
-use Rattle.gk_run.specs.Cases.{case_statuses}
-use Rattle.gk_run.specs.FeatureContracts.{IsFeatureEnd, inside_value, members_in}
-use Rattle.gk_run.specs.Chosen.{HeadValue, MemberValue, chosen_value, has_selected, head_value, members_of}
-use Rattle.gk_run.specs.Features.{feature_verdict, rule_statuses}
-use Rattle.gk_run.specs.Grouping.{falls_from, groups_from, members_of_rank}
-use Rattle.gk_run.specs.OpenSection.{SectionRow}
+use Rattle.gk_run.specs.Running.{case_statuses}
+use Rattle.gk_run.specs.PrivateContracts.{IsFeatureEnd, inside_value, members_in}
+use Rattle.gk_run.specs.Chosen.{HeadValue, MemberValue, chosen_value, has_selected, head_value, members_of, falls_from, groups_from, members_of_rank}
+use Rattle.gk_run.specs.Features.{feature_verdict, rule_statuses, Inside}
+use Rattle.gk_run.specs.OpenSection.{SectionRow, run_value}
 use Rattle.gk_run.specs.Results.{case_row, rule_row}
-use Rattle.gk_run.specs.Rules.{Inside}
-use Rattle.gk_run.specs.Run.{run_value}
 use Rattle.gk_run.proofs.CasesLemmas.{selected_any}
 use Rattle.gk_run.proofs.FeaturesLemmas.{feature_is}
 use Rattle.gk_run.proofs.GroupingLemmas.{falls_into}
-use Rattle.gk_run.specs.Observer.{tells}
+use Rattle.gk_run.specs.Events.{tells}
 use Rattle.gk_run.proofs.features.feature_in.Goals as goal
 
 pub new-cases-requires-clause-falls : goal.new-cases-requires-clause-falls

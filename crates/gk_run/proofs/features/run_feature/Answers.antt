@@ -4,9 +4,9 @@ use Rattle.gk_world.specs.State.{state_of}
 use Rattle.gk_run.specs.declared.results.FeatureResult.{FeatureResult}
 use Rattle.gk_run.specs.Chosen.{chosen_value}
 use Rattle.gk_run.specs.Features.{IsFeatureResult, feature_of}
-use Rattle.gk_run.specs.Observer.{result_of}
+use Rattle.gk_run.specs.Events.{result_of}
 use Rattle.gk_run.specs.Results.{feature_row}
-use Rattle.gk_run.specs.Run.{run_of}
+use Rattle.gk_run.specs.OpenSection.{run_of}
 use Rattle.gk_run.proofs.CasesLemmas.{of_ok}
 use Rattle.gk_run.proofs.features.run_feature.Goals as goal
 

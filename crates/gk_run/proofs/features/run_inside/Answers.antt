@@ -1,7 +1,7 @@
 use Rattle.std.proofs.Common.{map, ap}
 use Rattle.gk_world.specs.State.{state_of}
 use Rattle.gk_run.specs.Chosen.{head_value}
-use Rattle.gk_run.specs.Run.{run_value}
+use Rattle.gk_run.specs.OpenSection.{run_value}
 use Rattle.gk_run.proofs.FeaturesLemmas.{inside_is}
 use Rattle.gk_run.proofs.features.run_inside.Goals as goal
 

@@ -3,8 +3,7 @@ use Rattle.gk_gherkin.specs.Feature.{texts}
 use Rattle.gk_run.specs.declared.results.Status.{Status}
 use Rattle.gk_run.specs.Ending.{around_status}
 use Rattle.gk_run.specs.Events.{stand_of}
-use Rattle.gk_run.specs.Run.{run_value}
-use Rattle.gk_run.specs.OpenSection.{EndsAround}
+use Rattle.gk_run.specs.OpenSection.{run_value, EndsAround}
 use Rattle.gk_run.proofs.SectionLemmas.{section_ends}
 use Rattle.gk_run.proofs.open_section.end_around.Goals as goal
 

@@ -8,7 +8,7 @@ use Rattle.gk_run.specs.Events.{Stand, stand_of}
 use Rattle.gk_run.specs.Section.{before_of}
 use Rattle.gk_run.specs.SectionHooks.{before_list, entered}
 use Rattle.gk_run.specs.Walk.{walk}
-use Rattle.gk_run.specs.WalkContracts.{Happens}
+use Rattle.gk_run.specs.PrivateContracts.{Happens}
 use Rattle.gk_run.proofs.WalkLemmas.{at}
 use Rattle.gk_run.proofs.open_section.open_section.Goals as goal
 

@@ -1,50 +1,61 @@
-use Rattle.std.proofs.Common.{◌∙◌, ◌&&◌, Bool, ap, sym}
+use Rattle.std.proofs.Common.{◌∙◌, ◌&&◌, Bool, List, ap, sym}
 use Rattle.gk_gherkin.specs.Feature.{texts}
-use Rattle.gk_world.specs.State.{state_of}
-use Rattle.gk_run.specs.declared.rules.RuleEnd.{RuleEnd}
-use Rattle.gk_run.specs.Cases.{all_stay_open}
-use Rattle.gk_run.specs.Chosen.{head_value}
-use Rattle.gk_run.specs.FeatureContracts.{RunsRule, members_in}
-use Rattle.gk_run.specs.Grouping.{Group, members_of_rank}
-use Rattle.gk_run.specs.Run.{run_value}
-use Rattle.gk_run.specs.Observer.{tells}
-use Rattle.gk_run.proofs.CasesLemmas.{of_ok}
+use Rattle.gk_world.specs.State.{State, state_of}
+use Rattle.gk_run.specs.declared.section.Level.TheVariants as levels
+use Rattle.gk_run.specs.Running.{all_stay_open, cases_of, stays_open}
+use Rattle.gk_run.specs.Chosen.{head_value, Group, members_of_rank}
+use Rattle.gk_run.specs.PrivateContracts.{members_in}
+use Rattle.gk_run.specs.Events.{stand_of, Ran, tells}
+use Rattle.gk_run.specs.OpenSection.{section_state, run_value}
+use Rattle.gk_run.specs.Results.{CaseRow}
 use Rattle.gk_run.proofs.RulesLemmas.{passed_stays, rule_begun, rule_unbegun}
+use Rattle.gk_run.proofs.SectionLemmas.{begun_still, passed_state, ready}
+use Rattle.gk_run.proofs.ToldLemmas.{section_ran}
 use Rattle.gk_run.proofs.rules.run_rule.Goals as goal
 
-pub returns-then-both-clause-rule : goal.returns-then-both-clause-rule
-returns-then-both-clause-rule g c =
-    let hears = g.O.Observer.hears in
-    let ends = g.O.Observer.ends in
-    let run = run_value c.args.run.now in
-    let now = state_of c.args.sandbox.now.now in
-    let old = c.args.cases.now in
-    let head = head_value c.args.head.now in
-    let group : Group = record { head = head; members = members_of_rank old.rank (members_in old) } in
-    let first = c.args.observer.now in
-    let last = c.begin_rule.new.observer in
-    let begins = c.both.ensures ∙ ap (λ (b : Bool). c.args.is_open && b) c.has_selected.ensures in
-    of_ok (λ (end : RuleEnd). RunsRule hears ends run now c.args.is_open head old c.begin_rule.new.cases first last end) c.begin_rule.result c.begin_rule.ensures.rule
-    (λ end h. record {
-      rows = h.rows;
-      told = h.told;
-      is = rule_begun (tells hears ends) run now c.args.is_open c.both.result (texts c.as_slice.result.now) group (record { around = end.around; inside = h.rows }) first last begins c.if-both.true (ap texts c.as_slice.ensures.value) h.is;
-      stay = h.stay;
-      left = h.left;
-    })
-
-pub returns-clause-rule : goal.returns-clause-rule
-returns-clause-rule g c =
+pub returns-then-not-both-clause-rule : goal.returns-then-not-both-clause-rule
+returns-then-not-both-clause-rule g c =
     let run = run_value c.args.run.now in
     let now = state_of c.args.sandbox.now.now in
     let old = c.args.cases.now in
     let group : Group = record { head = head_value c.args.head.now; members = members_of_rank old.rank (members_in old) } in
     let begins = c.both.ensures ∙ ap (λ (b : Bool). c.args.is_open && b) c.has_selected.ensures in
-    let ran = c.in_ok-run_cases.ensures.cases in
+    let ran = c.in_ok-all_stay.ensures.cases in
     record {
       rows = ran.rows;
       told = ran.told;
-      is = rule_unbegun (tells g.O.Observer.hears g.O.Observer.ends) run now c.args.is_open c.both.result group ran.rows c.args.observer.now c.run_cases.new.observer begins c.if-both.false ran.are;
+      is = rule_unbegun (tells g.O.Observer.hears g.O.Observer.ends) run now c.args.is_open c.both.result group ran.rows c.args.observer.now c.run_cases.new.observer begins c.if-not-both.true ran.are;
       stay = ran.stay ∙ ap (λ (b : Bool). b && all_stay_open run ran.rows) (sym (passed_stays run));
+      left = ran.left;
+    }
+
+pub returns-in-Ok-clause-rule : goal.returns-in-Ok-clause-rule
+returns-in-Ok-clause-rule g c =
+    let hears = g.O.Observer.hears in
+    let ends = g.O.Observer.ends in
+    let run = run_value c.args.run.now in
+    let outside = state_of c.args.sandbox.now.now in
+    let head = head_value c.args.head.now in
+    let tags = texts c.as_slice.result.now in
+    let opened = c.open_section-opened.result in
+    let now = c.open_section-opened.new.sandbox in
+    let opens = c.open_section-opened.ensures in
+    let first = opens.0.first in
+    let begins = opens.0.begins in
+    let members = members_of_rank c.args.cases.now.rank (members_in c.args.cases.now) in
+    let group : Group = record { head = head; members = members } in
+    let ran = c.in-Ok.ensures.cases in
+    let around = c.end_around-around.result in
+    let before = opened.before in
+    let known = ran.are (section_state run levels.Rule tags outside) (λ o. passed_state run levels.Rule tags outside first before (stand_of now opened.cleanups) begins (sym c.has_passed.ensures ∙ o)) in
+    let end = c.end_around-around.ensures.around outside first (begun_still run levels.Rule tags outside first before opened.cleanups now c.run_cases-2.new.sandbox c.in-Ok.ensures.same.contents begins) in
+    let passes = c.has_passed.ensures ∙ ready run levels.Rule tags outside around first end.0 before begins.ends end.2 in
+    let inside : State → Bool → Ran (List CaseRow) = λ section is_ready. cases_of run section is_ready known.0 members in
+    let is = section_ran hears ends run levels.Rule tags outside c.has_passed.result around first end.0 ran.rows inside c.args.observer.now c.open_section-opened.new.observer c.run_cases-2.new.observer c.end_around-around.new.observer end.2 passes opens.1 known.1 end.1 in
+    record {
+      rows = ran.rows;
+      told = ran.told;
+      is = rule_begun (tells hears ends) run outside c.args.is_open c.both.result tags group (record { around = around; inside = ran.rows }) c.args.observer.now c.end_around-around.new.observer (c.both.ensures ∙ ap (λ (b : Bool). c.args.is_open && b) c.has_selected.ensures) c.if-not-both.false (ap texts c.as_slice.ensures.value) (end.2.cut, known.0, is);
+      stay = c.both-in-Ok.ensures ∙ ap (λ (x : Bool). x && c.in-Ok.all_stay) c.stays_open.ensures ∙ ap (λ (x : Bool). stays_open run around && x) ran.stay;
       left = ran.left;
     }

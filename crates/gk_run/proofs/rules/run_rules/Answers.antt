@@ -4,7 +4,7 @@ use Rattle.gk_world.specs.State.{state_of}
 use Rattle.gk_run.specs.declared.chosen.RuleHead.{RuleHead}
 use Rattle.gk_run.specs.declared.results.RuleResult.{RuleResult}
 use Rattle.gk_run.specs.Chosen.{head_value, members_of}
-use Rattle.gk_run.specs.Run.{run_of}
+use Rattle.gk_run.specs.OpenSection.{run_of}
 use Rattle.gk_run.proofs.Nothing.{nothing_in}
 use Rattle.gk_run.proofs.RulesLemmas.{GoesRules, rules_first, rules_last, rules_on}
 use Rattle.gk_run.proofs.rules.run_rules.Goals as goal

@@ -2,7 +2,7 @@ use Rattle.std.proofs.Common.{◌≡◌, ◌+◌, ◌≤◌, map, length, vec_le
 use Rattle.std.specs.Vec.Iter.{into_iter_items, into_iter_len}
 use Rattle.gk_world.specs.State.{state_of}
 use Rattle.gk_run.specs.Chosen.{head_value}
-use Rattle.gk_run.specs.Run.{run_of}
+use Rattle.gk_run.specs.OpenSection.{run_of}
 use Rattle.gk_world.specs.Sandbox.{IsSame}
 use Rattle.gk_run.proofs.RulesLemmas.{GoesRules}
 use Rattle.gk_run.proofs.rules.run_rules.Given as goal

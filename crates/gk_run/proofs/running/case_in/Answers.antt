@@ -8,9 +8,9 @@ use Rattle.gk_run.specs.declared.results.Status.{Status}
 use Rattle.gk_run.specs.declared.section.Level.TheVariants as levels
 use Rattle.gk_run.specs.Ending.{around_status, verdict_status, worse}
 use Rattle.gk_run.specs.Results.{CaseRow, step_row}
-use Rattle.gk_run.specs.Run.{run_value}
+use Rattle.gk_run.specs.OpenSection.{run_value}
 use Rattle.gk_run.specs.SectionHooks.{after_lists, begun, entered}
-use Rattle.gk_run.specs.WalkContracts.{Happens, IsClosing}
+use Rattle.gk_run.specs.PrivateContracts.{Happens, IsClosing}
 use Rattle.gk_run.specs.Running.{AreEventsTold}
 use Rattle.gk_run.proofs.SectionLemmas.{case_told}
 use Rattle.gk_run.proofs.WalkLemmas.{AllSteps}
@@ -24,14 +24,14 @@ returns-clause-told g c =
     let case = case_value c.args.case in
     let opened = c.open_section-opened.result in
     let b = opened.before in
-    let e = c.run_steps-ending.result.ending in
+    let e = c.run_steps-stepped.result.ending in
     let closed = c.end_section-closed.result in
     let start = stand_of c.open_section-opened.new.sandbox opened.cleanups in
-    let mid = stand_of c.run_steps-ending.new.sandbox c.run_steps-ending.new.cleanups in
-    let rows = map step_row c.run_steps-ending.result.results.items in
+    let mid = stand_of c.run_steps-stepped.new.sandbox c.run_steps-stepped.new.cleanups in
+    let rows = map step_row c.run_steps-stepped.result.results.items in
     let first = c.args.observer.now in
     let here = c.open_section-opened.new.observer in
-    let there = c.run_steps-ending.new.observer in
+    let there = c.run_steps-stepped.new.observer in
     let last = c.end_section-closed.new.observer in
     let tags : texts c.as_slice.result.now ≡ case.own_tags = ap texts c.as_slice.ensures.value in
     let opens = c.open_section-opened.ensures in
@@ -39,7 +39,7 @@ returns-clause-told g c =
     let Begins : List (List ℕ) → Type 0 = λ ts. Happens hears endings.Passed (begun run.library run.hooks levels.Scenario ts section) (entered section) start b first here in
     let before0 : Begins (texts c.as_slice.result.now) = record { told = opens.0.first; heard = opens.1; so_far = begins.so_far; ends = begins.ends; stands = begins.stands } in
     let before : Begins case.own_tags = subst Begins tags before0 in
-    let ran = c.run_steps-ending.ensures.stepped in
+    let ran = c.run_steps-stepped.ensures.stepped in
     let Ran : List StepValue → Type 0 = λ ss. AllSteps hears run.library b start mid ss e rows here there in
     let steps0 : Ran (map step_value c.in_ok-steps.steps.list.items) = record { goes = ran.goes; rows_are = ran.rows } in
     let steps : Ran case.steps = subst Ran (ap (λ ss. map step_value ss.items) c.in_ok-steps.ensures) steps0 in

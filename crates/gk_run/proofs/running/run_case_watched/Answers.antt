@@ -3,7 +3,7 @@ use Rattle.gk_gherkin.specs.declared.hooks.HookFile.{HookFile}
 use Rattle.gk_select.specs.Case.{case_value}
 use Rattle.gk_world.specs.State.{state_of}
 use Rattle.gk_run.specs.Results.{case_row}
-use Rattle.gk_run.specs.Run.{run_of}
+use Rattle.gk_run.specs.OpenSection.{run_of}
 use Rattle.gk_run.specs.Running.{AreEventsTold}
 use Rattle.gk_run.proofs.running.run_case_watched.Goals as goal
 

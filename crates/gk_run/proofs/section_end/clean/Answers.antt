@@ -9,8 +9,8 @@ use Rattle.gk_run.specs.declared.cleanups.Cleanup.{Cleanup}
 use Rattle.gk_run.specs.declared.results.Mark.TheVariants.{Acted}
 use Rattle.gk_run.specs.declared.results.Outcome.{Outcome}
 use Rattle.gk_run.specs.Acting.{CleanupValue}
-use Rattle.gk_run.specs.Cleanups.{cleanup_value}
-use Rattle.gk_run.specs.SectionEnd.{clean_each, cleaned}
+use Rattle.gk_run.specs.Acting.{cleanup_value}
+use Rattle.gk_run.specs.SectionHooks.{clean_each, cleaned}
 use Rattle.gk_run.specs.Ending.{ending_of, worse}
 use Rattle.gk_run.proofs.Nothing.{nothing_in}
 use Rattle.gk_run.proofs.CleanLemmas.{CleansSoFar, cleans_first, cleans_on}
@@ -58,11 +58,11 @@ loop-cleanup-preserved g c =
     let is : reverse (map cleanup_value c.loop-cleanup.list.items) ≡ this ∷ reverse left = ap reverse (popped c.loop-cleanup.list.items c.pop.new.self.items c.in-Some.cleanup c.in-Some.ensures.items) ∙ reverse-append left (this ∷ []) in
     let here = subst (λ (cs : List CleanupValue). CleansSoFar hears all (clean_each library level s cs) start (at s registered) e c.loop-cleanup.outcomes.items first c.loop-cleanup.observer) is c.loop-cleanup.invariant.goes in
     let gone = cleans_on hears library level this (reverse left) o s new registered all start e c.loop-cleanup.outcomes.items c.push_reserved.new.self.items first c.loop-cleanup.observer last (sym c.is_memory.ensures ∙ c.if-is_memory.false)
-    c.clean_one-outcome.ensures.cleaned c.clean_one-outcome.ensures.told c.push_reserved.ensures.items here in
+    c.clean_one-outcome.ensures.acted.carried_out c.clean_one-outcome.ensures.told c.push_reserved.ensures.items here in
     let ended : c.worse-ending.result ≡ worse e (ending_of (Acted o)) = c.worse-ending.ensures ∙ ap (worse e) c.ending_of.ensures in
     record {
       goes = subst (λ (x : Ending). CleansSoFar hears all (clean_each library level new (reverse left)) start (at new registered) x c.push_reserved.new.self.items first last) (sym ended) gone;
-      layers = record { layers = c.clean_one-outcome.ensures.layers.layers ∙ c.loop-cleanup.invariant.layers.layers; marks = c.clean_one-outcome.ensures.layers.marks ∙ c.loop-cleanup.invariant.layers.marks };
+      layers = record { layers = c.clean_one-outcome.ensures.acted.layers.layers ∙ c.loop-cleanup.invariant.layers.layers; marks = c.clean_one-outcome.ensures.acted.layers.marks ∙ c.loop-cleanup.invariant.layers.marks };
       room = let a = c.push_reserved.ensures.capacity in let o = c.push_reserved.new.self.ok.0 in let p = c.pop.new.self.ok.0 in let q = c.loop-cleanup.list.ok.0 in let r = c.loop-cleanup.outcomes.ok.0 in omega (arith, c.push_reserved.ensures.len, c.in-Some.ensures.len, c.loop-cleanup.invariant.room);
     }
 

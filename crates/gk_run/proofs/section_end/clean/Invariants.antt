@@ -3,8 +3,8 @@ use Rattle.gk_steps.specs.Finding.{library_value}
 use Rattle.gk_world.specs.State.{state_of}
 use Rattle.gk_world.specs.Sandbox.{KeepsLayers}
 use Rattle.gk_run.specs.Events.{stand_of}
-use Rattle.gk_run.specs.Cleanups.{cleanup_value}
-use Rattle.gk_run.specs.SectionEnd.{clean_each, cleaned}
+use Rattle.gk_run.specs.Acting.{cleanup_value}
+use Rattle.gk_run.specs.SectionHooks.{clean_each, cleaned}
 use Rattle.gk_run.proofs.CleanLemmas.{CleansSoFar}
 use Rattle.gk_run.proofs.section_end.clean.Given as goal
 

@@ -2,8 +2,7 @@ use Rattle.std.proofs.Common.{◌∙◌, ap, refl, sym, append-nil}
 use Rattle.gk_gherkin.specs.Feature.{texts}
 use Rattle.gk_gherkin.specs.Hooks.{hooks_value}
 use Rattle.gk_steps.specs.Finding.{library_value}
-use Rattle.gk_run.specs.SectionEnd.{cleaned}
-use Rattle.gk_run.specs.SectionHooks.{after_lists, walk_each}
+use Rattle.gk_run.specs.SectionHooks.{cleaned, after_lists, walk_each}
 use Rattle.gk_run.specs.Events.{ended_in, stand_of}
 use Rattle.gk_run.specs.Ending.{worse}
 use Rattle.gk_run.proofs.GoesLemmas.{behind, nothing, under, unrefused, worse_told}

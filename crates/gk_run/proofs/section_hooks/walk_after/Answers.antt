@@ -9,7 +9,7 @@ use Rattle.gk_run.specs.declared.ending.Ending.TheVariants as endings
 use Rattle.gk_run.specs.Section.{after_of}
 use Rattle.gk_run.specs.SectionHooks.{after_kind, after_lists, hook_steps, tag_lists, walk_each}
 use Rattle.gk_run.specs.Walk.{walk}
-use Rattle.gk_run.specs.WalkContracts.{Goes, Happens}
+use Rattle.gk_run.specs.PrivateContracts.{Goes, Happens}
 use Rattle.gk_run.proofs.GoesLemmas.{begin, with_rest}
 use Rattle.gk_run.proofs.WalkLemmas.{drop_next, drop_none, each_on}
 use Rattle.gk_run.proofs.section_hooks.walk_after.Goals as goal

@@ -6,7 +6,7 @@ use Rattle.gk_world.specs.Sandbox.{KeepsLayers}
 use Rattle.gk_run.specs.Events.{stand_of}
 use Rattle.gk_run.specs.declared.ending.Ending.TheVariants as endings
 use Rattle.gk_run.specs.SectionHooks.{after_lists, tag_lists, walk_each}
-use Rattle.gk_run.specs.WalkContracts.{Goes}
+use Rattle.gk_run.specs.PrivateContracts.{Goes}
 use Rattle.gk_run.proofs.section_hooks.walk_after.Given as goal
 
 -- the section's own list and those of the tags so far were walked through, and those of the tags that are left are to be

@@ -13,7 +13,7 @@ use Rattle.gk_run.specs.Ending.{has_passed}
 use Rattle.gk_run.specs.Section.{before_of}
 use Rattle.gk_run.specs.SectionHooks.{before_kind, before_list, hook_steps}
 use Rattle.gk_run.specs.Walk.{walk}
-use Rattle.gk_run.specs.WalkContracts.{Goes, Happens}
+use Rattle.gk_run.specs.PrivateContracts.{Goes, Happens}
 use Rattle.gk_run.proofs.GoesLemmas.{begin, chain, passing, with_rest}
 use Rattle.gk_run.proofs.WalkLemmas.{at, drop_next, drop_none, list_on}
 use Rattle.gk_run.proofs.section_hooks.walk_before.Goals as goal

@@ -9,7 +9,7 @@ use Rattle.gk_run.specs.declared.ending.Ending.TheVariants as endings
 use Rattle.gk_run.specs.Section.{before_of}
 use Rattle.gk_run.specs.SectionHooks.{before_list}
 use Rattle.gk_run.specs.Walk.{walk}
-use Rattle.gk_run.specs.WalkContracts.{Goes}
+use Rattle.gk_run.specs.PrivateContracts.{Goes}
 use Rattle.gk_run.proofs.section_hooks.walk_before.Given as goal
 
 -- the lists of the tags so far passed, and that of those that are left is to be walked through

@@ -16,7 +16,7 @@ returns-in-Ok-Some-clause-ran c =
     let looked = subst (λ (l : Option FoundUse). IsUseOf library (found library step.step_type c.as_str.result.now) l) c.in-Ok-Some.field-0-is c.in-Ok-Some.ensures.found in
     let used = subst (λ (t : List ℕ). IsUseOf library (found library step.step_type t) (Some c.in-Ok-Some.used)) c.as_str.ensures.value looked in
     used_step library c.args.site (state_of c.args.sandbox.now.now) (state_of c.act_by.new.sandbox.now) c.args.cleanups.now c.act_by.new.cleanups step (found library step.step_type step.text) c.in-Ok-Some.used (arguments_value c.arguments_by-arguments.result) c.act_by.result
-    used c.arguments_by-arguments.ensures c.act_by.ensures.done c.act_by.ensures.registered
+    used c.arguments_by-arguments.ensures c.act_by.ensures.acted.carried_out c.act_by.ensures.registered
 
 pub returns-in-Ok-Some-clause-memory : goal.returns-in-Ok-Some-clause-memory
 returns-in-Ok-Some-clause-memory c none memory =
@@ -33,7 +33,7 @@ returns-in-Ok-Some-clause-kept c memory =
     let looked = subst (λ (l : Option FoundUse). IsUseOf library (found library step.step_type c.as_str.result.now) l) c.in-Ok-Some.field-0-is c.in-Ok-Some.ensures.found in
     let used = subst (λ (t : List ℕ). IsUseOf library (found library step.step_type t) (Some c.in-Ok-Some.used)) c.as_str.ensures.value looked in
     let refused : c.act_by.result ≡ outcomes.Memory = cc in
-    used_kept library c.args.sandbox.now c.act_by.new.sandbox step (found library step.step_type step.text) c.in-Ok-Some.used (arguments_value c.arguments_by-arguments.result) used c.arguments_by-arguments.ensures (c.act_by.ensures.kept refused)
+    used_kept library c.args.site c.args.sandbox.now c.act_by.new.sandbox step (found library step.step_type step.text) c.in-Ok-Some.used (arguments_value c.arguments_by-arguments.result) used c.arguments_by-arguments.ensures (c.act_by.ensures.acted.kept refused)
 
 pub returns-in-Err-clause-memory : goal.returns-in-Err-clause-memory
 returns-in-Err-clause-memory c none memory =

@@ -8,7 +8,7 @@ use Rattle.gk_run.specs.declared.ending.Ending.{Ending}
 use Rattle.gk_run.specs.declared.ending.Ending.TheVariants as endings
 use Rattle.gk_run.specs.Ending.{has_passed}
 use Rattle.gk_run.specs.Walk.{one_step, walk}
-use Rattle.gk_run.specs.WalkContracts.{Goes, IsStepRun}
+use Rattle.gk_run.specs.PrivateContracts.{Goes, IsStepRun}
 use Rattle.gk_run.proofs.GoesLemmas.{begin, nothing_after, passing, with_rest}
 use Rattle.gk_run.proofs.WalkLemmas.{at, drop_next, drop_none, walk_on}
 use Rattle.gk_run.proofs.walk.walk_hook.Goals as goal

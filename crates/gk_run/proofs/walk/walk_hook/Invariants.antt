@@ -7,7 +7,7 @@ use Rattle.gk_run.specs.Events.{stand_of}
 use Rattle.gk_run.specs.declared.ending.Ending.TheVariants as endings
 use Rattle.gk_run.specs.Ending.{has_passed}
 use Rattle.gk_run.specs.Walk.{walk}
-use Rattle.gk_run.specs.WalkContracts.{Goes}
+use Rattle.gk_run.specs.PrivateContracts.{Goes}
 use Rattle.gk_run.proofs.walk.walk_hook.Given as goal
 
 -- if the steps so far passed, those that are left are to be walked through

@@ -1,6 +1,6 @@
 use Rattle.std.proofs.Common.{◌∙◌, ◌&&◌, Bool, refl, ap}
 use Rattle.gk_world.specs.State.{state_of}
-use Rattle.gk_run.specs.Run.{run_of}
+use Rattle.gk_run.specs.OpenSection.{run_of}
 use Rattle.gk_run.proofs.CasesLemmas.{goes_first, goes_last, goes_on}
 use Rattle.gk_run.proofs.cases.section_cases.run_cases.Goals as goal
 

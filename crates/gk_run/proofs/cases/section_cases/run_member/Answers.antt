@@ -1,9 +1,9 @@
 use Rattle.gk_world.specs.State.{state_of}
 use Rattle.gk_run.specs.declared.results.CaseResult.{CaseResult}
 use Rattle.gk_run.specs.Chosen.{member_of}
-use Rattle.gk_run.specs.FeatureContracts.{IsMember}
+use Rattle.gk_run.specs.PrivateContracts.{IsMember}
 use Rattle.gk_run.specs.Results.{case_row}
-use Rattle.gk_run.specs.Run.{run_value}
+use Rattle.gk_run.specs.OpenSection.{run_value}
 use Rattle.gk_run.proofs.CasesLemmas.{member_reached, member_unreached, member_unselected, of_ok}
 use Rattle.gk_run.proofs.cases.section_cases.run_member.Goals as goal
 

@@ -1,6 +1,6 @@
 use Rattle.std.proofs.Common.{Bool, ap, not, refl, ◌&&◌, ◌||◌, ◌∙◌}
 use Rattle.gk_world.specs.State.{state_of}
-use Rattle.gk_run.specs.Cases.{is_bad, stays_open_by}
+use Rattle.gk_run.specs.Running.{is_bad, stays_open_by}
 use Rattle.gk_run.specs.Chosen.{chosen_value}
 use Rattle.gk_run.specs.Ending.{has_passed}
 use Rattle.gk_run.specs.OpenRun.{SuiteValue, opens_features}

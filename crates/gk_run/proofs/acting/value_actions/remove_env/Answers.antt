@@ -1,6 +1,6 @@
 use Rattle.std.specs.FinMap as finite
 use Rattle.gk_run.proofs.ActingLemmas.{acted, remove_tests, env_removed}
-use Rattle.gk_run.proofs.acting.variable_actions.remove_env.Goals as goal
+use Rattle.gk_run.proofs.acting.value_actions.remove_env.Goals as goal
 
 pub returns : goal.returns
 returns c = let name = c.args.arguments.now.name.now in

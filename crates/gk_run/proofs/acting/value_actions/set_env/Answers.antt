@@ -1,5 +1,5 @@
 use Rattle.gk_run.proofs.ActingLemmas.{acted, put_tests, env_put}
-use Rattle.gk_run.proofs.acting.variable_actions.set_env.Goals as goal
+use Rattle.gk_run.proofs.acting.value_actions.set_env.Goals as goal
 
 pub returns-in-Some : goal.returns-in-Some
 returns-in-Some c = let name = c.args.arguments.now.name.now in let text = c.in-Some.text.now in

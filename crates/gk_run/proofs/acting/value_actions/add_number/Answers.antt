@@ -4,7 +4,7 @@ use Rattle.gk_steps.specs.Decimal.{number_of}
 use Rattle.gk_world.specs.State.{state_of}
 use Rattle.gk_run.specs.Acting.{IsActed, passes, with_own}
 use Rattle.gk_run.proofs.ActingLemmas.{sum_acted, out_of_range_acted, not_in_range, number_fits}
-use Rattle.gk_run.proofs.acting.number_actions.add_number.Goals as goal
+use Rattle.gk_run.proofs.acting.value_actions.add_number.Goals as goal
 
 pub returns-in_default-checked_add : goal.returns-in_default-checked_add
 returns-in_default-checked_add c =

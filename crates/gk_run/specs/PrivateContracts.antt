@@ -1,10 +1,10 @@
--- Proof machinery: definitions for the contracts of the private functions that walk through a section.
+-- Proof machinery: definitions for the contracts of the private functions that walk through a section and that run cases, rules and features.
 use Rattle.std.specs.List.{FoldsTo}
-use Rattle.std.specs.Prelude.{List, [], ◌∷◌, ◌++◌, map, ◌≡◌, Option, Some, None, ℕ}
+use Rattle.std.specs.Prelude.{List, [], ◌∷◌, ◌++◌, map, ◌≡◌, Option, Some, None, ℕ, suc, length, Bool, true, String, ◌<◌}
 use Rattle.gk_gherkin.specs.Feature.{StepValue, step_value, texts}
 use Rattle.gk_gherkin.specs.Hooks.{hooks_value}
 use Rattle.gk_gherkin.specs.declared.feature.Step.{Step}
-use Rattle.gk_steps.specs.Finding.{LibraryValue, library_value, FoundValue, found, action_of, HasCandidateFor}
+use Rattle.gk_steps.specs.Finding.{LibraryValue, library_value, found, HasCandidateFor}
 use Rattle.gk_world.specs.Sandbox.{SandboxValue}
 use Rattle.gk_world.specs.State.{State, state_of}
 use Rattle.gk_run.specs.declared.acting.Site.{Site}
@@ -19,21 +19,32 @@ use Rattle.gk_run.specs.declared.results.Mark.{Mark}
 use Rattle.gk_run.specs.declared.results.Mark.TheVariants.{Acted, Skipped, Untested}
 use Rattle.gk_run.specs.declared.results.Outcome.{Outcome}
 use Rattle.gk_run.specs.declared.results.Outcome.TheVariants as outcomes
-use Rattle.gk_run.specs.declared.run.Run as shared
+use Rattle.gk_run.specs.declared.section.Run as shared
 use Rattle.gk_run.specs.declared.section.Level.{Level}
 use Rattle.gk_run.specs.declared.section.Stage.{Stage}
 use Rattle.gk_run.specs.declared.section.Section.{Section}
 use Rattle.gk_run.specs.declared.walk.StepsEnd.{StepsEnd}
-use Rattle.gk_run.specs.Acting.{CleanupValue, arguments_of, files_of, WritesFirst}
-use Rattle.gk_run.specs.SectionEnd.{cleaned}
+use Rattle.gk_run.specs.Acting.{CleanupValue, WritesFirst}
+use Rattle.gk_run.specs.SectionHooks.{cleaned, after_lists, before_list, walk_each}
 use Rattle.gk_run.specs.Ending.{is_memory_ending, worse}
-use Rattle.gk_run.specs.Events.{Event, SoFar, of_step, Stand, ended_in, event_marks, left_by, outcomes_of, stand_of}
-use Rattle.gk_run.specs.OpenSection.{IsOpened}
-use Rattle.gk_run.specs.Results.{step_row}
-use Rattle.gk_run.specs.Run.{run_value}
-use Rattle.gk_run.specs.Section.{steps_of_case, before_of}
-use Rattle.gk_run.specs.SectionHooks.{after_lists, before_list, walk_each}
+use Rattle.gk_run.specs.Events.{Event, SoFar, of_step, Stand, ended_in, event_marks, left_by, outcomes_of, stand_of, Ended, IsRan, Told, tells}
+use Rattle.gk_run.specs.OpenSection.{IsOpened, SectionRow, section_of, run_value, Run}
+use Rattle.gk_run.specs.Results.{step_row, CaseRow, FeatureRow, case_row, rule_row}
+use Rattle.gk_run.specs.Section.{steps_of_case, before_of, Cut}
 use Rattle.gk_run.specs.Walk.{IsLookedUp, Stepped, one_step, rows_of_steps, steps_from, walk}
+use Rattle.std.specs.declared.alloc.Global.{Global}
+use Rattle.gk_select.specs.RuleOrder as order
+use Rattle.gk_run.specs.declared.cases.Cases.{Cases}
+use Rattle.gk_run.specs.declared.cases.Member.{Member}
+use Rattle.gk_run.specs.declared.cases.Content.{Content}
+use Rattle.gk_run.specs.declared.features.FeatureEnd.{FeatureEnd}
+use Rattle.gk_run.specs.declared.features.InsideResults.{InsideResults}
+use Rattle.gk_run.specs.declared.results.RuleResult.{RuleResult}
+use Rattle.gk_run.specs.declared.rules.RuleEnd.{RuleEnd}
+use Rattle.gk_run.specs.declared.section.Level.TheVariants as levels
+use Rattle.gk_run.specs.Running.{all_stay_open, case_events, case_of, cases_of}
+use Rattle.gk_run.specs.Chosen.{ChosenValue, HeadValue, MemberValue, head_value, member_of, members_of, Group, falls_from, groups_from, members_of_rank}
+use Rattle.gk_run.specs.Features.{IsFeatureTold, inside_by, Inside, RuleCuts, rule_of, rule_stays_open, rules_of}
 
 -- Events of a section happened and were told, with `rest` left. `before` is how the section had ended before them, `ended` how it has ended now, and `now` its state and cleanups.
 pub record Goes {S : Type 0} (hears : S → Event → S → Type 0) (before : Ending) (all rest : List Event) (start now : Stand) (ended : Ending) (first last : S) : Type 0 where
@@ -73,17 +84,11 @@ StepNeedsCandidate run step mark =
     let this = step_value step in
     found library this.step_type this.text ≡ None → mark ≡ Acted outcomes.Memory → HasCandidateFor library this.step_type this.text
 
--- The files that a step writes, in order, if its action has more than one change. A step that isn't found has none.
-abbrev pub step_files : LibraryValue → State → StepValue → Option FoundValue → List (List ℕ × List ℕ)
-step_files library s step None = []
-step_files library s step (Some f) = files_of (action_of library f) (arguments_of library f step.block) s
-
 -- If memory was refused in a step, its action made some number of its changes, from the first on, and no others.
-abbrev pub StepKeepsAtMemory : shared.Run → Step → SandboxValue → Mark → SandboxValue → Type 0
-StepKeepsAtMemory run step old mark new =
-    let library = library_value run.library.now in
-    let this = step_value step in
-    mark ≡ Acted outcomes.Memory → WritesFirst (step_files library (state_of old.now) this (found library this.step_type this.text)) old new
+abbrev pub StepKeepsAtMemory : shared.Run → Site → Step → SandboxValue → Mark → SandboxValue → Type 0
+StepKeepsAtMemory run site step old mark new =
+    let this = one_step (library_value run.library.now) site (state_of old.now) (step_value step) in
+    mark ≡ Acted outcomes.Memory → WritesFirst this.files old new
 
 -- The steps of a hook were walked through at a stage.
 abbrev pub WalksHook : {S : Type 0} → (S → Event → S → Type 0) → shared.Run → Stage → List Step → SandboxValue → List CleanupValue → Ending → SandboxValue → List CleanupValue → S → S → Type 0
@@ -149,3 +154,92 @@ pub record IsClosing {S : Type 0} (hears : S → Event → S → Type 0) (librar
 abbrev pub Closes : {S : Type 0} → (S → Event → S → Type 0) → Ending → shared.Run → Section → List CleanupValue → SandboxValue → Closed → S → S → Type 0
 Closes hears before run section registered old closed first last =
     IsClosing hears (library_value run.library.now) section.level (after_lists (hooks_value run.hooks.now.file.now) section.level (texts section.tags.now)) before (stand_of old registered) closed.ending closed.outcomes.items first last
+
+-- ---- cases
+
+-- The result of a case, and what was told of it, are those of some cut, from its section's state if the section is open.
+abbrev pub IsMember : {S : Type 0} → (S → Event → S → Type 0) → Run → State → Bool → MemberValue → CaseRow → S → S → Type 0
+IsMember hears run now is_open m row first last =
+    (section : State) → (is_open ≡ true → now ≡ section) → (cut : Cut) × (row ≡ case_of run section is_open cut m) × FoldsTo hears first (case_events run section is_open cut m) last
+
+-- The rows of cases, and what was told of them, are those of some cuts, from the section's state if they are reached.
+abbrev pub AreCases : {S : Type 0} → (S → Told → S → Type 0) → Run → State → Bool → List MemberValue → List CaseRow → S → S → Type 0
+AreCases told run now is_open members rows first last =
+    (section : State) → (is_open ≡ true → now ≡ section) → (cuts : List Cut) × IsRan told (cases_of run section is_open cuts members) rows first last
+
+-- The cases that are still to come, each with whether it is selected.
+abbrev pub members_in : Cases → List MemberValue
+members_in cases = members_of cases.waiting.items cases.selected.items
+
+-- The next case of the rank was taken, or there is none.
+abbrev pub TakesMember : Cases → Option Member → Cases → Type 0
+TakesMember old None new = (new ≡ old) × (falls_from (suc old.rank) old.waiting.items ≡ true)
+TakesMember old (Some m) new =
+    (members_in old ≡ member_of m.case m.selected ∷ members_in new) × (order.rank m.case.rule ≡ old.rank) × (new.rank ≡ old.rank) × (new.results ≡ old.results) × (length old.waiting.items ≡ suc (length new.waiting.items))
+
+-- All cases of the rank were taken, and no others.
+pub record IsLeft (old new : Cases) : Type 0 where
+  pub rank : new.rank ≡ old.rank
+  pub falls : falls_from (suc old.rank) new.waiting.items ≡ true
+  pub others : (other : ℕ) → old.rank < other → members_of_rank other (members_in new) ≡ members_of_rank other (members_in old)
+
+-- The next cases, those of one rank, were run in a section. `is_open` says whether the section is open, `stays_open` whether what comes after them is still reached.
+pub record RunsCases {S : Type 0} (hears : S → Event → S → Type 0) (ends : S → Ended → S → Type 0) (run : Run) (now : State) (is_open : Bool) (old new : Cases) (first last : S) (stays_open : Bool) : Type 0 where
+  pub rows : List CaseRow
+  pub told : map case_row new.results.items ≡ map case_row old.results.items ++ rows
+  pub are : AreCases (tells hears ends) run now is_open (members_of_rank old.rank (members_in old)) rows first last
+  pub stay : stays_open ≡ all_stay_open run rows
+  pub left : IsLeft old new
+
+-- ---- rules
+
+-- The result of a rule, and what was told of it, are those of some cuts, from its feature's state if the feature is open.
+abbrev pub IsRule : {S : Type 0} → (S → Told → S → Type 0) → Run → State → Bool → Group → SectionRow (List CaseRow) → S → S → Type 0
+IsRule told run now is_open g end first last =
+    (outside : State) → (is_open ≡ true → now ≡ outside) → (cuts : RuleCuts) × IsRan told (rule_of run outside is_open cuts g) end first last
+
+-- The next rule was run in a feature, with the next cases, those of one rank. `is_open` says whether the feature is open.
+pub record RunsRule {S : Type 0} (hears : S → Event → S → Type 0) (ends : S → Ended → S → Type 0) (run : Run) (now : State) (is_open : Bool) (head : HeadValue) (old new : Cases) (first last : S) (end : RuleEnd) : Type 0 where
+  pub rows : List CaseRow
+  pub told : map case_row new.results.items ≡ map case_row old.results.items ++ rows
+  pub is : IsRule (tells hears ends) run now is_open (record { head = head; members = members_of_rank old.rank (members_in old) }) (record { around = end.around; inside = rows }) first last
+  pub stay : end.stays_open ≡ rule_stays_open run (record { around = end.around; inside = rows })
+  pub left : IsLeft old new
+
+-- The next rules were run in a feature. Their results, and what was told of them, are those of some cuts, from the feature's state if it is open.
+pub record RunsRules {S : Type 0} (hears : S → Event → S → Type 0) (ends : S → Ended → S → Type 0) (run : Run) (now : State) (is_open : Bool) (heads : List HeadValue) (old new : Cases) (results : List RuleResult) (first last : S) : Type 0 where
+  pub rows : List CaseRow
+  pub told : map case_row new.results.items ≡ map case_row old.results.items ++ rows
+  pub are : (outside : State) → (is_open ≡ true → now ≡ outside) → (cuts : List RuleCuts)
+      × IsRan (tells hears ends) (rules_of run outside is_open cuts (groups_from (suc old.rank) heads (members_in old))) (record { rules = map rule_row results; cases = rows }) first last
+
+-- ---- a feature
+
+-- The results of what is inside a section, and what was told of it, are those of some cuts, from the section's state if the section is open.
+abbrev pub IsInside : {S : Type 0} → (S → Told → S → Type 0) → Run → State → Bool → List MemberValue → List Group → Inside → S → S → Type 0
+IsInside told run now is_open own groups inside first last =
+    (section : State) → (is_open ≡ true → now ≡ section) → (cuts : List Cut) × (rule_cuts : List RuleCuts) × IsRan told (inside_by run section is_open cuts rule_cuts own groups) inside first last
+
+-- The result of a feature's section, and what was told of it, are those of some cuts, from the run's state if the feature is begun.
+abbrev pub IsFeatureEnd : {S : Type 0} → (S → Told → S → Type 0) → Run → State → Bool → List (List ℕ) → List MemberValue → List Group → SectionRow Inside → S → S → Type 0
+IsFeatureEnd told run now is_begun tags own groups end first last =
+    (outside : State) → (is_begun ≡ true → now ≡ outside) → (cut : Cut) × (cuts : List Cut) × (rule_cuts : List RuleCuts)
+    × IsRan told (section_of run levels.Feature tags outside is_begun cut (λ section is_open. inside_by run section is_open cuts rule_cuts own groups)) end first last
+
+-- The value of an `InsideResults`.
+abbrev pub inside_value : InsideResults → Inside
+inside_value i = record { rules = map rule_row i.rules.items; cases = map case_row i.cases.items }
+
+-- What is inside a feature was run. `is_open` says whether the feature is open.
+abbrev pub RunsInside : {S : Type 0} → (S → Event → S → Type 0) → (S → Ended → S → Type 0) → shared.Run → State → Bool → Content → S → S → InsideResults → Type 0
+RunsInside hears ends run now is_open content first last inside =
+    IsInside (tells hears ends) (run_value run) now is_open (members_of_rank 0 (members_in content.cases)) (groups_from 1 (map head_value content.rules.list.items) (members_in content.cases)) (inside_value inside) first last
+
+-- A feature ran, or wasn't begun, and ended like this.
+abbrev pub EndsFeature : {S : Type 0} → (S → Event → S → Type 0) → (S → Ended → S → Type 0) → shared.Run → State → Bool → List (String Global) → Content → S → S → FeatureEnd → Type 0
+EndsFeature hears ends run now is_begun tags content first last end =
+    IsFeatureEnd (tells hears ends) (run_value run) now is_begun (texts tags) (members_of_rank 0 (members_in content.cases)) (groups_from 1 (map head_value content.rules.list.items) (members_in content.cases)) (record { around = end.around; inside = inside_value end.inside }) first last
+
+-- The result of a feature, and what was told of it, are those of some cuts, from the run's state if the run is open.
+abbrev pub RunsFeature : {S : Type 0} → (S → Event → S → Type 0) → (S → Ended → S → Type 0) → Run → State → Bool → ChosenValue → S → S → FeatureRow → Type 0
+RunsFeature hears ends run now is_open f first last row = (outside : State) → (is_open ≡ true → now ≡ outside) → IsFeatureTold hears ends run outside is_open f row first last

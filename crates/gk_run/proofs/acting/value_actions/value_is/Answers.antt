@@ -1,5 +1,0 @@
-use Rattle.gk_run.proofs.ActingLemmas.{text_checked}
-use Rattle.gk_run.proofs.acting.value_actions.value_is.Goals as goal
-
-pub returns : goal.returns
-returns c = text_checked _ _ _ _ _ c.value.ensures c.is_text.ensures
