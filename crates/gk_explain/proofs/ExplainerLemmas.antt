@@ -12,13 +12,12 @@ use Rattle.gk_run.specs.declared.section.Level.{Level}
 use Rattle.gk_run.specs.declared.section.Level.TheVariants as levels
 use Rattle.gk_run.specs.declared.section.Stage.{Stage}
 use Rattle.gk_run.specs.Acting.{CleanupValue, act, done_of}
-use Rattle.gk_run.specs.SectionEnd.{clean_each}
+use Rattle.gk_run.specs.SectionHooks.{clean_each, after_lists, before_list, entered, walk_each}
 use Rattle.gk_run.specs.Ending.{ending_of, has_passed}
 use Rattle.gk_run.specs.Events.{Event as Told, of_step, of_cleanup, Stand, cut_at, ended_in, left_by, refused}
-use Rattle.gk_run.specs.Run.{Run}
+use Rattle.gk_run.specs.OpenSection.{Run}
 use Rattle.gk_run.specs.Running.{alone}
 use Rattle.gk_run.specs.Section.{Cut, nowhere, in_before, in_steps, in_after, in_cleanups, Events, after_of, before_of, happened, in_order, has_event, site_of}
-use Rattle.gk_run.specs.SectionHooks.{after_lists, before_list, entered, walk_each}
 use Rattle.gk_run.specs.Walk.{one_step, steps_from, walk}
 use Rattle.gk_explain.specs.declared.explainer.Explainer.{Explainer}
 use Rattle.gk_explain.specs.SectionLines.{SectionValue, after_event, after_events}

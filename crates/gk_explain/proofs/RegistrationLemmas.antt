@@ -22,12 +22,11 @@ use Rattle.gk_run.specs.declared.section.Level.TheVariants as levels
 use Rattle.gk_run.specs.declared.section.Part.TheVariants as parts
 use Rattle.gk_run.specs.declared.section.Stage.{Stage}
 use Rattle.gk_run.specs.Acting.{Acted as Result, CleanupValue, ArgumentsValue, act, at_site, done_of, fails, arguments_of, is_pass, may_register, registers as registers_found, without_cleanups}
-use Rattle.gk_run.specs.SectionEnd.{clean_each}
+use Rattle.gk_run.specs.SectionHooks.{clean_each, after_lists, before_list, entered, walk_each}
 use Rattle.gk_run.specs.Ending.{ending_of, has_passed}
 use Rattle.gk_run.specs.Events.{Event as Told, of_step, Stand, after_event, ended_in, left_by}
 use Rattle.gk_run.specs.Running.{alone}
 use Rattle.gk_run.specs.Section.{after_of, before_of, in_order, site_of, steps_of_case}
-use Rattle.gk_run.specs.SectionHooks.{after_lists, before_list, entered, walk_each}
 use Rattle.gk_run.specs.Walk.{looked_up, one_step, stepped, steps_from, walk}
 use Rattle.gk_explain.specs.declared.registrations.Registration.{Registration}
 use Rattle.gk_explain.specs.Registrations.{PlacedCleanup, is_at_cleanup, found_registers, is_passed, registered_by, last_of, all_but_last, placed_cleanups, placed_by, CleanupsAreOfTheirSteps}

@@ -3,13 +3,11 @@ use Rattle.std.specs.Prelude.{◌≡◌, Bool, false}
 use Rattle.gk_select.specs.Case.{CaseValue}
 use Rattle.gk_world.specs.State.{State}
 use Rattle.gk_run.specs.declared.results.Status.{Status}
-use Rattle.gk_run.specs.Cases.{is_bad}
+use Rattle.gk_run.specs.Running.{is_bad, IsCaseTold, alone, reached_row}
 use Rattle.gk_run.specs.Results.{CaseRow}
-use Rattle.gk_run.specs.Run.{Run}
-use Rattle.gk_run.specs.Events.{Event as Told}
+use Rattle.gk_run.specs.OpenSection.{Run}
+use Rattle.gk_run.specs.Events.{Event as Told, Ended, of_case, of_rule}
 use Rattle.gk_run.specs.Section.{Cut, happened, in_order}
-use Rattle.gk_run.specs.Observer.{Ended, of_case, of_rule}
-use Rattle.gk_run.specs.Running.{IsCaseTold, alone, reached_row}
 use Rattle.gk_explain.specs.declared.explainer.Explainer.{Explainer}
 use Rattle.gk_explain.specs.SectionLines.{SectionValue, untold, after_events}
 use Rattle.gk_explain.specs.Explanation.{ExplanationValue, explanation_value, with_event, with_ended, with_case_of}

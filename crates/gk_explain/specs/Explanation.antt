@@ -5,8 +5,7 @@ use Rattle.gk_run.specs.declared.results.Status.{Status}
 use Rattle.gk_run.specs.declared.section.Level.{Level}
 use Rattle.gk_run.specs.declared.section.Level.TheVariants as levels
 use Rattle.gk_run.specs.Results.{CaseRow, RuleRow, FeatureRow}
-use Rattle.gk_run.specs.Events.{Event as Told}
-use Rattle.gk_run.specs.Observer.{Ended, of_case, of_rule}
+use Rattle.gk_run.specs.Events.{Event as Told, Ended, of_case, of_rule}
 use Rattle.gk_explain.specs.declared.explanation.Explanation.{Explanation}
 use Rattle.gk_explain.specs.Event.{level_of}
 use Rattle.gk_explain.specs.EventLines.{NamesValue}

@@ -2,7 +2,7 @@
 use Rattle.std.specs.Prelude.{ℕ, cond, List, [], ◌∷◌, ◌++◌, codes}
 use Rattle.gk_run.specs.declared.results.Status.{Status}
 use Rattle.gk_run.specs.Results.{CaseRow, RuleRow, FeatureRow, case_row, rule_row, feature_row}
-use Rattle.gk_run.specs.Cases.{is_bad}
+use Rattle.gk_run.specs.Running.{is_bad}
 use Rattle.gk_report.specs.ReportTexts.{status_text, line_feed}
 use Rattle.gk_report.specs.PlainReport.{status_line}
 use Rattle.gk_explain.specs.declared.headings.Ended.{Ended}

@@ -10,7 +10,7 @@ use Rattle.gk_world.specs.State.{State}
 use Rattle.gk_run.specs.declared.results.Mark.{Mark}
 use Rattle.gk_run.specs.declared.results.Mark.TheVariants.{Acted}
 use Rattle.gk_run.specs.Acting.{CleanupValue, is_pass}
-use Rattle.gk_run.specs.Run.{Run}
+use Rattle.gk_run.specs.OpenSection.{Run}
 use Rattle.gk_run.specs.Events.{Event as Told, of_step, of_cleanup}
 use Rattle.gk_run.specs.Section.{in_order}
 use Rattle.gk_run.specs.Running.{alone}

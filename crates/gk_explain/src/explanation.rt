@@ -1,7 +1,7 @@
 //! The state that explains a run: the lines of its events and the places where cleanups were registered, but no
 //! event.
 ghost use Rattle.std.specs.Prelude.{◌≡◌, ◌++◌, true, false, IfOk, OnOk, OnErr, string_bytes};
-ghost use Rattle.gk_run.specs.Cases as cases;
+ghost use Rattle.gk_run.specs.Running as cases;
 ghost use Rattle.gk_report.specs.ReportTexts.{line_feed, Pushes};
 ghost use Rattle.gk_explain.specs.Headings as headings;
 ghost use Rattle.gk_explain.specs.SectionLines.{section_value, untold};

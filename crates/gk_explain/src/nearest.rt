@@ -1,5 +1,5 @@
 //! The entry of a library that is nearest to the text of a step.
-ghost use Rattle.std.specs.Prelude.{◌≡◌, ◌≤◌, length};
+ghost use Rattle.std.specs.Prelude.{◌≡◌, ◌<◌, ◌≤◌, false, length, nat_lt};
 ghost use Rattle.std.specs.List.{common_prefix_len, position_or_len, best_of};
 ghost use Rattle.gk_steps.specs.Pattern.{piece_value, pieces_said};
 ghost use Rattle.gk_steps.specs.Finding.{entry_value, entries_said, library_value};
@@ -75,6 +75,38 @@ fn agreement(pattern: &[Piece], text: &[u8]) -> usize
     agreed
 }
 
+// Returns whether a literal may have more bytes than `most` in common with a text, or has no more in all. If not, it
+// ends the comparison.
+fn goes_on(literal: &[u8], text: &[u8], most: usize) -> bool
+    ensures ends { result ≡ false → common_prefix_len spec.is_same literal.now text.now ≤ most }
+    ensures longer { result ≡ false → most < length literal.now }
+{
+    literal.len() <= most || (most < text.len() && literal[most] == text[most])
+}
+
+// Returns whether a pattern may agree with a text by more bytes than `most`. It compares one byte at most.
+fn may_agree_more(pattern: &[Piece], text: &[u8], most: usize) -> bool
+    ensures { result ≡ false → spec.agreement (pieces_said pattern.now) text.now ≤ most }
+{
+    match pattern.first() {
+        Some(Piece::Literal(literal)) => goes_on(literal.as_bytes(), text, most),
+        _ => true,
+    }
+}
+
+// Returns the number of bytes that the literals of a pattern have in common with a text, if it is more than `most`.
+fn more_agreement(pattern: &[Piece], text: &[u8], most: usize) -> usize
+    ensures more { nat_lt most result
+        ≡ nat_lt most (spec.agreement (pieces_said pattern.now) text.now) }
+    ensures value { most < result → result ≡ spec.agreement (pieces_said pattern.now) text.now }
+{
+    if may_agree_more(pattern, text, most) {
+        agreement(pattern, text)
+    } else {
+        most
+    }
+}
+
 // Returns the entry that agrees longest with a text, and the first of equals.
 fn nearest<'a>(first: &'a Entry, others: &'a [Entry], text: &[u8]) -> &'a Entry
     ensures { entry_value result.now
@@ -83,7 +115,7 @@ fn nearest<'a>(first: &'a Entry, others: &'a [Entry], text: &[u8]) -> &'a Entry
     let mut best = first;
     let mut most = agreement(&first.pattern.pieces, text);
     for entry in others {
-        let agreed = agreement(&entry.pattern.pieces, text);
+        let agreed = more_agreement(&entry.pattern.pieces, text, most);
         if agreed > most {
             best = entry;
             most = agreed;

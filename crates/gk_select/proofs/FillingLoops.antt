@@ -1,28 +1,11 @@
 -- What the loops that fill a text go by.
-use Rattle.std.proofs.Common.{◌≡◌, ℕ, ◌+◌, ◌<◌, ◌≤◌, true, false, if◌then◌else◌, List, [], ◌∷◌, ◌++◌, length, drop, get_or, Option, Some, None, Result, Ok, Err, is_ok, IfOk, option_map, Bor, String, refl, sym, ap, ◌∙◌, arith}
-use Rattle.std.proofs.lemmas.Bool.{cond-true, cond-false}
-use Rattle.std.proofs.lemmas.List.{append_assoc, append-nil, drop_more, drop_all, length-map}
+use Rattle.std.proofs.Common.{◌≡◌, ℕ, ◌<◌, if◌then◌else◌, List, [], ◌∷◌, ◌++◌, length, Option, Some, None, Result, Ok, Err, is_ok, IfOk, option_map, Bor, String, sym, ap, ◌∙◌}
+use Rattle.std.proofs.lemmas.List.{append_assoc, append-nil, length-map}
 use Rattle.std.proofs.lemmas.Str.Pattern.{IsSplitOnceResult, split_parts}
 use Rattle.std.specs.String.{string_bytes}
-use Rattle.std.specs.Str.{bytes_eq}
 use Rattle.gk_gherkin.specs.Feature.{texts}
 use Rattle.gk_select.specs.Filling.{cell_of, cell_or_byte, filled_piece}
 use Rattle.gk_select.proofs.FilledPieces.{Without, fills_plain}
-
--- The cell under a name, column by column.
-module _ {Z : Type 0} (header row : List (String Z)) (i : ℕ) (h : String Z) (name : List ℕ) (fit : length row ≡ length header) (within : i < length header) (is : h ≡ get_or header i h) where
-  column : (d : String Z) → cell_of (texts (drop i header)) (texts (drop i row)) name
-      ≡ (if bytes_eq (string_bytes h) name then Some (string_bytes (get_or row i d)) else cell_of (texts (drop (i + 1) header)) (texts (drop (i + 1) row)) name)
-  unfolding cell_of
-  column d =
-      let inside : i < length row = omega arith in
-      rw (drop_more header i h within, drop_more row i d inside, sym is) refl
-
-  pub found : (cell : String Z) → cell ≡ get_or row i cell → bytes_eq (string_bytes h) name ≡ true → cell_of (texts (drop i header)) (texts (drop i row)) name ≡ Some (string_bytes cell)
-  found cell e t = column cell ∙ cond-true _ _ _ t ∙ ap (λ (s : String Z). Some (string_bytes s)) (sym e)
-
-  pub other_column : bytes_eq (string_bytes h) name ≡ false → cell_of (texts (drop (i + 1) header)) (texts (drop (i + 1) row)) name ≡ cell_of (texts (drop i header)) (texts (drop i row)) name
-  other_column f = sym (column h ∙ cond-false _ _ _ f)
 
 -- What is cut off at a byte.
 module _ (c : ℕ) (bs : List ℕ) (r : Option (Bor (List ℕ) × Bor (List ℕ))) (split : IsSplitOnceResult c bs r) (ascii : c < 128) where
@@ -51,11 +34,6 @@ at_end headers cells rest plain = ap (filled_piece headers cells) (sym (append-n
 pub no_cell : {r : Option (Bor (List ℕ))} {o : Option (List ℕ)} → option_map (λ (x : Bor (List ℕ)). x.now) r ≡ o → r ≡ None → o ≡ None
 no_cell e n = sym e ∙ ap (option_map (λ (x : Bor (List ℕ)). x.now)) n
 
--- After the last column there is no cell.
-pub none_left : {Z : Type 0} (header row : List (String Z)) (i : ℕ) (name : List ℕ) → length header ≤ i → cell_of (texts (drop i header)) (texts (drop i row)) name ≡ None
-unfolding cell_of
-none_left header row i name l = rw (drop_all i header l) refl
-
 -- What was pushed goes from what is to come to what is there.
 pub pushed : {s' rest total : List ℕ} (s part after : List ℕ) → s' ≡ s ++ part → rest ≡ part ++ after → s ++ rest ≡ total → s' ++ after ≡ total
 pushed s part after a b t = rw a (append_assoc s part after ∙ ap (λ (bs : List ℕ). s ++ bs) (sym b) ∙ t)
@@ -68,5 +46,5 @@ if_ok (Err x) old e w = tt
 pub some_cell : {r : Option (Bor (List ℕ))} {o : Option (List ℕ)} {cell : Bor (List ℕ)} → option_map (λ (x : Bor (List ℕ)). x.now) r ≡ o → r ≡ Some cell → o ≡ Some cell.now
 some_cell e n = sym e ∙ ap (option_map (λ (x : Bor (List ℕ)). x.now)) n
 
-pub fit : {Z : Type 0} (header row : List (String Z)) → length row ≡ length header → length (texts row) ≡ length (texts header)
-fit header row e = length-map row string_bytes ∙ e ∙ sym (length-map header string_bytes)
+pub fit : {Z : Type 0} (names : List (List ℕ)) (row : List (String Z)) → length row ≡ length names → length (texts row) ≡ length names
+fit names row e = length-map row string_bytes ∙ e

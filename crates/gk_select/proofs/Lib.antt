@@ -1,6 +1,7 @@
 pub mod FilledPieces
 pub mod OneCut
 pub mod FillingLoops
+pub mod IndexedColumns
 pub mod Rooms
 pub mod Unfilled
 pub mod AlternativeWords

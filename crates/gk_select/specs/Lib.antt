@@ -1,6 +1,7 @@
 -- The cases of a feature and the choice among them, in reading order. Definitions that only the proofs use come last in their files.
 pub mod Case
 pub mod Filling
+pub mod Columns
 pub mod Copies
 pub mod Inherited
 pub mod Outline

@@ -3,8 +3,9 @@ ghost use Rattle.std.specs.Prelude.{◌≡◌, length, map, IfOk};
 ghost use Rattle.std.specs.String.{string_bytes};
 ghost use Rattle.gk_gherkin.specs.Feature.{texts, block_value, step_value};
 ghost use Rattle.gk_select.specs.Copies.{Appends, filled_by};
-ghost use Rattle.gk_select.specs.Filling.{filled_block, filled_step};
+ghost use Rattle.gk_select.specs.Filling.{filled, filled_block, filled_step};
 
+use crate::columns::Columns;
 use crate::filling::fill;
 use gk_gherkin::{Block, Step};
 use std::alloc::{AllocError, Global};
@@ -31,16 +32,16 @@ pub fn copied_texts(alloc: Global, from: &[String]) -> Result<Vec<String>, Alloc
 fn fill_texts(
     alloc: Global,
     from: &[String],
-    header: &[String],
+    columns: &Columns<'_>,
     row: &[String],
 ) -> Result<Vec<String>, AllocError>
-    requires { length row.now ≡ length header.now }
+    requires { length row.now ≡ length columns.now }
     ensures { IfOk result (λ v.
-        texts v.items ≡ map (filled_by header.now row.now) (texts from.now)) }
+        texts v.items ≡ map (filled columns.now (texts row.now)) (texts from.now)) }
 {
     let mut filled = Vec::new(alloc);
     for text in from {
-        filled.push(fill(alloc, text.as_str(), header, row)?)?;
+        filled.push(fill(alloc, text.as_str(), columns, row)?)?;
     }
     Ok(filled)
 }
@@ -48,16 +49,16 @@ fn fill_texts(
 fn fill_table(
     alloc: Global,
     from: &[Vec<String>],
-    header: &[String],
+    columns: &Columns<'_>,
     row: &[String],
 ) -> Result<Vec<Vec<String>>, AllocError>
-    requires { length row.now ≡ length header.now }
+    requires { length row.now ≡ length columns.now }
     ensures { let cells = map (λ row. texts row.items) in IfOk result (λ v.
-        cells v.items ≡ map (map (filled_by header.now row.now)) (cells from.now)) }
+        cells v.items ≡ map (map (filled columns.now (texts row.now))) (cells from.now)) }
 {
     let mut filled = Vec::new(alloc);
     for cells in from {
-        filled.push(fill_texts(alloc, cells.as_slice(), header, row)?)?;
+        filled.push(fill_texts(alloc, cells.as_slice(), columns, row)?)?;
     }
     Ok(filled)
 }
@@ -65,18 +66,41 @@ fn fill_table(
 fn fill_block(
     alloc: Global,
     block: &Block,
-    header: &[String],
+    columns: &Columns<'_>,
     row: &[String],
 ) -> Result<Block, AllocError>
-    requires { length row.now ≡ length header.now }
+    requires { length row.now ≡ length columns.now }
     ensures { IfOk result (λ b.
-        block_value b ≡ filled_block (filled_by header.now row.now) (block_value block.now)) }
+        block_value b ≡ filled_block (filled columns.now (texts row.now)) (block_value block.now)) }
 {
     match block {
         Block::Empty => Ok(Block::Empty),
-        Block::Text(text) => Ok(Block::Text(fill(alloc, text.as_str(), header, row)?)),
-        Block::Table(rows) => Ok(Block::Table(fill_table(alloc, rows.as_slice(), header, row)?)),
+        Block::Text(text) => Ok(Block::Text(fill(alloc, text.as_str(), columns, row)?)),
+        Block::Table(rows) => Ok(Block::Table(fill_table(alloc, rows.as_slice(), columns, row)?)),
     }
+}
+
+// Returns a step as it is run for a row under these columns.
+fn fill_step_under(
+    alloc: Global,
+    step: &Step,
+    columns: &Columns<'_>,
+    row: &[String],
+) -> Result<Step, AllocError>
+    requires { length row.now ≡ length columns.now }
+    ensures { IfOk result (λ s.
+        step_value s ≡ filled_step (filled columns.now (texts row.now)) (step_value step.now)) }
+{
+    let keyword = String::from_str(alloc, step.keyword.as_str())?;
+    let text = fill(alloc, step.text.as_str(), columns, row)?;
+    let block = fill_block(alloc, &step.block, columns, row)?;
+    Ok(Step {
+        keyword,
+        step_type: step.step_type,
+        text,
+        block,
+        line: step.line,
+    })
 }
 
 /// Returns a step of an outline as it is run for a row: its text, its doc string and its table's cells are
@@ -92,16 +116,8 @@ pub fn fill_step(
     ensures { IfOk result (λ s.
         step_value s ≡ filled_step (filled_by header.now row.now) (step_value step.now)) }
 {
-    let keyword = String::from_str(alloc, step.keyword.as_str())?;
-    let text = fill(alloc, step.text.as_str(), header, row)?;
-    let block = fill_block(alloc, &step.block, header, row)?;
-    Ok(Step {
-        keyword,
-        step_type: step.step_type,
-        text,
-        block,
-        line: step.line,
-    })
+    let columns = Columns::scanned(header);
+    fill_step_under(alloc, step, &columns, row)
 }
 
 /// Appends steps, filled from a row.
@@ -109,15 +125,15 @@ pub fn push_filled_steps(
     alloc: Global,
     into: &mut Vec<Step>,
     from: &[Step],
-    header: &[String],
+    columns: &Columns<'_>,
     row: &[String],
 ) -> Result<(), AllocError>
-    requires { length row.now ≡ length header.now }
+    requires { length row.now ≡ length columns.now }
     ensures { Appends step_value result into.old.items into.new.items
-        (map (filled_step (filled_by header.now row.now)) (map step_value from.now)) }
+        (map (filled_step (filled columns.now (texts row.now))) (map step_value from.now)) }
 {
     for step in from {
-        into.push(fill_step(alloc, step, header, row)?)?;
+        into.push(fill_step_under(alloc, step, columns, row)?)?;
     }
     Ok(())
 }
@@ -126,5 +142,6 @@ pub fn push_filled_steps(
 pub fn push_steps(alloc: Global, into: &mut Vec<Step>, from: &[Step]) -> Result<(), AllocError>
     ensures { Appends step_value result into.old.items into.new.items (map step_value from.now) }
 {
-    push_filled_steps(alloc, into, from, &[], &[])
+    let columns = Columns::scanned(&[]);
+    push_filled_steps(alloc, into, from, &columns, &[])
 }

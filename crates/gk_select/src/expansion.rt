@@ -4,8 +4,8 @@ ghost use Rattle.std.specs.List.{AllByRecursion};
 ghost use Rattle.std.specs.String.{string_bytes};
 ghost use Rattle.gk_gherkin.specs.Feature.{texts, step_value, row_value, examples_value, scenario_value, rule_value, feature_value};
 ghost use Rattle.gk_select.specs.Case.{case_value};
-ghost use Rattle.gk_select.specs.Copies.{Appends, filled_by};
-ghost use Rattle.gk_select.specs.Filling.{filled_step};
+ghost use Rattle.gk_select.specs.Copies.{Appends};
+ghost use Rattle.gk_select.specs.Filling.{filled, filled_step};
 ghost use Rattle.gk_select.specs.Expansion as spec;
 ghost use Rattle.gk_select.specs.Expansion.{cases, step_count, step_limit, HasTooManySteps, IsExpandable, RowsFit};
 ghost use Rattle.gk_select.specs.Expansion.{name_of_row, case_of_row, cases_of_rows, RowsFitHeader};
@@ -15,6 +15,7 @@ ghost use Rattle.gk_select.specs.Outline.{FitsHeader, AllFit};
 ghost use Rattle.gk_select.specs.declared.select_fault.SelectFault.TheVariants.{TooMany, Memory};
 
 use crate::case::Case;
+use crate::columns::Columns;
 use crate::copies::{copied_texts, push_filled_steps, push_steps, push_texts};
 use crate::counting::has_room;
 use crate::filling::fill;
@@ -55,27 +56,35 @@ fn plain_case(
     })
 }
 
+// Examples of an outline, with their number, counted from 1, and the columns of their header.
+#[derive(Drop)]
+struct Part<'a> {
+    number: usize,
+    examples: &'a Examples,
+    columns: Columns<'a>,
+}
+
 // Returns the name of a row's case: the scenario's filled name, the numbers of the Examples and the row, and
 // the name of the Examples.
 fn row_name(
     alloc: Global,
     scenario: &Scenario,
-    examples_number: usize,
-    examples: &Examples,
+    part: &Part<'_>,
     row_number: usize,
     row: &Row,
 ) -> Result<String, AllocError>
-    requires { FitsHeader (examples_value examples.now) (row_value row.now) }
+    requires fits { FitsHeader (examples_value part.now.examples.now) (row_value row.now) }
+    requires columns { part.now.columns ≡ texts part.now.examples.now.header.items }
     ensures { IfOk result (λ name. string_bytes name
-        ≡ name_of_row scenario.now examples_number examples.now row_number row.now) }
+        ≡ name_of_row scenario.now part.now.number part.now.examples.now row_number row.now) }
 {
-    let name = fill(alloc, scenario.name.as_str(), &examples.header, &row.cells)?;
+    let name = fill(alloc, scenario.name.as_str(), &part.columns, &row.cells)?;
     case_name(
         alloc,
         name.as_str(),
-        examples_number,
+        part.number,
         row_number,
-        examples.name.as_str(),
+        part.examples.name.as_str(),
     )
 }
 
@@ -98,17 +107,18 @@ fn row_steps(
     alloc: Global,
     inherited: &Inherited<'_>,
     scenario: &Scenario,
-    header: &[String],
+    columns: &Columns<'_>,
     cells: &[String],
 ) -> Result<Vec<Step>, AllocError>
-    requires { length cells.now ≡ length header.now }
-    ensures { IfOk result (λ steps. map step_value steps.items ≡
+    requires { length cells.now ≡ length columns.now }
+    ensures { let fill = filled columns.now (texts cells.now) in
+        IfOk result (λ steps. map step_value steps.items ≡
         (inherited_value inherited.now).steps
-        ++ map (filled_step (filled_by header.now cells.now)) (scenario_value scenario.now).steps) }
+        ++ map (filled_step fill) (scenario_value scenario.now).steps) }
 {
     let mut steps = Vec::new(alloc);
     push_inherited_steps(alloc, &mut steps, inherited)?;
-    push_filled_steps(alloc, &mut steps, &scenario.steps, header, cells)?;
+    push_filled_steps(alloc, &mut steps, &scenario.steps, columns, cells)?;
     Ok(steps)
 }
 
@@ -116,24 +126,24 @@ fn row_case(
     alloc: Global,
     inherited: &Inherited<'_>,
     scenario: &Scenario,
-    examples_number: usize,
-    examples: &Examples,
+    part: &Part<'_>,
     row_number: usize,
     row: &Row,
 ) -> Result<Case, AllocError>
-    requires { FitsHeader (examples_value examples.now) (row_value row.now) }
-    ensures { IfOk result (λ c. case_value c ≡
-        case_of_row inherited.now scenario.now examples_number examples.now row_number row.now) }
+    requires fits { FitsHeader (examples_value part.now.examples.now) (row_value row.now) }
+    requires columns { part.now.columns ≡ texts part.now.examples.now.header.items }
+    ensures { IfOk result (λ c. case_value c ≡ case_of_row
+        inherited.now scenario.now part.now.number part.now.examples.now row_number row.now) }
 {
-    let own_tags = own_row_tags(alloc, scenario, examples)?;
+    let own_tags = own_row_tags(alloc, scenario, part.examples)?;
     Ok(Case {
-        name: row_name(alloc, scenario, examples_number, examples, row_number, row)?,
+        name: row_name(alloc, scenario, part, row_number, row)?,
         keyword: String::from_str(alloc, scenario.keyword.as_str())?,
         line: row.line,
         rule: inherited.rule,
         tags: after_inherited_tags(alloc, inherited, &own_tags)?,
         own_tags,
-        steps: row_steps(alloc, inherited, scenario, &examples.header, &row.cells)?,
+        steps: row_steps(alloc, inherited, scenario, &part.columns, &row.cells)?,
     })
 }
 
@@ -142,26 +152,38 @@ fn push_row_cases(
     cases: &mut Vec<Case>,
     inherited: &Inherited<'_>,
     scenario: &Scenario,
-    examples_number: usize,
-    examples: &Examples,
+    part: &Part<'_>,
     rows: &[Row],
 ) -> Result<(), AllocError>
-    requires { RowsFitHeader examples.now rows.now }
-    ensures { Appends case_value result cases.old.items cases.new.items
-        (cases_of_rows inherited.now scenario.now examples_number examples.now 1 rows.now) }
+    requires fit { RowsFitHeader part.now.examples.now rows.now }
+    requires columns { part.now.columns ≡ texts part.now.examples.now.header.items }
+    ensures { Appends case_value result cases.old.items cases.new.items (cases_of_rows
+        inherited.now scenario.now part.now.number part.now.examples.now 1 rows.now) }
 {
     for (i, row) in rows.iter().enumerate() {
-        cases.push(row_case(
-            alloc,
-            inherited,
-            scenario,
-            examples_number,
-            examples,
-            i + 1,
-            row,
-        )?)?;
+        cases.push(row_case(alloc, inherited, scenario, part, i + 1, row)?)?;
     }
     Ok(())
+}
+
+fn push_examples_cases(
+    alloc: Global,
+    cases: &mut Vec<Case>,
+    inherited: &Inherited<'_>,
+    scenario: &Scenario,
+    examples_number: usize,
+    examples: &Examples,
+) -> Result<(), AllocError>
+    requires { AllFit (examples_value examples.now) }
+    ensures { Appends case_value result cases.old.items cases.new.items (cases_of_rows
+        inherited.now scenario.now examples_number examples.now 1 examples.now.rows.items) }
+{
+    let part = Part {
+        number: examples_number,
+        examples,
+        columns: Columns::new(alloc, &examples.header)?,
+    };
+    push_row_cases(alloc, cases, inherited, scenario, &part, &examples.rows)
 }
 
 fn push_outline_cases(
@@ -176,15 +198,7 @@ fn push_outline_cases(
         (cases_of_parts inherited.now scenario.now parts.now) }
 {
     for (i, examples) in parts.iter().enumerate() {
-        push_row_cases(
-            alloc,
-            cases,
-            inherited,
-            scenario,
-            i + 1,
-            examples,
-            &examples.rows,
-        )?;
+        push_examples_cases(alloc, cases, inherited, scenario, i + 1, examples)?;
     }
     Ok(())
 }

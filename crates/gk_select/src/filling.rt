@@ -1,41 +1,28 @@
 //! Texts of an outline, filled from a row.
-ghost use Rattle.std.specs.Prelude.{◌≡◌, ◌++◌, length, option_map, IfOk};
+ghost use Rattle.std.specs.Prelude.{◌≡◌, ◌++◌, length, IfOk};
 ghost use Rattle.std.specs.String.{string_bytes};
 ghost use Rattle.gk_gherkin.specs.Feature.{texts};
 ghost use Rattle.gk_select.specs.Filling as spec;
 ghost use Rattle.gk_select.specs.Filling.{filled};
 
+use crate::columns::Columns;
 use std::alloc::{AllocError, Global};
-
-/// Returns the cell under the first header that equals `name`, if any.
-fn cell_under<'a>(header: &[String], row: &'a [String], name: &str) -> Option<&'a str>
-    requires { length row.now ≡ length header.now }
-    ensures { option_map (λ cell. cell.now) result ≡
-        spec.cell_of (texts header.now) (texts row.now) name.now }
-{
-    for (i, column) in header.iter().enumerate() {
-        if column.as_str() == name {
-            return Some(row[i].as_str());
-        }
-    }
-    None
-}
 
 /// Appends the filled text of `piece` and the `>` after it. `piece` itself has no `>`.
 fn push_piece(
     filled: &mut String,
     piece: &str,
-    header: &[String],
+    columns: &Columns<'_>,
     row: &[String],
 ) -> Result<(), AllocError>
-    requires { length row.now ≡ length header.now }
+    requires { length row.now ≡ length columns.now }
     ensures { IfOk result (λ _. string_bytes filled.new ≡ string_bytes filled.old
-        ++ spec.filled_piece (texts header.now) (texts row.now) piece.now) }
+        ++ spec.filled_piece columns.now (texts row.now) piece.now) }
 {
     let mut rest = piece;
     while let Some((before, name)) = rest.split_once('<') {
         filled.push_str(before)?;
-        if let Some(cell) = cell_under(header, row, name) {
+        if let Some(cell) = columns.cell(row, name) {
             return filled.push_str(cell);
         }
         filled.push('<')?;
@@ -53,18 +40,18 @@ fn push_piece(
 pub fn fill(
     alloc: Global,
     text: &str,
-    header: &[String],
+    columns: &Columns<'_>,
     row: &[String],
 ) -> Result<String, AllocError>
-    requires { length row.now ≡ length header.now }
+    requires { length row.now ≡ length columns.now }
     ensures { IfOk result (λ s.
-        string_bytes s ≡ filled (texts header.now) (texts row.now) text.now) }
+        string_bytes s ≡ filled columns.now (texts row.now) text.now) }
 {
     // A placeholder ends at the first `>` after its `<`, so only text before a `>` is looked up.
     let mut filled = String::new(alloc);
     let mut rest = text;
     while let Some((piece, after)) = rest.split_once('>') {
-        push_piece(&mut filled, piece, header, row)?;
+        push_piece(&mut filled, piece, columns, row)?;
         rest = after;
     }
     filled.push_str(rest)?;

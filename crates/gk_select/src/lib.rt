@@ -5,6 +5,9 @@
 // A case.
 mod case;
 
+// Columns of a header, by their names.
+mod columns;
+
 // Parts of a case: filled texts, copied and inherited tags and steps, a name.
 mod copies;
 mod filling;

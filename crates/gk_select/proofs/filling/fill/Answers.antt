@@ -9,10 +9,10 @@ use Rattle.gk_select.proofs.filling.fill.Goals as goal
 pub loop-piece-preserved : goal.loop-piece-preserved
 loop-piece-preserved c =
     let p = cut 62 c.loop-piece.rest.now c.split_once.result c.split_once.ensures.cases (omega arith) (c.in-Some.piece, c.in-Some.after) c.in-Some.is in
-    let e = ap (filled (texts c.args.header.now) (texts c.args.row.now)) p.0 ∙ fills_piece (texts c.args.header.now) (texts c.args.row.now) c.in-Some.piece.now c.in-Some.after.now (fit c.args.header.now c.args.row.now c.requires) p.1 in
+    let e = ap (filled c.args.columns.now (texts c.args.row.now)) p.0 ∙ fills_piece c.args.columns.now (texts c.args.row.now) c.in-Some.piece.now c.in-Some.after.now (fit c.args.columns.now c.args.row.now c.requires) p.1 in
     (search rules, pushed _ _ _ c.in_ok-push_piece.ensures e c.loop-piece.invariant.1)
 
 pub returns : goal.returns
 returns c =
-    let e = fills_end (texts c.args.header.now) (texts c.args.row.now) c.loop-piece.rest.now (uncut 62 c.loop-piece.rest.now c.split_once.result c.split_once.ensures.cases (omega arith) c.in_default.is) in
+    let e = fills_end c.args.columns.now (texts c.args.row.now) c.loop-piece.rest.now (uncut 62 c.loop-piece.rest.now c.split_once.result c.split_once.ensures.cases (omega arith) c.in_default.is) in
     c.in_ok-push_str.ensures.bytes ∙ ap (λ (bs : List ℕ). string_bytes c.loop-piece.filled ++ bs) (sym e) ∙ c.loop-piece.invariant.1

@@ -7,7 +7,7 @@ use Rattle.gk_select.specs.Filling.{filled}
 use Rattle.gk_select.proofs.filling.fill.Given as goal
 
 abbrev pub invariant-loop-piece : goal.invariant-loop-piece
-invariant-loop-piece l = shadow (Utf8 l.rest) × (string_bytes l.filled ++ filled (texts l.header) (texts l.row) l.rest ≡ filled (texts l.header) (texts l.row) l.text)
+invariant-loop-piece l = shadow (Utf8 l.rest) × (string_bytes l.filled ++ filled l.columns (texts l.row) l.rest ≡ filled l.columns (texts l.row) l.text)
 
 abbrev pub decreases-loop-piece : goal.decreases-loop-piece
 decreases-loop-piece l = length l.rest

@@ -1,0 +1,18 @@
+use Rattle.std.proofs.Common.{◌≡◌, true, false, sym, ◌∙◌}
+use Rattle.std.specs.String.{string_bytes}
+use Rattle.std.specs.Str.{bytes_eq}
+use Rattle.gk_select.proofs.IndexedColumns.{found, other, none_left}
+use Rattle.gk_select.proofs.columns.scan.Goals as goal
+
+pub returns-then-eq : goal.returns-then-eq
+returns-then-eq c =
+    let test : bytes_eq (string_bytes c.index-header-i.result) c.args.name.now ≡ true = cc in
+    sym (found c.args.header.now c.loop-i.i c.args.name.now c.index-header-i.result c.loop-i-test.true c.index-header-i.is test) ∙ c.loop-i.invariant
+
+pub loop-i-preserved : goal.loop-i-preserved
+loop-i-preserved c =
+    let test : bytes_eq (string_bytes c.index-header-i.result) c.args.name.now ≡ false = cc in
+    other c.args.header.now c.loop-i.i c.args.name.now c.index-header-i.result c.loop-i-test.true c.index-header-i.is test ∙ c.loop-i.invariant
+
+pub returns : goal.returns
+returns c = sym (none_left c.args.header.now c.loop-i.i c.args.name.now c.loop-i-test.false) ∙ c.loop-i.invariant
