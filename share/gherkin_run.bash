@@ -6,7 +6,7 @@ _gherkin_run() {
     local formats='plain progress json'
     local texts=' --tags --line --env --file '
     local files=' --library --hooks '
-    local options='--tags --line --library --hooks --env --file --dry-run --stop --format --no-skipped --explain --lint --help -h --version -V'
+    local options='--tags --line --library --hooks --env --file --dry-run --stop --format --no-skipped --explain --lint --no-steps --help -h --version -V'
     # tools/tables.py: end
     COMPREPLY=()
     # After -- every argument is a file.

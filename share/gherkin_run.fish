@@ -13,6 +13,7 @@ complete -c gherkin_run -l format -x -a 'plain progress json' -d 'Write the repo
 complete -c gherkin_run -l no-skipped -d 'Leave skipped features and scenarios out of the report'
 complete -c gherkin_run -l explain -d 'In place of the report, say what happened in each scenario that failed'
 complete -c gherkin_run -l lint -d 'In place of a run, list ignored lines, steps that can\'t work and unused entries'
+complete -c gherkin_run -l no-steps -d 'With --lint: look no step up, for a suite of another runner'
 # tools/tables.py: end
 complete -c gherkin_run -s h -l help -d 'Print the help'
 complete -c gherkin_run -s V -l version -d 'Print the version'

@@ -62,12 +62,18 @@ class ByRule(Checks):
 
     def test_options_that_clash(self):
         for option, others in tables.written.excluded():
+            lint = ["--lint"] if option.name == "no-steps" else []
             for it in others:
                 # --explain and --lint exclude each other, and --explain is named first.
                 first, second = (it, option) if it.name == "explain" else (option, it)
                 text = f"error: the argument '--{first.name}' cannot be used with '--{second.name}'\n{USAGE}{HELP}"
-                self.refuses([given(option), given(it)], 2, text)
-                self.refuses([given(it), given(option)], 2, text)
+                self.refuses([*lint, given(option), given(it)], 2, text)
+                self.refuses([given(it), given(option), *lint], 2, text)
+
+    def test_options_that_need_another(self):
+        for it in tables.OPTIONS:
+            if not it.beside_report:
+                self.refuses([f"--{it.name}"], 2, f"error: the argument '--{it.name}' needs '--lint'\n{USAGE}{HELP}")
 
     def library_refuses(self, entry, fault):
         """Counts a check, which fails unless a library with this entry has this fault."""

@@ -35,13 +35,14 @@ LONG = {
     "lint": "Each finding is a line NAME:LINE: TEXT. Tags of --tags that appear in no file, and each --line that chooses "
             "nothing, are listed, too. If the lines of a file can't be read, standard error has the first fault of each such "
             "file, the faulty line and a fix.",
+    "no-steps": "No step is looked up, so neither a library nor a hooks file is read. What is found goes by the grammar alone.",
 }
 # The page of the guide on an option.
 PAGES = {
     "tags": "choosing.md#tags", "line": "choosing.md#lines", "library": "own_steps.md", "hooks": "hooks.md",
     "env": "choosing.md#variables-from-the-command-line", "file": "checking.md", "dry-run": "choosing.md#dry-runs",
     "stop": "choosing.md#stopping-at-the-first-failure", "format": "reports.md#formats", "explain": "explaining.md",
-    "lint": "linting.md",
+    "lint": "linting.md", "no-steps": "linting_others.md",
 }
 # The label of a flag on the page in the browser, unless it is its name.
 LABELS = {"stop": "Stop at the first failure", "no-skipped": "Leave out skipped scenarios"}
@@ -79,7 +80,7 @@ DOES = {
 # ---- the tables of the sources
 
 # An option: `takes` is Nothing, Text, Texts or Lines.
-Option = collections.namedtuple("Option", "name takes value heading help long beside_explain beside_lint")
+Option = collections.namedtuple("Option", "name takes value heading help long beside_report beside_explain beside_lint beside_no_steps")
 Step = collections.namedtuple("Step", "type text action")
 Action = collections.namedtuple("Action", "name needs uses")
 
@@ -106,7 +107,7 @@ def options():
             json.loads(constants.get(it, it)) for it in (row["name"], row["value_name"], row["heading"], row["help"]))
         long = " ".join(it.strip(" /") for it in comment.splitlines()) or LONG.get(name, "")
         found.append(Option(name, row["takes"].rpartition(":")[2], value, heading, help_text, long,
-                            row["beside_explain"] == "true", row["beside_lint"] == "true"))
+                            *(row[it] == "true" for it in Option._fields[6:])))
     return found
 
 
@@ -149,7 +150,8 @@ def excluded():
     rows = options()
     by_name = {it.name: it for it in rows}
     return [(by_name["explain"], [it for it in rows if not it.beside_explain]),
-            (by_name["lint"], [it for it in rows if not it.beside_lint])]
+            (by_name["lint"], [it for it in rows if not it.beside_lint]),
+            (by_name["no-steps"], [it for it in rows if it.beside_lint and not it.beside_no_steps])]
 
 
 def of_action(action):
@@ -239,7 +241,7 @@ def asked_for(option):
 
 def accepting(option):
     """The tabs of the page on which an option is used."""
-    return ["report", *["explanation"] * option.beside_explain, *["findings"] * option.beside_lint]
+    return [*["report"] * option.beside_report, *["explanation"] * option.beside_explain, *["findings"] * option.beside_lint]
 
 
 def type_in_python(option):
@@ -270,7 +272,8 @@ def field(option):
 
 
 def flags():
-    return [it for it in options() if it.takes == "Nothing" and not asked_for(it)]
+    """The flags of the page. It always has steps to look up."""
+    return [it for it in options() if it.takes == "Nothing" and not asked_for(it) and it.beside_report]
 
 
 def page_flags():

@@ -250,7 +250,11 @@ def lint(
     # tools/tables.py: lint
     tags: Union[str, Iterable[str], None] = None,
     line: Union[int, Iterable[int], None] = None,
+    no_steps: bool = False,
     # tools/tables.py: end
 ) -> Findings:
-    """Runs nothing, and returns what in the files is ignored, can't work or isn't used. Raises what `run` raises."""
+    """Runs nothing, and returns what in the files is ignored, can't work or isn't used. Raises what `run` raises.
+
+    With `no_steps`, no step is looked up, and neither a library nor a hooks file can be given.
+    """
     return Findings(*_called(lint=True, **locals()))

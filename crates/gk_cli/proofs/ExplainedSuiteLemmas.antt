@@ -1,7 +1,7 @@
 -- What a whole run that is explained says.
 use Rattle.std.proofs.Common.{◌≡◌, ℕ, List, inl, inr}
 use Rattle.gk_world.specs.State.{Contents}
-use Rattle.gk_run.specs.Run.{Run}
+use Rattle.gk_run.specs.OpenSection.{Run}
 use Rattle.gk_run.specs.Chosen.{ChosenValue}
 use Rattle.gk_cli.specs.declared.run_fault.RunFault.{RunFault}
 use Rattle.gk_cli.specs.Writing.{Device, StopsBy}

@@ -8,13 +8,12 @@ use Rattle.gk_world.specs.State.{Contents, State, state_of}
 use Rattle.gk_steps.specs.Finding.{LibraryValue}
 use Rattle.gk_run.specs.declared.results.Status.TheVariants as statuses
 use Rattle.gk_run.specs.Results.{FeatureRow, Results}
-use Rattle.gk_run.specs.Run.{Run}
+use Rattle.gk_run.specs.OpenSection.{Run}
 use Rattle.gk_run.specs.Chosen.{ChosenValue}
 use Rattle.gk_run.specs.DryRun.{AreDryFeatures}
 use Rattle.gk_run.specs.Ending.{has_passed}
-use Rattle.gk_run.specs.Events.{Event, ended_in}
+use Rattle.gk_run.specs.Events.{Event, ended_in, Told as Heard, tells, happens, has_ended}
 use Rattle.gk_run.specs.Judged.{Judged, uncut, plain_results, DryRunsAreJudged, UnfinishedDryRunsAreJudged}
-use Rattle.gk_run.specs.Observer.{Told as Heard, tells, happens, has_ended}
 use Rattle.gk_report.specs.declared.report.Style.{Style}
 use Rattle.gk_report.specs.Report.{head, parts, parts_from, tail, report, is_empty, ReportsGrowByParts}
 use Rattle.gk_report.specs.Summary.{status, summary_of}

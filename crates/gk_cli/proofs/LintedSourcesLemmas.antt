@@ -63,6 +63,6 @@ lint_of_more library ss s old new before onto =
       readings = readings;
       linted = subst (AreLinted library (ss ++ s ∷ []) readings) (sym onto.text) (linted_one library ss before.readings (string_bytes old.text) s onto.reading onto.this before.linted onto.linted);
       features = onto.features ∙ ap (λ l. l ++ option_to_list onto.reading) before.features ∙ sym features;
-      used = onto.used ∙ ap (λ l. l ++ used_by library.entries (option_to_list onto.reading)) before.used
-          ∙ sym (flat_map-append _ (features_in before.readings) (option_to_list onto.reading)) ∙ ap (used_by library.entries) (sym features);
+      used = onto.used ∙ ap (λ l. l ++ used_by library (option_to_list onto.reading)) before.used
+          ∙ sym (flat_map-append _ (features_in before.readings) (option_to_list onto.reading)) ∙ ap (used_by library) (sym features);
     }

@@ -15,17 +15,15 @@ use Rattle.gk_select.specs.FileOrder.{CasesAreInFileOrder}
 use Rattle.gk_select.specs.RuleOrder.{FallIntoRules}
 use Rattle.gk_steps.specs.Finding.{LibraryValue}
 use Rattle.gk_world.specs.State.{State, Contents, state_of}
-use Rattle.gk_run.specs.Observer.{result_of}
+use Rattle.gk_run.specs.Events.{result_of}
 use Rattle.gk_run.specs.declared.section.Level.TheVariants as levels
-use Rattle.gk_run.specs.OpenSection.{happened_in, section_state}
-use Rattle.gk_run.specs.Cases.{first_or, later, stays_open}
-use Rattle.gk_run.specs.Chosen.{HeadValue, MemberValue, ChosenValue}
+use Rattle.gk_run.specs.OpenSection.{happened_in, section_state, Run}
+use Rattle.gk_run.specs.Running.{first_or, later, stays_open}
+use Rattle.gk_run.specs.Chosen.{HeadValue, MemberValue, ChosenValue, CasesFallIntoRules}
 use Rattle.gk_run.specs.DryRun.{dry_case_of, dry_cases_of, dry_feature_of, dry_features_of, dry_rules_of}
 use Rattle.gk_run.specs.Features.{FeatureCuts, uncut_feature, feature_of, features_of, StandsInFileOrder, ResultsStandInFileOrder}
-use Rattle.gk_run.specs.Grouping.{CasesFallIntoRules}
 use Rattle.gk_run.specs.Judged.{Cuts, dry_results, results_from, results_of}
 use Rattle.gk_run.specs.Results.{CaseRow, RuleRow, FeatureRow, Results}
-use Rattle.gk_run.specs.Run.{Run}
 use Rattle.gk_run.specs.Section.{Cut, before_passed, nowhere}
 use Rattle.gk_report.specs.RuleGroups.{AreInFileOrder}
 use Rattle.gk_cli.specs.RowOrder.{RowsAreInFileOrder, JudgedRowsAreInFileOrder}

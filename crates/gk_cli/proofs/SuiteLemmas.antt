@@ -8,14 +8,12 @@ use Rattle.gk_world.specs.Sandbox.{SandboxValue, IsSame}
 use Rattle.gk_run.specs.declared.results.Status.{Status}
 use Rattle.gk_run.specs.declared.section.Level.TheVariants as levels
 use Rattle.gk_run.specs.Results.{CaseRow, FeatureRow, RuleRow, Results, is_memory, is_failed, is_undefined, is_untested, is_passed}
-use Rattle.gk_run.specs.Events.{Stand, stand_of}
+use Rattle.gk_run.specs.Events.{Stand, stand_of, result_of}
 use Rattle.gk_run.specs.Section.{happened, before_passed}
-use Rattle.gk_run.specs.Run.{Run}
+use Rattle.gk_run.specs.OpenSection.{Run, IsBegun, section_state, section_events}
 use Rattle.gk_run.specs.Chosen.{ChosenValue}
-use Rattle.gk_run.specs.Cases.{case_statuses, first_or, later, stays_open}
+use Rattle.gk_run.specs.Running.{case_statuses, first_or, later, stays_open}
 use Rattle.gk_run.specs.Features.{FeatureCuts, uncut_feature, rule_statuses, verdict_by, feature_verdict, feature_of, features_of}
-use Rattle.gk_run.specs.Observer.{result_of}
-use Rattle.gk_run.specs.OpenSection.{IsBegun, section_state, section_events}
 use Rattle.gk_run.specs.Judged.{Cuts, dry_results, results_from, Judged, plain_results, is_memory_case, is_memory_feature, is_memory_rule, has_memory, OneList}
 use Rattle.gk_run.specs.OpenRun.{AreFeatures, FinishedRunsAreJudged, IsFinished, IsKept, IsStarted, SuiteValue, opens_features}
 use Rattle.gk_run.specs.DryRun.{dry_features_of}

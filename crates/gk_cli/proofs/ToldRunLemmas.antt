@@ -10,16 +10,14 @@ use Rattle.gk_run.specs.declared.ending.Ending.TheVariants as endings
 use Rattle.gk_run.specs.declared.results.Status.{Status}
 use Rattle.gk_run.specs.declared.section.Level.TheVariants as levels
 use Rattle.gk_run.specs.Results.{FeatureRow, Results}
-use Rattle.gk_run.specs.Run.{Run}
+use Rattle.gk_run.specs.OpenSection.{Run, IsEndTold}
 use Rattle.gk_run.specs.Chosen.{ChosenValue}
 use Rattle.gk_run.specs.DryRun.{dry_features_of, AreDryFeatures}
 use Rattle.gk_run.specs.Ending.{has_passed, is_memory_ending}
 use Rattle.gk_run.specs.Features.{FeatureCuts, features_of}
 use Rattle.gk_run.specs.Judged.{Judged, BeginsJudged}
-use Rattle.gk_run.specs.Observer.{result_of}
+use Rattle.gk_run.specs.Events.{result_of, Event, SoFar, Stand, left_by, stand_of}
 use Rattle.gk_run.specs.OpenRun.{AreFeatures, FinishedRunsAreJudged, IsFinishTold, IsKept, IsStarted, SuiteValue, opens_features}
-use Rattle.gk_run.specs.Events.{Event, SoFar, Stand, left_by, stand_of}
-use Rattle.gk_run.specs.OpenSection.{IsEndTold}
 use Rattle.gk_run.specs.SectionHooks.{begun as begun_by, entered}
 use Rattle.gk_report.specs.Summary.{summary_of}
 use Rattle.gk_cli.specs.declared.run_fault.RunFault.{RunFault}

@@ -200,9 +200,21 @@ unfolding clap_on_literals
 explained_without_skipped = refl
 
 -- findings, and what there is none of
-linting : mode_asked (found_in (program ∷ codes "a" ∷ codes "--lint" ∷ codes "--tags" ∷ codes "t" ∷ codes "--line=3" ∷ [])) ≡ Findings
+linting : mode_asked (found_in (program ∷ codes "a" ∷ codes "--lint" ∷ codes "--tags" ∷ codes "t" ∷ codes "--line=3" ∷ [])) ≡ Findings true
 unfolding clap_on_literals
 linting = refl
+
+linting_without_steps : mode_asked (found_in (program ∷ codes "a" ∷ codes "--no-steps" ∷ codes "--lint" ∷ [])) ≡ Findings false
+unfolding clap_on_literals
+linting_without_steps = refl
+
+no_steps_alone : faults_in (program ∷ codes "a" ∷ codes "--no-steps" ∷ []) ≡ kind.ArgumentConflict ∷ []
+unfolding clap_on_literals
+no_steps_alone = refl
+
+no_steps_of_a_library : faults_in (program ∷ codes "a" ∷ codes "--no-steps" ∷ codes "--lint" ∷ codes "--library=l" ∷ []) ≡ kind.ArgumentConflict ∷ []
+unfolding clap_on_literals
+no_steps_of_a_library = refl
 
 linting_is_taken : faults_in (program ∷ codes "--library=l" ∷ codes "--hooks=h" ∷ codes "--lint" ∷ codes "a" ∷ []) ≡ []
 unfolding clap_on_literals

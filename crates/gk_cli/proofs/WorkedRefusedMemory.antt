@@ -18,13 +18,10 @@ use Rattle.gk_run.specs.declared.section.Level.TheVariants as levels
 use Rattle.gk_run.specs.Acting.{act}
 use Rattle.gk_run.specs.Results.{CaseRow, Results}
 use Rattle.gk_run.specs.Section.{Cut, nowhere, in_before, in_steps, in_after, in_cleanups}
-use Rattle.gk_run.specs.Run.{Run}
-use Rattle.gk_run.specs.Running.{reached_row}
+use Rattle.gk_run.specs.OpenSection.{Run, section_state}
+use Rattle.gk_run.specs.Running.{reached_row, first_or, later}
 use Rattle.gk_run.specs.Chosen.{MemberValue, ChosenValue}
-use Rattle.gk_run.specs.Cases.{first_or, later}
-use Rattle.gk_run.specs.Features.{FeatureCuts, uncut_feature, feature_verdict}
-use Rattle.gk_run.specs.OpenSection.{section_state}
-use Rattle.gk_run.specs.Rules.{RuleCuts}
+use Rattle.gk_run.specs.Features.{FeatureCuts, uncut_feature, feature_verdict, RuleCuts}
 use Rattle.gk_run.specs.Judged.{Cuts, Judged}
 use Rattle.gk_report.specs.ReportTexts.{status_text, reason_text, one_line}
 use Rattle.gk_report.specs.Summary.{status}

@@ -35,7 +35,7 @@ use Rattle.gk_run.specs.Acting.{act}
 use Rattle.gk_run.specs.declared.results.Reason.{Reason}
 use Rattle.gk_run.specs.declared.results.Status.{Status}
 use Rattle.gk_run.specs.Results.{StepRow, CaseRow, FeatureRow, Results}
-use Rattle.gk_run.specs.Run.{Run}
+use Rattle.gk_run.specs.OpenSection.{Run}
 use Rattle.gk_run.specs.Chosen.{ChosenValue}
 use Rattle.gk_run.specs.Judged.{Cuts, uncut, dry_results, results_from, results_of, plain_results}
 use Rattle.gk_report.specs.ReportTexts.{status_text, reason_text, one_line}

@@ -71,9 +71,9 @@ format_asked rows = unwrap_or (first_of (codes "format") rows) (codes "plain")
 abbrev pub is_set : Text → List Row → Bool
 is_set name rows = option_map_or (λ text. bytes_eq text (codes "true")) (one_of name rows) false
 
--- What is to be written: the report of a run, an explanation instead of it, or the findings before a run.
+-- What is to be written: the report of a run, an explanation instead of it, or the findings before a run, for which steps are looked up unless `--no-steps` is among the arguments.
 abbrev pub mode_asked : List Row → Mode
-mode_asked rows = if is_set (codes "explain") rows then Explanation else (if is_set (codes "lint") rows then Findings else Report)
+mode_asked rows = if is_set (codes "explain") rows then Explanation else (if is_set (codes "lint") rows then Findings (not (is_set (codes "no-steps") rows)) else Report)
 
 -- Whether an option is among the arguments, with a value.
 abbrev pub is_given : Text → List Row → Bool
@@ -87,11 +87,11 @@ is_among_by _ name rows = is_given name rows
 abbrev pub is_among : List Row → OptionValue → Bool
 is_among rows o = is_among_by o.takes o.name rows
 
--- Whether an option may accompany the output of this mode. A report excludes none.
+-- Whether an option may accompany the output of this mode.
 abbrev pub is_accepted : Mode → OptionValue → Bool
-is_accepted Report o = true
+is_accepted Report o = o.beside_report
 is_accepted Explanation o = o.beside_explain
-is_accepted Findings o = o.beside_lint
+is_accepted (Findings steps) o = if steps then o.beside_lint else o.beside_no_steps
 
 -- Whether an option is among the arguments and may not accompany the output of this mode.
 abbrev pub is_excluded : Mode → List Row → OptionValue → Bool

@@ -1,7 +1,7 @@
 -- A whole run with an explanation.
 use Rattle.std.specs.Prelude.{ℕ, false, List}
 use Rattle.gk_world.specs.State.{Contents}
-use Rattle.gk_run.specs.Run.{Run}
+use Rattle.gk_run.specs.OpenSection.{Run}
 use Rattle.gk_cli.specs.declared.run_fault.RunFault.{RunFault}
 use Rattle.gk_cli.specs.Inputs.{Request, Inputs, AreInputs}
 use Rattle.gk_cli.specs.Writing.{Device}

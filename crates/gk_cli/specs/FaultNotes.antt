@@ -2,12 +2,16 @@
 use Rattle.std.specs.Prelude.{ℕ, ◌-◌, List, [], ◌++◌, codes, slice_get, Option, Some, None, option_map}
 use Rattle.std.specs.Str.Lines.{lines}
 use Rattle.std.specs.Str.Lossy.{utf8_lossy}
+use Rattle.gk_gherkin.specs.Lines.{without_mark}
+use Rattle.gk_gherkin.specs.declared.read_fault.ReadFault.TheVariants.{Unexpected}
 use Rattle.gk_gherkin.specs.ReadFault.{line_of_fault}
 use Rattle.gk_steps.specs.LibraryFault.{line_of_library_fault}
+use Rattle.gk_lint.specs.declared.unexpected_lines.Cause.{Cause}
+use Rattle.gk_lint.specs.UnexpectedLines.{cause_at, cause_text}
 use Rattle.gk_explain.specs.Shown.{shown}
 use Rattle.gk_cli.specs.declared.run_fault.RunFault.{RunFault}
 use Rattle.gk_cli.specs.declared.run_fault.RunFault.TheVariants.{Read, Library, Hooks, Select, Write, Memory}
-use Rattle.gk_cli.specs.Hints.{hint}
+use Rattle.gk_cli.specs.Hints.{hint, place_hint}
 use Rattle.gk_cli.specs.Source.{SourceValue}
 use Rattle.gk_cli.specs.SuiteFiles.{FilesValue}
 
@@ -53,6 +57,16 @@ quote_of None line = []
 quote_of (Some file) None = []
 quote_of (Some file) (Some n) = quote (line_text file.bytes n)
 
+-- The hint for an unexpected line of a feature file, by its cause, if the file has the line.
+abbrev pub cause_hint : Option Cause → List ℕ
+cause_hint None = place_hint
+cause_hint (Some cause) = cause_text cause
+
+-- The hint for a fault in a file, if it is in one. That for an unexpected line of a feature file goes by what is above the line.
+abbrev pub hint_in : Option SourceValue → RunFault → List ℕ
+hint_in (Some file) (Read input (Unexpected n)) = cause_hint (cause_at (lines (without_mark (utf8_lossy file.bytes))) (n - 1))
+hint_in file fault = hint fault
+
 -- The notes below a fault: the line that it names, and a hint on how to fix it.
 abbrev pub notes : FilesValue → RunFault → List ℕ
-notes files fault = quote_of (file_of files fault) (line_at_fault fault) ++ note (hint fault)
+notes files fault = quote_of (file_of files fault) (line_at_fault fault) ++ note (hint_in (file_of files fault) fault)

@@ -1,6 +1,6 @@
 -- The output lines of findings.
 use denote.Ref.{Bor}
-use Rattle.std.specs.Prelude.{ℕ, ◌-◌, ◌==◌, List, [], ◌++◌, codes, map, flat_map, slice_get, Option, Some, None, if◌then◌else◌}
+use Rattle.std.specs.Prelude.{ℕ, Bool, ◌-◌, ◌==◌, List, [], ◌++◌, codes, map, flat_map, slice_get, Option, Some, None, if◌then◌else◌}
 use Rattle.std.specs.Fmt.{decimal}
 use Rattle.gk_explain.specs.EventLines.{place_text}
 use Rattle.gk_explain.specs.Nearest.{entry_shown, type_word}
@@ -25,15 +25,16 @@ use Rattle.gk_cli.specs.FaultNotes.{note}
 abbrev pub finding_line : List ℕ → Finding → List ℕ
 finding_line name f = place_text name f.line ++ (finding_text f.kind ++ codes "\n")
 
--- A library as notes name it: its entries, the name of its file, and the lines of that file that are entries.
+-- A library as notes name it: its entries, whether steps are looked up in it, the name of its file, and the lines of that file that are entries.
 pub record NotedLibraryValue : Type 0 where
   pub entries : LibraryValue
+  pub steps : Bool
   pub name : List ℕ
   pub lines : List ℕ
 
 -- The value of a `NotedLibrary`.
 abbrev pub noted_library_value : NotedLibrary → NotedLibraryValue
-noted_library_value l = record { entries = library_value l.library.now; name = l.name.now; lines = l.lines.items }
+noted_library_value l = record { entries = library_value l.library.now; steps = l.steps; name = l.name.now; lines = l.lines.items }
 
 -- A file as notes below its findings quote it: its name, its lines, and its scenarios.
 pub record NotedFileValue : Type 0 where

@@ -17,6 +17,10 @@ long_file_hint = codes "divide the file"
 unfoldable pub encoding_hint : List ℕ
 encoding_hint = codes "save the file as UTF-8"
 
+-- The hint for an unexpected line, if nothing is known of the lines above it.
+unfoldable pub place_hint : List ℕ
+place_hint = codes "look at the lines above, too"
+
 -- The hint if memory was refused.
 unfoldable pub memory_hint : List ℕ
 memory_hint = codes "divide the files, or spread them over several runs"
@@ -24,7 +28,7 @@ memory_hint = codes "divide the files, or spread them over several runs"
 -- The hint for a fault of a feature file.
 unfoldable pub read_hint : ReadFault → List ℕ
 read_hint (read_faults.NotUtf8 n) = encoding_hint
-read_hint (read_faults.Unexpected n) = codes "write the keyword exactly, and look at the line above, too: a description ends at the first step, and a step has one block"
+read_hint (read_faults.Unexpected n) = place_hint
 read_hint (read_faults.BadTag n) = codes "write an @ before each tag, and a # before remarks"
 read_hint (read_faults.CellCount n) = codes "give each row as many cells as the first; write \\| for a bar inside a cell"
 read_hint (read_faults.UnclosedText n) = codes "close it with a line of the same three characters alone"

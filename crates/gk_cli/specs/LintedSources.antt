@@ -1,16 +1,15 @@
 -- The findings of sources.
-use Rattle.std.specs.Prelude.{◌≡◌, ℕ, Bool, List, [], ◌∷◌, ◌++◌, map, flat_map, Option, Some, None, option_to_list, string_bytes}
+use Rattle.std.specs.Prelude.{◌≡◌, ℕ, Bool, List, [], ◌∷◌, ◌++◌, map, flat_map, Option, Some, None, option_to_list, string_bytes, if◌then◌else◌}
 use Rattle.std.specs.Str.Lines.{lines}
 use Rattle.gk_gherkin.specs.Lines.{Lines, lines_of, without_mark, IsText}
 use Rattle.gk_gherkin.specs.Feature.{FeatureValue, feature_value}
 use Rattle.gk_gherkin.specs.Grammar.{Reads}
 use Rattle.gk_select.specs.Case.{CaseValue}
 use Rattle.gk_select.specs.Expansion.{IsExpandable}
-use Rattle.gk_steps.specs.Finding.{LibraryValue}
 use Rattle.gk_lint.specs.declared.findings.Finding.{Finding}
 use Rattle.gk_lint.specs.Findings.{AreInOrder}
 use Rattle.gk_lint.specs.FeatureFile.{file_findings}
-use Rattle.gk_lint.specs.WrittenSteps.{of_feature, found_in, used_in}
+use Rattle.gk_lint.specs.WrittenSteps.{WrittenStep, of_feature, found_in, used_in}
 use Rattle.gk_cli.specs.declared.linted_sources.LintSoFar.{LintSoFar}
 use Rattle.gk_cli.specs.declared.run_fault.RunFault.{RunFault}
 use Rattle.gk_cli.specs.Source.{SourceValue}
@@ -22,17 +21,21 @@ use Rattle.gk_cli.specs.FindingLines.{NotedLibraryValue, NotedFileValue, scenari
 abbrev pub features_in : List (Option FeatureValue) → List FeatureValue
 features_in readings = flat_map option_to_list readings
 
+-- The steps that are looked up, of these: all or none.
+abbrev pub looked_up : Bool → List WrittenStep → List WrittenStep
+looked_up steps written = if steps then written else []
+
 -- The findings of the steps of a feature, if there is one.
-abbrev pub step_findings : LibraryValue → Option FeatureValue → List Finding
+abbrev pub step_findings : NotedLibraryValue → Option FeatureValue → List Finding
 step_findings library None = []
-step_findings library (Some f) = found_in library (of_feature f)
+step_findings library (Some f) = found_in library.entries (looked_up library.steps (of_feature f))
 
 -- The places of the entries that the steps of features use.
-abbrev pub used_by : LibraryValue → List FeatureValue → List ℕ
-used_by library features = flat_map (λ (f : FeatureValue). used_in library (of_feature f)) features
+abbrev pub used_by : NotedLibraryValue → List FeatureValue → List ℕ
+used_by library features = flat_map (λ (f : FeatureValue). used_in library.entries (looked_up library.steps (of_feature f))) features
 
 -- The findings of a source with this reading and these lines: those of its file, and those of its steps.
-abbrev pub source_findings : LibraryValue → Option FeatureValue → Lines → List Finding
+abbrev pub source_findings : NotedLibraryValue → Option FeatureValue → Lines → List Finding
 source_findings library reading lines = file_findings reading lines ++ step_findings library reading
 
 -- These bytes are a text whose lines have this reading, within the limit of steps.
@@ -49,7 +52,7 @@ noted_source source reading = record { name = source.name; lines = lines (withou
 pub record IsLintedAs (library : NotedLibraryValue) (source : SourceValue) (reading : Option FeatureValue) (text : List ℕ) : Type 0 where
   pub read : IsReadAs source.bytes reading
   pub ordered : List Finding
-  pub in_order : AreInOrder (source_findings library.entries reading (lines_of source.bytes)) ordered
+  pub in_order : AreInOrder (source_findings library reading (lines_of source.bytes)) ordered
   pub whole : text ≡ noted_lines library (noted_source source reading) ordered
 
 -- Sources have these readings, one each, and this is the text of their findings, one source after the other.
@@ -64,7 +67,7 @@ pub record IsLintOf (library : NotedLibraryValue) (sources : List SourceValue) (
   pub readings : List (Option FeatureValue)
   pub linted : AreLinted library sources readings (string_bytes l.text)
   pub features : map feature_value l.features.items ≡ features_in readings
-  pub used : l.used.items ≡ used_by library.entries (features_in readings)
+  pub used : l.used.items ≡ used_by library (features_in readings)
 
 -- A source was linted after others.
 pub record IsLintedOnto (library : NotedLibraryValue) (source : SourceValue) (old new : LintSoFar) : Type 0 where
@@ -73,7 +76,7 @@ pub record IsLintedOnto (library : NotedLibraryValue) (source : SourceValue) (ol
   pub linted : IsLintedAs library source reading this
   pub text : string_bytes new.text ≡ string_bytes old.text ++ this
   pub features : map feature_value new.features.items ≡ map feature_value old.features.items ++ option_to_list reading
-  pub used : new.used.items ≡ old.used.items ++ used_by library.entries (option_to_list reading)
+  pub used : new.used.items ≡ old.used.items ++ used_by library (option_to_list reading)
 
 -- Whichever cases are chosen, this is the fault of the sources.
 abbrev pub SaysOfSources : List SourceValue → RunFault → Type 0

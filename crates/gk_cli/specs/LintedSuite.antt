@@ -1,5 +1,5 @@
 -- What a whole lint can return and write.
-use Rattle.std.specs.Prelude.{◌≡◌, ℕ, length, List, [], ◌∷◌, ◌++◌, map, Option, Some, None, string_bytes}
+use Rattle.std.specs.Prelude.{◌≡◌, ℕ, Bool, true, false, length, List, [], ◌∷◌, ◌++◌, map, Option, Some, None, string_bytes}
 use Rattle.std.specs.Str.Lines.{lines}
 use Rattle.gk_gherkin.specs.Feature.{FeatureValue, feature_value}
 use Rattle.gk_gherkin.specs.Hooks.{HookValue, hooks_value}
@@ -20,7 +20,7 @@ use Rattle.gk_cli.specs.declared.run_fault.RunFault.{RunFault}
 use Rattle.gk_cli.specs.declared.run_fault.RunFault.TheVariants.{Write}
 use Rattle.gk_cli.specs.FindingLines.{NotedLibraryValue, NotedFileValue, noted_lines, finding_lines, count_line, tag_lines, idle_lines}
 use Rattle.gk_cli.specs.Inputs.{Request, AreRules, IsLibrary, AreHooks}
-use Rattle.gk_cli.specs.LintedSources.{features_in, used_by, AreLinted}
+use Rattle.gk_cli.specs.LintedSources.{features_in, looked_up, used_by, AreLinted}
 use Rattle.gk_cli.specs.Writing.{Device, IsStopped, IsWritten}
 
 -- The findings of a library file, given the places of the entries that are used: its other entries. If no file is given, there are none.
@@ -33,9 +33,9 @@ abbrev pub lines_of_library : Option (List ℕ) → List ℕ
 lines_of_library None = []
 lines_of_library (Some bytes) = entry_lines (lines_of bytes)
 
--- The entries of a library file with this name, as notes name them.
-abbrev pub noted_library : List ℕ → Option (List ℕ) → LibraryValue → NotedLibraryValue
-noted_library name bytes entries = record { entries = entries; name = name; lines = lines_of_library bytes }
+-- The entries of a library file with this name, in which steps are looked up or not, as notes name them.
+abbrev pub noted_library : Bool → List ℕ → Option (List ℕ) → LibraryValue → NotedLibraryValue
+noted_library steps name bytes entries = record { entries = entries; steps = steps; name = name; lines = lines_of_library bytes }
 
 -- The lines of a hooks file.
 abbrev pub lines_of_hooks : Option (List ℕ) → List (List ℕ)
@@ -46,43 +46,45 @@ lines_of_hooks (Some bytes) = lines (without_mark bytes)
 abbrev pub noted_hooks : List ℕ → Option (List ℕ) → NotedFileValue
 noted_hooks name bytes = record { name = name; lines = lines_of_hooks bytes; scenarios = [] }
 
--- The lines of a library file with this name: its findings, and their number beside that of its entries.
-abbrev pub library_lines : List ℕ → Option (List ℕ) → List ℕ → List ℕ
-library_lines name bytes used = finding_lines name (library_findings bytes used) ++ count_line name (length (library_findings bytes used)) (length (lines_of_library bytes))
+-- The lines of a library file with this name, in which steps are looked up: its findings, and their number beside that of its entries. If none is looked up, there are none.
+abbrev pub library_lines : Bool → List ℕ → Option (List ℕ) → List ℕ → List ℕ
+library_lines false name bytes used = []
+library_lines true name bytes used = finding_lines name (library_findings bytes used) ++ count_line name (length (library_findings bytes used)) (length (lines_of_library bytes))
 
--- The inputs that a lint has read: the rules of tags, the entries of the library, the hooks and the features; and the text of the sources' findings.
+-- The inputs that a lint has read: the rules of tags, the library as notes name it, the hooks and the features; and the text of the sources' findings.
 pub record LintRead : Type 0 where
   pub rules : List Expression
-  pub entries : LibraryValue
+  pub library : NotedLibraryValue
   pub hooks : List HookValue
   pub features : List FeatureValue
   pub of_sources : List ℕ
 
 -- The places of the entries that hooks and features use.
 abbrev pub all_used : LintRead → List ℕ
-all_used read = used_in read.entries (of_hooks read.hooks) ++ used_by read.entries read.features
+all_used read = used_in read.library.entries (looked_up read.library.steps (of_hooks read.hooks)) ++ used_by read.library read.features
 
 -- The findings of the hooks: hooks for tags that occur nowhere in the features, and the findings of the hooks' steps.
 abbrev pub hook_findings : LintRead → List Finding
-hook_findings read = hooks_of_no_tag read.features read.hooks ++ found_in read.entries (of_hooks read.hooks)
+hook_findings read = hooks_of_no_tag read.features read.hooks ++ found_in read.library.entries (looked_up read.library.steps (of_hooks read.hooks))
 
--- The text about these inputs, with these names of the library file and of the hooks file. It has the findings of the hooks and of the sources, the tags of `--tags` that occur nowhere, the lines of `--line` that choose nothing, and at last the unused entries of the library.
-abbrev pub IsTextOf : Request → List ℕ → List ℕ → LintRead → List ℕ → Type 0
-IsTextOf r library hooks read text =
+-- The text about these inputs, with this name of the hooks file. It has the findings of the hooks and of the sources, the tags of `--tags` that occur nowhere, the lines of `--line` that choose nothing, and at last the unused entries of the library.
+abbrev pub IsTextOf : Request → List ℕ → LintRead → List ℕ → Type 0
+IsTextOf r hooks read text =
     (ordered : List Finding) × AreInOrder (hook_findings read) ordered
-    × (text ≡ noted_lines (noted_library library r.library read.entries) (noted_hooks hooks r.hooks) ordered
-    ++ (read.of_sources ++ (tag_lines (nowhere read.features read.rules) ++ (idle_lines (without_scenario read.features r.lines) ++ library_lines library r.library (all_used read)))))
+    × (text ≡ noted_lines read.library (noted_hooks hooks r.hooks) ordered
+    ++ (read.of_sources ++ (tag_lines (nowhere read.features read.rules) ++ (idle_lines (without_scenario read.features r.lines) ++ library_lines read.library.steps read.library.name r.library (all_used read)))))
 
--- The request reads, and this is the text of all its findings, those of each file in the order of lines.
-pub record IsLinted (r : Request) (library_file hooks_file text : List ℕ) : Type 0 where
+-- The request reads, and this is the text of all its findings, those of each file in the order of lines. Steps are looked up or not.
+pub record IsLinted (steps : Bool) (r : Request) (library_file hooks_file text : List ℕ) : Type 0 where
   pub read : LintRead
   pub tags : AreRules r.tags read.rules
-  pub library : IsLibrary r.library read.entries
+  pub library : IsLibrary r.library read.library.entries
+  pub noted : read.library ≡ noted_library steps library_file r.library read.library.entries
   pub hooks : AreHooks r.hooks read.hooks
   pub readings : List (Option FeatureValue)
   pub features : read.features ≡ features_in readings
-  pub sources : AreLinted (noted_library library_file r.library read.entries) r.sources readings read.of_sources
-  pub whole : IsTextOf r library_file hooks_file read text
+  pub sources : AreLinted read.library r.sources readings read.of_sources
+  pub whole : IsTextOf r hooks_file read text
 
 -- The status of a lint that writes this text: 0 if nothing was found, and 1 otherwise.
 abbrev pub lint_status : List ℕ → ℕ
@@ -90,12 +92,12 @@ lint_status [] = 0
 lint_status (byte ∷ more) = 1
 
 -- The request reads, the text of all its findings was written, and the status says whether there are any.
-abbrev pub Linted : Request → List ℕ → List ℕ → Device → Device → ℕ → Type 0
-Linted r library hooks old new answer = (text : List ℕ) × IsLinted r library hooks text × IsWritten old new text × (answer ≡ lint_status text)
+abbrev pub Linted : Bool → Request → List ℕ → List ℕ → Device → Device → ℕ → Type 0
+Linted steps r library hooks old new answer = (text : List ℕ) × IsLinted steps r library hooks text × IsWritten old new text × (answer ≡ lint_status text)
 
 -- The request reads, and the writer failed after a prefix of the text of its findings. Memory isn't refused once a part is written.
-abbrev pub LintedInPart : Request → List ℕ → List ℕ → Device → Device → RunFault → Type 0
-LintedInPart r library hooks old new fault = (text : List ℕ) × IsLinted r library hooks text × IsStopped old new text fault × (fault ≡ Write)
+abbrev pub LintedInPart : Bool → Request → List ℕ → List ℕ → Device → Device → RunFault → Type 0
+LintedInPart steps r library hooks old new fault = (text : List ℕ) × IsLinted steps r library hooks text × IsStopped old new text fault × (fault ≡ Write)
 
 -- Proof machinery: the bytes of an optional file are a text.
 abbrev pub AreTexts : Option (List ℕ) → Type 0
@@ -103,5 +105,5 @@ AreTexts None = Unit {0}
 AreTexts (Some bytes) = IsText bytes
 
 -- The inputs read before the sources, and the results for the sources.
-abbrev pub read_of : ReadBefore → LintSoFar → LintRead
-read_of before so_far = record { rules = map tag_rule_value before.rules.items; entries = library_value before.library; hooks = hooks_value before.hooks; features = map feature_value so_far.features.items; of_sources = string_bytes so_far.text }
+abbrev pub read_of : NotedLibraryValue → ReadBefore → LintSoFar → LintRead
+read_of library before so_far = record { rules = map tag_rule_value before.rules.items; library = library; hooks = hooks_value before.hooks; features = map feature_value so_far.features.items; of_sources = string_bytes so_far.text }

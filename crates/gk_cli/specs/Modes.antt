@@ -15,13 +15,13 @@ use Rattle.gk_cli.specs.Writing.{Device}
 abbrev pub IsWrittenAs : Mode → FilesValue → Request → Contents → Device → Device → ℕ → Type 0
 IsWrittenAs Report files request contents old new status = JudgedReport request contents old new status × OnlyReport request contents old new status
 IsWrittenAs Explanation files request contents old new status = Explained request (hooks_name files) contents old new status
-IsWrittenAs Findings files request contents old new status = Linted request (library_name files) (hooks_name files) old new status
+IsWrittenAs (Findings steps) files request contents old new status = Linted steps request (library_name files) (hooks_name files) old new status
 
 -- A prefix of the output of a suite was written when it ended with this fault.
 abbrev pub IsStoppedAs : Mode → FilesValue → Request → Contents → Device → Device → RunFault → Type 0
 IsStoppedAs Report files request contents old new = ReportedInPart request contents old new
 IsStoppedAs Explanation files request contents old new = ExplainedInPart request (hooks_name files) contents old new
-IsStoppedAs Findings files request contents old new = LintedInPart request (library_name files) (hooks_name files) old new
+IsStoppedAs (Findings steps) files request contents old new = LintedInPart steps request (library_name files) (hooks_name files) old new
 
 -- What each fault of a suite says.
 abbrev pub SaysFaultAs : Mode → FilesValue → Request → Contents → Device → Device → RunFault → Type 0
@@ -29,5 +29,5 @@ SaysFaultAs mode files request contents old new by = SaysFaultBy (IsStoppedAs mo
 
 -- What is left of the files: a run leaves their names. Files whose findings are written are unchanged.
 abbrev pub AreLeft : Mode → Result ℕ RunFault → FilesValue → FilesValue → Type 0
-AreLeft Findings result old new = new ≡ old
+AreLeft (Findings steps) result old new = new ≡ old
 AreLeft mode result old new = AreLeftByRun result old new

@@ -7,16 +7,18 @@ use Rattle.gk_cli.specs.declared.option_table.OptionRow.{OptionRow}
 use Rattle.gk_cli.specs.declared.option_table.Takes.{Takes}
 use Rattle.gk_cli.specs.declared.option_table.Takes.TheVariants.{Nothing as Flag, Text as OneText, Texts, Lines}
 
--- An option: its name, what it takes, and whether `--explain` and `--lint` accept it beside themselves.
+-- An option: its name, what it takes, and whether a report accepts it, and `--explain`, `--lint` and `--lint --no-steps` do beside themselves.
 pub record OptionValue : Type 0 where
   pub name : Text
   pub takes : Takes
+  pub beside_report : Bool
   pub beside_explain : Bool
   pub beside_lint : Bool
+  pub beside_no_steps : Bool
 
 -- The option of a row; its other columns are texts of the help.
 abbrev pub option_value : OptionRow → OptionValue
-option_value row = record { name = row.name.now; takes = row.takes; beside_explain = row.beside_explain; beside_lint = row.beside_lint }
+option_value row = record { name = row.name.now; takes = row.takes; beside_report = row.beside_report; beside_explain = row.beside_explain; beside_lint = row.beside_lint; beside_no_steps = row.beside_no_steps }
 
 -- What clap is told of an option. It finds `true` for a flag that is among the arguments, and `false` otherwise. N of `--line N` fits a `u32` and isn't 0.
 abbrev pub rule_by : Text → Takes → Rule
@@ -29,29 +31,33 @@ rule_by name Lines = record (new_rule name) { long = Some name; action = Some Ap
 abbrev pub rule_of_option : OptionValue → Rule
 rule_of_option o = rule_by o.name o.takes
 
--- An option that `--explain` and `--lint` both accept beside themselves.
+-- An option that all accept.
 abbrev anywhere : Text → Takes → OptionValue
-anywhere name takes = record { name = name; takes = takes; beside_explain = true; beside_lint = true }
+anywhere name takes = record { name = name; takes = takes; beside_report = true; beside_explain = true; beside_lint = true; beside_no_steps = true }
 
--- An option that `--explain` accepts, and `--lint` doesn't.
+-- An option that all accept where steps are looked up.
+abbrev with_steps : Text → Takes → OptionValue
+with_steps name takes = record (anywhere name takes) { beside_no_steps = false }
+
+-- An option that a report and `--explain` accept.
 abbrev in_a_run : Text → Takes → OptionValue
-in_a_run name takes = record { name = name; takes = takes; beside_explain = true; beside_lint = false }
+in_a_run name takes = record (with_steps name takes) { beside_lint = false }
 
--- An option that neither accepts.
+-- An option that a report alone accepts.
 abbrev in_a_report : Text → Takes → OptionValue
-in_a_report name takes = record { name = name; takes = takes; beside_explain = false; beside_lint = false }
+in_a_report name takes = record (in_a_run name takes) { beside_explain = false }
 
--- An option that `--lint` alone accepts.
+-- An option that only `--lint` accepts, or is.
 abbrev in_findings : Text → Takes → OptionValue
-in_findings name takes = record { name = name; takes = takes; beside_explain = false; beside_lint = true }
+in_findings name takes = record (anywhere name takes) { beside_explain = false }
 
 -- The options. `--tags`, `--format`, `--dry-run`, `--stop` and `--no-skipped` are behave's. (behave's documentation: command line arguments)
 abbrev pub options : List OptionValue
 options =
     anywhere (codes "tags") Texts
     ∷ anywhere (codes "line") Lines
-    ∷ anywhere (codes "library") OneText
-    ∷ anywhere (codes "hooks") OneText
+    ∷ with_steps (codes "library") OneText
+    ∷ with_steps (codes "hooks") OneText
     ∷ in_a_run (codes "env") Texts
     ∷ in_a_run (codes "file") Texts
     ∷ in_a_report (codes "dry-run") Flag
@@ -60,4 +66,5 @@ options =
     ∷ in_a_report (codes "no-skipped") Flag
     ∷ in_a_run (codes "explain") Flag
     ∷ in_findings (codes "lint") Flag
+    ∷ record (in_findings (codes "no-steps") Flag) { beside_report = false }
     ∷ []

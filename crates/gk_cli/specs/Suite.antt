@@ -2,7 +2,7 @@
 use Rattle.std.specs.Prelude.{◌≡◌, ◌≢◌, ◌⊎◌, ℕ, false, [], None}
 use Rattle.gk_world.specs.State.{Contents}
 use Rattle.gk_run.specs.Results.{Results}
-use Rattle.gk_run.specs.Run.{Run}
+use Rattle.gk_run.specs.OpenSection.{Run}
 use Rattle.gk_run.specs.Judged.{Judged, plain_results, has_memory}
 use Rattle.gk_report.specs.declared.report.Style.{Style}
 use Rattle.gk_report.specs.Report.{report}

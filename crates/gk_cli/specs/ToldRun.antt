@@ -6,16 +6,14 @@ use Rattle.gk_steps.specs.Finding.{LibraryValue}
 use Rattle.gk_run.specs.declared.results.Status.{Status}
 use Rattle.gk_run.specs.declared.section.Level.TheVariants as levels
 use Rattle.gk_run.specs.Results.{FeatureRow, Results}
-use Rattle.gk_run.specs.Run.{Run}
+use Rattle.gk_run.specs.OpenSection.{Run, IsEndTold, IsOpening, section_state}
 use Rattle.gk_run.specs.Chosen.{ChosenValue}
-use Rattle.gk_run.specs.Cases.{stays_open}
+use Rattle.gk_run.specs.Running.{stays_open}
 use Rattle.gk_run.specs.DryRun.{dry_feature_of}
 use Rattle.gk_run.specs.Ending.{has_passed}
-use Rattle.gk_run.specs.Events.{Event, ended_in}
+use Rattle.gk_run.specs.Events.{Event, ended_in, Ended}
 use Rattle.gk_run.specs.Features.{FeatureCuts, IsFeatureResult, IsFeatureTold}
 use Rattle.gk_run.specs.Judged.{Judged, BeginsJudged}
-use Rattle.gk_run.specs.Observer.{Ended}
-use Rattle.gk_run.specs.OpenSection.{IsEndTold, IsOpening, section_state}
 use Rattle.gk_report.specs.declared.summary.Summary.{Summary}
 use Rattle.gk_report.specs.Summary.{status, status_of, summary_of, CountsOneMore}
 use Rattle.gk_cli.specs.declared.run_fault.RunFault.{RunFault}

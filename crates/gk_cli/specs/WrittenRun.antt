@@ -2,7 +2,7 @@
 use Rattle.std.specs.Prelude.{ℕ, List}
 use Rattle.gk_world.specs.State.{Contents}
 use Rattle.gk_run.specs.Results.{Results}
-use Rattle.gk_run.specs.Run.{Run}
+use Rattle.gk_run.specs.OpenSection.{Run}
 use Rattle.gk_run.specs.Chosen.{ChosenValue}
 use Rattle.gk_run.specs.Judged.{Judged}
 use Rattle.gk_report.specs.declared.report.Style.{Style}

@@ -50,7 +50,11 @@ pub enum Mode {
     /// What happened in each scenario, and in the hooks and cleanups of each section, that failed or ran out of memory.
     Explanation,
     /// The findings in the files; nothing runs.
-    Findings,
+    Findings {
+        /// Whether steps are looked up in the library. Without that, there are no findings of steps, hooks' steps and
+        /// entries.
+        steps: bool,
+    },
 }
 
 /// What the command-line arguments ask for.
@@ -291,7 +295,9 @@ fn mode_of(matches: &ArgMatches) -> Mode
     if flag(matches, "explain") {
         Mode::Explanation
     } else if flag(matches, "lint") {
-        Mode::Findings
+        Mode::Findings {
+            steps: !flag(matches, "no-steps"),
+        }
     } else {
         Mode::Report
     }
@@ -319,9 +325,15 @@ fn is_accepted(mode: Mode, row: &OptionRow) -> bool
     ensures { result ≡ spec.is_accepted mode (option_value row.now) }
 {
     match mode {
-        Mode::Report => true,
+        Mode::Report => row.beside_report,
         Mode::Explanation => row.beside_explain,
-        Mode::Findings => row.beside_lint,
+        Mode::Findings { steps } => {
+            if steps {
+                row.beside_lint
+            } else {
+                row.beside_no_steps
+            }
+        }
     }
 }
 
@@ -356,6 +368,15 @@ fn first_clash(matches: &ArgMatches) -> Option<&'static str>
     first_excluded(matches, mode_of(matches), &OPTIONS)
 }
 
+// Returns the option that asks for this mode, if it needs one.
+fn option_of(mode: Mode) -> Option<&'static str> {
+    match mode {
+        Mode::Report => None,
+        Mode::Explanation => Some("explain"),
+        Mode::Findings { steps } => Some(if steps { "lint" } else { "no-steps" }),
+    }
+}
+
 // Makes the error for an option that may not accompany the output of this mode, in clap's words.
 fn clash(
     alloc: Global,
@@ -365,11 +386,10 @@ fn clash(
 ) -> Result<clap::Error, AllocError>
     ensures { IfOk result (λ error. kind_of error ≡ ArgumentConflict) }
 {
-    let by = match mode {
-        Mode::Findings => "lint",
-        Mode::Report | Mode::Explanation => "explain",
+    let message = match option_of(mode) {
+        Some(by) => format!(in alloc; "the argument '--{by}' cannot be used with '--{name}'")?,
+        None => format!(in alloc; "the argument '--{name}' needs '--lint'")?,
     };
-    let message = format!(in alloc; "the argument '--{by}' cannot be used with '--{name}'")?;
     command.error(ErrorKind::ArgumentConflict, message.as_str())
 }
 
@@ -444,8 +464,8 @@ fn words_by<'a>(
 ///
 /// `OPTIONS` lists the options. `--tags T`, `--line N` (1 to 4,294,967,295), `--env NAME=VALUE` and `--file NAME=PATH`
 /// can be given several times, and the others at most once. `--format` is `plain`, `progress` or `json`; `plain` by
-/// default. `--explain` and `--lint` exclude the options that their column of the table says. Options and files can be
-/// in any order, and `--opt=value` is the same as `--opt value`.
+/// default. A report, `--explain`, `--lint` and `--lint --no-steps` exclude the options that their column of the table
+/// says. Options and files can be in any order, and `--opt=value` is the same as `--opt value`.
 ///
 /// Every other argument that doesn't begin with `-`, or is only `-`, is a feature file. So is every argument after the
 /// first `--`. At least one feature file is required.

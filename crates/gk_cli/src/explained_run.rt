@@ -2,7 +2,7 @@
 ghost use Rattle.std.specs.Prelude.{◌≡◌, map, IfOk, IfErr};
 ghost use Rattle.std.specs.List.{AllByRecursion};
 ghost use Rattle.gk_world.specs.Sandbox.{depth, IsSame};
-ghost use Rattle.gk_run.specs.Run.{run_of};
+ghost use Rattle.gk_run.specs.OpenSection.{run_of};
 ghost use Rattle.gk_run.specs.Chosen.{chosen_value, IsFormed};
 ghost use Rattle.gk_cli.specs.Writing.{device_of};
 ghost use Rattle.gk_cli.specs.ExplainedRun.{IsExplained, IsExplainedUpTo};

@@ -17,6 +17,8 @@ use std::alloc::{AllocError, Global};
 #[derive(Drop)]
 pub struct NotedLibrary<'a> {
     pub library: &'a Library,
+    /// Whether steps are looked up in it.
+    pub steps: bool,
     /// The name of its file.
     pub name: &'a str,
     /// The lines of the file that are entries.
@@ -211,8 +213,8 @@ fn push_hint_note(
     }
 }
 
-// Returns the place of a line, counted from 0.
-fn place_of(line: u32) -> usize
+/// Returns the place of a line, counted from 0.
+pub fn place_of(line: u32) -> usize
     ensures { result ≡ line - 1 }
 {
     line.saturating_sub(1) as usize

@@ -1,5 +1,5 @@
 //! Hints on how to fix each fault, in one line each.
-#![tactic(auto, unfolding(crate::specs::Hints::long_file_hint, crate::specs::Hints::encoding_hint, crate::specs::Hints::memory_hint, crate::specs::Hints::read_hint, crate::specs::Hints::hooks_hint, crate::specs::Hints::library_hint, crate::specs::Hints::select_hint))]
+#![tactic(auto, unfolding(crate::specs::Hints::long_file_hint, crate::specs::Hints::encoding_hint, crate::specs::Hints::place_hint, crate::specs::Hints::memory_hint, crate::specs::Hints::read_hint, crate::specs::Hints::hooks_hint, crate::specs::Hints::library_hint, crate::specs::Hints::select_hint))]
 
 ghost use Rattle.std.specs.Prelude.{◌≡◌};
 ghost use Rattle.gk_cli.specs.Hints as spec;
@@ -21,6 +21,13 @@ fn encoding_hint() -> &'static str
     "save the file as UTF-8"
 }
 
+/// Returns the hint for an unexpected line, if nothing is known of the lines above it.
+pub fn place_hint() -> &'static str
+    ensures { result.now ≡ spec.place_hint }
+{
+    "look at the lines above, too"
+}
+
 fn memory_hint() -> &'static str
     ensures { result.now ≡ spec.memory_hint }
 {
@@ -33,9 +40,7 @@ fn read_hint(fault: ReadFault) -> &'static str
 {
     match fault {
         ReadFault::NotUtf8 { .. } => encoding_hint(),
-        ReadFault::Unexpected { .. } => {
-            "write the keyword exactly, and look at the line above, too: a description ends at the first step, and a step has one block"
-        }
+        ReadFault::Unexpected { .. } => place_hint(),
         ReadFault::BadTag { .. } => "write an @ before each tag, and a # before remarks",
         ReadFault::CellCount { .. } => {
             "give each row as many cells as the first; write \\| for a bar inside a cell"

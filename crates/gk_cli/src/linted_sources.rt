@@ -1,9 +1,8 @@
 //! The findings of sources, which are read one after another.
-ghost use Rattle.std.specs.Prelude.{◌≡◌, ◌≤◌, ◌++◌, map, length, option_map, option_to_list, IfOk, IfErr, OnOk, Some};
+ghost use Rattle.std.specs.Prelude.{◌≡◌, ◌≤◌, ◌++◌, [], map, length, option_map, option_to_list, IfOk, IfErr, OnOk, Some};
 ghost use Rattle.std.specs.Str.Lines.{lines};
 ghost use Rattle.gk_gherkin.specs.Lines.{IsText, without_mark, numbered_from};
 ghost use Rattle.gk_gherkin.specs.Feature.{feature_value, scenario_value};
-ghost use Rattle.gk_steps.specs.Finding.{library_value};
 ghost use Rattle.gk_lint.specs.Findings.{AreInOrder};
 ghost use Rattle.gk_report.specs.ReportTexts.{Pushes};
 ghost use Rattle.gk_cli.specs.FindingLines as of_notes;
@@ -20,7 +19,6 @@ use crate::source::FeatureSource;
 use gk_gherkin::{Feature, LIMIT, Scenario, text_of};
 use gk_lint::{Finding, StepFindings, in_order, lint_feature, lint_steps, scenarios_of};
 use gk_select::{SelectFault, has_room, read_features_are_expandable};
-use gk_steps::Library;
 use std::alloc::{AllocError, Global};
 
 /// The results for the sources so far: the text of their findings, the places of the entries that their steps use, and
@@ -73,24 +71,39 @@ pub fn read_one(alloc: Global, input: usize, bytes: &[u8]) -> Result<Option<Feat
     }
 }
 
-// Returns the findings of the steps of a feature, if there is one.
+/// Returns the findings of no step.
+pub fn no_steps(alloc: Global) -> StepFindings
+    ensures found { result.findings.items ≡ [] }
+    ensures used { result.used.items ≡ [] }
+{
+    StepFindings {
+        findings: Vec::new(alloc),
+        used: Vec::new(alloc),
+    }
+}
+
+// Returns the findings of the steps of a feature, if there is one and steps are looked up.
 fn step_findings(
     alloc: Global,
-    library: &Library,
+    library: &NotedLibrary<'_>,
     feature: &Option<Feature>,
 ) -> Result<StepFindings, AllocError>
     requires { spec.AreExpandable (option_map feature_value feature.now) }
     ensures found { IfOk result (λ r. AreInOrder (spec.step_findings
-        (library_value library.now) (option_map feature_value feature.now)) r.findings.items) }
-    ensures used { IfOk result (λ r. r.used.items ≡ used_by
-        (library_value library.now) (option_to_list (option_map feature_value feature.now))) }
+        (noted_library_value library.now) (option_map feature_value feature.now))
+        r.findings.items) }
+    ensures used { IfOk result (λ r. r.used.items ≡ used_by (noted_library_value library.now)
+        (option_to_list (option_map feature_value feature.now))) }
 {
     match feature {
-        Some(feature) => lint_steps(alloc, library, feature),
-        None => Ok(StepFindings {
-            findings: Vec::new(alloc),
-            used: Vec::new(alloc),
-        }),
+        Some(feature) => {
+            if library.steps {
+                lint_steps(alloc, library.library, feature)
+            } else {
+                Ok(no_steps(alloc))
+            }
+        }
+        None => Ok(no_steps(alloc)),
     }
 }
 
@@ -116,17 +129,17 @@ pub fn with_findings(
 // Returns the findings of a file with this text and this feature, or none, in the order of lines.
 fn all_findings(
     alloc: Global,
-    library: &Library,
+    library: &NotedLibrary<'_>,
     feature: &Option<Feature>,
     text: &str,
 ) -> Result<StepFindings, AllocError>
     requires expandable { spec.AreExpandable (option_map feature_value feature.now) }
     requires within { length text.now ≤ LIMIT }
     ensures found { IfOk result (λ r. AreInOrder (spec.source_findings
-        (library_value library.now) (option_map feature_value feature.now)
+        (noted_library_value library.now) (option_map feature_value feature.now)
         (numbered_from 1 (lines text.now))) r.findings.items) }
-    ensures used { IfOk result (λ r. r.used.items ≡ used_by
-        (library_value library.now) (option_to_list (option_map feature_value feature.now))) }
+    ensures used { IfOk result (λ r. r.used.items ≡ used_by (noted_library_value library.now)
+        (option_to_list (option_map feature_value feature.now))) }
 {
     let findings = lint_feature(alloc, feature, text)?;
     let of_steps = step_findings(alloc, library, feature)?;
@@ -183,7 +196,7 @@ fn add_source<S: FeatureSource>(
     // No code runs here: the law says that what was read can be expanded.
     read_features_are_expandable();
     let text = known_text(source.bytes());
-    let mut found = all_findings(alloc, library.library, &feature, text)?;
+    let mut found = all_findings(alloc, library, &feature, text)?;
     push_source_findings(
         &mut so_far.text,
         alloc,
@@ -218,8 +231,8 @@ fn lint_source<S: FeatureSource>(
     }
 }
 
-/// Reads the sources one after another and collects their findings: those of the file, and those of the steps, which
-/// are looked up in a library. An error names the first source that doesn't read, as that of a run does; `Memory` comes
+/// Reads the sources one after another and collects their findings: those of the file, and those of the steps, if they
+/// are looked up in the library. An error names the first source that doesn't read, as that of a run does; `Memory` comes
 /// only if memory can't be allocated.
 pub fn lint_sources<S: FeatureSource>(
     alloc: Global,

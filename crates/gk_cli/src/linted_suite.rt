@@ -1,5 +1,5 @@
 //! The findings in a whole request, before any run.
-ghost use Rattle.std.specs.Prelude.{◌≡◌, length, ◌++◌, map, option_map, string_bytes, IfOk, IfErr};
+ghost use Rattle.std.specs.Prelude.{◌≡◌, true, ◌++◌, map, option_map, string_bytes, IfOk, IfErr};
 ghost use Rattle.gk_gherkin.specs.Feature.{feature_value};
 ghost use Rattle.gk_gherkin.specs.Hooks.{hooks_value};
 ghost use Rattle.gk_report.specs.ReportTexts.{Pushes};
@@ -14,7 +14,7 @@ ghost use Rattle.gk_cli.specs.Suite.{SaysFaultBy};
 ghost use Rattle.gk_cli.specs.Writing.{UsesWriter, device_of};
 ghost use Rattle.gk_lint.specs.TagUse.{hooks_of_no_tag};
 ghost use Rattle.gk_lint.specs.WrittenSteps.{of_hooks, found_in, used_in};
-ghost use Rattle.gk_cli.specs.LintedSources.{used_by};
+ghost use Rattle.gk_cli.specs.LintedSources.{looked_up, used_by};
 ghost use Rattle.gk_cli.specs.LintedSuite.{lint_status, AreTexts, IsTextOf, read_of, IsLinted, Linted, LintedInPart};
 
 use crate::arguments::Options;
@@ -25,11 +25,11 @@ use crate::finding_lines::{
 };
 use crate::growing_report::write_piece;
 use crate::inputs::{ReadBefore, read_before};
-use crate::linted_sources::{LintSoFar, known_text, lint_sources, with_findings};
+use crate::linted_sources::{LintSoFar, known_text, lint_sources, no_steps, with_findings};
 use crate::run_fault::RunFault;
 use crate::source::FeatureSource;
 use crate::suite_files::{SuiteFiles, bytes_of};
-use gk_gherkin::Feature;
+use gk_gherkin::{Feature, HookFile};
 use gk_lint::{
     StepFindings, entry_lines, lines_without_scenario, lint_hook_tags, lint_hooks, lint_library,
     tags_that_stand_nowhere,
@@ -42,11 +42,12 @@ use std::io::Write;
 fn noted_library<'a, S: FeatureSource>(
     alloc: Global,
     library: &'a Library,
+    steps: bool,
     file: &'a Option<S>,
 ) -> Result<NotedLibrary<'a>, AllocError>
     requires { AreTexts (of_files.bytes_of (option_map S.value file.now)) }
     ensures { let f = option_map S.value file.now in IfOk result (λ noted.
-        noted_library_value noted ≡ spec.noted_library (of_files.name_of f)
+        noted_library_value noted ≡ spec.noted_library steps (of_files.name_of f)
         (of_files.bytes_of f) (library_value library.now)) }
 {
     match file {
@@ -54,12 +55,14 @@ fn noted_library<'a, S: FeatureSource>(
             let text = known_text(source.bytes());
             Ok(NotedLibrary {
                 library,
+                steps,
                 name: source.name(),
                 lines: entry_lines(alloc, text)?,
             })
         }
         None => Ok(NotedLibrary {
             library,
+            steps,
             name: "",
             lines: Vec::new(alloc),
         }),
@@ -92,31 +95,69 @@ fn noted_hooks<S: FeatureSource>(
     }
 }
 
-// Pushes the lines of a library file, if there is one, given the number of its entries and the places of those that are
-// used.
-fn push_library_lines<S: FeatureSource>(
+// Pushes the lines of a library file, if there is one, given the places of its entries that are used.
+fn push_file_lines<S: FeatureSource>(
     out: &mut String,
     alloc: Global,
-    library: &Option<S>,
-    entries: usize,
+    library: &NotedLibrary<'_>,
+    file: &Option<S>,
     used: &[usize],
 ) -> Result<(), AllocError>
-    requires texts { AreTexts (of_files.bytes_of (option_map S.value library.now)) }
-    requires entries { entries ≡ length (spec.lines_of_library
-        (of_files.bytes_of (option_map S.value library.now))) }
-    ensures { let file = option_map S.value library.now in Pushes out.old
-        (spec.library_lines (of_files.name_of file) (of_files.bytes_of file) used.now)
-        result out.new }
+    requires texts { AreTexts (of_files.bytes_of (option_map S.value file.now)) }
+    requires entries { library.now.lines.items ≡ spec.lines_of_library
+        (of_files.bytes_of (option_map S.value file.now)) }
+    ensures { Pushes out.old (spec.library_lines true library.now.name.now
+        (of_files.bytes_of (option_map S.value file.now)) used.now) result out.new }
 {
-    match library {
+    match file {
         Some(source) => {
             let text = known_text(source.bytes());
             let findings = lint_library(alloc, text, used)?;
-            let name = source.name();
-            push_findings(out, alloc, name, &findings)?;
-            push_count_line(out, name, findings.len(), entries)
+            push_findings(out, alloc, library.name, &findings)?;
+            push_count_line(out, library.name, findings.len(), library.lines.len())
         }
         None => Ok(()),
+    }
+}
+
+// Pushes the lines of a library file, if there is one and steps are looked up in it.
+fn push_library_lines<S: FeatureSource>(
+    out: &mut String,
+    alloc: Global,
+    library: &NotedLibrary<'_>,
+    file: &Option<S>,
+    used: &[usize],
+) -> Result<(), AllocError>
+    requires texts { AreTexts (of_files.bytes_of (option_map S.value file.now)) }
+    requires entries { library.now.lines.items ≡ spec.lines_of_library
+        (of_files.bytes_of (option_map S.value file.now)) }
+    ensures { Pushes out.old (spec.library_lines library.now.steps library.now.name.now
+        (of_files.bytes_of (option_map S.value file.now)) used.now) result out.new }
+{
+    if library.steps {
+        push_file_lines(out, alloc, library, file, used)
+    } else {
+        Ok(())
+    }
+}
+
+// Returns the findings of the steps of hooks, if steps are looked up.
+fn findings_of_hook_steps(
+    alloc: Global,
+    library: &NotedLibrary<'_>,
+    hooks: &HookFile,
+) -> Result<StepFindings, AllocError>
+    ensures found { IfOk result (λ r. AreInOrder (found_in
+        (library_value library.now.library.now)
+        (looked_up library.now.steps (of_hooks (hooks_value hooks.now)))) r.findings.items) }
+    ensures used { IfOk result (λ r. r.used.items ≡ used_in
+        (library_value library.now.library.now)
+        (looked_up library.now.steps (of_hooks (hooks_value hooks.now)))) }
+{
+    if library.steps {
+        lint_hooks(alloc, library.library, hooks)
+    } else {
+        Ok(no_steps(alloc))
     }
 }
 
@@ -124,18 +165,20 @@ fn push_library_lines<S: FeatureSource>(
 // that the hooks' steps use.
 fn findings_of_hooks(
     alloc: Global,
-    before: &ReadBefore,
+    library: &NotedLibrary<'_>,
+    hooks: &HookFile,
     features: &[Feature],
 ) -> Result<StepFindings, AllocError>
     ensures found { IfOk result (λ r. AreInOrder
-        (hooks_of_no_tag (map feature_value features.now) (hooks_value before.now.hooks)
-        ++ found_in (library_value before.now.library) (of_hooks (hooks_value before.now.hooks)))
-        r.findings.items) }
-    ensures used { IfOk result (λ r. r.used.items ≡ used_in (library_value before.now.library)
-        (of_hooks (hooks_value before.now.hooks))) }
+        (hooks_of_no_tag (map feature_value features.now) (hooks_value hooks.now)
+        ++ found_in (library_value library.now.library.now)
+        (looked_up library.now.steps (of_hooks (hooks_value hooks.now)))) r.findings.items) }
+    ensures used { IfOk result (λ r. r.used.items ≡ used_in
+        (library_value library.now.library.now)
+        (looked_up library.now.steps (of_hooks (hooks_value hooks.now)))) }
 {
-    let idle = lint_hook_tags(alloc, &before.hooks, features)?;
-    let of_steps = lint_hooks(alloc, &before.library, &before.hooks)?;
+    let idle = lint_hook_tags(alloc, hooks, features)?;
+    let of_steps = findings_of_hook_steps(alloc, library, hooks)?;
     with_findings(idle, of_steps)
 }
 
@@ -150,23 +193,21 @@ fn whole_text<S: FeatureSource>(
 ) -> Result<String, AllocError>
     requires texts { AreTexts (of_files.bytes_of (option_map S.value files.now.library)) }
     requires hooks { AreTexts (of_files.bytes_of (option_map S.value files.now.hooks)) }
-    requires noted { let file = option_map S.value files.now.library in
-        noted_library_value library.now ≡ spec.noted_library (of_files.name_of file)
-        (of_files.bytes_of file) (library_value before.now.library) }
-    requires used { so_far.used.items ≡ used_by (library_value before.now.library)
+    requires entries { library.now.lines.items ≡ spec.lines_of_library
+        (of_files.bytes_of (option_map S.value files.now.library)) }
+    requires used { so_far.used.items ≡ used_by (noted_library_value library.now)
         (map feature_value so_far.features.items) }
     ensures { IfOk result (λ text. IsTextOf
         (request_of_files options.now (suite_value S.value files.now))
-        (library_name (suite_value S.value files.now))
         (hooks_name (suite_value S.value files.now))
-        (read_of before.now so_far) (string_bytes text)) }
+        (read_of (noted_library_value library.now) before.now so_far) (string_bytes text)) }
 {
     let LintSoFar {
         text: of_sources,
         used,
         features,
     } = so_far;
-    let mut of_hooks = findings_of_hooks(alloc, before, features.as_slice())?;
+    let mut of_hooks = findings_of_hooks(alloc, library, &before.hooks, features.as_slice())?;
     let mut used = used;
     of_hooks.used.append(&mut used)?;
     let mut text = String::new(alloc);
@@ -183,12 +224,11 @@ fn whole_text<S: FeatureSource>(
     push_tag_lines(&mut text, tags.as_slice())?;
     let idle = lines_without_scenario(alloc, options.lines.as_slice(), features.as_slice())?;
     push_idle_lines(&mut text, idle.as_slice())?;
-    let entries = library.lines.len();
     push_library_lines(
         &mut text,
         alloc,
+        library,
         &files.library,
-        entries,
         of_hooks.used.as_slice(),
     )?;
     Ok(text)
@@ -198,9 +238,10 @@ fn whole_text<S: FeatureSource>(
 fn read_and_lint<S: FeatureSource>(
     alloc: Global,
     options: &Options,
+    steps: bool,
     files: &SuiteFiles<S>,
 ) -> Result<String, RunFault>
-    ensures linted { IfOk result (λ text. IsLinted
+    ensures linted { IfOk result (λ text. IsLinted steps
         (request_of_files options.now (suite_value S.value files.now))
         (library_name (suite_value S.value files.now))
         (hooks_name (suite_value S.value files.now)) (string_bytes text)) }
@@ -213,7 +254,7 @@ fn read_and_lint<S: FeatureSource>(
         Ok(before) => before,
         Err(fault) => return Err(fault),
     };
-    let noted = noted_library(alloc, &before.library, &files.library)?;
+    let noted = noted_library(alloc, &before.library, steps, &files.library)?;
     match lint_sources(alloc, &noted, files.sources.as_slice()) {
         Ok(so_far) => Ok(whole_text(alloc, options, files, &noted, &before, so_far)?),
         Err(fault) => Err(fault),
@@ -231,15 +272,16 @@ fn status_of(text: &str) -> u8
 pub fn lint_suite<S: FeatureSource, W: Write>(
     alloc: Global,
     options: &Options,
+    steps: bool,
     files: &SuiteFiles<S>,
     out: &mut Counted<W>,
 ) -> Result<u8, RunFault>
-    ensures linted { IfOk result (Linted
+    ensures linted { IfOk result (Linted steps
         (request_of_files options.now (suite_value S.value files.now))
         (library_name (suite_value S.value files.now))
         (hooks_name (suite_value S.value files.now))
         (device_of W.contents out.old) (device_of W.contents out.new)) }
-    ensures fault { IfErr result (SaysFaultBy (LintedInPart
+    ensures fault { IfErr result (SaysFaultBy (LintedInPart steps
         (request_of_files options.now (suite_value S.value files.now))
         (library_name (suite_value S.value files.now))
         (hooks_name (suite_value S.value files.now))
@@ -249,7 +291,7 @@ pub fn lint_suite<S: FeatureSource, W: Write>(
     ensures used { UsesWriter result
         (device_of W.contents out.old) (device_of W.contents out.new) }
 {
-    match read_and_lint(alloc, options, files) {
+    match read_and_lint(alloc, options, steps, files) {
         Ok(text) => match write_piece(out, text.as_str()) {
             Ok(()) => Ok(status_of(text.as_str())),
             Err(fault) => Err(fault),

@@ -24,10 +24,14 @@ pub struct OptionRow {
     /// The heading of the help that lists the option.
     pub heading: &'static str,
     pub help: &'static str,
+    /// Whether a report accepts the option.
+    pub beside_report: bool,
     /// Whether `--explain` accepts the option beside itself.
     pub beside_explain: bool,
     /// Whether `--lint` accepts the option beside itself.
     pub beside_lint: bool,
+    /// Whether `--lint --no-steps` accepts the option beside itself.
+    pub beside_no_steps: bool,
 }
 
 const CHOICE: &str = "Which scenarios run";
@@ -37,15 +41,17 @@ const RUN: &str = "How they run";
 const REPORT: &str = "Report";
 
 /// The options, in the order of the help.
-pub static OPTIONS: [OptionRow; 12] = [
+pub static OPTIONS: [OptionRow; 13] = [
     OptionRow {
         name: "tags",
         takes: Takes::Texts,
         value_name: "T",
         heading: CHOICE,
         help: "Run only scenarios whose tags fit T, as @a,~@b or '@a or not @b'; each --tags has to fit",
+        beside_report: true,
         beside_explain: true,
         beside_lint: true,
+        beside_no_steps: true,
     },
     OptionRow {
         name: "line",
@@ -53,8 +59,10 @@ pub static OPTIONS: [OptionRow; 12] = [
         value_name: "N",
         heading: CHOICE,
         help: "Run only the scenarios at line N of a file; of several lines, one has to fit",
+        beside_report: true,
         beside_explain: true,
         beside_lint: true,
+        beside_no_steps: true,
     },
     OptionRow {
         name: "library",
@@ -62,8 +70,10 @@ pub static OPTIONS: [OptionRow; 12] = [
         value_name: "FILE",
         heading: RUN,
         help: "Take the steps from FILE in place of the default library",
+        beside_report: true,
         beside_explain: true,
         beside_lint: true,
+        beside_no_steps: false,
     },
     OptionRow {
         name: "hooks",
@@ -71,8 +81,10 @@ pub static OPTIONS: [OptionRow; 12] = [
         value_name: "FILE",
         heading: RUN,
         help: "Run the hooks in FILE around the run, its features, rules and scenarios",
+        beside_report: true,
         beside_explain: true,
         beside_lint: true,
+        beside_no_steps: false,
     },
     OptionRow {
         name: "env",
@@ -80,8 +92,10 @@ pub static OPTIONS: [OptionRow; 12] = [
         value_name: "NAME=VALUE",
         heading: RUN,
         help: "Set a variable before the run; of equal names the last counts",
+        beside_report: true,
         beside_explain: true,
         beside_lint: false,
+        beside_no_steps: false,
     },
     OptionRow {
         name: "file",
@@ -89,8 +103,10 @@ pub static OPTIONS: [OptionRow; 12] = [
         value_name: "NAME=PATH",
         heading: RUN,
         help: "Put the text of PATH into the world as file NAME; of equal names the last counts",
+        beside_report: true,
         beside_explain: true,
         beside_lint: false,
+        beside_no_steps: false,
     },
     OptionRow {
         name: "dry-run",
@@ -98,8 +114,10 @@ pub static OPTIONS: [OptionRow; 12] = [
         value_name: "",
         heading: RUN,
         help: "Look up the steps in the library, and run no step, hook or cleanup",
+        beside_report: true,
         beside_explain: false,
         beside_lint: false,
+        beside_no_steps: false,
     },
     OptionRow {
         name: "stop",
@@ -107,8 +125,10 @@ pub static OPTIONS: [OptionRow; 12] = [
         value_name: "",
         heading: RUN,
         help: "Stop at the first failure, and leave later scenarios untested",
+        beside_report: true,
         beside_explain: true,
         beside_lint: false,
+        beside_no_steps: false,
     },
     OptionRow {
         name: "format",
@@ -116,8 +136,10 @@ pub static OPTIONS: [OptionRow; 12] = [
         value_name: "F",
         heading: REPORT,
         help: "Write the report as plain, progress or json [default: plain]",
+        beside_report: true,
         beside_explain: false,
         beside_lint: false,
+        beside_no_steps: false,
     },
     OptionRow {
         name: "no-skipped",
@@ -125,8 +147,10 @@ pub static OPTIONS: [OptionRow; 12] = [
         value_name: "",
         heading: REPORT,
         help: "Leave skipped features and scenarios out of the report",
+        beside_report: true,
         beside_explain: false,
         beside_lint: false,
+        beside_no_steps: false,
     },
     OptionRow {
         name: "explain",
@@ -134,8 +158,10 @@ pub static OPTIONS: [OptionRow; 12] = [
         value_name: "",
         heading: REPORT,
         help: "In place of the report, say what happened in each scenario that failed",
+        beside_report: true,
         beside_explain: true,
         beside_lint: false,
+        beside_no_steps: false,
     },
     OptionRow {
         name: "lint",
@@ -143,7 +169,20 @@ pub static OPTIONS: [OptionRow; 12] = [
         value_name: "",
         heading: REPORT,
         help: "In place of a run, list ignored lines, steps that can't work and unused entries",
+        beside_report: true,
         beside_explain: false,
         beside_lint: true,
+        beside_no_steps: true,
+    },
+    OptionRow {
+        name: "no-steps",
+        takes: Takes::Nothing,
+        value_name: "",
+        heading: REPORT,
+        help: "With --lint: look no step up, for a suite of another runner",
+        beside_report: false,
+        beside_explain: false,
+        beside_lint: true,
+        beside_no_steps: true,
     },
 ];

@@ -145,8 +145,8 @@ fn explain_suite<S: FeatureSource, W: Write>(
 /// `--tags` that occurs nowhere, as often as it is named, and for each `--line` that chooses no scenario. The unused
 /// entries of the library file come last, with a line that counts them. Below an undefined step are its text and the
 /// entry that may be meant. Findings are silently ignored parts of a file, steps that can't work because an entry, a
-/// text or a table is missing, unused items, and scenarios that share a name. Of the options, only `tags` and `lines`
-/// are looked at.
+/// text or a table is missing, unused items, and scenarios that share a name. Without `steps`, no step is looked up, and
+/// neither steps nor entries have findings. Of the options, only `tags` and `lines` are looked at.
 ///
 /// Returns the status of the results, as `run_suite` does; with `Findings`, 0 if nothing was found, and 1 otherwise.
 /// `RunFault` says when each error comes and what was written. Whatever is returned, files, variables, values and layers
@@ -187,7 +187,7 @@ pub fn write_suite<S: FeatureSource, W: Write>(
     match mode {
         Mode::Report => report_suite(alloc, sandbox, options, files, out),
         Mode::Explanation => explain_suite(alloc, sandbox, options, files, out),
-        Mode::Findings => lint_suite(alloc, options, files, out),
+        Mode::Findings { steps } => lint_suite(alloc, options, steps, files, out),
     }
 }
 

@@ -5,7 +5,7 @@ ghost use Rattle.gk_world.specs.Sandbox.{depth, IsSame};
 ghost use Rattle.gk_world.specs.State.{state_of};
 ghost use Rattle.gk_steps.specs.Finding.{library_value};
 ghost use Rattle.gk_run.specs.Results.{feature_row};
-ghost use Rattle.gk_run.specs.Run.{run_of};
+ghost use Rattle.gk_run.specs.OpenSection.{run_of};
 ghost use Rattle.gk_run.specs.Chosen.{chosen_value, IsFormed};
 ghost use Rattle.gk_run.specs.DryRun.{AreDryFeatures};
 ghost use Rattle.gk_run.specs.Features.{IsFeatureResult};

@@ -130,15 +130,24 @@ const WICK: [&str; 4] = [
     "wick.hooks:1: hook for a tag that stands nowhere\nwick.hooks:5: action that isn't allowed here\nwick.feature:3: step without the text that its action needs\nwick.feature:4: undefined step\n    When the wick \"hall\" is lit\n    the nearest entry is: step the wick \"{name}\" is trimmed\nwick.feature:6: outline without rows\nwick.feature:6: placeholder that no column has\n    the nearest column is: often\n--tags @quik: stands nowhere\n--line 6: chooses no scenario\nwick.steps:4: entry that no step finds\nwick.steps: no step finds 1 of 4 entries\n1",
 ];
 
+// The same without a look-up of steps.
+const WICK_ALONE: &str =
+    "wick.hooks:1: hook for a tag that stands nowhere\nwick.feature:6: outline without rows\nwick.feature:6: placeholder that no column has\n    the nearest column is: often\n--tags @quik: stands nowhere\n--line 6: chooses no scenario\n1";
+
 // What is found in files, and the status.
-fn found(alloc: Global, options: &Options, files: &mut SuiteFiles<Source>) -> Result<String, Fail> {
+fn found(
+    alloc: Global,
+    options: &Options,
+    steps: bool,
+    files: &mut SuiteFiles<Source>,
+) -> Result<String, Fail> {
     let mut out = counted(alloc, usize::MAX, 0);
     let mut sandbox = Sandbox::new(alloc);
     let status = write_suite(
         alloc,
         &mut sandbox,
         options,
-        Mode::Findings,
+        Mode::Findings { steps },
         files,
         &mut out,
     )?;
@@ -157,7 +166,14 @@ fn suites_are_linted(rt: HostRuntime) -> Result<(), Fail> {
     let mut options = plain(rt.alloc());
     options.tags.push(String::from_str(rt.alloc(), "@quik")?)?;
     options.lines.push(6)?;
-    assert_eq!(rt; found(rt.alloc(), &options, &mut files)?.as_str(), wanted);
+    assert_eq!(rt;
+        found(rt.alloc(), &options, true, &mut files)?.as_str(),
+        wanted
+    );
+    assert_eq!(rt;
+        found(rt.alloc(), &options, false, &mut files)?.as_str(),
+        WICK_ALONE
+    );
     Ok(())
 }
 
@@ -167,7 +183,7 @@ fn nothing_is_found_in_a_suite(rt: HostRuntime) -> Result<(), Fail> {
     let hall = source(rt.alloc(), "hall.feature", feature)?;
     let mut files = files_with(rt.alloc(), None, None, hall)?;
     assert_eq!(rt;
-        found(rt.alloc(), &plain(rt.alloc()), &mut files)?.as_str(),
+        found(rt.alloc(), &plain(rt.alloc()), true, &mut files)?.as_str(),
         "0"
     );
     Ok(())
@@ -193,7 +209,7 @@ fn first_fault(alloc: Global, files: &mut SuiteFiles<Source>) -> Result<RunFault
         alloc,
         &mut sandbox,
         &options,
-        Mode::Findings,
+        Mode::Findings { steps: true },
         files,
         &mut out,
     ) {

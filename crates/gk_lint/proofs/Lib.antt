@@ -10,7 +10,9 @@ pub mod RunSteps
 pub mod FirstHints
 pub mod RisingNumbers
 pub mod EntryLinesLoop
+pub mod MisspeltGroups
 pub mod MisspeltLoop
+pub mod LineKinds
 pub mod OneLine
 pub mod WorkedLikeness
 pub mod WorkedFindings

@@ -13,7 +13,7 @@ use Rattle.gk_lint.specs.declared.line_context.LineContext.TheVariants.{Elsewher
 use Rattle.gk_lint.specs.Findings.{at_line}
 use Rattle.gk_lint.specs.Likeness.{is_other_blank, letter, same_letters, common_len, differ_at_first, is_one_off, is_exchanged, spelt_heading, spelt_step, begun_like, like}
 use Rattle.gk_lint.specs.LineContext.{after}
-use Rattle.gk_lint.specs.Misspelt.{misspelt, misspelt_at}
+use Rattle.gk_lint.specs.Misspelt.{misspelt, wording}
 use Rattle.gk_lint.specs.LineEnds.{cr_alone}
 use Rattle.gk_lint.specs.MissingParts.{of_scenario, of_feature, missing_parts}
 
@@ -32,10 +32,10 @@ with_text =
     ∷ []
 
 misspelt_lines : misspelt Elsewhere with_text ≡ at_line 2 (LikeKeyword keywords.Scenario) ∷ at_line 4 (LikeKeyword keywords.When) ∷ []
-unfolding with_text misspelt_at after closes class class_of class_of_words is_utf8 chars lib.Utf8.encode is_other_blank letter like begun_like spelt_heading spelt_step is_one_off is_exchanged differ_at_first common_len same_letters
+unfolding with_text wording after closes class class_of class_of_words is_utf8 chars lib.Utf8.encode is_other_blank letter like begun_like spelt_heading spelt_step is_one_off is_exchanged differ_at_first common_len same_letters
 misspelt_lines = refl
 
--- In a description a fence opens nothing, and neither does one after a step that stands outside of a scenario. A step with `And` isn't found there.
+-- In a description a fence opens nothing, and neither does one after a step that stands outside of a scenario. A fence is prose, so the step above it is, too. A step with `And` isn't found there.
 with_fences : Lines
 with_fences =
     line_at 1 (codes "Feature: The lamp")
@@ -45,9 +45,26 @@ with_fences =
     ∷ line_at 5 (codes "  And more")
     ∷ []
 
-misspelt_in_description : misspelt Elsewhere with_fences ≡ at_line 2 StepOutside ∷ at_line 4 (LikeKeyword keywords.Rule) ∷ []
-unfolding with_fences misspelt_at after closes class class_of class_of_words is_utf8 chars lib.Utf8.encode is_other_blank letter like begun_like spelt_heading spelt_step is_one_off is_exchanged differ_at_first common_len same_letters
+misspelt_in_description : misspelt Elsewhere with_fences ≡ at_line 4 (LikeKeyword keywords.Rule) ∷ []
+unfolding with_fences wording after closes class class_of class_of_words is_utf8 chars lib.Utf8.encode is_other_blank letter like begun_like spelt_heading spelt_step is_one_off is_exchanged differ_at_first common_len same_letters
 misspelt_in_description = refl
+
+-- A sentence in a description that begins like a step, at its end and in its middle; and steps below one.
+with_prose : Lines
+with_prose =
+    line_at 1 (codes "Feature: The lamp")
+    ∷ line_at 2 (codes "  It is lit")
+    ∷ line_at 3 (codes "  when night falls.")
+    ∷ line_at 4 (codes "")
+    ∷ line_at 5 (codes "  When it rains,")
+    ∷ line_at 6 (codes "  it smokes.")
+    ∷ line_at 7 (codes "  Given oil")
+    ∷ line_at 8 (codes "  When it burns")
+    ∷ []
+
+steps_below_prose : misspelt Elsewhere with_prose ≡ at_line 7 StepOutside ∷ at_line 8 StepOutside ∷ []
+unfolding with_prose wording after closes class class_of class_of_words is_utf8 chars lib.Utf8.encode is_other_blank letter like begun_like spelt_heading spelt_step is_one_off is_exchanged differ_at_first common_len same_letters
+steps_below_prose = refl
 
 -- One line with a carriage return in it, and two lines.
 one_with_cr : cr_alone (line_at 1 (codes "Feature: F" ++ 13 ∷ codes "Scenario: S") ∷ []) ≡ at_line 1 CrAlone ∷ []

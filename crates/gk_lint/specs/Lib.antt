@@ -10,6 +10,7 @@ pub mod MissingParts
 pub mod TextSets
 pub mod ScenarioNames
 pub mod Placeholders
+pub mod UnexpectedLines
 pub mod LineEnds
 pub mod FeatureFile
 pub mod Blocks

@@ -1,5 +1,5 @@
 -- Description lines that were probably not meant as descriptions: those that begin like a keyword, and steps outside of scenarios.
-use Rattle.std.specs.Prelude.{List, [], ◌∷◌, ◌++◌, Option, Some, None}
+use Rattle.std.specs.Prelude.{◌≡◌, ℕ, Bool, true, false, List, [], ◌∷◌, ◌++◌, Option, Some, None}
 use Rattle.gk_gherkin.specs.Lines.{LineValue, Lines}
 use Rattle.gk_gherkin.specs.Text.{trim}
 use Rattle.gk_lint.specs.declared.keywords.Keyword.{Keyword}
@@ -10,37 +10,100 @@ use Rattle.gk_lint.specs.declared.line_context.LineKind.{LineKind}
 use Rattle.gk_lint.specs.declared.line_context.LineKind.TheVariants.{Description}
 use Rattle.gk_lint.specs.declared.line_context.LineKind.TheVariants as kinds
 use Rattle.gk_lint.specs.declared.line_context.LineContext.{LineContext}
-use Rattle.gk_lint.specs.declared.line_context.LineContext.TheVariants.{Elsewhere, InText}
+use Rattle.gk_lint.specs.declared.line_context.LineContext.TheVariants.{Elsewhere, AfterStep, InText}
+use Rattle.gk_lint.specs.declared.misspelt.Wording.{Wording}
+use Rattle.gk_lint.specs.declared.misspelt.Wording.TheVariants.{Prose, Like, Outside, Step, Other}
+use Rattle.gk_lint.specs.declared.misspelt.Above.{Above}
+use Rattle.gk_lint.specs.declared.misspelt.WordedLine.{WordedLine}
 use Rattle.gk_lint.specs.Findings.{at_line, found_if}
 use Rattle.gk_lint.specs.Likeness.{like}
 use Rattle.gk_lint.specs.LineContext.{begins_with_one_of, line_kind, after}
 
--- The findings of a line, by the keyword that it begins like, if any.
-abbrev pub likened : LineValue → Option Keyword → List Finding
-likened line None = []
-likened line (Some keyword) = at_line line.line (LikeKeyword keyword) ∷ []
+-- The wording of a description line, by the keyword that it begins like, if any.
+abbrev pub likened : Option Keyword → Wording
+likened None = Prose
+likened (Some keyword) = Like keyword
 
 -- The keywords that a group of steps begins with. `And`, `But` and `*` add further steps to it, but they also begin sentences and bullets.
 abbrev pub opening_words : List Keyword
 opening_words = Given ∷ When ∷ Then ∷ []
 
--- The findings of a step line in this context: that it has one of these keywords, and no step is possible here.
-abbrev pub of_step : LineContext → LineValue → List Finding
-of_step Elsewhere line = found_if (begins_with_one_of opening_words (trim line.text)) line.line StepOutside
-of_step context line = []
+-- The wording of a step line in this context: a step, or words of a step where no step is possible.
+abbrev pub of_step : LineContext → List ℕ → Wording
+of_step Elsewhere text = Outside (begins_with_one_of opening_words text)
+of_step context text = Step
 
--- The findings of a line of this kind in this context: a description that begins like a keyword, or a step outside of a scenario.
-abbrev pub of_kind : LineContext → LineValue → LineKind → List Finding
-of_kind context line Description = likened line (like (trim line.text))
-of_kind context line kinds.Step = of_step context line
-of_kind context line kind = []
+-- The wording of a fence in this context. It opens a doc string only after a step; otherwise it is part of a description. (Cucumber's Gherkin reference: doc strings)
+abbrev pub of_fence : LineContext → Wording
+of_fence AfterStep = Other
+of_fence context = Prose
 
--- The findings of a line in this context. A doc string may hold anything.
-unfoldable pub misspelt_at : LineContext → LineValue → List Finding
-misspelt_at (InText fence) line = []
-misspelt_at context line = of_kind context line (line_kind line)
+-- The wording of a line of this kind in this context.
+abbrev pub by_kind : LineContext → List ℕ → LineKind → Wording
+by_kind context text Description = likened (like text)
+by_kind context text kinds.Step = of_step context text
+by_kind context text (kinds.Fence fence) = of_fence context
+by_kind context text kind = Other
+
+-- The wording of a line in this context. A doc string may hold anything.
+unfoldable pub wording : LineContext → LineValue → Wording
+wording (InText fence) line = Other
+wording context line = by_kind context (trim line.text) (line_kind line)
+
+-- Lines with their wordings. The first of them is in this context.
+abbrev pub worded : LineContext → Lines → List WordedLine
+worded context [] = []
+worded context (line ∷ lines) = record { line = line.line; wording = wording context line } ∷ worded (after context line) lines
+
+-- Whether a line is prose by the wording of the next, by whether prose is directly above it, and by whether the next is prose if it begins like a keyword, too.
+abbrev pub prose_by : Wording → Bool → Bool → Bool
+prose_by Prose above next = true
+prose_by Step above next = false
+prose_by Other above next = above
+prose_by (Like keyword) above next = next
+prose_by (Outside opens) above next = next
+
+-- Whether lines that begin like keywords, one directly below the other, are prose, by the lines below the first of them and by whether prose is directly above it. They are if prose is directly below them. A single line is prose, too, if prose is directly above it, unless a step is directly below it.
+abbrev pub is_prose : Bool → List WordedLine → Bool
+is_prose above [] = above
+is_prose above (next ∷ lines) = prose_by next.wording above (is_prose false lines)
+
+-- The findings of a line with this wording that isn't prose: a description that begins like a keyword, or a step outside of a scenario.
+abbrev pub meant : ℕ → Wording → List Finding
+meant line (Like keyword) = at_line line (LikeKeyword keyword) ∷ []
+meant line (Outside opens) = found_if opens line StepOutside
+meant line _ = []
+
+-- The findings of a line, if it isn't prose.
+abbrev pub unless_prose : Bool → ℕ → Wording → List Finding
+unless_prose true line wording = []
+unless_prose false line wording = meant line wording
+
+-- Whether a wording is prose.
+abbrev pub is_plain : Wording → Bool
+is_plain Prose = true
+is_plain wording = false
+
+-- Whether a line begins like a keyword.
+abbrev pub is_like : Wording → Bool
+is_like (Like keyword) = true
+is_like (Outside opens) = true
+is_like wording = false
+
+-- The findings of lines, by whether prose is directly above them.
+abbrev pub of_worded : Bool → List WordedLine → List Finding
+of_worded above [] = []
+of_worded above (line ∷ lines) = unless_prose (is_prose above lines) line.line line.wording ++ of_worded (is_plain line.wording) lines
 
 -- The findings of lines. The first of them is in this context.
 abbrev pub misspelt : LineContext → Lines → List Finding
-misspelt context [] = []
-misspelt context (line ∷ lines) = misspelt_at context line ++ misspelt (after context line) lines
+misspelt context lines = of_worded false (worded context lines)
+
+-- Proof machinery: if the line above begins like a keyword, it is prose as these lines below it say, and no plain prose.
+abbrev pub IsGroup : Option Bool → Bool → List WordedLine → Type 0
+IsGroup None plain lines = Unit {0}
+IsGroup (Some prose) plain lines = (plain ≡ false) × (first : Bool) × (prose ≡ is_prose first lines)
+
+-- Proof machinery: what is known of the line above, by these lines below it.
+abbrev pub IsAbove : Above → List WordedLine → Type 0
+IsAbove above lines = IsGroup above.group above.plain lines

@@ -26,6 +26,7 @@ mod step_hints;
 mod step_sites;
 mod tag_use;
 mod text_sets;
+mod unexpected_lines;
 mod written_steps;
 
 pub use feature_file::{lint_feature, lint_feature_file};
@@ -40,4 +41,5 @@ pub use scenario_lines::lines_without_scenario;
 pub use scenario_names::scenarios_of;
 pub use step_faults::StepFault;
 pub use tag_use::lint_hook_tags;
+pub use unexpected_lines::{Cause, cause_at};
 pub use written_steps::{StepFindings, lint_hooks, lint_steps};

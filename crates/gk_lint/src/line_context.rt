@@ -15,16 +15,22 @@ use gk_gherkin::text::{begins, is_blank, trim};
 pub enum LineKind {
     /// A blank line or a comment.
     Ignored,
-    /// The heading of a background or a scenario, which has steps under it.
-    StepsHeading,
-    /// Another heading.
-    OtherHeading,
+    Tags,
+    /// The heading of a feature.
+    Feature,
+    /// The heading of a rule.
+    Rule,
+    /// The heading of a background.
+    Background,
+    /// The heading of a scenario or an outline.
+    Scenario,
+    /// The heading of examples.
+    Examples,
     Step,
+    Row,
     Fence(TextFence),
     /// A line of no other kind, which is part of a description.
     Description,
-    /// Tags or a row.
-    Other,
 }
 
 /// The two fences of doc strings. (Cucumber's Gherkin reference: doc strings)
@@ -61,6 +67,12 @@ pub fn begins_with_one_of(text: &str, some: &[Keyword]) -> bool
     some.iter().any(|word| begins_word(text, word.text()))
 }
 
+fn begins_as_examples(text: &str) -> bool
+    ensures { result ≡ words.begins_with_one text.now words.examples_keywords }
+{
+    begins(text, "Examples:") || begins(text, "Scenarios:")
+}
+
 fn begins_as_step(text: &str) -> bool
     ensures { result ≡ words.begins_as_step text.now }
 {
@@ -76,39 +88,54 @@ fn begins_as_scenario(text: &str) -> bool
         || begins(text, "Scenario Template:")
 }
 
-// Returns the kind of a text that begins neither as a heading nor as a step.
-fn kind_of_rest(text: &str) -> LineKind
-    ensures { result ≡ spec.kind_of_rest text.now }
+// Returns the first kind that fits a text that begins neither as a heading nor as a step.
+#[tactic(auto, unfolding(crate::specs::LineContext::rest_kind))]
+fn rest_kind(text: &str) -> LineKind
+    ensures { result ≡ spec.rest_kind text.now }
 {
-    if begins(text, "\"\"\"") {
-        LineKind::Fence(TextFence::Quotes)
-    } else if begins(text, "```") {
-        LineKind::Fence(TextFence::Backticks)
-    } else {
-        LineKind::Description
+    if begins(text, "|") {
+        return LineKind::Row;
     }
+    if begins(text, "\"\"\"") {
+        return LineKind::Fence(TextFence::Quotes);
+    }
+    if begins(text, "```") {
+        return LineKind::Fence(TextFence::Backticks);
+    }
+    LineKind::Description
+}
+
+// Returns the first kind that fits a trimmed text that is neither empty, a comment nor tags.
+#[tactic(auto, unfolding(crate::specs::LineContext::first_kind))]
+fn first_kind(text: &str) -> LineKind
+    ensures { result ≡ spec.first_kind text.now }
+{
+    if begins(text, "Feature:") {
+        return LineKind::Feature;
+    }
+    if begins(text, "Rule:") {
+        return LineKind::Rule;
+    }
+    if begins(text, "Background:") {
+        return LineKind::Background;
+    }
+    if begins_as_scenario(text) {
+        return LineKind::Scenario;
+    }
+    if begins_as_examples(text) {
+        return LineKind::Examples;
+    }
+    if begins_as_step(text) {
+        return LineKind::Step;
+    }
+    rest_kind(text)
 }
 
 // Returns the kind of a trimmed text that is neither empty, a comment nor tags.
-#[tactic(auto, unfolding(gk_gherkin::specs::Class::class_of_words))]
 fn kind_of_words(text: &str) -> LineKind
     ensures { result ≡ spec.kind_of (words.class_of_words text.now) }
 {
-    if begins(text, "Feature:") || begins(text, "Rule:") {
-        LineKind::OtherHeading
-    } else if begins(text, "Background:") {
-        LineKind::StepsHeading
-    } else if begins_as_scenario(text) {
-        LineKind::StepsHeading
-    } else if begins(text, "Examples:") || begins(text, "Scenarios:") {
-        LineKind::OtherHeading
-    } else if begins_as_step(text) {
-        LineKind::Step
-    } else if begins(text, "|") {
-        LineKind::Other
-    } else {
-        kind_of_rest(text)
-    }
+    first_kind(text)
 }
 
 #[tactic(auto, unfolding(gk_gherkin::specs::Class::class_of))]
@@ -118,7 +145,7 @@ fn kind_of_text(text: &str) -> LineKind
     if text.is_empty() || begins(text, "#") {
         LineKind::Ignored
     } else if begins(text, "@") {
-        LineKind::Other
+        LineKind::Tags
     } else {
         kind_of_words(text)
     }
@@ -156,8 +183,8 @@ fn after_kind(context: LineContext, kind: LineKind) -> LineContext
 {
     match kind {
         LineKind::Ignored => context,
-        LineKind::StepsHeading => LineContext::AmongSteps,
-        LineKind::OtherHeading => LineContext::Elsewhere,
+        LineKind::Background | LineKind::Scenario => LineContext::AmongSteps,
+        LineKind::Feature | LineKind::Rule | LineKind::Examples => LineContext::Elsewhere,
         LineKind::Step => match context {
             LineContext::Elsewhere => LineContext::Elsewhere,
             _ => LineContext::AfterStep,

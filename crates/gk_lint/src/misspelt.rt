@@ -1,12 +1,12 @@
 //! Description lines that were probably not meant as descriptions: those that begin like a keyword, and steps outside
-//! of scenarios.
-ghost use Rattle.std.specs.Prelude.{◌≡◌, ◌≤◌, ◌++◌, OnOk, length};
+//! of scenarios. Lines that prose surrounds are part of it.
+ghost use Rattle.std.specs.Prelude.{◌≡◌, ◌≤◌, ◌++◌, ◌∷◌, false, true, IfOk, OnOk, length};
 ghost use Rattle.std.specs.Str.Lines.{lines};
 ghost use Rattle.gk_gherkin.specs.Lines.{borrowed_value, numbered_from};
-ghost use Rattle.gk_gherkin.specs.Text.{trim};
 ghost use Rattle.gk_lint.specs.Likeness.{like};
 ghost use Rattle.gk_lint.specs.Misspelt as spec;
 ghost use Rattle.gk_lint.specs.LineContext.{line_kind};
+ghost use Rattle.gk_lint.specs.Misspelt.{IsAbove};
 ghost use Rattle.gk_lint.specs.declared.line_context.LineContext.TheVariants.{Elsewhere};
 
 use crate::findings::{Finding, FindingKind, add_if};
@@ -17,83 +17,234 @@ use gk_gherkin::text::trim;
 use gk_gherkin::{BorrowedLine, LIMIT, borrowed_line};
 use std::alloc::{AllocError, Global};
 
+/// How a line is worded.
+#[derive(Clone, Copy)]
+pub enum Wording {
+    /// A line of a description that begins like no keyword.
+    Prose,
+    /// A line of a description that begins like this keyword.
+    Like(Keyword),
+    /// The words of a step where no step is possible.
+    Outside {
+        /// Whether they begin with a keyword that opens a group of steps.
+        opens: bool,
+    },
+    /// A step that runs.
+    Step,
+    /// A line of any other kind, or of a doc string.
+    Other,
+}
+
+/// A line's number and its wording.
+#[derive(Clone, Copy)]
+pub struct WordedLine {
+    pub line: u32,
+    pub wording: Wording,
+}
+
 // The keywords that a group of steps begins with, before others add further steps to it.
 const OPENING_WORDS: [Keyword; 3] = [Keyword::Given, Keyword::When, Keyword::Then];
 
-// Adds the finding of a description line, if it begins like a keyword.
-fn add_like(
-    findings: &mut Vec<Finding>,
-    alloc: Global,
-    line: &BorrowedLine<'_>,
-) -> Result<(), AllocError>
-    ensures { OnOk result (findings.new.items ≡ findings.old.items
-        ++ spec.likened (borrowed_value line.now) (like (trim (borrowed_value line.now).text))) }
+// Returns the wording of a description line with this trimmed text.
+fn of_description(alloc: Global, text: &str) -> Result<Wording, AllocError>
+    ensures { IfOk result (λ wording. wording ≡ spec.likened (like text.now)) }
 {
-    if let Some(keyword) = like(alloc, trim(line.text))? {
-        findings.push(Finding {
-            line: line.place.line,
-            kind: FindingKind::LikeKeyword(keyword),
+    match like(alloc, text)? {
+        Some(keyword) => Ok(Wording::Like(keyword)),
+        None => Ok(Wording::Prose),
+    }
+}
+
+// Returns the wording of a step line with this trimmed text.
+fn of_step(context: LineContext, text: &str) -> Wording
+    ensures { result ≡ spec.of_step context text.now }
+{
+    match context {
+        LineContext::Elsewhere => Wording::Outside {
+            opens: begins_with_one_of(text, &OPENING_WORDS),
+        },
+        _ => Wording::Step,
+    }
+}
+
+fn of_fence(context: LineContext) -> Wording
+    ensures { result ≡ spec.of_fence context }
+{
+    match context {
+        LineContext::AfterStep => Wording::Other,
+        _ => Wording::Prose,
+    }
+}
+
+// Returns the wording of a line outside of doc strings, by its kind.
+fn by_kind(
+    alloc: Global,
+    context: LineContext,
+    text: &str,
+    kind: LineKind,
+) -> Result<Wording, AllocError>
+    ensures { IfOk result (λ wording. wording ≡ spec.by_kind context text.now kind) }
+{
+    match kind {
+        LineKind::Description => of_description(alloc, text),
+        LineKind::Step => Ok(of_step(context, text)),
+        LineKind::Fence(_) => Ok(of_fence(context)),
+        _ => Ok(Wording::Other),
+    }
+}
+
+// Returns the wording of a line in this context.
+#[tactic(auto, unfolding(crate::specs::Misspelt::wording))]
+fn wording_in(
+    alloc: Global,
+    context: LineContext,
+    line: &BorrowedLine<'_>,
+) -> Result<Wording, AllocError>
+    ensures { IfOk result (λ wording. wording
+        ≡ spec.wording context (borrowed_value line.now)) }
+{
+    match context {
+        LineContext::InText(_) => Ok(Wording::Other),
+        _ => by_kind(alloc, context, trim(line.text), line_kind(line)),
+    }
+}
+
+// Returns the lines of a text with their wordings.
+fn worded(alloc: Global, text: &str) -> Result<Vec<WordedLine>, AllocError>
+    requires { length text.now ≤ LIMIT }
+    ensures { IfOk result (λ all. all.items
+        ≡ spec.worded Elsewhere (numbered_from 1 (lines text.now))) }
+{
+    let mut all = Vec::new(alloc);
+    let mut number: u32 = 1;
+    let mut context = LineContext::Elsewhere;
+    for part in text.lines() {
+        let line = borrowed_line(number, part);
+        let wording = wording_in(alloc, context, &line)?;
+        all.push(WordedLine {
+            line: number,
+            wording,
         })?;
+        context = after(context, &line);
+        number += 1;
+    }
+    Ok(all)
+}
+
+// Returns whether lines that begin like keywords are prose, by the lines below the first of them and by whether prose
+// is directly above it.
+fn is_prose(above: bool, below: &[WordedLine]) -> bool
+    ensures { result ≡ spec.is_prose above below.now }
+{
+    let mut above = above;
+    for line in below {
+        match line.wording {
+            Wording::Prose => return true,
+            Wording::Step => return false,
+            Wording::Other => return above,
+            Wording::Like(_) | Wording::Outside { .. } => above = false,
+        }
+    }
+    above
+}
+
+fn is_plain(wording: Wording) -> bool
+    ensures { result ≡ spec.is_plain wording }
+{
+    matches!(wording, Wording::Prose)
+}
+
+// Returns whether a line begins like a keyword.
+fn is_like(wording: Wording) -> bool
+    ensures { result ≡ spec.is_like wording }
+{
+    matches!(wording, Wording::Like(_) | Wording::Outside { .. })
+}
+
+// Adds the finding of a line, unless it is prose.
+fn add_meant(findings: &mut Vec<Finding>, line: &WordedLine, prose: bool) -> Result<(), AllocError>
+    ensures { OnOk result (findings.new.items ≡ findings.old.items
+        ++ spec.unless_prose prose line.now.line line.now.wording) }
+{
+    if prose {
+        return Ok(());
+    }
+    match line.wording {
+        Wording::Like(keyword) => findings.push(Finding {
+            line: line.line,
+            kind: FindingKind::LikeKeyword(keyword),
+        })?,
+        Wording::Outside { opens } => {
+            add_if(findings, opens, line.line, FindingKind::StepOutside)?
+        }
+        _ => {}
     }
     Ok(())
 }
 
-// Adds the finding of a step line in this context, if there is one.
-fn add_step(
-    findings: &mut Vec<Finding>,
-    context: LineContext,
-    line: &BorrowedLine<'_>,
-) -> Result<(), AllocError>
-    ensures { OnOk result (findings.new.items ≡ findings.old.items
-        ++ spec.of_step context (borrowed_value line.now)) }
+/// What is known of the line above.
+#[derive(Clone, Copy)]
+pub struct Above {
+    /// Whether it is prose that begins like no keyword.
+    pub plain: bool,
+    /// Whether it is prose, if it begins like a keyword. Lines that begin like keywords, one directly below the other,
+    /// are prose together or not at all.
+    pub group: Option<bool>,
+}
+
+// Returns whether a line that begins like a keyword is prose.
+fn is_prose_here(above: Above, line: &WordedLine, below: &[WordedLine]) -> bool
+    requires like { spec.is_like line.now.wording ≡ true }
+    requires known { IsAbove above (line.now ∷ below.now) }
+    ensures { result ≡ spec.is_prose above.plain below.now }
 {
-    match context {
-        LineContext::Elsewhere => {
-            let is_meant = begins_with_one_of(trim(line.text), &OPENING_WORDS);
-            add_if(
-                findings,
-                is_meant,
-                line.place.line,
-                FindingKind::StepOutside,
-            )
-        }
-        _ => Ok(()),
+    match above.group {
+        Some(prose) => prose,
+        None => is_prose(above.plain, below),
     }
 }
 
-// Adds the findings of a line in this context, outside of doc strings.
-fn add_of_kind(
-    findings: &mut Vec<Finding>,
-    alloc: Global,
-    context: LineContext,
-    line: &BorrowedLine<'_>,
-) -> Result<(), AllocError>
-    ensures { OnOk result (findings.new.items ≡ findings.old.items
-        ++ spec.of_kind context (borrowed_value line.now)
-        (line_kind (borrowed_value line.now))) }
-{
-    match line_kind(line) {
-        LineKind::Description => add_like(findings, alloc, line),
-        LineKind::Step => add_step(findings, context, line),
-        _ => Ok(()),
-    }
-}
-
-// Adds the findings of a line in this context.
-#[tactic(auto, unfolding(crate::specs::Misspelt::misspelt_at))]
+// Adds the finding of a line, if it has one. Returns what the next line has to know.
 fn add_at(
     findings: &mut Vec<Finding>,
-    alloc: Global,
-    context: LineContext,
-    line: &BorrowedLine<'_>,
-) -> Result<(), AllocError>
-    ensures { OnOk result (findings.new.items ≡ findings.old.items
-        ++ spec.misspelt_at context (borrowed_value line.now)) }
+    above: Above,
+    line: &WordedLine,
+    below: &[WordedLine],
+) -> Result<Above, AllocError>
+    requires { IsAbove above (line.now ∷ below.now) }
+    ensures found { OnOk result (findings.new.items ≡ findings.old.items
+        ++ spec.unless_prose (spec.is_prose above.plain below.now)
+        line.now.line line.now.wording) }
+    ensures plain { IfOk result (λ next. next.plain ≡ spec.is_plain line.now.wording) }
+    ensures known { IfOk result (λ next. IsAbove next below.now) }
 {
-    match context {
-        LineContext::InText(_) => Ok(()),
-        _ => add_of_kind(findings, alloc, context, line),
+    if is_like(line.wording) {
+        let prose = is_prose_here(above, line, below);
+        add_meant(findings, line, prose)?;
+        return Ok(Above {
+            plain: false,
+            group: Some(prose),
+        });
     }
+    Ok(Above {
+        plain: is_plain(line.wording),
+        group: None,
+    })
+}
+
+// Adds the findings of lines.
+fn add_of_worded(findings: &mut Vec<Finding>, all: &[WordedLine]) -> Result<(), AllocError>
+    ensures { OnOk result (findings.new.items
+        ≡ findings.old.items ++ spec.of_worded false all.now) }
+{
+    let mut above = Above {
+        plain: false,
+        group: None,
+    };
+    for (index, line) in all.iter().enumerate() {
+        above = add_at(findings, above, line, &all[index + 1..])?;
+    }
+    Ok(())
 }
 
 /// Adds the findings of misspelt lines of a text. An error comes only if a growth was refused; some of the findings may
@@ -107,13 +258,6 @@ pub fn add_misspelt(
     ensures { OnOk result (findings.new.items ≡ findings.old.items
         ++ spec.misspelt Elsewhere (numbered_from 1 (lines text.now))) }
 {
-    let mut number: u32 = 1;
-    let mut context = LineContext::Elsewhere;
-    for part in text.lines() {
-        let line = borrowed_line(number, part);
-        add_at(findings, alloc, context, &line)?;
-        context = after(context, &line);
-        number += 1;
-    }
-    Ok(())
+    let all = worded(alloc, text)?;
+    add_of_worded(findings, &all)
 }

@@ -1,5 +1,5 @@
 -- A run whose output is flushed, the program's faults for those of the run, help, and variables one after another.
-use Rattle.std.proofs.Common.{◌≡◌, ◌≢◌, ◌∙◌, ◌+◌, ◌-◌, ◌^◌, ◌<◌, ◌≤◌, ◌++◌, ap, sym, subst, refl, inl, inr, arith, suc, zero, ℕ, List, [], ◌∷◌, length, map, take, drop, get_or, Option, Some, None, Result, Ok, Err, add-one}
+use Rattle.std.proofs.Common.{◌≡◌, ◌≢◌, ◌∙◌, ◌+◌, ◌-◌, ◌^◌, ◌<◌, ◌≤◌, ◌++◌, ap, sym, subst, refl, inl, inr, arith, suc, zero, ℕ, Bool, List, [], ◌∷◌, length, map, take, drop, get_or, Option, Some, None, Result, Ok, Err, add-one}
 use Rattle.std.specs.Prelude.{◌⊎◌, IfErr, IfOk, IsSome, IsSomeAnd, String, is_some, option_map, slice_get, string_bytes}
 use Rattle.std.specs.declared.alloc.Global.{Global}
 use Rattle.std.specs.List.{All, Any}
@@ -90,7 +90,7 @@ named_as_before old new (run.Select input f) _ same is = absurd is
 pub fault_as_before : (mode : Mode) (result : Result ℕ RunFault) (old new : FilesValue) (by : RunFault) (fault : Fault) → AreLeft mode result old new → IsFaultAs mode new by fault → IsFaultAs mode old by fault
 fault_as_before Report result old new by fault left is = named_as_before old new by fault left.names is
 fault_as_before Explanation result old new by fault left is = named_as_before old new by fault left.names is
-fault_as_before Findings result old new by fault left is = subst (λ (files : FilesValue). IsFaultAs Findings files by fault) left is
+fault_as_before (Findings steps) result old new by fault left is = subst (λ (files : FilesValue). IsFaultAs (Findings steps) files by fault) left is
 
 -- why a run was stopped
 stopped_by : (mode : Mode) (files : FilesValue) (r : Request) (c : Contents) (old new : Device) (by : RunFault) → IsStoppedAs mode files r c old new by → StopsBy old new by
@@ -99,7 +99,7 @@ stopped_by Explanation files r c old new by stopped = elim stopped.2 [
   | inl part ↦ part.stopped.why
   | inr short ↦ short.stopped.why
 ]
-stopped_by Findings files r c old new by stopped = stopped.2.why
+stopped_by (Findings steps) files r c old new by stopped = stopped.2.why
 
 pub fewer : (a b : ℕ) → a < 2 ^ 64 - 1 → b ≡ one_more a → a < b
 fewer a b room e = omega (arith, e)
@@ -121,13 +121,13 @@ calls_of_run mode r c old new files (run.Select input f) (OfRun name g) room is 
 calls_of_run mode r c old new files (run.Select input f) _ room is says = absurd is
 
 -- with `--lint`, all files that don't read are listed
-pub as_listed : (files : FilesValue) (by : RunFault) (fault : Fault) → by ≢ run.Write → by ≢ run.Memory → IsListedAs files by fault → IsFaultAs Findings files by fault
-as_listed files run.Write fault write memory is = absurd (write refl)
-as_listed files run.Memory fault write memory is = absurd (memory refl)
-as_listed files (run.Read input f) fault write memory is = is
-as_listed files (run.Library f) fault write memory is = is
-as_listed files (run.Hooks f) fault write memory is = is
-as_listed files (run.Select input f) fault write memory is = is
+pub as_listed : (steps : Bool) (files : FilesValue) (by : RunFault) (fault : Fault) → by ≢ run.Write → by ≢ run.Memory → IsListedAs files by fault → IsFaultAs (Findings steps) files by fault
+as_listed steps files run.Write fault write memory is = absurd (write refl)
+as_listed steps files run.Memory fault write memory is = absurd (memory refl)
+as_listed steps files (run.Read input f) fault write memory is = is
+as_listed steps files (run.Library f) fault write memory is = is
+as_listed steps files (run.Hooks f) fault write memory is = is
+as_listed steps files (run.Select input f) fault write memory is = is
 
 listed_calls : (files : FilesValue) (by : RunFault) (old new : Device) (fault : Fault) → IsListedAs files by fault → IsUntouched old new → SaysCallsOfRun old new fault
 listed_calls files by old new (Unread status place lines) is nothing = nothing
@@ -139,12 +139,12 @@ pub calls_as : (mode : Mode) (r : Request) (c : Contents) (old new : Device) (fi
     → old.failures < 2 ^ 64 - 1 → IsFaultAs mode files by fault → SaysFaultAs mode files r c old new by → SaysCallsOfRun old new fault
 calls_as Report r c old new files by fault room is says = calls_of_run Report r c old new files by fault room is says
 calls_as Explanation r c old new files by fault room is says = calls_of_run Explanation r c old new files by fault room is says
-calls_as Findings r c old new files run.Write fault room is says = calls_of_run Findings r c old new files run.Write fault room is says
-calls_as Findings r c old new files run.Memory fault room is says = calls_of_run Findings r c old new files run.Memory fault room is says
-calls_as Findings r c old new files (run.Read input f) fault room is says = listed_calls files (run.Read input f) old new fault is says.1
-calls_as Findings r c old new files (run.Library f) fault room is says = listed_calls files (run.Library f) old new fault is says.1
-calls_as Findings r c old new files (run.Hooks f) fault room is says = listed_calls files (run.Hooks f) old new fault is says.1
-calls_as Findings r c old new files (run.Select input f) fault room is says = listed_calls files (run.Select input f) old new fault is says.1
+calls_as (Findings steps) r c old new files run.Write fault room is says = calls_of_run (Findings steps) r c old new files run.Write fault room is says
+calls_as (Findings steps) r c old new files run.Memory fault room is says = calls_of_run (Findings steps) r c old new files run.Memory fault room is says
+calls_as (Findings steps) r c old new files (run.Read input f) fault room is says = listed_calls files (run.Read input f) old new fault is says.1
+calls_as (Findings steps) r c old new files (run.Library f) fault room is says = listed_calls files (run.Library f) old new fault is says.1
+calls_as (Findings steps) r c old new files (run.Hooks f) fault room is says = listed_calls files (run.Hooks f) old new fault is says.1
+calls_as (Findings steps) r c old new files (run.Select input f) fault room is says = listed_calls files (run.Select input f) old new fault is says.1
 
 -- ---- what is shown
 
@@ -292,12 +292,12 @@ listed_fault files by _ is = absurd is
 fault_as : (mode : Mode) (files : FilesValue) (by : RunFault) (fault : Fault) → IsFaultAs mode files by fault → IsSuiteFault fault
 fault_as Report files by fault is = suite_fault files by fault is
 fault_as Explanation files by fault is = suite_fault files by fault is
-fault_as Findings files run.Write fault is = suite_fault files run.Write fault is
-fault_as Findings files run.Memory fault is = suite_fault files run.Memory fault is
-fault_as Findings files (run.Read input f) fault is = listed_fault files (run.Read input f) fault is
-fault_as Findings files (run.Library f) fault is = listed_fault files (run.Library f) fault is
-fault_as Findings files (run.Hooks f) fault is = listed_fault files (run.Hooks f) fault is
-fault_as Findings files (run.Select input f) fault is = listed_fault files (run.Select input f) fault is
+fault_as (Findings steps) files run.Write fault is = suite_fault files run.Write fault is
+fault_as (Findings steps) files run.Memory fault is = suite_fault files run.Memory fault is
+fault_as (Findings steps) files (run.Read input f) fault is = listed_fault files (run.Read input f) fault is
+fault_as (Findings steps) files (run.Library f) fault is = listed_fault files (run.Library f) fault is
+fault_as (Findings steps) files (run.Hooks f) fault is = listed_fault files (run.Hooks f) fault is
+fault_as (Findings steps) files (run.Select input f) fault is = listed_fault files (run.Select input f) fault is
 
 suite_named : (mode : Mode) (files : FilesValue) (r : Request) (c : Contents) (old new : Device) (fault : Fault) → SaysSuite mode files r c old new fault → IsSuiteFault fault
 suite_named mode files r c old new fault (inl says) = fault_as mode files says.0 fault says.1

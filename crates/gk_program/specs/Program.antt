@@ -106,9 +106,9 @@ IsFaultOfRun files by other = ⊥
 
 -- The program's fault for a fault of the run, by the mode. With `--lint`, all invalid files are listed.
 abbrev pub IsFaultAs : Mode → FilesValue → RunFault → Fault → Type 0
-IsFaultAs Findings files run.Write fault = IsFaultOfRun files run.Write fault
-IsFaultAs Findings files run.Memory fault = IsFaultOfRun files run.Memory fault
-IsFaultAs Findings files by fault = IsListedAs files by fault
+IsFaultAs (Findings steps) files run.Write fault = IsFaultOfRun files run.Write fault
+IsFaultAs (Findings steps) files run.Memory fault = IsFaultOfRun files run.Memory fault
+IsFaultAs (Findings steps) files by fault = IsListedAs files by fault
 IsFaultAs mode files by fault = IsFaultOfRun files by fault
 
 -- The output of a run was written and flushed, and its status is returned.

@@ -136,7 +136,7 @@ fn fault_as(alloc: Global, mode: Mode, fault: RunFault, files: SuiteFiles<Source
     match mode {
         Mode::Report => fault_of_run(fault, files),
         Mode::Explanation => fault_of_run(fault, files),
-        Mode::Findings => match fault {
+        Mode::Findings { .. } => match fault {
             RunFault::Write => Fault::Write,
             RunFault::Memory => Fault::Memory,
             _ => fault_listed(alloc, &files, fault),

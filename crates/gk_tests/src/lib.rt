@@ -1,7 +1,7 @@
-//! Tests of the public functions of the libraries below `gk_cli`, except `gk_explain`, with ample memory. The results were
-//! worked out by hand. `tests/calls.py` lists the functions that no test calls yet. The stored runs of `tests/` compare what
-//! the built program shows. The tests are in a separate crate because a crate with tests is proved twice. Those of `gk_cli`
-//! are in `gk_cli_tests`.
+//! Tests of the public functions of the libraries below `gk_cli`, with ample memory. The results were worked out by hand.
+//! `tests/calls.py` lists the functions that no test calls yet. The stored runs of `tests/` compare what the built program
+//! shows. The tests are in a separate crate because a crate with tests is proved twice. Those of `gk_cli` are in
+//! `gk_cli_tests`.
 #![tactic(auto)]
 
 #[cfg(test)]

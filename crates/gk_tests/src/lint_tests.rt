@@ -1,15 +1,20 @@
-use gk_gherkin::{ReadFault, read_feature};
+use crate::run_tests::feature_of;
+use gk_gherkin::{Feature, ReadFault, read_feature, read_hooks, text_of};
 use gk_lint::{
-    EntryHint, Finding, column_at, entry_hint, entry_lines, lint_feature_file, scenarios_of,
+    Cause, EntryHint, Finding, FindingKind, Keyword, StepFault, StepFindings, cause_at, column_at,
+    entry_hint, entry_lines, in_order, lines_without_scenario, lint_feature, lint_feature_file,
+    lint_hook_tags, lint_hooks, lint_library, lint_steps, scenarios_of, tags_that_stand_nowhere,
 };
+use gk_select::read_tags;
 use gk_steps::{LibraryFault, read_library};
 use std::alloc::{AllocError, Global};
+use std::test::Fail;
 
 // Shows findings, a line for each.
 fn shown(alloc: Global, findings: &[Finding]) -> Result<String, AllocError> {
     let mut shown = String::new(alloc);
     for finding in findings {
-        let text = finding.kind.text(alloc)?;
+        let text = FindingKind::text(finding.kind, alloc)?;
         write!(shown, "{}: {text}\n", finding.line)?;
     }
     Ok(shown)
@@ -18,6 +23,13 @@ fn shown(alloc: Global, findings: &[Finding]) -> Result<String, AllocError> {
 // Shows what is found in a feature file, a line for each finding.
 fn found_in(alloc: Global, bytes: &[u8]) -> Result<String, ReadFault> {
     let findings = lint_feature_file(alloc, bytes)?;
+    Ok(shown(alloc, &findings)?)
+}
+
+// The same of the file once it has been read.
+fn found_once_read(alloc: Global, bytes: &[u8]) -> Result<String, ReadFault> {
+    let feature = read_feature(alloc, bytes)?;
+    let findings = lint_feature(alloc, &feature, text_of(bytes)?)?;
     Ok(shown(alloc, &findings)?)
 }
 
@@ -46,6 +58,8 @@ fn what_vanishes_is_found(rt: HostRuntime) -> Result<(), ReadFault> {
     for (bytes, wanted) in FILES {
         let found = found_in(rt.alloc(), bytes)?;
         assert_eq!(rt; found.as_str(), wanted);
+        let found = found_once_read(rt.alloc(), bytes)?;
+        assert_eq!(rt; found.as_str(), wanted);
     }
     Ok(())
 }
@@ -57,6 +71,16 @@ fn columns_are_named(rt: HostRuntime) -> Result<(), ReadFault> {
         let column = column_at(rt.alloc(), &scenarios, 0, 0)?;
         assert_eq!(rt; column, Some("name"));
     }
+    Ok(())
+}
+
+#[test]
+fn causes_are_named(rt: HostRuntime) -> Result<(), AllocError> {
+    let lines = ["Feature: f", "Scenario: s", "Given a lamp", "THEN a lamp"];
+    let cause = cause_at(rt.alloc(), &lines, 3)?;
+    assert_eq!(rt; cause, Some(Cause::OtherCase(Keyword::Then)));
+    let text = Cause::text(Cause::OtherCase(Keyword::Then), rt.alloc())?;
+    assert_eq!(rt; text.as_str(), "upper and lower case count: write Then");
     Ok(())
 }
 
@@ -81,5 +105,177 @@ fn entries_are_meant(rt: HostRuntime) -> Result<(), LibraryFault> {
     assert_eq!(rt; lines.len(), 2);
     assert_eq!(rt; lines.first().copied(), Some(2));
     assert_eq!(rt; lines.get(1).copied(), Some(3));
+    Ok(())
+}
+
+// Keywords, as each is written, and as it has to be spelt.
+const KEYWORDS: [(Keyword, &str, &str); 15] = [
+    (Keyword::Feature, "Feature", "Feature:"),
+    (Keyword::Rule, "Rule", "Rule:"),
+    (Keyword::Background, "Background", "Background:"),
+    (
+        Keyword::ScenarioOutline,
+        "Scenario Outline",
+        "Scenario Outline:",
+    ),
+    (
+        Keyword::ScenarioTemplate,
+        "Scenario Template",
+        "Scenario Template:",
+    ),
+    (Keyword::Scenarios, "Scenarios", "Scenarios:"),
+    (Keyword::Scenario, "Scenario", "Scenario:"),
+    (Keyword::Examples, "Examples", "Examples:"),
+    (Keyword::Example, "Example", "Example:"),
+    (Keyword::Given, "Given", "Given"),
+    (Keyword::When, "When", "When"),
+    (Keyword::Then, "Then", "Then"),
+    (Keyword::And, "And", "And"),
+    (Keyword::But, "But", "But"),
+    (Keyword::Star, "*", "*"),
+];
+
+#[test]
+fn keywords_are_spelt(rt: HostRuntime) {
+    for (keyword, text, spelling) in KEYWORDS {
+        assert_eq!(rt; Keyword::text(keyword), text);
+        assert_eq!(rt; keyword.spelling(), spelling);
+    }
+}
+
+// What is wrong with steps, and how each is called.
+const STEP_FAULTS: [(StepFault, &str); 8] = [
+    (StepFault::Undefined, "undefined step"),
+    (StepFault::CleanupWithoutStep, "cleanup without step"),
+    (StepFault::NotAllowed, "action that isn't allowed here"),
+    (
+        StepFault::NoText,
+        "step without the text that its action needs",
+    ),
+    (
+        StepFault::NoTable,
+        "step without the table that its action needs",
+    ),
+    (StepFault::BadTable, "table that isn't one of name and text"),
+    (StepFault::IgnoredText, "doc string that is ignored"),
+    (StepFault::IgnoredTable, "table that is ignored"),
+];
+
+#[test]
+fn faults_of_steps_have_texts(rt: HostRuntime) {
+    for (fault, text) in STEP_FAULTS {
+        assert_eq!(rt; StepFault::text(fault), text);
+    }
+}
+
+// Findings, of which two are at one line.
+const UNORDERED: [Finding; 4] = [
+    Finding {
+        line: 5,
+        kind: FindingKind::NameTwice,
+    },
+    Finding {
+        line: 3,
+        kind: FindingKind::UnusedEntry,
+    },
+    Finding {
+        line: 5,
+        kind: FindingKind::ScenarioWithoutSteps,
+    },
+    Finding {
+        line: 1,
+        kind: FindingKind::FileWithoutFeature,
+    },
+];
+
+#[test]
+fn findings_are_put_in_order(rt: HostRuntime) -> Result<(), AllocError> {
+    let mut findings = Vec::new(rt.alloc());
+    findings.extend_from_slice(&UNORDERED)?;
+    let ordered = in_order(findings)?;
+    let shown = shown(rt.alloc(), &ordered)?;
+    assert_eq!(rt;
+        shown.as_str(),
+        "1: file without feature\n3: entry that no step finds\n5: scenario with the name of one before it\n5: scenario without steps\n"
+    );
+    Ok(())
+}
+
+// The suite of the guide's page on linting: its library, its hooks and its feature.
+const WICK_STEPS: &str =
+    "step the wick \"{name}\" is trimmed => write_file\nstep the wick \"{name}\" is put out => remove_file\nstep the night is over => skip_scenario\nthen the wick \"{name}\" should be gone => file_absent\n";
+
+const WICK_HOOKS: &str =
+    "before_tag @quick:\n  Given the wick \"night\" is put out\n\nafter_scenario:\n  Then the night is over\n";
+
+const WICK: &str =
+    "Feature: A wick\n  Scenario: It is trimmed\n    Given the wick \"hall\" is trimmed\n    When the wick \"hall\" is lit\n\n  Scenario Outline: It smokes <often>\n    Given the wick \"hall\" is put out\n";
+
+// Shows what was found of steps, and the entries that they use.
+fn shown_steps(alloc: Global, found: &StepFindings) -> Result<String, AllocError> {
+    let findings = shown(alloc, &found.findings)?;
+    format!(in alloc; "{findings}{:?}", found.used)
+}
+
+#[test]
+fn steps_are_linted(rt: HostRuntime) -> Result<(), Fail> {
+    let library = read_library(rt.alloc(), WICK_STEPS.as_bytes())?;
+    let feature = feature_of(rt.alloc(), WICK)?;
+    let found = lint_steps(rt.alloc(), &library, &feature)?;
+    assert_eq!(rt;
+        shown_steps(rt.alloc(), &found)?.as_str(),
+        "3: step without the text that its action needs\n4: undefined step\n[0]"
+    );
+    let hooks = read_hooks(rt.alloc(), WICK_HOOKS.as_bytes())?;
+    let found = lint_hooks(rt.alloc(), &library, &hooks)?;
+    assert_eq!(rt;
+        shown_steps(rt.alloc(), &found)?.as_str(),
+        "5: action that isn't allowed here\n[1, 2]"
+    );
+    Ok(())
+}
+
+#[test]
+fn unused_entries_are_found(rt: HostRuntime) -> Result<(), AllocError> {
+    let text = "given a => pass\n\n# b\nstep c => pass\nstep d => pass\n";
+    let findings = lint_library(rt.alloc(), text, &[1, 1])?;
+    let shown = shown(rt.alloc(), &findings)?;
+    assert_eq!(rt;
+        shown.as_str(),
+        "1: entry that no step finds\n5: entry that no step finds\n"
+    );
+    Ok(())
+}
+
+// A feature with tags at each place, a rule and an outline.
+const TAGGED: &str =
+    "@f\nFeature: f\n  @s\n  Scenario: s\n    Given a\n  @r\n  Rule: r\n    @o\n    Scenario Outline: o\n      Given <x>\n      @e\n      Examples:\n        | x |\n        | 1 |\n";
+
+// That feature alone.
+fn tagged(alloc: Global) -> Result<Vec<Feature>, Fail> {
+    let mut features = Vec::new(alloc);
+    features.push(feature_of(alloc, TAGGED)?)?;
+    Ok(features)
+}
+
+#[test]
+fn tags_and_lines_that_choose_nothing_are_found(rt: HostRuntime) -> Result<(), Fail> {
+    let features = tagged(rt.alloc())?;
+    let lines = lines_without_scenario(rt.alloc(), &[14, 9, 4, 3, 9], &features)?;
+    let shown_lines = format!(in rt.alloc(); "{lines:?}")?;
+    assert_eq!(rt; shown_lines.as_str(), "[9, 3, 9]");
+    let mut rules = Vec::new(rt.alloc());
+    rules.push(read_tags(rt.alloc(), "@f and not @y or @s")?)?;
+    rules.push(read_tags(rt.alloc(), "~@r,@z,@o,@y,@e")?)?;
+    let tags = tags_that_stand_nowhere(rt.alloc(), &rules, &features)?;
+    let shown_tags = format!(in rt.alloc(); "{tags:?}")?;
+    assert_eq!(rt; shown_tags.as_str(), "[\"@y\", \"@z\", \"@y\"]");
+    let text = b"before_tag @e:\nafter_tag @y:\nbefore_all:\nbefore_tag @r:\n";
+    let hooks = read_hooks(rt.alloc(), text)?;
+    let findings = lint_hook_tags(rt.alloc(), &hooks, &features)?;
+    assert_eq!(rt;
+        shown(rt.alloc(), &findings)?.as_str(),
+        "2: hook for a tag that stands nowhere\n"
+    );
     Ok(())
 }

@@ -68,13 +68,15 @@ fn values_say_why_one_is_not_deleted(rt: HostRuntime) -> Result<(), WorldFault> 
     let mut values = Values::new(rt.alloc());
     let name = String::from_str(rt.alloc(), "n")?;
     let text = String::from_str(rt.alloc(), "5")?;
-    values.apply(ValueChange::Set(1, name, text))?;
+    let undo = values.apply(ValueChange::Set(1, name, text))?;
     assert_eq!(rt; Values::get(&values, 2, "n"), Some("5"));
     assert_eq!(rt; Values::get(&values, 0, "n"), None);
     assert_eq!(rt; values.delete_refusal(1, "n"), None);
     assert_eq!(rt; values.delete_refusal(2, "n"), Some(WorldFault::OtherLayer));
     assert_eq!(rt; values.delete_refusal(2, "m"), Some(WorldFault::Absent));
     assert_eq!(rt; values.delete_refusal(1, ""), Some(WorldFault::BadName));
+    values.undo(undo);
+    assert_eq!(rt; Values::get(&values, 2, "n"), None);
     Ok(())
 }
 

@@ -1,4 +1,4 @@
-use Rattle.gk_run.specs.Run.{run_of}
+use Rattle.gk_run.specs.OpenSection.{run_of}
 use Rattle.std.proofs.Common.{map}
 use Rattle.gk_run.specs.Chosen.{chosen_value}
 use Rattle.gk_cli.specs.Writing.{device_of}

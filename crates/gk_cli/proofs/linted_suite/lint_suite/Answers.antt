@@ -9,5 +9,5 @@ returns-in-Ok-clause-fault g c =
     let old = device_of g.W.Write.contents c.args.out.now in
     let new = device_of g.W.Write.contents c.write_piece.new.out in
     let stopped = rw (c.as_str.ensures.value) at c.in-Err-write_piece.ensures.err in
-    part_of_lint (request_of_files c.args.options.now (suite_value g.S.FeatureSource.value c.args.files.now)) (library_name (suite_value g.S.FeatureSource.value c.args.files.now)) (hooks_name (suite_value g.S.FeatureSource.value c.args.files.now)) old new (string_bytes c.in-Ok.text) c.in-Err-write_piece.fault
+    part_of_lint c.args.steps (request_of_files c.args.options.now (suite_value g.S.FeatureSource.value c.args.files.now)) (library_name (suite_value g.S.FeatureSource.value c.args.files.now)) (hooks_name (suite_value g.S.FeatureSource.value c.args.files.now)) old new (string_bytes c.in-Ok.text) c.in-Err-write_piece.fault
     c.in-Err-write_piece.ensures.only c.in-Ok.ensures.linted stopped

@@ -1,11 +1,12 @@
-use Rattle.std.proofs.Common.{map, subst, string_bytes}
+use Rattle.std.proofs.Common.{map, ap, sym, ◌∙◌, subst}
 use Rattle.gk_gherkin.specs.Hooks.{hooks_value}
 use Rattle.gk_select.specs.Choice.{is_chosen}
 use Rattle.gk_select.specs.TagRules.{tag_rule_value}
 use Rattle.gk_steps.specs.Finding.{library_value}
-use Rattle.gk_cli.specs.SuiteFiles.{suite_value, request_of_files}
-use Rattle.gk_cli.specs.LintedSources.{AreLinted}
-use Rattle.gk_cli.specs.LintedSuite.{read_of}
+use Rattle.gk_cli.specs.FindingLines.{NotedLibraryValue, noted_library_value}
+use Rattle.gk_cli.specs.Inputs.{IsLibrary}
+use Rattle.gk_cli.specs.SuiteFiles.{bytes_of, library_name, suite_value, request_of_files}
+use Rattle.gk_cli.specs.LintedSuite.{noted_library, read_of}
 use Rattle.gk_cli.proofs.InputsLemmas.{sources_unread}
 use Rattle.gk_cli.proofs.linted_suite.read_and_lint.Goals as goal
 
@@ -13,14 +14,17 @@ pub returns-in-Ok-lint_sources-clause-linted : goal.returns-in-Ok-lint_sources-c
 returns-in-Ok-lint_sources-clause-linted g c =
     let read = rw (c.bytes_of-library.ensures, c.bytes_of-hooks.ensures) at c.in-Ok.ensures.read in
     let lint = rw (c.as_slice.ensures.value) at c.in-Ok-lint_sources.ensures.linted in
+    let files = suite_value g.S.FeatureSource.value c.args.files.now in
+    let entries = ap (λ (noted : NotedLibraryValue). noted.entries) c.in_ok-noted.ensures in
     record {
       tags = read.tags;
-      read = read_of c.in-Ok.before c.in-Ok-lint_sources.so_far;
-      library = read.library;
+      read = read_of (noted_library_value c.in_ok-noted.noted) c.in-Ok.before c.in-Ok-lint_sources.so_far;
+      library = subst (λ e. IsLibrary (bytes_of files.library) e) (sym entries) read.library;
+      noted = c.in_ok-noted.ensures ∙ ap (λ e. noted_library c.args.steps (library_name files) (bytes_of files.library) e) (sym entries);
       hooks = read.hooks;
       readings = lint.readings;
       features = lint.features;
-      sources = subst (λ noted. AreLinted noted (map g.S.FeatureSource.value c.args.files.now.sources.items) lint.readings (string_bytes c.in-Ok-lint_sources.so_far.text)) c.in_ok-noted.ensures lint.linted;
+      sources = lint.linted;
       whole = c.in_ok-whole_text-in-Ok-lint_sources.ensures;
     }
 

@@ -36,14 +36,14 @@ returns-in-Explanation-clause-left g c =
 
 pub returns-in-Findings-clause-written : goal.returns-in-Findings-clause-written
 returns-in-Findings-clause-written g c =
-    in_mode c.args.mode Findings (suite_value g.S.FeatureSource.value c.args.files.now) (request_of_files c.args.options.now (suite_value g.S.FeatureSource.value c.args.files.now)) c.args.sandbox.now.now (device_of g.W.Write.contents c.args.out.now) (device_of g.W.Write.contents c.lint_suite.new.out) c.lint_suite.result c.in-Findings.is
+    in_mode c.args.mode (Findings c.in-Findings.steps) (suite_value g.S.FeatureSource.value c.args.files.now) (request_of_files c.args.options.now (suite_value g.S.FeatureSource.value c.args.files.now)) c.args.sandbox.now.now (device_of g.W.Write.contents c.args.out.now) (device_of g.W.Write.contents c.lint_suite.new.out) c.lint_suite.result c.in-Findings.is
     c.lint_suite.ensures.linted
 
 pub returns-in-Findings-clause-fault : goal.returns-in-Findings-clause-fault
 returns-in-Findings-clause-fault g c =
-    fault_in_mode c.args.mode Findings (suite_value g.S.FeatureSource.value c.args.files.now) (request_of_files c.args.options.now (suite_value g.S.FeatureSource.value c.args.files.now)) c.args.sandbox.now.now (device_of g.W.Write.contents c.args.out.now) (device_of g.W.Write.contents c.lint_suite.new.out) c.lint_suite.result c.in-Findings.is
+    fault_in_mode c.args.mode (Findings c.in-Findings.steps) (suite_value g.S.FeatureSource.value c.args.files.now) (request_of_files c.args.options.now (suite_value g.S.FeatureSource.value c.args.files.now)) c.args.sandbox.now.now (device_of g.W.Write.contents c.args.out.now) (device_of g.W.Write.contents c.lint_suite.new.out) c.lint_suite.result c.in-Findings.is
     c.lint_suite.ensures.fault
 
 pub returns-in-Findings-clause-left : goal.returns-in-Findings-clause-left
 returns-in-Findings-clause-left g c =
-    left_in_mode c.args.mode Findings c.lint_suite.result (suite_value g.S.FeatureSource.value c.args.files.now) (suite_value g.S.FeatureSource.value c.args.files.now) c.in-Findings.is refl
+    left_in_mode c.args.mode (Findings c.in-Findings.steps) c.lint_suite.result (suite_value g.S.FeatureSource.value c.args.files.now) (suite_value g.S.FeatureSource.value c.args.files.now) c.in-Findings.is refl

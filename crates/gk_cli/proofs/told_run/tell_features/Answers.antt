@@ -2,9 +2,9 @@ use Rattle.std.proofs.Common.{◌≡◌, ◌∷◌, [], ◌++◌, ◌∙◌, Boo
 use Rattle.std.specs.List.{AllByRecursion}
 use Rattle.std.specs.Vec.Iter.{into_iter_items}
 use Rattle.gk_world.specs.State.{State, state_of}
-use Rattle.gk_run.specs.Run.{run_of}
+use Rattle.gk_run.specs.OpenSection.{run_of}
 use Rattle.gk_run.specs.Chosen.{ChosenValue, chosen_value, IsFormed}
-use Rattle.gk_run.specs.Cases.{stays_open_by}
+use Rattle.gk_run.specs.Running.{stays_open_by}
 use Rattle.gk_run.specs.Features.{IsFeatureResult}
 use Rattle.gk_run.specs.OpenRun.{AreFeatures, SuiteValue, opens_features}
 use Rattle.gk_cli.specs.Writing.{device_of}

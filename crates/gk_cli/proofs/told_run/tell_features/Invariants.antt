@@ -3,7 +3,7 @@ use Rattle.std.specs.List.{AllByRecursion}
 use Rattle.std.specs.Vec.Iter.{into_iter_items, into_iter_len}
 use Rattle.gk_world.specs.State.{state_of}
 use Rattle.gk_world.specs.Sandbox.{IsSame}
-use Rattle.gk_run.specs.Run.{run_of}
+use Rattle.gk_run.specs.OpenSection.{run_of}
 use Rattle.gk_run.specs.Chosen.{chosen_value, IsFormed}
 use Rattle.gk_run.specs.OpenRun.{IsKept, opens_features}
 use Rattle.gk_cli.specs.Writing.{device_of}

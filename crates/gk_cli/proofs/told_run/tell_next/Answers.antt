@@ -4,7 +4,7 @@ use Rattle.gk_run.specs.OpenRun.{opens_features}
 use Rattle.gk_run.specs.Chosen.{chosen_value}
 use Rattle.gk_run.specs.Features.{IsFeatureResult}
 use Rattle.gk_run.specs.Results.{feature_row}
-use Rattle.gk_run.specs.Run.{run_of}
+use Rattle.gk_run.specs.OpenSection.{run_of}
 use Rattle.gk_cli.specs.Writing.{device_of}
 use Rattle.gk_cli.specs.ToldRun.{TellsFeature}
 use Rattle.gk_cli.proofs.ResultLemmas.{on_both, if_err}

@@ -1,7 +1,7 @@
 use Rattle.std.specs.List.{FoldsTo}
 use Rattle.std.proofs.Common.{Bool, ap, map, rules, subst, sym, ◌∙◌}
 use Rattle.gk_world.specs.State.{state_of}
-use Rattle.gk_run.specs.Run.{run_of}
+use Rattle.gk_run.specs.OpenSection.{run_of}
 use Rattle.gk_run.specs.Chosen.{chosen_value}
 use Rattle.gk_run.specs.OpenRun.{AreFeatures, IsFinishTold, SuiteValue, opens_features}
 use Rattle.gk_cli.specs.declared.told_run.Told.{Told}

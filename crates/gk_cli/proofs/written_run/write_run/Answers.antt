@@ -1,5 +1,5 @@
 use Rattle.std.proofs.Common.{Bool, false, ap, map, rules, sym, subst, ◌∙◌}
-use Rattle.gk_run.specs.Run.{Run}
+use Rattle.gk_run.specs.OpenSection.{Run}
 use Rattle.gk_run.specs.Chosen.{chosen_value}
 use Rattle.gk_cli.specs.Inputs.{inputs_value}
 use Rattle.gk_cli.specs.Suite.{run_by}

@@ -1,14 +1,14 @@
 use Rattle.std.proofs.Common.{◌≡◌, ◌+◌, ◌++◌, length, drop}
 use Rattle.std.specs.Str.Lines.{lines}
 use Rattle.gk_gherkin.specs.Lines.{numbered_from}
-use Rattle.gk_lint.specs.Misspelt.{misspelt}
+use Rattle.gk_lint.specs.Misspelt.{worded}
 use Rattle.gk_lint.specs.declared.line_context.LineContext.TheVariants.{Elsewhere}
-use Rattle.gk_lint.proofs.misspelt.add_misspelt.Given as goal
+use Rattle.gk_lint.proofs.misspelt.worded.Given as goal
 
 abbrev pub invariant-loop-part : goal.invariant-loop-part
 invariant-loop-part l =
     let left = numbered_from l.number (drop (length l.yielded) (lines l.text)) in
     record {
-      so_far : l.findings.items ++ misspelt l.context left ≡ l.fn.findings.items ++ misspelt Elsewhere (numbered_from 1 (lines l.text));
+      so_far : l.all.items ++ worded l.context left ≡ worded Elsewhere (numbered_from 1 (lines l.text));
       counted : l.number ≡ 1 + length l.yielded;
     }

@@ -1,13 +1,14 @@
-use Rattle.std.proofs.Common.{◌≡◌, ℕ, ◌++◌, List, length, sym, ap, ◌∙◌, arith}
+use Rattle.std.proofs.Common.{◌≡◌, ℕ, [], ◌∷◌, ◌++◌, List, length, sym, ap, ◌∙◌, arith}
 use Rattle.std.proofs.lemmas.Iterator.Splits.{YieldsList-from_lines}
 use Rattle.std.proofs.lemmas.Iterator.Consumers.{YieldsList-turn, YieldsList-end}
 use Rattle.std.proofs.lemmas.List.{length_push}
 use Rattle.std.specs.Str.Lines.{lines}
 use Rattle.gk_gherkin.specs.Lines.{LineValue, line_at}
 use Rattle.gk_lint.specs.LineContext.{after}
-use Rattle.gk_lint.specs.Misspelt.{misspelt_at}
+use Rattle.gk_lint.specs.Misspelt.{wording}
+use Rattle.gk_lint.specs.declared.misspelt.WordedLine.{WordedLine}
 use Rattle.gk_lint.proofs.MisspeltLoop.{one_line, no_line}
-use Rattle.gk_lint.proofs.misspelt.add_misspelt.Goals as goal
+use Rattle.gk_lint.proofs.misspelt.worded.Goals as goal
 
 pub loop-part-preserved : goal.loop-part-preserved
 loop-part-preserved c =
@@ -15,8 +16,9 @@ loop-part-preserved c =
     let context = c.loop-part.context in
     let turn = YieldsList-turn (YieldsList-from_lines c.args.text.now cc) c.loop-part.yielded _ c.loop-part.yielded_by _ _ _ c.in-Some.is c.next.ensures.steps in
     let line : LineValue = line_at c.loop-part.number c.in-Some.part.now in
-    let found = one_line context all (length c.loop-part.yielded) c.loop-part.number c.in-Some.part.now turn.0 turn.1 c.loop-part.findings.items in
-    let added : c.add_at.new.findings.items ≡ c.loop-part.findings.items ++ misspelt_at context line = c.in_ok-add_at.ensures ∙ ap (λ (l : LineValue). c.loop-part.findings.items ++ misspelt_at context l) c.borrowed_line-line.ensures in
+    let found = one_line context all (length c.loop-part.yielded) c.loop-part.number c.in-Some.part.now turn.0 turn.1 c.loop-part.all.items in
+    let here = c.in_ok-wording.ensures ∙ ap (wording context) c.borrowed_line-line.ensures in
+    let added = c.in_ok-push.ensures.items ∙ ap (λ w. c.loop-part.all.items ++ record { line = c.loop-part.number; wording = w } ∷ []) here in
     let moved : c.after-context.result ≡ after context line = c.after-context.ensures ∙ ap (after context) c.borrowed_line-line.ensures in
     let longer = length_push c.loop-part.yielded c.in-Some.part in
     record {
@@ -27,4 +29,4 @@ loop-part-preserved c =
 pub returns : goal.returns
 returns c =
     let t = YieldsList-end (YieldsList-from_lines c.args.text.now cc) c.loop-part.yielded _ c.loop-part.yielded_by _ _ c.in-None.is c.next.ensures.steps in
-    sym (no_line c.loop-part.context (lines c.args.text.now) (length c.loop-part.yielded) c.loop-part.number c.loop-part.findings.items (omega (arith, t.1))) ∙ c.loop-part.invariant.so_far
+    sym (no_line c.loop-part.context (lines c.args.text.now) (length c.loop-part.yielded) c.loop-part.number c.loop-part.all.items (omega (arith, t.1))) ∙ c.loop-part.invariant.so_far

@@ -1,0 +1,9 @@
+use Rattle.std.proofs.Common.{◌≡◌, ◌++◌, false, drop}
+use Rattle.gk_lint.specs.Misspelt.{IsAbove, of_worded}
+use Rattle.gk_lint.proofs.misspelt.add_of_worded.Given as goal
+
+abbrev pub invariant-loop-index : goal.invariant-loop-index
+invariant-loop-index l = record {
+  so_far : l.findings.items ++ of_worded l.above.plain (drop l.index l.all) ≡ l.fn.findings.items ++ of_worded false l.all;
+  known : IsAbove l.above (drop l.index l.all);
+}
