@@ -20,7 +20,7 @@ ESCAPE = re.compile(r"\\(?:\{(?:(\d+)\.\.)?(\d+)\*([^}]*)\}|x([0-9a-f]{2})|u\{([
 # A line after `$ `, with the lines that backslashes join to it.
 COMMAND = re.compile(r"^\$ ((?:.*\\\n)*.*)\n", re.MULTILINE)
 CHARACTERS = {"\\": b"\\", "t": b"\t", "r": b"\r", "n": b"\n", "s": b" ", "\n": b""}
-FILES = ("gherkin", "text", "python", "ini")  # the kinds of blocks that are files
+FILES = ("gherkin", "text", "python", "ini", "js", "sh", "c")  # the kinds of blocks that are files
 
 
 def parts(page):
@@ -54,8 +54,14 @@ def texts(page, kind):
     return [it.text for it in blocks(page) if (it.kind, it.name) == (kind, "")]
 
 
+def shown(page):
+    """The texts of the files that a page of tests/ shows, by their names."""
+    return {it.name: it.text for it in blocks(driver.read(os.path.join(driver.HOME, "tests", page)).decode()) if it.name}
+
+
 def runs(page):
-    """The console blocks of a page, each with its heading, and the files below that and the headings above it."""
+    """The console blocks of a page, and its sessions of Python, each with its heading, and the files below that and the
+    headings above it."""
     files, names = {}, {}
     for part in parts(page):
         if not isinstance(part, Block):
@@ -64,7 +70,7 @@ def runs(page):
             names = {it: own for it, own in names.items() if it < level} | {level: name}
         elif is_file(part):
             files.setdefault(max(names), {})[part.name] = bytes_of(part)
-        elif part.kind.startswith("console"):
+        elif part.kind.startswith(("console", "pycon")):
             merged = {name: text for level in sorted(files) for name, text in files[level].items()}
             yield names[max(names)], merged, part
         else:

@@ -16,10 +16,9 @@ Row = collections.namedtuple("Row", "keyword line text status")
 Case = collections.namedtuple("Case", "keyword name line status steps")
 
 FAILING = Step("it fails", "failed: fail step")
-# What --lint says of a fault, below its line.
+# What --lint says of a fault, below its line. The unexpected line is the heading of a second feature.
 HINTS = {
-    "unexpected line": "write the keyword exactly, and look at the line above, too: a description ends at the first step, "
-                       "and a step has one block",
+    "unexpected line": "a file has one feature: move this one into another file",
     "bad tag": "write an @ before each tag, and a # before remarks",
     "language not known": "write the keywords in English, and take this comment out",
     "row without closing bar": "close the row with a bar",

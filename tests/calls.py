@@ -1,31 +1,36 @@
 """Looks for a call of each public function of the libraries in the crates of tests.
 
-No proof says that a call succeeds if memory is ample. So a test calls each public function: one
-that the root of a library crate exports, or a public method of a type that it exports. This only
-reads the sources. A function is one check, which fails if no crate of tests calls it, or if one
-calls it though it is listed below as not called yet.
+No proof says that a call succeeds if memory is ample. So a test calls each public function with
+ample memory, and compares what it returns: one that the root of a library crate exports, a public
+method of a type that it exports, or a method of a trait of TRAITS for such a type. This only reads
+the sources. A function is one check, which fails if no crate of tests calls it, or if one calls it
+though it is listed below as not called yet. `tests/calls.py` prints the table: which files call
+which function.
+
+The functions of gk_program are called by the program and gk_c, which other tests run.
 
 Laws aren't looked for: functions that return nothing and change nothing. A method is called by its
-name after a dot, or by its type. Only a call by the type counts if several types have a method of
-that name, or the standard library has one.
+name after a dot, or by its type. Only a call by the type, or after a variable with the type's name,
+counts if several types have a method of that name, or the standard library has one.
 """
 import collections
-import os
 import re
 
-HOME = os.path.dirname(os.path.dirname(os.path.abspath(__file__)))
-LIBRARIES = ("gk_gherkin gk_select gk_steps gk_lint gk_world gk_run gk_report gk_explain "
-             "gk_cli").split()
+import driver
+import shape
+
 TESTS = "gk_tests gk_cli_tests gk_refusals".split()
+# The libraries, each with the crates that have to call its functions.
+CALLERS = dict.fromkeys("gk_gherkin gk_select gk_steps gk_lint gk_world gk_run gk_report gk_explain gk_cli".split(), TESTS)
+CALLERS["gk_program"] = ["gherkin_run", "gk_c"]
+# Traits whose methods take memory.
+TRAITS = {"Reversible"}
 # Methods of the standard library, too.
 COMMON = {"get", "len", "new", "next"}
 # Functions that only their own crate can call, as it doesn't export a type that they take.
 INNER = {"gk_select: TagRule::of_words"}
 # Functions that no test calls yet; stored runs go through most of them.
 UNCALLED = {
-    "gk_lint": "lint_feature FindingKind::text in_order Keyword::text Keyword::spelling "
-        "lint_library tags_that_stand_nowhere lines_without_scenario StepFault::text "
-        "lint_hook_tags lint_steps lint_hooks".split(),
     "gk_run": "is_bad dry_feature status_of reason_of Suite::start Suite::start_watched "
         "Suite::feature Suite::feature_watched Suite::finish Suite::finish_watched "
         "run_case_watched".split(),
@@ -35,31 +40,21 @@ UNCALLED = {
         "Explainer::end_feature Explainer::end_run Explainer::take_ready "
         "Explainer::into_failures push_shown push_entry type_word".split(),
 }
-
 Function = collections.namedtuple("Function", "crate type name")
 
 FUNCTION = re.compile(r"pub fn (\w+)(?:<[^(]*>)?\(([^)]*)\)(\s*->)?")
 BLOCK = re.compile(r"^impl(?:<[^{]*?>)? (\w+)(?:<[^{]*>)? \{(.*?)^\}", re.DOTALL | re.MULTILINE)
+TRAIT_BLOCK = re.compile(r"^impl(?:<[^{]*?>)? (\w+) for (\w+)(?:<[^{]*>)? \{(.*?)^\}", re.DOTALL | re.MULTILINE)
+METHOD = re.compile(r"^    fn (\w+)", re.MULTILINE)
 EXPORT = re.compile(r"^pub use [\w:]*?(?:(\w+)|\{([^}]*)\});", re.MULTILINE)
 MODULE = re.compile(r"^pub mod (\w+);", re.MULTILINE)
 
 
-def without_literals(text):
-    """A text of code without its comments, and what is in its strings and characters."""
-    return re.sub(r"""//[^\n]*|"(?:\\.|[^"\\])*"|'(?:\\[^']+|\\'|[^'\\])'""", '""', text)
-
-
 def sources(crate):
-    """The code of a crate, by the paths of its files below its folder src/."""
-    top = os.path.join(HOME, "crates", crate, "src")
-    texts = {}
-    for folder, _, names in os.walk(top):
-        for name in names:
-            if name.endswith(".rt"):
-                path = os.path.join(folder, name)
-                with open(path, encoding="utf-8") as file:
-                    texts[os.path.relpath(path, top)] = without_literals(file.read())
-    return texts
+    """The code of a crate, without its comments and what is in its strings, by the paths of its files below its folder src/."""
+    top = f"crates/{crate}/src/"
+    return {it.removeprefix(top): "\n".join(map(shape.without_literals, shape.lines_of(it)))
+            for it in shape.sources(".rt") if it.startswith(top)}
 
 
 def public(text):
@@ -80,38 +75,57 @@ def functions(crate):
             if type_name in exported:
                 for name in public(body):
                     yield Function(crate, type_name, name)
+        for trait, type_name, body in TRAIT_BLOCK.findall(text):
+            if trait in TRAITS and type_name in exported:
+                for name in METHOD.findall(body):
+                    yield Function(crate, type_name, name)
         for name in public(BLOCK.sub("", text)):
             if name in exported or path in modules:
                 yield Function(crate, None, name)
 
 
+def is_called(function, text, shared):
+    """Whether a file calls a function."""
+    name = rf"{function.name}(?:::<[^>]*>)?\("
+    if function.type is None:
+        return bool(has_import(function, text) and re.search(rf"(?<!fn )(?<!\.)\b{name}", text))
+    if re.search(rf"\b(?:{function.type}::|{function.type.lower()}\.){name}", text):
+        return True
+    return function.name not in shared and bool(re.search(rf"\.{name}", text))
+
+
 def has_import(function, text):
-    """Whether a file of tests has a function that is no method from its crate."""
+    """Whether a file has a function that is no method from its crate."""
     imports = " ".join(re.findall(rf"\buse {function.crate}::([^;]*);", text))
     return "*" in imports or function.name in re.findall(r"\w+", imports)
 
 
-def is_called(function, tests, shared):
-    """Whether a function is called in files of tests."""
-    name = rf"{function.name}(?:::<[^>]*>)?\("
-    if function.type is None:
-        return any(has_import(function, it) and re.search(rf"(?<!fn )(?<!\.)\b{name}", it)
-                   for it in tests)
-    if any(re.search(rf"\b{function.type}::{name}", it) for it in tests):
-        return True
-    return function.name not in shared and any(re.search(rf"\.{name}", it) for it in tests)
+def calls():
+    """Each public function that has to be called, with the files that call it."""
+    found = [it for crate in CALLERS for it in functions(crate)]
+    assert {it.crate for it in found} == set(CALLERS), "a library without public functions"
+    counts = collections.Counter(it.name for it in found if it.type)
+    shared = COMMON | {name for name, count in counts.items() if count > 1}
+    texts = {name: sources(name) for names in CALLERS.values() for name in names}
+    for function in found:
+        yield function, [f"{name}/{path}" for name in CALLERS[function.crate] for path, text in texts[name].items()
+                         if is_called(function, text, shared)]
+
+
+def name_of(function):
+    """A function's name, with its crate."""
+    return f"{function.crate}: {'::'.join(filter(None, function[1:]))}"
 
 
 def troubles():
     """For each function what is wrong, or nothing."""
-    found = [it for crate in LIBRARIES for it in functions(crate)]
-    assert {it.crate for it in found} == set(LIBRARIES), "a library without public functions"
-    counts = collections.Counter(it.name for it in found if it.type)
-    shared = COMMON | {name for name, count in counts.items() if count > 1}
-    tests = [text for crate in TESTS for text in sources(crate).values()]
-    for function in found:
-        name = "::".join(filter(None, function[1:]))
-        if f"{function.crate}: {name}" not in INNER:
-            is_listed = name in UNCALLED.get(function.crate, ())
+    for function, files in calls():
+        if name_of(function) not in INNER:
+            is_listed = name_of(function).partition(": ")[2] in UNCALLED.get(function.crate, ())
             said = "a test calls it: drop it from UNCALLED" if is_listed else "no test calls it"
-            yield "" if is_called(function, tests, shared) != is_listed else f"{function.crate}: {name}: {said}"
+            yield "" if bool(files) != is_listed else f"{name_of(function)}: {said}"
+
+
+if __name__ == "__main__":
+    for _function, _files in calls():
+        print(f"{name_of(_function)}: {' '.join(_files)}")

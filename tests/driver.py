@@ -30,6 +30,11 @@ def read(path):
         return file.read()
 
 
+def text(path, home=HOME):
+    """The text of a file of the repository, or of a copy of it."""
+    return read(os.path.join(home, path)).decode()
+
+
 def write(folder, files, mode=None):
     """Writes files, texts or bytes by their names, to a folder, and makes the folders that are missing."""
     os.makedirs(folder, exist_ok=True)
@@ -84,20 +89,6 @@ def feature(*steps, name="f", scenario="s"):
     """The text of a feature with one scenario. A step with a block is several lines."""
     lines = [f"Feature: {name}", f"Scenario: {scenario}", *steps]
     return "\n".join(lines) + "\n"
-
-
-def long_files():
-    """A feature whose part has several pieces, and hooks.
-
-    LONG_RUN leaves out the scenarios that would begin a piece, and the last one of a rule whose own line
-    comes after it."""
-    names = [("@b\n" if number in (3, 4, 8) else "", f"s{number}" + "x" * 6000) for number in range(9)]
-    scenarios = [f"{tags}Scenario: {name}\nGiven it passes\n" for tags, name in names]
-    return {"a.feature": "Feature: f\n" + "".join(scenarios[:4]) + "Rule: r\n" + "".join(scenarios[4:]),
-            "h.hooks": "after_rule:\nGiven it fails\n"}
-
-
-LONG_RUN = ["--no-skipped", "--tags", "~@b", "--hooks", "h.hooks", "a.feature"]
 
 
 # ---- running the program
@@ -182,6 +173,12 @@ def limited(room, **limits):
     """The environment in which that library limits the program."""
     return {**os.environ, **{name: str(limit) for name, limit in limits.items()},
             "LD_PRELOAD": os.path.join(room, "refuse.so")}
+
+
+def processor_time():
+    """The seconds of a processor that ended runs took."""
+    used = resource.getrusage(resource.RUSAGE_CHILDREN)
+    return used.ru_utime + used.ru_stime
 
 
 def processors():

@@ -8,32 +8,25 @@
 # A refusal counts only if a goal of a contract stays open. It doesn't count if the checker met one of its own limits, or
 # if only a proof names what the edit took away.
 #
-# If all edits of a crate were refused, tests/edits/refused notes it, with a sum of all that this depends on: the edits,
-# the sources and proofs of the crate and of the crates below it, this script, and the toolchain. --check tries nothing. It
-# fails for each crate whose note is missing or has another sum, and for each crate that hasn't the number of edits below.
+# tests/edits/numbers has a line for each crate of crates.txt, except those of tests: how many edits are in its must-fail/,
+# and how many in tests/edits/.
+#
+# If all edits of a crate were refused, tests/edits/refused notes it, with a sum of all that this depends on: the edits and
+# their numbers, the sources and proofs of the crate and of the crates below it, this script, and the toolchain. --check
+# tries nothing. It fails for each crate whose note is missing or has another sum, and for each that hasn't its number of
+# edits.
 #
 # Closes with one line 'N passed, M failed'; an edit is one test, with --check a crate.
 set -eu
 
 home=$(dirname -- "$(dirname -- "$(readlink -f -- "$0")")")
 notes=$home/tests/edits/refused
+numbers=$home/tests/edits/numbers
+# The crates that have no edits.
+tests='gk_refusals gk_tests gk_cli_tests'
 
-# Each crate with the number of its edits in must-fail/ and in tests/edits/.
-numbers='
-gk_gherkin 5 4
-gk_select 6 9
-gk_steps 6 13
-gk_lint 5 25
-gk_world 10 7
-gk_run 9 9
-gk_report 5 10
-gk_explain 6 20
-gk_cli 8 19
-gk_program 7 6
-gherkin_run 1 1
-gk_c 5 4
-'
-crates=$(echo "$numbers" | awk 'NF { print $1 }')
+# The crates of crates.txt that have edits.
+crates=$(sed 's/#.*//; s/[ :].*//' "$home/crates.txt" | grep -vxF "$(printf '%s\n' '' $tests)")
 
 # The crate and the crates below it, each with the line of crates.txt that it has.
 with_lower() {
@@ -49,12 +42,20 @@ with_lower() {
     ' "$home/crates.txt" | LC_ALL=C sort
 }
 
+# The line of numbers that a crate should have, by the edits in its folders. It has a number only if both folders have edits.
+row() {
+    for folder in "crates/$1/must-fail" "tests/edits/$1"; do
+        find "$home/$folder" -maxdepth 1 -name '*.edit' 2> /dev/null | wc -l
+    done | awk -v crate="$1" '$1 > 0 { all = all " " $1 } END { print crate all }'
+}
+
 # The line that notes that the edits of a crate were refused, as all that it depends on is now.
 note() {
     (
         cd "$home"
         {
             rt version
+            row "$1"
             with_lower "$1"
             {
                 printf '%s\0' HANDLES tests/edits.sh
@@ -66,24 +67,22 @@ note() {
     )
 }
 
-# How many edits a folder has.
-edits_in() {
-    find "$home/$1" -maxdepth 1 -name '*.edit' 2> /dev/null | wc -l
-}
-
 check() {
     passed=0
     failed=0
-    for folder in "$home"/crates/*/must-fail "$home"/tests/edits/*/; do
-        crate=$(basename "${folder%/must-fail}")
+    for crate in $({
+        awk '{ print $1 }' "$numbers"
+        cd "$home" && ls -d crates/*/must-fail tests/edits/*/ | sed 's|/must-fail$||; s|/$||; s|.*/||'
+    } | LC_ALL=C sort -u); do
         if ! echo "$crates" | grep -qxF "$crate"; then
-            echo "edits: tests/edits.sh has no number for the edits of $crate"
+            echo "edits: $crate has edits or a number of them, and is no crate that should have any"
             failed=$((failed + 1))
         fi
     done
     for crate in $crates; do
-        if ! echo "$numbers" | grep -qxF "$crate $(edits_in "crates/$crate/must-fail") $(edits_in "tests/edits/$crate")"; then
-            echo "edits: $crate has another number of edits than tests/edits.sh says"
+        expected=$(grep "^$crate " "$numbers" || true)
+        if [ "$expected" != "$(row "$crate")" ] || [ "$(echo "$expected" | wc -w)" -ne 3 ]; then
+            echo "edits: $crate has another number of edits than tests/edits/numbers says"
             failed=$((failed + 1))
         elif ! grep -qxF "$(note "$crate")" "$notes" 2> /dev/null; then
             echo "edits: $crate, or what it depends on, was changed since its edits were tried: tests/edits.sh $crate tries them"
@@ -128,7 +127,7 @@ there=0
 touch "$notes"
 for crate do
     refused=$(grep "must-fail $crate/.*: refused, as it must be" "$room/said" | grep -vc ': refused, as it must be (only ' || true)
-    edits=$(edits_in "tests/edits/$crate")
+    edits=$(find "$home/tests/edits/$crate" -maxdepth 1 -name '*.edit' | wc -l)
     passed=$((passed + refused))
     there=$((there + edits))
     [ "$refused" -eq "$edits" ] || continue

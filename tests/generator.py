@@ -9,6 +9,7 @@ import os
 import random
 import re
 
+import blocks
 import driver
 
 TAGS = ["@a", "@b", "@c"]
@@ -25,26 +26,8 @@ SECTIONS = ["all", "feature", "rule", "scenario"]
 
 # The built-in library, and one that a suite may have.
 DEFAULT = driver.read(os.path.join(driver.EXAMPLES, "default.steps")).decode()
-LIBRARY = """given put {name} as {text} => write_file
-step put {name} as {text} => write_file
-step put {text} on {name} => append_file
-step put {name} => write_file
-when drop {name} => remove_file
-step see {name} as {text} => file_is
-then see {name} => file_exists
-step no {name} => file_absent
-given count {name} {n:d} => set_number
-step more {name} {n:d} => add_number
-then count {name} {n:d} => number_is
-step keep {name} {text} => set_value
-step held {name} {text} => value_is
-when lose {name} => delete_value
-step files => write_files
-step later {step} => at_cleanup
-step leave => skip_scenario
-step ok => pass
-when bad => fail
-"""
+SHOWN = {it.name: blocks.bytes_of(it).decode() for it in blocks.blocks(driver.read(os.path.join(driver.HOME, "tests", "random.md")).decode())}
+LIBRARY = SHOWN["own.steps"]
 
 
 def entries(library):
@@ -82,21 +65,7 @@ Suite = collections.namedtuple("Suite", "features hooks library options texts ch
 # beginnings and middles of longer characters.
 BYTES = b'\x00\xff\n\r\t :#@*|"`\\<>{}=~,\xc3\xa9\xef\x80'
 # Lines of each kind of file.
-LINES = {kind: text.replace(";\n", ";").split(";") for kind, text in {
-    ".feature": r'''Feature: a;Feature:;Rule: r;Background:;Scenario: s;Example:;Scenario Outline: o <a>;
-Scenario Template: t;Examples: e;Scenarios:;Given it passes;When it fails;Then the number "n" should be 1;
-And a file named "<a>" with:;* x;But;@t;@a @b #c;@a b;@;# c;# language: en;# language: de;;| a |;| a | b |;
-| \| \n \\ |;| a;|;|| x |;""";```;  """json;\"\"\";text;<a> text;Given these files:;| name | text |;| f | x |; ;''' +
-                "\t;\r;\ufefffeature;\u00e9;",
-    ".steps": '''step it passes => pass;given a {x} => pass;when a {name} is {text} => set_env;
-then {n:d} {name} => number_is;step {{x}} => fail;step {} => pass;step => pass;and a => pass;step a =>;step a } => pass;
-# c;;step {a}{b}{c}{d}x => pass;given {name} => dance;step {name:d} => file_is;step a => b => pass''',
-    ".hooks": '''before_all:;after_all:;before_feature:;after_feature:;before_scenario:;after_scenario:;before_tag @a:;
-after_tag @a:;before_tag @a:b:;before_tag @:;before_all :;before_rule:;after_rule:;before_step:;after_;Given it passes;
-And it fails;When the scenario is skipped;* nothing knows this;Given at cleanup it passes;
-And at cleanup at cleanup it passes;Given a file named "f" with:;""";text;Given these files:;| name | text |;| f | x |;
-# c;@a;Feature: f;stray''',
-}.items()}
+LINES = {it: SHOWN[it].split("\n")[:-1] for it in (".feature", ".steps", ".hooks")}
 
 
 def step_text(table, action, **words):

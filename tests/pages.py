@@ -1,12 +1,37 @@
-"""Tests that are blocks of the pages of tests/recipes/, of python.md and of pytest.md: commands of a shell over the files above them."""
+"""Tests that are blocks of pages: commands of a shell over the files above them, and sessions of Python.
 
+In a `console` block, commands run in a folder with the files. A `pycon` block is a session for the standard library's
+doctest: its names are those of the test's module and of the test itself, and `files`, the files above it by their names.
+Each value that a line has to print is a check.
+"""
+
+import ast
+import builtins
+import collections
+import doctest
+import glob
+import importlib.util
+import json
 import os
 import re
+import resource
+import shlex
+import shutil
+import signal
+import subprocess
+import sys
+import time
+import traceback
+import unittest
 
 import blocks
 import driver
+import tables
 
 TESTS = os.path.join(driver.HOME, "tests")
+# What each session may use.
+MODULES = {it.__name__: it for it in (
+    builtins, collections, glob, importlib, json, os, re, resource, shlex, shutil, signal, subprocess, sys, time, driver, tables)}
 
 
 def lay(folder, files, programs):
@@ -35,10 +60,46 @@ def troubles(folder, block):
                              wanted) or driver.unless(f"{command.decode()} leaves {left}", not left)
 
 
+def values(source):
+    """How many values a line of a session shows."""
+    shown = getattr(ast.parse(source).body[0], "value", None)
+    return len(shown.elts) if isinstance(shown, ast.Tuple) else 1
+
+
+class Session(doctest.DocTestRunner):
+    """Runs a session, and counts a check for each value that a line of it has to print."""
+
+    def __init__(self, checks):
+        super().__init__(verbose=False)
+        self.checks = checks
+
+    def report_success(self, out, test, example, got):
+        self.checks.check_all([""] * values(example.source) if example.want else [])
+
+    def report_failure(self, out, test, example, got):
+        self.checks.check(f"{test.name}: {example.source}prints\n{got}and not\n{example.want}")
+
+    def report_unexpected_exception(self, out, test, example, exc_info):
+        if issubclass(exc_info[0], unittest.SkipTest):
+            raise exc_info[1]
+        self.checks.check(f"{test.name}: {example.source}{''.join(traceback.format_exception(*exc_info))}")
+
+
+def run_session(checks, name, files, text):
+    """Runs a session among the names of a test."""
+    own = {it: getattr(checks, it) for it in set(dir(checks)) - set(dir(unittest.TestCase))}
+    texts = {it: os.fsdecode(text) for it, text in files.items()}
+    names = {**MODULES, **vars(sys.modules[type(checks).__module__]), **own, "files": texts}
+    Session(checks).run(doctest.DocTestParser().get_doctest(text, names, name, None, 0))
+
+
 def tests(*pages, programs=dict):
     """Adds a test for each block of some pages to a class. A function returns the programs that it may call."""
     def test_of(name, files, block):
         def test(self):
+            if block.kind == "pycon":
+                run_session(self, name, files, block.text)
+                return
             folder = os.path.join(self.room, name)
             lay(folder, files, programs())
             self.check_all(troubles(folder, block))

@@ -9,6 +9,7 @@ import signal
 import subprocess
 import tempfile
 
+import blocks
 import driver
 from driver import HOME
 
@@ -21,27 +22,8 @@ COMMANDS = ("awk cat chmod cp cut dirname du find mkdir mktemp mv python3 readli
 # What stays in out/.
 KEPT = {"fits", "lock", "logs", "gherkin_run",
         *(f"gherkin_run.{it}" for it in ("kit", "libraries", "sha256", "sources"))}
-STAND_IN = """#!/bin/sh
-echo "$1 ${PWD##*/}" >> "$CALLS"
-case $1 in
-version)
-    echo a stand-in
-    exit
-    ;;
-esac
-echo "$$" >> "$CALLS.pids"
-[ -z "${STUBBORN:-}" ] || trap '' TERM
-echo "so far: 1 of 2 functions checked"
-printf 'no text: \\377\\n'
-sleep "${SLOW:-0}"
-mkdir -p out
-echo kept > out/work
-[ "$1" = lib ] || printf '#!/bin/sh\\necho built here\\n' > out/gherkin_run
-[ -z "${BROKEN:-}" ] || printf '#!/bin/sh\nexit 1\n' > out/gherkin_run
-[ "$1" = lib ] || chmod +x out/gherkin_run
-[ -z "${KILLED:-}" ] || kill -9 "$$"
-exit "${REFUSED:-0}"
-"""
+# In place of rt, as building.md shows it.
+STAND_IN = blocks.shown("building.md")["rt"]
 
 
 class Clone:
@@ -61,6 +43,10 @@ class Clone:
 
     def path(self, name):
         return os.path.join(self.folder, name)
+
+    def let(self, change):
+        """Changes the permissions of all files of the clone, as chmod does."""
+        subprocess.run(["chmod", "-R", change, self.folder], check=True)
 
     def commands(self, with_rt, **begun):
         """A folder that has the commands that ./run counts on, and the stand-in for rt if it is wanted.
@@ -135,3 +121,11 @@ def as_from_a_terminal():
 def as_nobody():
     """The user to run as where nothing is to be written: permissions bind everybody but root."""
     return NOBODY if os.geteuid() == 0 else None
+
+
+def is_running(pid):
+    """Whether a process is there, and isn't only to be waited for."""
+    try:
+        return b") Z " not in driver.read(f"/proc/{pid}/stat")
+    except OSError:
+        return False

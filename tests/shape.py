@@ -47,14 +47,9 @@ def code():
     return (path for path in sources(".rt") if path.split(os.sep)[2] == "src")
 
 
-def text_of(path):
-    """The text of a file of the repository."""
-    return driver.read(os.path.join(driver.HOME, path)).decode()
-
-
 def lines_of(path):
     """The lines of a file of the repository."""
-    return text_of(path).split("\n")
+    return driver.text(path).split("\n")
 
 
 def without_literals(line):

@@ -1,4 +1,4 @@
-"""The stored runs, as the pages of tests/runs/ show them. tests/runs/README.md describes their form."""
+"""The stored runs, as the pages of tests/runs/ and others show them. tests/runs/README.md describes their form."""
 
 import collections
 import os
@@ -14,12 +14,11 @@ Case = collections.namedtuple("Case", "page name files arguments status stdout s
 REDIRECTION = re.compile(r"(.*) (2?)>(&-| \S+)")
 
 
-def cases():
-    """The stored runs of all pages, in order."""
-    for page in sorted(os.listdir(RUNS)):
-        if page != "README.md":
-            for name, files, block in blocks.runs(driver.read(os.path.join(RUNS, page)).decode()):
-                yield case(page.removesuffix(".md"), name, files, blocks.commands(block))
+def cases(*others):
+    """The runs of all pages of tests/runs/, in order, or those of other pages of tests/."""
+    for page in others or sorted(set(os.listdir(RUNS)) - {"README.md"}):
+        for name, files, block in blocks.runs(driver.read(os.path.join(RUNS, "..", page) if others else os.path.join(RUNS, page)).decode()):
+            yield case(page.removesuffix(".md"), name, files, blocks.commands(block))
 
 
 def case(page, name, files, commands):

@@ -30,30 +30,26 @@ CHANGES = (
 )
 
 
-def read(path, home=driver.HOME):
-    return driver.read(os.path.join(home, path)).decode()
-
-
 def unread():
     """Tables of which tools/tables.py reads other rows than there are."""
     counts = {"options": (OPTIONS, written.OPTION_TABLE, r"OptionRow \{\n +name:"),
               "formats": (FORMATS, written.ARGUMENTS, r"=> Some\(Format::"),
               "steps": (STEPS, written.DEFAULT_FILE, r" => \w+\\n"), "actions": (ACTIONS, written.ACTION_TABLE, r"\n +row!\(")}
     for name, (rows, path, row) in counts.items():
-        count = len(re.findall(row, read(path)))
+        count = len(re.findall(row, driver.text(path)))
         yield f"tools/tables.py reads {len(rows)} of {count} {name}" if len(rows) != count else ""
 
 
 def not_up_to_date():
     for path, text in written.texts().items():
-        yield f"{path} isn't what tools/tables.py --write writes" if text != read(path) else ""
+        yield f"{path} isn't what tools/tables.py --write writes" if text != driver.text(path) else ""
 
 
 def copied(folder):
     """Copies tools/tables.py with all that it reads and writes. Returns how to call the copy."""
     sources = {written.OPTION_TABLE, written.ARGUMENTS, written.ACTION_TABLE, written.DEFAULT_FILE}
     for path in ("tools/tables.py", *sources, *written.texts()):
-        driver.write(folder, {path: read(path)})
+        driver.write(folder, {path: driver.text(path)})
     return lambda option: driver.start(sys.executable, [os.path.join(folder, "tools", "tables.py"), option])
 
 
@@ -63,7 +59,7 @@ def unseen(path, old, new, text, files):
         call = copied(folder)
         if call("--check") != (0, b"", b""):
             return "tools/tables.py --check finds something in a copy without a change"
-        driver.write(folder, {path: read(path).replace(old, new)})
+        driver.write(folder, {path: driver.text(path).replace(old, new)})
         statuses = [call(it)[0] for it in ("--check", "--write", "--check", "--json")]
-        found = [it for it in written.texts() if text in read(it, folder)]
+        found = [it for it in written.texts() if text in driver.text(it, folder)]
     return "" if (statuses, len(found)) == ([1, 0, 0, 0], files) else f"{new!r}: statuses {statuses}, seen in {found}"

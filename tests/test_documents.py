@@ -21,10 +21,6 @@ BUILT = ("out", "__pycache__")
 SOURCES = (".rt", ".antt", ".py", ".sh", ".awk", ".c", ".feature", ".steps", ".edit", ".arguments", ".report", ".status", ".fault")
 
 
-def read(path):
-    return driver.read(os.path.join(HOME, path)).decode()
-
-
 def repository_files():
     """All files of the repository but what is built."""
     found = []
@@ -35,7 +31,7 @@ def repository_files():
 
 
 FILES = repository_files()
-CRATES = [line.split(":")[0].split()[0] for line in read("crates.txt").splitlines() if line.strip()]
+CRATES = [line.split(":")[0].split()[0] for line in driver.text("crates.txt").splitlines() if line.strip()]
 # The crates of tests, whose texts are no faults of the program.
 TESTS = ("crates/gk_tests/", "crates/gk_cli_tests/")
 DOCUMENTS = [it for it in FILES if it.endswith(".md")]
@@ -45,7 +41,7 @@ PAGES = [it for it in DOCUMENTS if "/" not in it or it.startswith("docs/")]
 @functools.cache
 def prose_of(page):
     """A page without its blocks. Their lines are left empty."""
-    return blocks.without_blocks(read(page))
+    return blocks.without_blocks(driver.text(page))
 
 
 # ---- names
@@ -63,18 +59,18 @@ def code_names():
     for path in FILES:
         names.add(os.path.splitext(os.path.basename(path))[0])
         if path.startswith(("include/", "python/", "web/source/")) and path.endswith((".h", ".py", ".js")):
-            names.update(callers.findall(read(path)))
+            names.update(callers.findall(driver.text(path)))
         if not path.startswith("crates/"):
             continue
         if path.endswith((".rt", ".antt")):
-            for literal in re.findall(r'"([^"\n]*)"', read(path)):
+            for literal in re.findall(r'"([^"\n]*)"', driver.text(path)):
                 names.update(re.findall(r"[A-Za-z_][A-Za-z0-9_]*", literal))
         if path.endswith(".rt"):
-            text = read(path)
+            text = driver.text(path)
             for pattern in (rust, clause, ghost, member):
                 names.update(pattern.findall(text))
         elif path.endswith(".antt"):
-            text = read(path)
+            text = driver.text(path)
             for pattern in (spec, header, member):
                 names.update(pattern.findall(text))
             names.add(os.path.basename(path)[:-5])
@@ -109,7 +105,7 @@ def members():
         if not re.fullmatch(r"crates/[^/]+/src/.*\.rt", path):
             continue
         owner = None
-        for line in read(path).split("\n"):
+        for line in driver.text(path).split("\n"):
             opened = re.match(r"\s*(?:pub(?:\([a-z]+\))? )?(?:impl(?:<.*?>)? (?:[A-Za-z:]+(?:<.*?>)? for )?|struct |enum |trait )"
                               r"(?:[a-z_]+::)*([A-Z][A-Za-z0-9_]*)", line)
             if opened and "fn " not in line:
@@ -185,7 +181,7 @@ def clauses_by_function():
         if not (path.startswith("crates/") and path.endswith(".rt")):
             continue
         function = None
-        for line in read(path).split("\n"):
+        for line in driver.text(path).split("\n"):
             declared = re.search(r"\bfn\s+([A-Za-z_][A-Za-z0-9_]*)", line)
             if declared:
                 function = declared.group(1)
@@ -205,7 +201,7 @@ def edit_differences(names, owned):
     """Edits that don't say what they break and what refuses them, and names in them that nothing has."""
     clauses = clauses_by_function()
     for path in EDITS:
-        why, by = read(path).split("\n")[:2]
+        why, by = driver.text(path).split("\n")[:2]
         if not (re.match(r"why: \S", why) and re.match(r"by: \S", by)):
             yield f"{path} doesn't begin with its lines why: and by:"
         for name in re.findall(r"`([A-Za-z0-9_:]+)`", by):
@@ -219,9 +215,9 @@ def edit_differences(names, owned):
 
 def public_functions(crate):
     """The functions that lib.rt of a crate has or exports, and those of the types that it exports."""
-    library = read(f"crates/{crate}/src/lib.rt")
+    library = driver.text(f"crates/{crate}/src/lib.rt")
     exported = set(re.findall(r"\w+", " ".join(re.findall(r"^pub use \w+::([^;]+);", library, re.MULTILINE))))
-    code = "\n".join(read(it) for it in FILES if re.fullmatch(f"crates/{crate}/src/.*[.]rt", it))
+    code = "\n".join(driver.text(it) for it in FILES if re.fullmatch(f"crates/{crate}/src/.*[.]rt", it))
     found = set(re.findall(r'^pub extern "C" fn (\w+)', library, re.MULTILINE))
     found |= exported & set(re.findall(r"^pub fn (\w+)", code, re.MULTILINE))
     for owner, body in re.findall(r"^impl(?:<\S*>)? (\w+)(?:<\S*>)? \{$(.*?)^\}", code, re.MULTILINE | re.DOTALL):
@@ -271,7 +267,7 @@ def unlisted_pages():
     """Pages of runs and of pairs to which the README of their folder doesn't link."""
     for page in DOCUMENTS:
         folder, name = os.path.split(page)
-        if folder in ("tests/runs", "tests/side_by_side") and name != "README.md" and f"]({name})" not in read(f"{folder}/README.md"):
+        if folder in ("tests/runs", "tests/side_by_side") and name != "README.md" and f"]({name})" not in driver.text(f"{folder}/README.md"):
             yield f"{folder}/README.md doesn't link to {name}"
 
 
@@ -279,7 +275,7 @@ def unlisted_pages():
 
 def shown_files(page):
     """The files that a page shows: the line, the name and the text."""
-    for block in blocks.blocks(read(page)):
+    for block in blocks.blocks(driver.text(page)):
         if blocks.is_file(block):
             yield block.line, block.name, block.text
 
@@ -313,7 +309,7 @@ def is_example(name):
 def example_differences(page):
     """Files of examples/ that a page shows otherwise than they are."""
     for number, name, text in shown_files(page):
-        if is_example(name) and (name not in FILES or read(name) != text):
+        if is_example(name) and (name not in FILES or driver.text(name) != text):
             yield number, f"{name} is another file"
 
 
@@ -335,7 +331,7 @@ def run_differences(page, program, room):
     for other in guide_beside(page):
         for _, name, text in shown_files(other):
             lay(folder, name, text)
-    for block in blocks.blocks(read(page)):
+    for block in blocks.blocks(driver.text(page)):
         if blocks.is_file(block):
             lay(folder, block.name, block.text)
         elif block.kind == "console":
@@ -357,7 +353,7 @@ DEFINITION = re.compile(r"(?:\s*(?:(?:abbrev|unfoldable) )+pub |pub (?!mod\b|use
 
 def broken_comments(path):
     """The definitions of a file of specs/ without a comment above them, or with a broken one."""
-    lines = read(path).split("\n")
+    lines = driver.text(path).split("\n")
     for number, line in enumerate(lines):
         found = DEFINITION.match(line)
         if not found:
@@ -419,7 +415,7 @@ def fault_texts():
     for path in FILES:
         if not re.fullmatch(r"crates/[^/]+/src/.*\.rt", path) or path.startswith(TESTS) or path == HINTS:
             continue
-        code = re.sub(r"//.*", "", read(path)).replace('\\n"', '"')
+        code = re.sub(r"//.*", "", driver.text(path)).replace('\\n"', '"')
         for pattern in (r'#\[error\("([^"{}]+)"\)\]', r'write_str\("([^"{}]+)"\)', r'=>\s*"([^"{}]+)"',
                         r'"gherkin_run: (?:\{name\}: )?([^"{}]+)"'):
             texts.update(it.removeprefix("gherkin_run: ") for it in re.findall(pattern, code))
@@ -436,7 +432,7 @@ REASONS_OF_ONE_WORD = {"absent", "present", "differs"}
 
 def fault_differences():
     """Texts of the code without an entry in docs/FAULTS.md, and entries for texts that the code lacks."""
-    headings, texts = re.findall(r"^### `.*", read("docs/FAULTS.md"), re.MULTILINE), fault_texts()
+    headings, texts = re.findall(r"^### `.*", driver.text("docs/FAULTS.md"), re.MULTILINE), fault_texts()
     listed = set(re.findall(r"`([^`]+)`", " ".join(headings)))
     for text in sorted(texts - listed):
         yield f"docs/FAULTS.md has no entry for `{text}`"
@@ -446,8 +442,8 @@ def fault_differences():
 
 def hint_differences():
     """Hints of the code that begin no fix of docs/FAULTS.md."""
-    page = re.sub(r"\[([^]]*)\]\([^)]*\)", r"\1", read("docs/FAULTS.md")).replace("`", "").replace("\n", " ")
-    for hint in re.findall(r'"([^"]+)"', re.sub(r"//.*", "", read(HINTS)).replace("\\\\", "\\")):
+    page = re.sub(r"\[([^]]*)\]\([^)]*\)", r"\1", driver.text("docs/FAULTS.md")).replace("`", "").replace("\n", " ")
+    for hint in re.findall(r'"([^"]+)"', re.sub(r"//.*", "", driver.text(HINTS)).replace("\\\\", "\\")):
         if f"**Fix:** {hint}" not in page:
             yield f"docs/FAULTS.md has no fix that begins with `{hint}`"
 
@@ -462,7 +458,7 @@ def picture_differences(program):
     """Pictures that are missing, or that their scripts draw in another way."""
     for name, script in PICTURES.items():
         drawn = subprocess.run([sys.executable, os.path.join(HOME, script), program], stdout=subprocess.PIPE, text=True, check=True).stdout
-        if drawn != read(f"docs/pictures/{name}"):
+        if drawn != driver.text(f"docs/pictures/{name}"):
             yield f"docs/pictures/{name} isn't what {script} draws"
 
 
@@ -474,7 +470,7 @@ def counted_words():
     for path in FILES:
         if not path.endswith((".md", ".rt", ".antt", ".sh", ".py", ".awk", ".c")) or path == "tests/test_documents.py":
             continue
-        for number, line in enumerate(read(path).split("\n"), 1):
+        for number, line in enumerate(driver.text(path).split("\n"), 1):
             # A name in code style is the code's own.
             line = re.sub(r"`[^`]*`|TODO\([^)]*\)", "", line)
             if not WORDS.search(line):
@@ -530,9 +526,9 @@ class Documents(Checks):
     def test_prose(self):
         """README.md is short, and the pages for users are easy to read."""
         for page in sorted({*MAIN, *READMES}):
-            self.check_lines("prose of", page, prose.hard_to_read(page, read(page), prose_of(page)))
+            self.check_lines("prose of", page, prose.hard_to_read(page, driver.text(page), prose_of(page)))
         self.check_list("words of pages", prose.too_many_words(*([prose_of(it) for it in pages] for pages in (MAIN, READMES))))
-        length = read("README.md").count("\n")
+        length = driver.text("README.md").count("\n")
         self.unless(f"README.md has {length} lines", length <= README_LINES)
 
     def test_words(self):

@@ -14,8 +14,8 @@ import os
 import tempfile
 
 import driver
+import pages
 from checks import Refusing
-from tables import FORMATS
 
 PIECE = 16_384  # bytes, as the program reads them
 STEP = "    Given it passes\n"
@@ -43,59 +43,6 @@ OTHER_FILES = {
     "empty.feature": "",
     "too_long": "#" * 16_777_217,
 }
-# Arguments, the status of the run, and the files that it opens, in this order.
-OPENED = [
-    # Whatever the order of the arguments, and what is asked for.
-    (["a.feature"], 0, ["a.feature"]),
-    (["b.feature", "a.feature"], 0, ["b.feature", "a.feature"]),
-    (["b.feature", "--hooks", "h.hooks"], 0, ["h.hooks", "b.feature"]),
-    (["--library=l.steps", "b.feature"], 0, ["l.steps", "b.feature"]),
-    (["b.feature", "--hooks=h.hooks", "a.feature", "--library", "l.steps"], 0,
-     ["l.steps", "h.hooks", "b.feature", "a.feature"]),
-    ([*SUITE, "--", "b.feature", "empty.feature"], 0, ["l.steps", "h.hooks", "b.feature", "empty.feature"]),
-    *(([*options, *ARGUMENTS], 0, list(FILES)) for options in (
-        ["--dry-run"], ["--stop"], ["--no-skipped"], ["--explain"], ["--lint"], *(["--format", it] for it in FORMATS),
-        ["--tags", "@none"], ["--line", "99"], ["--env", "A=b"])),
-    # The files of --file come first, in their order, and each as often as it is named.
-    ([*ARGUMENTS, "--file", "f=bad.feature", "--file=g=l.steps", "--file", "f=bad.feature"], 0,
-     ["bad.feature", "l.steps", "bad.feature", *FILES]),
-    (["--dry-run", "--file", "f=fails.feature", *ARGUMENTS], 0, ["fails.feature", *FILES]),
-    (["--stop", "fails.feature", "b.feature"], 1, ["fails.feature", "b.feature"]),
-    (["--lint", "fails.feature", "b.feature"], 1, ["fails.feature", "b.feature"]),
-    # A file is opened as often as it is named, and under the name that is given.
-    (["b.feature", "a.feature", "b.feature"], 0, ["b.feature", "a.feature", "b.feature"]),
-    (["--lint", "b.feature", "b.feature"], 0, ["b.feature", "b.feature"]),
-    (["--library", "l.steps", "--hooks", "l.steps", "l.steps"], 3, ["l.steps", "l.steps", "l.steps"]),
-    (["./b.feature", ".//b.feature"], 0, ["./b.feature", ".//b.feature"]),
-    # All files are opened where one doesn't read, or a text of tags is none.
-    *((["--library", "bad.steps", "--hooks", "bad.hooks", "bad.feature", "b.feature", *options], 3,
-       ["bad.steps", "bad.hooks", "bad.feature", "b.feature"]) for options in ([], ["--lint"], ["--dry-run"])),
-    ([*ARGUMENTS, "--tags", "("], 2, list(FILES)),
-    ([*ARGUMENTS, "--tags", "(", "--lint"], 2, list(FILES)),
-    # None is opened after the first that can't be read.
-    (["--library", "no", "--hooks", "h.hooks", "b.feature"], 3, ["no"]),
-    ([*ARGUMENTS, "--file", "f=b.feature", "--file", "g=no", "--file", "h=a.feature"], 3, ["b.feature", "no"]),
-    ([*ARGUMENTS, "--file", "f=too_long"], 3, ["too_long"]),
-    (["--library", "l.steps", "--hooks", "no", "b.feature"], 3, ["l.steps", "no"]),
-    ([*SUITE, "b.feature", "no", "a.feature"], 3, ["l.steps", "h.hooks", "b.feature", "no"]),
-    (["b.feature", "too_long", "a.feature"], 3, ["b.feature", "too_long"]),
-    (["--lint", "b.feature", "no", "too_long", "no"], 3, ["b.feature", "no"]),
-    (["--library", "too_long", "--hooks", "no", "b.feature"], 3, ["too_long"]),
-    (["b.feature", ".", "a.feature"], 3, ["b.feature", "."]),
-    (["", "b.feature"], 3, [""]),
-    # None at all is opened where there is no run.
-    *(([*options, *ARGUMENTS], 0, []) for options in (["--help"], ["-h"], ["--version"], ["-V"])),
-    ([*ARGUMENTS, "--help"], 0, []),
-    *(([*options, *ARGUMENTS], 2, []) for options in (
-        ["--no-such-option"], ["--library", "l.steps"], ["--hooks", "h.hooks"], ["--format", "xml"], ["--line", "0"],
-        ["--stop", "--stop"], ["--lint", "--explain"], ["--lint", "--env", "A=b"], ["--env", "A"], ["--env", "=b"],
-        ["--env", "A=b", "--env", "N" * 256 + "=b"], ["--dry-run", "--env", "A"], ["--explain", "--env", "A"],
-        ["--file", "A"], ["--file", "f=b.feature", "--file", "A"], ["--file", "f=b.feature", "--env", "=b"],
-        ["--lint", "--file", "f=b.feature"],
-        [b"\xff"])),
-    (SUITE, 2, []),
-    ([], 2, []),
-]
 
 
 def unread(name):
@@ -114,6 +61,7 @@ def calls():
         yield from [name] * (-(-len(text) // PIECE) + 1)
 
 
+@pages.tests("opened.md")
 class FailingReads(Refusing):
     @classmethod
     def setUpClass(cls):
@@ -131,12 +79,16 @@ class FailingReads(Refusing):
             if os.path.commonpath([path, self.folder]) == self.folder:
                 yield name
 
-    def trouble(self, name, wanted, opened=tuple(FILES), arguments=ARGUMENTS, **limits):
-        """What is wrong with a run whose files are limited, and with the files that it opens, or nothing."""
+    def noted(self, arguments, **limits):
+        """How a run ends, and the names of the files that it opens."""
         with tempfile.NamedTemporaryFile(dir=self.room) as log:
             environment = driver.limited(self.room, OPEN_LOG=log.name, **limits)
             ended = driver.start(self.program, arguments, self.folder, environment)
-            noted = list(self.opened_of(log.read()))
+            return ended, list(self.opened_of(log.read()))
+
+    def trouble(self, name, wanted, opened=tuple(FILES), **limits):
+        """What is wrong with a run whose files are limited, and with the files that it opens, or nothing."""
+        ended, noted = self.noted(ARGUMENTS, **limits)
         found = driver.trouble(name, ended, wanted)
         return found if noted == list(opened) else f"{found or name}\n  opened {noted}, and not {list(opened)}"
 
@@ -147,11 +99,16 @@ class FailingReads(Refusing):
     def test_ample(self):
         self.unless(f"with files that don't fail: {self.ample}", self.ample[0] == 0 and not self.ample[2])
 
-    def test_opened(self):
-        """Runs print what they do without the log."""
-        for arguments, status, opened in OPENED:
-            wanted = status, *driver.start(self.program, arguments, self.folder)[1:]
-            self.check(self.trouble(f"{arguments}", wanted, opened, arguments))
+    def opened(self, *arguments, wanted=None):
+        """Prints the status of a run that prints what it does without the log, and the names of the files that it opens, or compares
+        them."""
+        ended, noted = self.noted(arguments)
+        found = " ".join([str(ended[0]), *noted])
+        self.compare(f"{arguments} with a log", ended, driver.start(self.program, arguments, self.folder))
+        if wanted is None:
+            print(found)
+        else:
+            self.same(f"the status and the files of {arguments}", found, wanted)
 
     def test_unopened(self):
         self.try_all(((f"{name}, opened with error {reason}", OUT_OF_MEMORY if reason == errno.ENOMEM else unread(name),

@@ -10,46 +10,11 @@ import errno
 import os
 
 import driver
+import stored_cases
 from checks import Refusing
 from reports import Report, style_of
 from tables import FORMATS
 
-ONE = driver.feature("Given it passes", name="one", scenario="first")
-HOOKS = """before_all:
-Given a file named "f" containing "x"
-after_scenario:
-Given it fails
-after_all:
-Given at cleanup it fails
-"""
-TWO_FILES = {"a.feature": ONE, "b.feature": ONE}
-CHOSEN_FILES = {
-    "a.feature": ONE,
-    "b.feature": "@a\n" + ONE + "And it fails\n",
-    "c.feature": "@a\n" + ONE,
-}
-# Arguments and files of the runs, each of which is made in each of the formats.
-RUNS = (
-    (["a.feature", "b.feature"], TWO_FILES),
-    (["a.feature"], {"a.feature": ""}),
-    (["--hooks", "h.hooks", "--stop", "a.feature", "b.feature"], {"h.hooks": HOOKS, **TWO_FILES}),
-    (["--no-skipped", "--tags", "@a", "a.feature", "b.feature", "c.feature"], CHOSEN_FILES),
-    (["--dry-run", "a.feature", "b.feature"], TWO_FILES),
-    (driver.LONG_RUN, driver.long_files()),
-)
-# Runs whose explanation is written.
-EXPLAINED = (
-    (["a.feature", "b.feature"], TWO_FILES),
-    (["a.feature"], {"a.feature": ""}),
-    (["--hooks", "h.hooks", "a.feature", "b.feature"], {"h.hooks": HOOKS, **TWO_FILES}),
-    (["--tags", "@a", "a.feature", "b.feature", "c.feature"], CHOSEN_FILES),
-)
-# Runs in whose place what is found is written.
-LINTED = (
-    (["--hooks", "h.hooks", "a.feature", "b.feature"], {"h.hooks": HOOKS.replace("it fails", "it fials"), **TWO_FILES}),
-    (["--line", "1", "a.feature"], {"a.feature": ""}),
-    (["b.feature"], TWO_FILES),
-)
 BYTES_TRIED = 4096  # of a report that is longer only the pieces are
 # Errors of a call; 0 is none, where the call takes no byte.
 PIECE_ERRORS = (0, errno.EIO, errno.EINTR)
@@ -60,11 +25,11 @@ CANNOT_WRITE = b"gherkin_run: cannot write\n"
 class Case:
     """A run, and what it does with a standard output that takes everything."""
 
-    def __init__(self, program, room, arguments, files, number):
-        self.program, self.room, self.arguments = program, room, arguments
-        self.folder = os.path.join(room, str(number))
-        driver.write(self.folder, files)
-        self.ample = driver.start(program, arguments, self.folder)
+    def __init__(self, program, room, run, options):
+        self.program, self.room, self.arguments = program, room, [*options, *map(os.fsdecode, run.arguments)]
+        self.folder = os.path.join(room, "_".join([*run.name.split(), *options]))
+        stored_cases.lay(run, self.folder)
+        self.ample = driver.start(program, self.arguments, self.folder)
 
     def beginnings(self):
         """What was written before each piece of the report that isn't empty."""
@@ -129,17 +94,15 @@ class UnknownCase(Case):
 
 class FailingWrites(Refusing):
     def try_all(self, kind, options, runs):
-        cases = [kind(self.program, self.room, [*options, *arguments], files, "".join([*options, str(number)]))
-                 for number, (arguments, files) in enumerate(runs)]
+        cases = [kind(self.program, self.room, it, options) for it in runs]
         for troubles in driver.on_all_processors(lambda case: list(case.troubles()), cases):
             self.check_all(troubles)
 
     def test_reports(self):
+        runs = [it for it in stored_cases.cases("failing_writes.md") if not {b"--explain", b"--lint"} & set(it.arguments)]
         for style in FORMATS:
-            self.try_all(Case, ["--format", style], RUNS)
+            self.try_all(Case, ["--format", style], runs)
 
-    def test_explanations(self):
-        self.try_all(UnknownCase, ["--explain"], EXPLAINED)
-
-    def test_findings(self):
-        self.try_all(UnknownCase, ["--lint"], LINTED)
+    def test_explanations_and_findings(self):
+        runs = [it for it in stored_cases.cases("failing_writes.md") if {b"--explain", b"--lint"} & set(it.arguments)]
+        self.try_all(UnknownCase, [], runs)

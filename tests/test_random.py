@@ -6,6 +6,7 @@ import unittest.mock
 
 import driver
 import hostile_bytes
+import pages
 import random_changes
 import random_runs
 import search
@@ -48,11 +49,10 @@ def smaller(value):
             yield from (value._replace(**{name: less}) for less in smaller(getattr(value, name)))
 
 
+@pages.tests("shrinking.md")
 class Shrinking(Refusing):
-    """The smallest case of a planted mistake: the program's output is changed by `sed`, or it is killed."""
-
-    def smallest(self, tester, mistake):
-        """The smallest case of the first that fails."""
+    def smallest_of(self, tester, mistake):
+        """The smallest case of the first that fails if a shell makes this mistake with what is printed."""
         planted = os.path.join(self.room, "planted")
         driver.write_program(planted,
                              f'#!/bin/sh\n"{self.program}" "$@" > printed\nstatus=$?\n{mistake}\nexit "$status"\n')
@@ -63,22 +63,3 @@ class Shrinking(Refusing):
         less = [it for it in smaller(case) if found.fails(it)]
         self.unless(f"{case} isn't the smallest", not less, *less)
         return case
-
-    def test_bytes(self):
-        case = self.smallest(hostile_bytes.TESTER, "grep -qasF '*' a.feature && kill -9 $$; cat printed")
-        self.unless("another case", (case.options, case.files) == ([], {"a.feature": b"*"}), case)
-
-    @unittest.mock.patch.object(random_changes, "REFUSALS", 0)
-    def test_changes(self):
-        """Without refused growths, which would be refused to the shell, too."""
-        case = self.smallest(random_changes.TESTER, "sed 's/failed: absent/failed: present/' printed")
-        self.unless("another case", case.names == [] and len(case.scenarios) == len(case.scenarios[0]) == 1, case)
-
-    def test_suites(self):
-        case = self.smallest(random_runs.TESTER, "sed 's/\"undefined\",\"text\"/\"untested\",\"text\"/' printed")
-        parts, = case.features.values()
-        scenarios = [it for part in parts for it in part.scenarios]
-        steps = [step for it in parts for step in it.background or []] + [step for it in scenarios for step in it.steps]
-        rest = case.hooks, case.library, case.options, case.texts, case.choices, *(it.tags for it in (*parts,
-                                                                                                      *scenarios))
-        self.unless("another case", len(scenarios) == len(steps) == 1 and not any(rest), case)

@@ -21,9 +21,7 @@ written, or one event of it is memory, or it is as with ample memory.
 
 import os
 import re
-import shlex
 
-import blocks
 import driver
 import stored_cases
 from checks import Refusing
@@ -42,17 +40,15 @@ LINTED = ["Each finding", "Several files", "A fault in each of many files"]
 
 def shown_runs():
     """The runs of PAGES by their names: the arguments, the files, and a report with which some run has to end, or
-    nothing."""
-    for page in PAGES:
-        for name, files, block in blocks.runs(driver.read(os.path.join(driver.HOME, "tests", page)).decode()):
-            (command, seen), = blocks.commands(block)
-            yield name, (shlex.split(command.decode())[1:], files, seen.decode())
+    nothing. A part that has several pieces is written in each format."""
+    for it in stored_cases.cases(*PAGES):
+        yield it.name, (list(map(os.fsdecode, it.arguments)), it.files, it.stdout.decode())
+    long = next(it for it in stored_cases.cases("failing_writes.md") if it.name == "A part of several pieces")
+    for form in FORMATS:
+        yield f"{long.name} as {form}", (["--format", form, *map(os.fsdecode, long.arguments)], long.files, "")
 
 
 RUNS = dict(shown_runs())
-# A part that has several pieces.
-for _format in FORMATS:
-    RUNS[f"A part of several pieces as {_format}"] = (["--format", _format, *driver.LONG_RUN], driver.long_files(), "")
 
 
 class Refusals:

@@ -19,7 +19,8 @@ from checks import Checks
 PAIRS = os.path.join(driver.HOME, "tests", "side_by_side")
 SUITES = [os.path.join(driver.HOME, "examples", it) for it in ("from_behave", "from_cucumber")]
 LEAKS = os.path.join(driver.HOME, "examples", "leaks")
-STEPS = os.path.join(PAIRS, "steps.py")
+# behave's steps, as the README shows them.
+STEPS = blocks.shown("side_by_side/README.md")["steps.py"]
 COUNTS = re.compile(r"\d+ (features?|scenarios?|steps?) passed, ")
 # The pages that link to pairs.
 LINKED = re.compile(r"\]\((?:\.\./)+tests/side_by_side/([a-z_]+\.md#[a-z0-9-]+)\)")
@@ -49,7 +50,7 @@ def lay(folder, files):
     folder."""
     own = {"own.py": files.pop("steps.py")} if "steps.py" in files else {}
     driver.write(folder, files)
-    driver.write(os.path.join(folder, "steps"), {"steps.py": driver.read(STEPS), **own})
+    driver.write(os.path.join(folder, "steps"), {"steps.py": STEPS, **own})
     return folder
 
 

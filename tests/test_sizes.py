@@ -15,12 +15,11 @@ import collections
 import functools
 import os
 import random
-import resource
 import tempfile
 import threading
 
 import driver
-from builder import FAILING, HINTS, FeatureFile, Run, Step, quoted, with_hooks, with_library
+from builder import FAILING, HINTS, FeatureFile, Run, Step, judged, quoted, with_hooks, with_library
 from checks import Checks
 from reports import closing
 from tables import FORMATS
@@ -433,6 +432,21 @@ growing(3000, {
 })
 
 
+def explained_beside(count):
+    """Entries that begin alike, below 30 undefined steps. Of them the first is the nearest."""
+    texts = [f"the entry was {number}" for number in range(30)]
+    made = one(*(Step(text, "undefined") for text in texts))
+    told = "  a.feature:{}: Given {} ... undefined\n      the nearest entry is: step the entry is 0\n"
+    said = [told.format(number, text) for number, text in enumerate(texts, 3)]
+    heading = "a.feature:2: Scenario: s"
+    printed = f"{heading} ... failed\n{''.join(said)}\n{heading}\n\n" + counts((0, 1), (0, 1), (0, 0, 0, 30))
+    return Run(made, files={"l.steps": each("step the entry is {} => pass\n", count)}, printed=printed, status=1,
+               options=["--library", "l.steps", "--explain"])
+
+
+growing(3000, {"entries beside undefined steps": explained_beside})
+
+
 @group
 def hopeless_patterns():
     """Taking the fields' lengths one after another would not end."""
@@ -580,6 +594,29 @@ def examples_of_an_outline(size):
 
 rows({"placeholders in a text": lambda size: FeatureFile().outline(
     "o", Step(f"x{'<a>' * size}<b>", "undefined")).examples(["12"])})
+
+
+def under(header, text, told):
+    """A step with this text under a header, and the text that it is filled to from one row."""
+    cells = [f"c{number}" for number in range(len(header))]
+    made = FeatureFile().outline("o", Step(text, "undefined"))
+    made.add("Examples:", *(f"|{'|'.join(row)}|" for row in (header, cells)))
+    steps = [it._replace(text=told) for it in made.outlined_steps]
+    return Run(made.case("Scenario Outline", "o -- @1.1", len(made.lines), steps))
+
+
+def columns_of_an_outline(count):
+    """Each is used once."""
+    return under([f"h{number}" for number in range(count)], each("<h{}>", count), each("c{}", count))
+
+
+growing(3000, {
+    "columns of an outline": columns_of_an_outline,
+    "placeholders in a long text": lambda count: under(["a", "b"], "<a><b><c>" * count, "c0c1<c>" * count),
+    # Behind each `<` as many bytes may be a name. A header of 21 columns has an index.
+    "brackets before a placeholder": lambda count: under(
+        [*(f"h{number}" for number in range(20)), "<" * count], "<" * 2 * count + ">", "<" * (count - 1) + "c20"),
+})
 
 
 def chosen_by_the_last(tags, size):
@@ -901,6 +938,44 @@ growing(1000, {
 })
 
 
+# ---- explanations
+
+def explained(*files, note="", options=()):
+    """A run that is explained. A note stands below each step that is undefined."""
+    cases = [(it.source, case) for it in files for case in it.cases]
+    failed = [(source, case) for source, case in cases if case.status == "failed"]
+    text = ""
+    for source, case in failed:
+        text += f"{source}:{case.line}: {case.keyword}: {case.name} ... failed\n"
+        for step in case.steps:
+            text += f"  {source}:{step.line}: {step.keyword} {step.text} ... {step.status}\n"
+            text += note if step.status == "undefined" else ""
+        text += "\n"
+    text += "".join(f"{source}:{case.line}: {case.keyword}: {case.name}\n" for source, case in failed) + "\n" * bool(failed)
+    numbers = [[judged(it.cases) if it.cases else "skipped" for it in files], [case.status for _, case in cases],
+               [step.status.split(":")[0] for _, case in cases for step in case.steps]]
+    text += counts(*([kinds.count(it) for it in ("passed", "failed", "skipped", "undefined")] for kinds in numbers))
+    return Run(*files, options=["--explain", *options], printed=text, status=int(bool(failed)))
+
+
+rows({
+    "steps of an explained scenario": lambda size: explained(one(*["it passes"] * size, FAILING, "it passes")),
+    "explained scenarios": lambda size: explained(FeatureFile().scenarios(size, [FAILING])),
+    "scenarios of which none is explained": lambda size: explained(FeatureFile().scenarios(size, ["it passes"])),
+    "explained features": lambda size: explained(*[one(FAILING)] * size),
+    "features without scenarios": lambda size: explained(*[FeatureFile(source="b.feature")] * size, one(FAILING)),
+}, only=(1, 255, 256, 257, 300, 4097, 70_000))
+
+
+@row(only=(1, 999, 1000, 1001, 34_302, 70_000))
+def entries_that_may_be_meant(size):
+    """The first of those that agree equally long with a step is named below it."""
+    made = one("an old lamp 0", Step("an old lamp burns", "undefined"))
+    run = explained(made, note="      the nearest entry is: step an old lamp 0\n", options=["--library", "l.steps"])
+    run.files["l.steps"] = each("step an old lamp {} => pass\n", size)
+    return run
+
+
 # ---- what is found before a run
 
 # Files that don't read, except the last: the fault, its line, and the text.
@@ -959,12 +1034,6 @@ def trouble(folder, name, run, style):
     return driver.trouble(f"{name}, {style}", ended, run.wanted(style))
 
 
-def processor_time():
-    """The seconds of the processor that runs so far took."""
-    used = resource.getrusage(resource.RUSAGE_CHILDREN)
-    return used.ru_utime + used.ru_stime
-
-
 def of_run(name, run, styles):
     """What is wrong with a run in each of these formats, or nothing."""
     with tempfile.TemporaryDirectory() as folder:
@@ -998,9 +1067,9 @@ def of_growing(place):
         with tempfile.TemporaryDirectory() as folder:
             driver.write(folder, run.files)
             for _ in range(3):
-                before = processor_time()
+                before = driver.processor_time()
                 found = trouble(folder, f"{name}: {own}", run, None)
-                times.append(processor_time() - before)
+                times.append(driver.processor_time() - before)
                 if found:
                     return [found]
         least.append(min(times))

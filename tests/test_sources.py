@@ -4,6 +4,7 @@ import os
 
 import calls
 import driver
+import edit_notes
 import shape
 import tables
 from checks import Checks
@@ -43,3 +44,13 @@ class Edits(Checks):
         *troubles, counts = out.decode().splitlines()
         self.check_all([*troubles, *[""] * int(counts.split()[0])])
         self.unless(f"edits.sh ends with {status}", status == 0, said.decode())
+
+
+class EditNotes(Checks):
+    def test_edits_apply(self):
+        """Each edit changes the code as it is."""
+        self.check_all(edit_notes.unapplied())
+
+    def test_what_no_note_survives(self):
+        """On two small crates, notes don't survive a change, and no refusal is noted that shows too little."""
+        self.check_all(edit_notes.troubles(self.room))

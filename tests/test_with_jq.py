@@ -5,7 +5,6 @@ rows. Runs over several files are compared with the sum of runs over one of them
 """
 
 import os
-import re
 import subprocess
 
 import driver
@@ -20,20 +19,6 @@ COUNTS = """def tally(rows): reduce rows as $it ({}; .[$it] += 1);
     counted("features"; tally(.features[].status))
     and counted("scenarios"; tally(.features[].scenarios[].status))
     and counted("steps"; tally(.features[].scenarios[].steps[].status))"""
-SEVERAL = [f"examples/{it}.feature" for it in ("first", "failing", "tags", "undefined", "sums", "isolation")]
-# A name, the options and the files of runs that are added up.
-ADDED = [
-    ("all that pass", [], [f"examples/{it}.feature" for it in ("first", "sums", "settings")]),
-    ("some that fail", [], SEVERAL),
-    ("the same, without what is skipped", ["--no-skipped", "--tags", "~@slow"], SEVERAL),
-    ("a dry run", ["--dry-run"], SEVERAL),
-    ("hooks that fail", ["--hooks", "examples/failing_hooks.hooks"], ["examples/failing_hooks.feature", *SEVERAL]),
-    ("cleanups", ["--hooks", "examples/cleanups.hooks"], ["examples/cleanups.feature", "examples/first.feature"]),
-    ("rules", ["--hooks", "examples/rules.hooks"], ["examples/rules.feature", "examples/settings.feature"]),
-    ("a library", ["--library", "examples/default.steps", "--env", "A=b"], ["examples/default.feature", *SEVERAL]),
-    ("files without features", [], ["{none}", "examples/first.feature", "{none}", "examples/sums.feature", "{none}"]),
-    ("only files without features", [], ["{none}", "{none}"]),
-]
 
 
 def jq(*words, given=b""):
@@ -57,19 +42,22 @@ def without_format(arguments):
 class WithJq(Checks):
     NEEDS = ("jq",)
 
-    def json(self, *arguments, folder=driver.HOME):
+    def json_of(self, *arguments, folder=driver.HOME):
         """A run with a JSON report."""
         return driver.start(self.program, ["--format", "json", *arguments], folder)
 
-    def add(self, *names, folder=driver.HOME):
-        """Adds up reports."""
-        return driver.start(ADD, names, folder)
+    def added(self, *files, options=()):
+        """Says whether the reports of runs over one of these files each, added up, are that of a run over all of them."""
+        parts = {f"part{100 + number}": self.json_of(*options, it)[1] for number, it in enumerate(files)}
+        driver.write(self.room, parts)
+        ended, wanted = driver.start(ADD, parts, self.room), self.json_of(*options, *files)
+        return "the same status and report" if ended[:2] == wanted[:2] else (ended, wanted)
 
     def compare(self, name, arguments, folder=driver.HOME):
         """Compares the JSON report of a run with its plain one."""
         arguments = without_format(arguments)
         wanted, text, _ = driver.start(self.program, ["--format", "plain", *arguments], folder)
-        status, report, _ = self.json(*arguments, folder=folder)
+        status, report, _ = self.json_of(*arguments, folder=folder)
         self.unless(f"{name}: another status as JSON", status == wanted)
         if not text:
             self.unless(f"{name}: a report as JSON and none as plain", not report)
@@ -89,25 +77,3 @@ class WithJq(Checks):
                 folder = os.path.join(self.room, str(number))
                 stored_cases.lay(case, folder)
                 self.compare(f"{case.page}: {case.name}", case.arguments, folder)
-
-    def test_sums(self):
-        none = os.path.join(self.room, "none.feature")
-        driver.write(self.room, {"none.feature": "# nothing\n"})
-        for name, options, files in ADDED:
-            files = [it.format(none=none) for it in files]
-            parts = {f"part{100 + number}": self.json(*options, it)[1] for number, it in enumerate(files)}
-            driver.write(self.room, parts)
-            ended, wanted = self.add(*parts, folder=self.room), self.json(*options, *files)
-            self.unless(f"{name}: the sum has another status", ended[0] == wanted[0])
-            self.unless(f"{name}: the sum is another report", ended[1] == wanted[1])
-
-    def test_command_of_the_guide(self):
-        """The command that lists what failed."""
-        page = driver.read(os.path.join(driver.HOME, "docs", "guide", "reports.md")).decode()
-        command = re.search(r"^jq -r '\.features\[\].*", page, re.MULTILINE)[0]
-        driver.write(self.room, {"report.json": self.json(*SEVERAL)[1]})
-        listed = driver.start("sh", ["-c", command], self.room)[1]
-        text = driver.start(self.program, SEVERAL)[1]
-        failed = re.findall(rb"^  [A-Z].* \.\.\. failed$", text, re.MULTILINE)
-        self.unless("the guide's list of failed scenarios", listed.count(b"\n") == len(failed))
-        self.unless("the guide's list has scenarios", listed)
