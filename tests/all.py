@@ -38,7 +38,6 @@ def classes(name):
 
 
 def run(name):
-    """What the tests of a class print, and their status."""
     with subprocess.Popen([sys.executable, "-m", "unittest", "-q", name], cwd=TESTS, stdin=subprocess.DEVNULL,
                           stdout=subprocess.PIPE, stderr=subprocess.STDOUT, text=True, errors="replace") as process:
         STARTED.append(process)
@@ -53,7 +52,6 @@ def counts(said, status):
 
 
 def end(*_):
-    """Ends what was started, and this."""
     for process in STARTED:
         process.send_signal(signal.SIGINT)
     os._exit(1)

@@ -19,7 +19,7 @@ INFO = re.compile(r"(\w*(?: escaped)?) ?(.*)")
 ESCAPE = re.compile(r"\\(?:\{(?:(\d+)\.\.)?(\d+)\*([^}]*)\}|x([0-9a-f]{2})|u\{([0-9a-f]+)\}|([\\trns\n]))")
 # A line after `$ `, with the lines that backslashes join to it.
 COMMAND = re.compile(r"^\$ ((?:.*\\\n)*.*)\n", re.MULTILINE)
-CHARACTERS = {"\\": b"\\", "t": b"\t", "r": b"\r", "n": b"\n", "s": b" ", "\n": b""}
+CHARACTERS = {"\\": "\\", "t": "\t", "r": "\r", "n": "\n", "s": " ", "\n": ""}
 FILES = ("gherkin", "text", "python", "ini", "js", "sh", "c")  # the kinds of blocks that are files
 
 
@@ -87,32 +87,24 @@ def without_blocks(page):
 
 
 def is_file(block):
-    """Whether a block is a file."""
     return block.kind.removesuffix(" escaped") in FILES and block.name != ""
 
 
 def bytes_of(block):
-    """The bytes that a block means."""
     return unescaped(block.text) if block.kind.endswith(" escaped") else block.text.encode()
 
 
 def unescaped(text):
-    """The bytes that a text with escapes means."""
-    found, end = [], 0
-    for escape in ESCAPE.finditer(text):
-        found += [text[end:escape.start()].encode(), meant(escape)]
-        end = escape.end()
-    return b"".join([*found, text[end:].encode()])
+    return ESCAPE.sub(meant, text).encode("utf-8", "surrogateescape")
 
 
 def meant(escape):
-    """The bytes that an escape means."""
     first, last, repeated, byte, character, letter = escape.groups()
     if last:
-        return b"".join(unescaped(repeated.replace("#", str(it))) for it in range(int(first or 1), int(last) + 1))
+        return "".join(ESCAPE.sub(meant, repeated.replace("#", str(it))) for it in range(int(first or 1), int(last) + 1))
     if byte:
-        return bytes.fromhex(byte)
-    return chr(int(character, 16)).encode() if character else CHARACTERS[letter]
+        return bytes.fromhex(byte).decode("utf-8", "surrogateescape")
+    return chr(int(character, 16)) if character else CHARACTERS[letter]
 
 
 def commands(block):

@@ -6,15 +6,15 @@ of tests/reports.py, or is given where no report is printed.
 """
 
 import collections
+import os
 
-from reports import Feature, Report, Rule, Scenario, Style, one_line, verdict
+import driver
+from reports import Case, Feature, Report, Row, Rule, Style
 
 # A step: its text, its status if it is reached, the lines of its block, and its keyword.
 Step = collections.namedtuple("Step", "text status block keyword", defaults=("passed", (), "Given"))
-# A step of a report, and a scenario.
-Row = collections.namedtuple("Row", "keyword line text status")
-Case = collections.namedtuple("Case", "keyword name line status steps")
 
+PATIENCE = 120  # seconds
 FAILING = Step("it fails", "failed: fail step")
 # What --lint says of a fault, below its line. The unexpected line is the heading of a second feature.
 HINTS = {
@@ -33,7 +33,6 @@ HINTS = {
 
 
 def table_row(cells):
-    """A line of a table."""
     return f"| {' | '.join(cells)} |"
 
 
@@ -43,7 +42,6 @@ def quoted(text, fence='"""'):
 
 
 def judged(steps):
-    """The status of a scenario, by those of its steps."""
     statuses = {it.status.split(":")[0] for it in steps}
     for status, given in (("failed", "failed"), ("undefined", "failed"), ("untested", "untested"), ("skipped", "skipped")):
         if status in statuses:
@@ -77,7 +75,7 @@ class FeatureFile:
     def rule(self, name, tags="", around="passed"):
         """Adds a rule's heading, below tags. Its hooks and cleanups end with this status."""
         self.lines += [*([tags] if tags else []), f"Rule: {name}"]
-        self.rules.append((len(self.lines), around, len(self.cases)))
+        self.rules.append(Rule(len(self.lines), around))
         return self
 
     def background(self, *steps, name=""):
@@ -97,7 +95,6 @@ class FeatureFile:
         return rows
 
     def scenario(self, *steps, name="s", tags="", keyword="Scenario"):
-        """Adds a scenario, below tags."""
         self.lines += [*([tags] if tags else []), f"{keyword}: {name}"]
         line = len(self.lines)
         return self.case(keyword, name, line, [*self.before, *self.steps(*steps)])
@@ -106,6 +103,12 @@ class FeatureFile:
         """Adds scenarios. Each of the kinds is the steps of one, and they take turns."""
         for number in range(count):
             self.scenario(*kinds[number % len(kinds)], name=f"s{number}")
+        return self
+
+    def repeat(self, count, add):
+        """Calls a function so many times, with this and a number, to add something."""
+        for number in range(count):
+            add(self, number)
         return self
 
     def outline(self, name, *steps):
@@ -125,48 +128,14 @@ class FeatureFile:
         return self
 
     def case(self, keyword, name, line, rows):
-        """Adds the row of a scenario."""
         self.cases.append(Case(keyword, name, line, judged(rows), rows))
         return self
 
     def text(self):
         return "\n".join(self.lines) + self.ending
 
-    def feature(self, style):
-        """The feature of a report."""
-        head = {"plain": f"Feature: {self.name}", "progress": one_line(self.source),
-                "json": (self.source, self.name, self.line)}[style]
-        statuses = [it.status for it in self.cases]
-        scenarios = [scenario_of(style, it) for it in self.cases]
-        status = verdict([*(around for _, around, _ in self.rules), *statuses], statuses)
-        return Feature(head, status, scenarios, "passed", self.rules_of(style))
-
-    def rules_of(self, style):
-        """The rules of a report. Those whose hooks and cleanups passed have no line in the plain one."""
-        ends = [*(first for _, _, first in self.rules[1:]), len(self.cases)]
-        rules = [Rule(line, around, None if style == "json" else end) for (line, around, _), end in zip(self.rules, ends)]
-        return rules if style == "json" else [it for it in rules if it.around != "passed"]
-
-
-def scenario_of(style, case):
-    """The scenario of a report."""
-    if style == "progress":
-        return Scenario(None, case.status, [(None, it.status) for it in case.steps])
-    if style == "json":
-        head = case.keyword, case.name, case.line
-        steps = [((keyword, text, line), status) for keyword, line, text, status in case.steps]
-    else:
-        head = f"{case.keyword}: {case.name}"
-        steps = [(f"{keyword} {text}", status) for keyword, _, text, status in case.steps]
-    return Scenario(head, case.status, steps)
-
-
-def without_skipped(feature):
-    """A feature of a report without the scenarios that are skipped. The place of a rule is that after its last that isn't."""
-    kept = [it.status != "skipped" for it in feature.scenarios]
-    rules = [it if it.place is None else it._replace(place=sum(kept[:it.place])) for it in feature.rules]
-    scenarios = [it for it, is_kept in zip(feature.scenarios, kept) if is_kept]
-    return Feature(feature.head, feature.status, scenarios, feature.around, rules)
+    def feature(self):
+        return Feature(self.source, self.name, self.line, self.cases, rules=self.rules)
 
 
 class Run:
@@ -185,24 +154,37 @@ class Run:
     def arguments(self, style):
         return [*(["--format", style] if style else []), *self.options, *self.sources]
 
+    def report(self):
+        features = {it: it.feature() for it in dict.fromkeys(self.made)}
+        return Report([features[it] for it in self.made])
+
+    def trouble(self, folder, style, name=""):
+        """What is wrong with the run in a folder of its own, or nothing."""
+        driver.write(folder, self.files)
+        arguments = self.arguments(style)
+        ended = driver.start(driver.program(), arguments, folder, patience=PATIENCE)
+        return driver.trouble(name or f"arguments {arguments}", ended, self.wanted(style))
+
     def wanted(self, style):
-        """The status and the bytes on standard output and standard error."""
         if self.err or self.printed is not None:
             return self.status, (self.printed or "").encode(), self.err.encode()
-        style = style or "plain"
-        features = {it: it.feature(style) for it in dict.fromkeys(self.made)}
-        report = Report(Style(style, False), [features[it] for it in self.made])
-        if "--no-skipped" in self.options:
-            shown = [without_skipped(it) for it in report.features if it.status != "skipped"]
-            report = Report(Style(style, True), shown, counts=report.counts)
-        return report.status(), report.text(), b""
+        report = self.report()
+        return report.status(), report.text(Style(style or "plain", "--no-skipped" in self.options)), b""
 
 
-def with_library(made, entries, **more):
-    """A run with a library of these entries."""
-    return Run(made, files={"l.steps": entries}, options=["--library", "l.steps"], **more)
+def with_library(made, entries, options=(), files=(), **more):
+    return Run(made, files={"l.steps": entries, **dict(files)}, options=["--library", "l.steps", *options], **more)
 
 
 def with_hooks(made, hooks, options=(), **more):
-    """A run with a hooks file of this text."""
     return Run(made, files={"h.hooks": hooks}, options=[*options, "--hooks", "h.hooks"], **more)
+
+
+def troubles(room, runs):
+    """What is wrong with each of some runs in each of its formats, or nothing."""
+    def trouble(numbered):
+        number, (run, style) = numbered
+        name = f"{run.arguments(style)}, {list(run.files.values())[-1:]}"
+        return run.trouble(os.path.join(room, str(number)), style, driver.cut(name))
+
+    return driver.on_all_processors(trouble, enumerate((run, style) for run in runs for style in run.formats or [None]))

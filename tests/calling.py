@@ -59,7 +59,6 @@ def text_of(value):
 
 
 def array(kind, items):
-    """An array of C. None is a null pointer."""
     return items and (kind * len(items))(*items)
 
 
@@ -95,20 +94,16 @@ class Library:
         return self.own.gherkin_run_files(array(Text, [text_of(it) for it in words]) or None, len(words), room, size), room.raw
 
     def asked(self, words):
-        """The names of the files that arguments ask for."""
         length, room = self.files(words)
         return room[:length].split(b"\0")[:-1]
 
     def version(self):
-        """The version."""
         room = ctypes.create_string_buffer(MOST)
         length = self.own.gherkin_run_version(room, MOST)
         return room.raw[:length].decode()
 
 
 class Counted(Library):
-    """A library that counts growths of memory."""
-
     def __init__(self, path):
         super().__init__(path)
         self.own.refuse.argtypes = [ctypes.c_long]

@@ -3,9 +3,8 @@
 No proof says that a call succeeds if memory is ample. So a test calls each public function with
 ample memory, and compares what it returns: one that the root of a library crate exports, a public
 method of a type that it exports, or a method of a trait of TRAITS for such a type. This only reads
-the sources. A function is one check, which fails if no crate of tests calls it, or if one calls it
-though it is listed below as not called yet. `tests/calls.py` prints the table: which files call
-which function.
+the sources. A function is one check, which fails if no crate of tests calls it. `tests/calls.py`
+prints the table: which files call which function.
 
 The functions of gk_program are called by the program and gk_c, which other tests run.
 
@@ -16,12 +15,11 @@ counts if several types have a method of that name, or the standard library has 
 import collections
 import re
 
-import driver
 import shape
 
 TESTS = "gk_tests gk_cli_tests gk_refusals".split()
 # The libraries, each with the crates that have to call its functions.
-CALLERS = dict.fromkeys("gk_gherkin gk_select gk_steps gk_lint gk_world gk_run gk_report gk_explain gk_cli".split(), TESTS)
+CALLERS = dict.fromkeys("gk_gherkin gk_select gk_steps gk_lint gk_world gk_run gk_report gk_explain gk_request gk_findings gk_cli".split(), TESTS)
 CALLERS["gk_program"] = ["gherkin_run", "gk_c"]
 # Traits whose methods take memory.
 TRAITS = {"Reversible"}
@@ -29,17 +27,6 @@ TRAITS = {"Reversible"}
 COMMON = {"get", "len", "new", "next"}
 # Functions that only their own crate can call, as it doesn't export a type that they take.
 INNER = {"gk_select: TagRule::of_words"}
-# Functions that no test calls yet; stored runs go through most of them.
-UNCALLED = {
-    "gk_run": "is_bad dry_feature status_of reason_of Suite::start Suite::start_watched "
-        "Suite::feature Suite::feature_watched Suite::finish Suite::finish_watched "
-        "run_case_watched".split(),
-    "gk_report": "PartPieces::next pieces push_ending head tail push_one_line Summary::new "
-        "Summary::add Summary::status".split(),
-    "gk_explain": "push_place Explainer::new Explainer::is_cut Explainer::begin_feature "
-        "Explainer::end_feature Explainer::end_run Explainer::take_ready "
-        "Explainer::into_failures push_shown push_entry type_word".split(),
-}
 Function = collections.namedtuple("Function", "crate type name")
 
 FUNCTION = re.compile(r"pub fn (\w+)(?:<[^(]*>)?\(([^)]*)\)(\s*->)?")
@@ -65,7 +52,6 @@ def public(text):
 
 
 def functions(crate):
-    """The public functions of a crate."""
     texts = sources(crate)
     root = texts["lib.rt"]
     exported = set(re.findall(r"\w+", " ".join(one + many for one, many in EXPORT.findall(root))))
@@ -85,19 +71,14 @@ def functions(crate):
 
 
 def is_called(function, text, shared):
-    """Whether a file calls a function."""
+    """Whether a file calls a function. One that is no method has to be imported from its crate."""
     name = rf"{function.name}(?:::<[^>]*>)?\("
     if function.type is None:
-        return bool(has_import(function, text) and re.search(rf"(?<!fn )(?<!\.)\b{name}", text))
+        imports = re.findall(r"\w+|[*]", " ".join(re.findall(rf"\buse {function.crate}::([^;]*);", text)))
+        return bool({"*", function.name} & {*imports} and re.search(rf"(?<!fn )(?<!\.)\b{name}", text))
     if re.search(rf"\b(?:{function.type}::|{function.type.lower()}\.){name}", text):
         return True
     return function.name not in shared and bool(re.search(rf"\.{name}", text))
-
-
-def has_import(function, text):
-    """Whether a file has a function that is no method from its crate."""
-    imports = " ".join(re.findall(rf"\buse {function.crate}::([^;]*);", text))
-    return "*" in imports or function.name in re.findall(r"\w+", imports)
 
 
 def calls():
@@ -113,17 +94,13 @@ def calls():
 
 
 def name_of(function):
-    """A function's name, with its crate."""
     return f"{function.crate}: {'::'.join(filter(None, function[1:]))}"
 
 
 def troubles():
-    """For each function what is wrong, or nothing."""
     for function, files in calls():
         if name_of(function) not in INNER:
-            is_listed = name_of(function).partition(": ")[2] in UNCALLED.get(function.crate, ())
-            said = "a test calls it: drop it from UNCALLED" if is_listed else "no test calls it"
-            yield "" if bool(files) != is_listed else f"{name_of(function)}: {said}"
+            yield "" if files else f"{name_of(function)}: no test calls it"
 
 
 if __name__ == "__main__":

@@ -48,21 +48,18 @@ class Checks(unittest.TestCase):
 
     @classmethod
     def leave_out(cls, reason):
-        """Leaves out the tests of this class, or the one that runs, and says why."""
         print(f"{cls.__module__}: {cls.__name__} is left out: {reason}", flush=True)
         COUNTS["passed"] += 0
         raise unittest.SkipTest(reason)
 
     @classmethod
     def new_room(cls):
-        """A new folder, which is removed after the tests of this class."""
         folder = tempfile.TemporaryDirectory(ignore_cleanup_errors=True)
         cls.addClassCleanup(folder.cleanup)
         return os.path.realpath(folder.name)
 
     @property
     def program(self):
-        """The program that is tested."""
         return driver.program()
 
     def check(self, trouble):
@@ -77,7 +74,6 @@ class Checks(unittest.TestCase):
         self.check(driver.unless(trouble, holds, *shown))
 
     def same(self, what, found, wanted):
-        """Counts a check, which fails unless two values are equal."""
         self.check("" if found == wanted else f"{what}: {driver.cut(repr(found))}\n    and not {driver.cut(repr(wanted))}")
 
     def compare(self, name, ended, wanted):
@@ -85,7 +81,6 @@ class Checks(unittest.TestCase):
         self.check(driver.trouble(name, ended, wanted))
 
     def check_all(self, troubles):
-        """Counts a check for each of these troubles."""
         for found in troubles:
             self.check(found)
 

@@ -7,13 +7,16 @@ import concurrent.futures
 import functools
 import os
 import resource
-import select
+import signal
 import stat
 import subprocess
+import threading
 import time
 
 HOME = os.path.dirname(os.path.dirname(os.path.realpath(__file__)))
 EXAMPLES = os.path.join(HOME, "examples")
+# Folders that checking and building make. A fresh clone has none of them.
+BUILT = ("out", "__pycache__")
 PATIENCE = 60  # seconds
 SHOWN = 1200  # characters of a text that are shown whole
 STREAMS = ("stdout", "stderr")
@@ -25,7 +28,6 @@ resource.setrlimit(resource.RLIMIT_CORE, (0, resource.getrlimit(resource.RLIMIT_
 # ---- files
 
 def read(path):
-    """The bytes of a file."""
     with open(path, "rb") as file:
         return file.read()
 
@@ -49,7 +51,6 @@ def write(folder, files, mode=None):
 
 
 def write_program(path, text):
-    """Writes a script that can be run."""
     write(os.path.dirname(path), {os.path.basename(path): text}, 0o755)
 
 
@@ -74,6 +75,16 @@ def contents(path):
     if os.path.islink(path):
         return os.fsencode(os.readlink(path))
     return None if os.path.isdir(path) else read(path)
+
+
+@functools.cache
+def repository_files():
+    """All files of the repository but what is built."""
+    found = []
+    for folder, folders, names in os.walk(HOME):
+        folders[:] = sorted(it for it in folders if it not in (".git", *BUILT))
+        found += [os.path.relpath(os.path.join(folder, it), HOME) for it in sorted(names)]
+    return found
 
 
 def examples():
@@ -107,60 +118,22 @@ def start(program, arguments, folder=HOME, environment=None, *, patience=PATIENC
 
     Returns its status, and what was read of its standard output and standard error. The status of
     a run that doesn't end is a text. `before` is called in the new process, before the program."""
-    end = time.monotonic() + patience
-    with subprocess.Popen([program, *arguments], cwd=folder, stdin=subprocess.DEVNULL, stdout=stdout,
-                          stderr=stderr, env=environment, preexec_fn=before) as process:
-        read = read_until(end, [it for it in (process.stdout, process.stderr) if it])
-        if read is None or not ends_until(end, process):
-            process.kill()
+    with subprocess.Popen([program, *arguments], cwd=folder, stdin=subprocess.DEVNULL, stdout=stdout, stderr=stderr,
+                          env=environment, preexec_fn=before, start_new_session=True) as process:
+        # With a time limit of its own, `communicate` takes as long as a short run does.
+        watch = threading.Timer(patience, os.killpg, (process.pid, signal.SIGKILL))
+        watch.start()
+        out, err = process.communicate()
+        if not watch.is_alive():
             return f"not ended after {patience} seconds", b"", b""
-    out = read.pop(0) if process.stdout else b""
-    return process.returncode, out, read.pop(0) if process.stderr else b""
-
-
-# `subprocess.run` with a time limit takes as long as a short run does.
-
-def read_until(end, pipes):
-    """The bytes of each pipe, if all are closed before a time."""
-    parts, ready = {it.fileno(): [] for it in pipes}, select.poll()
-    for descriptor in parts:
-        ready.register(descriptor, select.POLLIN)
-    left = len(parts)
-    while left:
-        found = ready.poll(milliseconds_to(end))
-        if not found:
-            return None
-        for descriptor, _ in found:
-            part = os.read(descriptor, 1 << 16)
-            if part:
-                parts[descriptor].append(part)
-            else:
-                ready.unregister(descriptor)
-                left -= 1
-    return [b"".join(it) for it in parts.values()]
-
-
-def ends_until(end, process):
-    """Whether a process ends before a time."""
-    descriptor = os.pidfd_open(process.pid)
-    try:
-        ready = select.poll()
-        ready.register(descriptor, select.POLLIN)
-        return bool(ready.poll(milliseconds_to(end)))
-    finally:
-        os.close(descriptor)
+        watch.cancel()
+    return process.returncode, out or b"", err or b""
 
 
 def wait_until(holds, seconds=PATIENCE):
-    """Waits until a condition holds, or until some seconds are over."""
     end = time.monotonic() + seconds
     while not holds() and time.monotonic() < end:
         time.sleep(0.02)
-
-
-def milliseconds_to(end):
-    """How long it is to a time."""
-    return max(0, 1000 * (end - time.monotonic()))
 
 
 def build_shim(room):
@@ -176,13 +149,11 @@ def limited(room, **limits):
 
 
 def processor_time():
-    """The seconds of a processor that ended runs took."""
     used = resource.getrusage(resource.RUSAGE_CHILDREN)
     return used.ru_utime + used.ru_stime
 
 
 def processors():
-    """How many processors there are to run on."""
     return len(os.sched_getaffinity(0))
 
 
@@ -210,40 +181,24 @@ def shown(text):
     return repr(cut(text.decode("utf-8", "backslashreplace")))
 
 
-def first_difference(printed, wanted):
-    """The place of the first byte that differs."""
-    pairs = enumerate(zip(printed, wanted))
-    return next((at for at, (one, other) in pairs if one != other), min(len(printed), len(wanted)))
-
-
 def stream_difference(name, printed, wanted):
     """What was printed on a stream, and what has to be, in words. Of long texts a part is shown."""
     if max(len(printed), len(wanted)) <= SHOWN:
         return f"  {name} {shown(printed)}\n    and not {shown(wanted)}"
-    at = first_difference(printed, wanted)
+    at = len(os.path.commonprefix([printed, wanted]))
     part = slice(max(0, at - 40), at + 80)
     return f"  {name}, byte {at}: {shown(printed[part])}\n    and not {shown(wanted[part])}"
 
 
-def differences(ended, wanted):
-    """A list of what differs between a run and what has to come out, in words.
-
-    Both are a status and the bytes on standard output and standard error."""
-    found = []
-    if ended[0] != wanted[0]:
-        found.append(f"  status {ended[0]}, and not {wanted[0]}")
-    for name, printed, text in zip(STREAMS, ended[1:], wanted[1:]):
-        if printed != text:
-            found.append(stream_difference(name, printed, text))
-    return found
-
-
 def trouble(name, ended, wanted):
-    """What is wrong with a run of this name, or nothing where it ended as wanted."""
-    found = differences(ended, wanted)
+    """What is wrong with a run of this name, or nothing where it ended as wanted. Both are a status and the bytes on
+    standard output and standard error."""
+    found = [] if ended[0] == wanted[0] else [f"  status {ended[0]}, and not {wanted[0]}"]
+    for name_of_stream, printed, text in zip(STREAMS, ended[1:], wanted[1:]):
+        if printed != text:
+            found.append(stream_difference(name_of_stream, printed, text))
     return "\n".join([f"{name}:", *found]) if found else ""
 
 
 def unless(claim, holds, *shown):
-    """A trouble if a claim doesn't hold."""
     return "" if holds else "\n".join([claim, *(f"  {it}" for it in shown)])

@@ -1,15 +1,12 @@
-"""Edits that change nothing, and what no note on edits may survive.
+"""Edits that change nothing, and a small repository for the notes on edits.
 
-`unapplied` looks for edits that can't be applied to the crates as they are, which `rt ci` passes over. `troubles` tries
-on two small crates what a note of tests/edits.sh may not survive, and what it may not be made of. A stand-in for rt names the toolchain, and says of each edit what it is told to. ATTACKS are changes after which
-`tests/edits.sh --check` must fail, each with the crates of which it must say so. ANSWERS are refusals, and what else
-may become of an edit, each with whether it may be noted.
+`unapplied` looks for edits that can't be applied to the crates as they are, which `rt ci` passes over. `Repository` has two
+small crates with edits, the script tests/edits.sh, and a stand-in for rt, which names the toolchain, and says of each edit
+what it is told to.
 """
 
-import collections
 import glob
 import os
-import re
 import shutil
 import subprocess
 import tempfile
@@ -38,131 +35,41 @@ for _crate in ("gk_low", "gk_high"):
               f"tests/edits/{_crate}/b.edit": "why: b\n"}
 FILES["tests/edits/gk_high/c.edit"] = "why: c\n"
 
-ANSWERS = {
-    "refused, as it must be: src/lib.rt:1:1: error": True,
-    "refused, as it must be (only by a limit of the prover, which gave no verdict)": False,
-    "refused, as it must be (only because a proof file names what the edit took away)": False,
-    "NOT REFUSED: the crate is still proved with this edit": False,
-    "BAD EDIT: there is no file src/lib.rt": False,
-}
-
-Attack = collections.namedtuple("Attack", "name change failing environment", defaults=({},))
-
 
 class Repository:
     """A folder with the two crates, their edits, and the script."""
 
     def __init__(self, room):
         self.folder = tempfile.mkdtemp(dir=room)
-        for path, text in FILES.items():
-            self.write(path, text)
-        shutil.copy(SCRIPT, self.path("tests/edits.sh"))
-        driver.write_program(self.path("bin/rt"), RT)
+        self.write(FILES)
+        self.write({"tests/edits.sh": driver.read(SCRIPT), "bin/rt": RT}, 0o755)
 
     def path(self, name):
         return os.path.join(self.folder, name)
 
-    def write(self, path, text):
-        driver.write(os.path.dirname(self.path(path)), {os.path.basename(path): text})
+    def write(self, files, mode=None):
+        driver.write(self.folder, files, mode)
 
     def add(self, path, text):
-        self.write(path, driver.read(self.path(path)).decode() + text)
+        self.write({path: driver.text(path, self.folder) + text})
+
+    def weaken(self, crate):
+        """Drops a clause of a crate."""
+        self.write({f"crates/{crate}/src/lib.rt": "fn f()\n    ensures { true }\n"})
 
     def remove(self, *paths):
-        for path in paths:
-            if os.path.isdir(self.path(path)):
-                shutil.rmtree(self.path(path))
-            else:
-                os.remove(self.path(path))
+        for path in map(self.path, paths):
+            (shutil.rmtree if os.path.isdir(path) else os.remove)(path)
 
     def without_line(self, path, crate):
-        lines = driver.read(self.path(path)).decode().splitlines(keepends=True)
-        self.write(path, "".join(it for it in lines if crate not in it))
+        lines = driver.text(path, self.folder).splitlines(keepends=True)
+        self.write({path: "".join(it for it in lines if crate not in it)})
 
     def run(self, *words, **environment):
         """Whether the script ended well, and what it said."""
         environment = {**os.environ, "PATH": f"{self.path('bin')}:{os.environ['PATH']}", **environment}
-        done = subprocess.run([self.path("tests/edits.sh"), *words], env=environment, stdin=subprocess.DEVNULL,
-                              stdout=subprocess.PIPE, stderr=subprocess.STDOUT, text=True, check=False)
-        return done.returncode == 0, done.stdout
-
-
-def weakened(it, crate="gk_low"):
-    it.write(f"crates/{crate}/src/lib.rt", "fn f()\n    ensures { true }\n")
-
-
-def weakened_and_noted(it):
-    weakened(it)
-    it.run("gk_low")
-
-
-def forgotten(it):
-    it.remove("crates/gk_high/must-fail", "tests/edits/gk_high")
-    it.without_line("tests/edits/numbers", "gk_high")
-    it.without_line("tests/edits/refused", "gk_high")
-
-
-def lowered(it):
-    it.remove("tests/edits/gk_high/c.edit")
-    it.write("tests/edits/numbers", "gk_low 1 1\ngk_high 1 1\n")
-
-
-def new_crate(it):
-    it.add("crates.txt", "gk_new: gk_low\n")
-    it.write("crates/gk_new/must-fail/a.edit", "why: a\n")
-
-
-BOTH = {"gk_low", "gk_high"}
-ATTACKS = [
-    Attack("a clause of a lower crate", weakened, BOTH),
-    Attack("a clause of a lower crate, whose note is made anew", weakened_and_noted, {"gk_high"}),
-    Attack("a clause of an upper crate", lambda it: weakened(it, "gk_high"), {"gk_high"}),
-    Attack("a definition", lambda it: it.add("crates/gk_low/specs/Lib.antt", "-- C\n"), BOTH),
-    Attack("a proof", lambda it: it.add("crates/gk_high/proofs/Lib.antt", "-- C\n"), {"gk_high"}),
-    Attack("an edit", lambda it: it.add("tests/edits/gk_high/c.edit", "old: x\n"), {"gk_high"}),
-    Attack("an edit is gone", lambda it: it.remove("tests/edits/gk_high/c.edit"), {"gk_high"}),
-    Attack("an edit is gone, and its number", lowered, {"gk_high"}),
-    Attack("an edit of the gate is gone", lambda it: it.remove("crates/gk_low/must-fail/a.edit"), {"gk_low"}),
-    Attack("a folder of edits is gone", lambda it: it.remove("tests/edits/gk_high"), {"gk_high"}),
-    Attack("a folder of edits of the gate is gone", lambda it: it.remove("crates/gk_low/must-fail"), {"gk_low"}),
-    Attack("all that says that a crate has edits is gone", forgotten, {"gk_high"}),
-    Attack("all numbers are gone", lambda it: it.write("tests/edits/numbers", ""), BOTH),
-    Attack("all notes are gone", lambda it: it.remove("tests/edits/refused"), BOTH),
-    Attack("a crate without a number", new_crate, {"gk_new"}),
-    Attack("a number of no crate", lambda it: it.add("tests/edits/numbers", "gk_tests 1 1\n"), {"gk_tests"}),
-    Attack("the line of a crate", lambda it: it.write("crates.txt", "gk_low:\ngk_high: gk_low std\n"), {"gk_high"}),
-    Attack("the script", lambda it: it.add("tests/edits.sh", "# x\n"), BOTH),
-    Attack("the toolchain", lambda it: None, BOTH, {"KIT": "kit 2"}),
-    Attack("nothing", lambda it: None, set()),
-]
-
-
-def attack_trouble(room, attack):
-    """What is wrong after an attack, or nothing."""
-    it = Repository(room)
-    is_noted, said = it.run()
-    if not is_noted:
-        return f"edits.sh notes nothing: {said}"
-    attack.change(it)
-    ended_well, said = it.run("--check", **attack.environment)
-    failing = set(re.findall(r"^edits: (\w+)", said, re.MULTILINE))
-    return driver.unless(f"{attack.name}: {said}", failing == attack.failing and ended_well == (not failing))
-
-
-def answer_trouble(room, answer, may_be_noted):
-    """What is wrong if rt says this of each edit, or nothing."""
-    it = Repository(room)
-    ended_well, said = it.run(SAID=answer)
-    is_noted, _ = it.run("--check")
-    return driver.unless(f"{answer}: {said}", ended_well == is_noted == may_be_noted)
-
-
-def troubles(room):
-    """For each attack and each answer what is wrong, or nothing."""
-    for attack in ATTACKS:
-        yield attack_trouble(room, attack)
-    for answer, may_be_noted in ANSWERS.items():
-        yield answer_trouble(room, answer, may_be_noted)
+        status, said, _ = driver.start(self.path("tests/edits.sh"), words, environment=environment, stderr=subprocess.STDOUT)
+        return status == 0, said.decode()
 
 
 def unapplied():

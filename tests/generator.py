@@ -68,11 +68,6 @@ BYTES = b'\x00\xff\n\r\t :#@*|"`\\<>{}=~,\xc3\xa9\xef\x80'
 LINES = {it: SHOWN[it].split("\n")[:-1] for it in (".feature", ".steps", ".hooks")}
 
 
-def step_text(table, action, **words):
-    """The text of a step with these words."""
-    return table[action].format(**words)
-
-
 def first_given(steps):
     """The same steps where others precede them: the first has the type that it had at the beginning."""
     if not steps:
@@ -82,28 +77,20 @@ def first_given(steps):
 
 
 def lines_of(steps):
-    """The lines of steps."""
     return [line for step in steps for line in step]
 
 
-def scenario_lines(scenario):
-    """The lines of a scenario, or of an outline."""
-    tags, heading, steps, examples = scenario
-    lines = [*tags, heading, *lines_of(steps)]
-    return lines if examples is None else [*lines, *examples.tags, "Examples: e", "| name | row |", *examples.rows]
-
-
 def text_of(parts):
-    """The text of a feature file with these parts."""
     lines = []
     for tags, heading, background, scenarios in parts:
         lines += [*tags, heading, *([] if background is None else ["Background:", *lines_of(background)])]
-        lines += [line for it in scenarios for line in scenario_lines(it)]
+        for tags_of_scenario, own, steps, examples in scenarios:
+            lines += [*tags_of_scenario, own, *lines_of(steps)]
+            lines += [*examples.tags, "Examples: e", "| name | row |", *examples.rows] if examples else []
     return "\n".join(lines) + "\n"
 
 
 def text_of_hooks(hooks):
-    """The text of a hooks file with these hooks."""
     return "".join("\n".join([f"{name}:", *lines_of(steps), ""]) for name, steps in hooks.items())
 
 
@@ -120,14 +107,12 @@ class Maker:
     # ---- texts and steps
 
     def word(self, kind):
-        """A word of a step's text."""
         if kind == "step":
             return self.text()
         words = {"file": FILES, "to": ["g"], "key": KEYS, "text": TEXTS, "number": NUMBERS}
         return str(self.chance.choice(words[kind]))
 
     def text(self):
-        """A step's text."""
         action = self.chance.choice(self.actions if self.chance.random() < 0.3 else self.changing)
         return re.sub(r"\{(\w+)\}", lambda it: self.word(it[1]), self.table[action])
 
@@ -136,7 +121,7 @@ class Maker:
         chance, kind = self.chance, self.chance.random()
         if kind < 0.08:
             block = ('"""', chance.choice(["one", "two\n  three"]), '"""')
-            return ("Given " + step_text(self.table, "write_block", file="f"), *block)
+            return ("Given " + self.table["write_block"].format(file="f"), *block)
         if kind < 0.13:
             rows = [f"| {chance.choice([*FILES, ''])} | {chance.choice(TEXTS)} |" for _ in range(chance.randrange(3))]
             return ("When " + self.table["write_files"], "| name | text |", *rows)
@@ -144,24 +129,22 @@ class Maker:
         return (f"{chance.choice(KEYWORDS)} {self.text()}", *block)
 
     def steps(self, most):
-        """Some steps."""
         return [self.step() for _ in range(self.chance.randrange(most + 1))]
 
     def checks(self):
         """Texts of steps of which each passes if something is what it says."""
         texts = [("value_is", {"key": "v", "text": str(number)}) for number in range(1, 6)]
         texts += [("file_is", {"file": "f", "text": "x" * number}) for number in range(1, 6)]
-        return [step_text(self.table, action, **words) for action, words in texts]
+        return [self.table[action].format(**words) for action, words in texts]
 
     def passing(self):
         """Texts of the steps of PASSING."""
         words = {"file": "f", "key": "v", "number": 1}
-        return [step_text(self.table, it, text="1" if it == "set_value" else "x", **words) for it in PASSING]
+        return [self.table[it].format(text="1" if it == "set_value" else "x", **words) for it in PASSING]
 
     # ---- texts of tags
 
     def tags(self):
-        """A line of tags, or none."""
         tags = [it for it in TAGS if self.chance.random() < 0.2]
         return [" ".join(tags)] if tags else []
 
@@ -209,12 +192,11 @@ class Maker:
     # ---- features, hooks and suites
 
     def scenario(self, name):
-        """A scenario, or an outline."""
         chance = self.chance
         if chance.random() < 0.75:
             return Scenario(self.tags(), f"Scenario: {name}", self.steps(5), None)
         rows = [f"| {chance.choice(FILES)} | {row} |" for row in range(chance.randrange(1, 4))]
-        step = "Then " + step_text(self.table, "file_is", file="<name>", text="<row>")
+        step = "Then " + self.table["file_is"].format(file="<name>", text="<row>")
         return Scenario(self.tags(), f"Scenario Outline: {name} <row>", [*self.steps(3), (step,), *self.steps(1)],
                         Examples(self.tags(), rows))
 
@@ -248,10 +230,9 @@ class Maker:
             return self.step()
         may_fail = name.startswith("after") and self.chance.random() < 0.4
         step = self.chance.choice(self.checks() if may_fail else self.passing())
-        return ("Given " + (step_text(self.table, "at_cleanup", step=step) if kind < 0.35 else step),)
+        return ("Given " + (self.table["at_cleanup"].format(step=step) if kind < 0.35 else step),)
 
     def suite(self):
-        """A suite."""
         names = [f"f{number}" for number in range(1, self.chance.randrange(2, 5))]
         features = {f"{name[1:]}.feature": self.feature(name) for name in names}
         library = LIBRARY.splitlines() if self.is_own else []
@@ -270,5 +251,4 @@ class Maker:
         return b"".join(it.encode() + (b"\r\n" if self.chance.random() < 0.1 else b"\n") for it in lines)
 
     def bytes(self, most):
-        """Random bytes."""
         return self.chance.randbytes(self.chance.randrange(1, most))

@@ -8,9 +8,9 @@
   --seconds.
 
 Each of these runs is made with a report of one format, plain, as progress or as JSON, and some with --no-skipped,
---dry-run or --stop. It has to end with status 0 or 1, a report whose closing lines are the counts of its rows, and
-nothing on standard error; or with status 3, nothing on standard output and one line on standard error; or, if options
-are hostile, with status 2 and nothing on standard output.
+--dry-run or --stop. It has to end with status 0 or 1, the report that follows from one in JSON of the same run, whose
+counts are those of its rows, and nothing on standard error; or with status 3, nothing on standard output and one line on
+standard error; or, if options are hostile, with status 2 and nothing on standard output.
 """
 
 import collections
@@ -22,7 +22,7 @@ import re
 import driver
 import search
 from generator import BYTES, Maker
-from reports import Report, style_of
+from reports import Report, in_json, style_of
 from tables import FLAGS, FORMATS, VALUED
 
 COUNT = 2400  # random cases
@@ -77,7 +77,6 @@ def changes():
 
 
 def changed(change):
-    """The case of a change."""
     options, source, files = examples()[change.example]
     if change.file:
         text, place = files[change.file], change.place
@@ -114,69 +113,55 @@ def mixed(generator):
     return Case([("--library", "l.steps")], "a.feature", {**files, "l.steps": b"".join(library)})
 
 
-def random_bytes(generator):
-    return Case([], "a.feature", {"a.feature": generator.bytes(400)})
-
-
-def random_lines(generator):
-    """Lines of a feature file and of a library."""
-    files = {"a.feature": b"Feature: f\n" + generator.lines(".feature", 12), "l.steps": generator.lines(".steps", 6)}
-    return Case([("--library", "l.steps")] if generator.is_own else [], "a.feature", files)
-
-
-def random_hooks(generator):
-    """Lines of a hooks file."""
-    files = {"h.hooks": generator.lines(".hooks", 10), "a.feature": PASSING}
-    return Case([("--hooks", "h.hooks")], "a.feature", files)
-
-
-def random_options(generator):
-    """Options before a file."""
+def random_files(generator, kind):
+    """Random bytes, or lines: of a feature file and of a library, of hooks, or options before a file."""
+    if kind == "bytes":
+        return Case([], "a.feature", {"a.feature": generator.bytes(400)})
+    if kind == "lines":
+        files = {"a.feature": b"Feature: f\n" + generator.lines(".feature", 12), "l.steps": generator.lines(".steps", 6)}
+        return Case([("--library", "l.steps")] if generator.is_own else [], "a.feature", files)
+    if kind == "hooks":
+        return Case([("--hooks", "h.hooks")], "a.feature", {"h.hooks": generator.lines(".hooks", 10), "a.feature": PASSING})
     options = generator.chance.choices(OPTIONS, k=generator.chance.randrange(6))
     return Case([(it,) for it in options], "a.feature", OPTION_FILES, may_be_refused=True)
 
 
-KINDS = (mixed, random_bytes, mixed, random_lines, random_hooks, random_options)
+KINDS = ("mixed", "bytes", "mixed", "lines", "hooks", "options")
 
 
 # ---- how a run ends
 
-def has_ended_well(case, arguments, status, out, err):
-    """Whether a run ended in one of the ways in which its case may end."""
+def has_ended_well(case, runs, arguments, status, out, err):
     if status in (0, 1):
-        if case.may_be_refused and status == 0 and b"Usage:" in out:
-            return not err
-        return not err and bool(out) and is_report(out, status, style_of(arguments))
+        is_help = case.may_be_refused and status == 0 and b"Usage:" in out
+        return not err and (is_help or is_report(runs, arguments, status, out))
     if status == 3:
         return not out and re.fullmatch(rb"gherkin_run: [^\n]*\n", err) is not None
     return case.may_be_refused and status == 2 and not out and bool(err)
 
 
-def is_report(text, status, style):
-    """Whether a text is a report whose counts are those of its rows, with that status.
-
-    A line feed in a file's name or text is printed as two characters, so each row of a plain report
-    is one line."""
+def is_report(runs, arguments, status, text):
+    """Whether a text is the report of a run with that status, by what the same run says in JSON."""
+    style, words = style_of(arguments), in_json(arguments)
+    ended = (status, text, b"") if words == arguments else runs.run(words)
     try:
-        report = Report.of(text, style)
+        report = Report.of(ended[1])
     except ValueError:
         return False
-    return report.is_read_well() and report.status() == status
+    return (ended[0], ended[2], report.status(), report.text(style)) == (status, b"", status, text)
 
 
 # ---- cases
-
-def keys(options):
-    """The seeds of the random cases, and then the changes of the examples."""
-    are_all = options.count is None and options.seconds is None
-    return itertools.chain(search.seeds(options, COUNT), changes() if are_all else [])
-
 
 def case(key):
     """A case. It has options for the report and the run in turn, unless these are hostile, or an example has some."""
     number = key.number if isinstance(key, Change) else key
     # Kinds of cases take turns, so the options change more slowly.
-    made = changed(key) if isinstance(key, Change) else KINDS[key % len(KINDS)](Maker(key // len(KINDS)))
+    if isinstance(key, Change):
+        made = changed(key)
+    else:
+        kind, maker = KINDS[key % len(KINDS)], Maker(key // len(KINDS))
+        made = mixed(maker) if kind == "mixed" else random_files(maker, kind)
     turn = number if isinstance(key, Change) else number // len(KINDS)
     if made.may_be_refused or OWN_STYLE & {it for option in made.options for it in option}:
         return made
@@ -185,11 +170,10 @@ def case(key):
 
 
 def troubles(case, runs):
-    """What is wrong with the run of a case, or nothing."""
     runs.write(case.files)
     arguments = [*(it for option in case.options for it in option), case.source]
     status, out, err = runs.run(arguments)
-    yield "" if has_ended_well(case, arguments, status, out, err) else f"status {status}\n  {out}\n  {err}"
+    yield "" if has_ended_well(case, runs, arguments, status, out, err) else f"status {status}\n  {out}\n  {err}"
 
 
-TESTER = search.Tester(keys, case, troubles)
+TESTER = search.Tester(COUNT, case, troubles, changes)

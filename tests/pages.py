@@ -46,18 +46,19 @@ def lay(folder, files, programs):
     os.symlink(driver.EXAMPLES, os.path.join(folder, "examples"))
 
 
-def troubles(folder, block):
-    """What is wrong with each command of a block, or nothing."""
+def troubles(folder, block, shows_statuses):
     environment, ended = {**os.environ, "TMPDIR": os.path.join(folder, "temporary"), "PATH": f"{folder}/bin:{os.environ['PATH']}"}, 0
-    for command, wanted in blocks.commands(block):
+    commands = blocks.commands(block)
+    for (command, wanted), following in zip(commands, [*(it for it, _ in commands[1:]), b""]):
         if command == b"echo $?":
             yield driver.unless(f"status {ended}, and not {wanted.decode()}", wanted == b"%d\n" % ended)
             continue
         ended, out, err = driver.start("sh", ["-c", command], folder, environment, patience=300)
         wanted = (ended, b"", wanted) if ended in (2, 3) else (ended, wanted, b"")
         left = os.listdir(environment["TMPDIR"])
-        yield driver.trouble(command.decode(), (ended, out, err),
-                             wanted) or driver.unless(f"{command.decode()} leaves {left}", not left)
+        name = command.decode("utf-8", "backslashreplace")
+        yield driver.trouble(name, (ended, out, err), wanted) or driver.unless(f"{name} leaves {left}", not left) or \
+            driver.unless(f"{name} ends with {ended}", not shows_statuses or ended == 0 or following == b"echo $?")
 
 
 def values(source):
@@ -86,15 +87,15 @@ class Session(doctest.DocTestRunner):
 
 
 def run_session(checks, name, files, text):
-    """Runs a session among the names of a test."""
     own = {it: getattr(checks, it) for it in set(dir(checks)) - set(dir(unittest.TestCase))}
     texts = {it: os.fsdecode(text) for it, text in files.items()}
     names = {**MODULES, **vars(sys.modules[type(checks).__module__]), **own, "files": texts}
     Session(checks).run(doctest.DocTestParser().get_doctest(text, names, name, None, 0))
 
 
-def tests(*pages, programs=dict):
-    """Adds a test for each block of some pages to a class. A function returns the programs that it may call."""
+def tests(*pages, programs=dict, shows_statuses=False):
+    """Adds a test for each block of some pages to a class. A function returns the programs that it may call. A page may show each
+    status that isn't 0."""
     def test_of(name, files, block):
         def test(self):
             if block.kind == "pycon":
@@ -102,13 +103,14 @@ def tests(*pages, programs=dict):
                 return
             folder = os.path.join(self.room, name)
             lay(folder, files, programs())
-            self.check_all(troubles(folder, block))
+            self.check_all(troubles(folder, block, shows_statuses))
         return test
 
     def added(test_class):
         for page in pages:
             for heading, files, block in blocks.runs(driver.read(os.path.join(TESTS, page)).decode()):
                 name = "_".join(["test", *re.findall("[a-z0-9]+", f"{os.path.basename(page).removesuffix('.md')} {heading}".lower())])
+                name += f"_{len(vars(test_class))}" * hasattr(test_class, name)
                 setattr(test_class, name, test_of(name, files, block))
         return test_class
     return added

@@ -50,7 +50,6 @@ def long_pieces(text):
 
 
 def words(text):
-    """The number of words of a page without fenced blocks."""
     return sum(len(piece.split()) for _, piece, _ in pieces(text))
 
 
@@ -65,7 +64,6 @@ def too_many_words(main, folders):
 
 
 def marks(text):
-    """The marks of a page that has too many of them."""
     found = [(number, f"'{it.group()}'") for number, piece, _ in pieces(text) for it in FOREIGN.finditer(piece)]
     return found if 1000 * len(found) > MARKS * max(words(text), 1000) else []
 
@@ -79,7 +77,6 @@ def rows_without_header(text):
 
 
 def hard_to_read(page, text, without_blocks):
-    """What makes a page hard to read, with its lines."""
     for number, line in enumerate(without_blocks.split("\n"), 1):
         if len(line) > COLUMNS and not line.startswith("|"):
             yield number, f"{len(line)} columns"

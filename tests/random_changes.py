@@ -1,9 +1,9 @@
 """Compares random changes of files, variables and values with plain maps.
 
-After each change in a scenario every name is checked against maps that a few lines of Python keep, and the report has
-to be the one that these maps give. Other cases change some 40 names in the layers of the run, a feature, a rule and a
-scenario; after the end of each layer all is as before. Then the same with a random growth of memory refused: a run has
-to end in one of the three ways of test_refused_memory.py.
+A case changes the layers of the run, of features, of rules and of scenarios. Between the changes every name is checked
+against maps that a few lines of Python keep, and the report has to be the one that these maps give. After the end of each
+layer all is as before. Then the same with a random growth of memory refused: a run has to end in one of the three ways of
+test_refused_memory.py.
 """
 
 import collections
@@ -11,18 +11,15 @@ import random
 
 import driver
 import search
+from builder import FAILING, FeatureFile, Run, Step, quoted
 from generator import BAD_NAME, BUILT_IN, LONG_TEXTS, NAMES
-from reports import PLAIN, Ample, Feature, Report, Scenario, verdict
+from reports import Ample, in_json
 from tables import FORMATS
 
 COUNT = 132  # cases
-LAYERED = 11  # each case of so many changes four layers
-SCENARIOS = 20
-CHANGES = 40  # in a scenario, at most
+LARGE = 11  # each case of so many changes some 40 names, often
+CHANGES = 40  # in a scenario of another case, at most
 REFUSALS = 12  # runs of a case with a growth refused
-# In the four layers of a case: the run's, a feature's, a rule's and a scenario's.
-CARRIED_OUT = (300, 200, 200, 300)
-BETWEEN_CHECKS = 20  # changes
 MANY_NAMES = [*NAMES, *(f"name {number}" for number in range(40 - len(NAMES)))]
 OUTSIDE = {"a": "from outside", "name 0": "0", "name 39": "x=y", "left": "alone"}
 PUTS = {"write_file": "files", "write_block": "files", "set_env": "env", "set_value": "values"}
@@ -31,10 +28,8 @@ ACTIONS = ["write_file", "set_env", "set_value", *PUTS, *TAKES, "append_file", "
 
 # A change: what is done, the name, and the text, the other name, the number or the rows that it takes.
 Change = collections.namedtuple("Change", "action name more")
-# Cases, with the names that are checked: the changes of each scenario of a feature; those of the run's, a feature's and a rule's
-# layer, and of four scenarios.
-Flat = collections.namedtuple("Flat", "seed names scenarios")
-Layers = collections.namedtuple("Layers", "seed names all feature rule scenarios")
+# A case: the names that are checked, the changes of the run's, a feature's and a rule's layer, and those of scenarios.
+Case = collections.namedtuple("Case", "seed names all feature rule scenarios")
 
 
 class World:
@@ -45,7 +40,6 @@ class World:
         self.files, self.env, self.values = {}, dict(env), collections.ChainMap()
 
     def begin(self):
-        """Begins a layer."""
         self.begun.append((dict(self.files), dict(self.env)))
         self.values = self.values.new_child()
 
@@ -53,10 +47,6 @@ class World:
         """Ends the innermost layer. All is as it was at its beginning."""
         self.files, self.env = self.begun.pop()
         self.values = self.values.parents
-
-    def contents(self):
-        """Copies of what a change in the innermost layer can change."""
-        return dict(self.files), dict(self.env), dict(self.values.maps[0])
 
     def change(self, change):
         """Carries out a change. Returns the reason if it fails."""
@@ -101,24 +91,24 @@ class World:
         self.values[name] = str(total)
         return None
 
-    def is_changed_by(self, change):
-        """Carries out a change, unless it would fail or leave all as it is. Returns whether it was carried out."""
-        before = self.contents()
-        if self.change(change) is None and self.contents() != before:
+    def carries_out(self, change):
+        """Carries out a change, unless it fails. Returns whether it was carried out."""
+        before = dict(self.files), dict(self.env), dict(self.values.maps[0])
+        if self.change(change) is None:
             return True
         self.files, self.env, self.values.maps[0] = before
         return False
 
-    def checks(self):
+    def checks(self, keyword="Then"):
         """Steps that pass if each name has what it has here."""
         for name in self.names:
             if name in self.files:
-                yield f'the file "{name}" should be:', ['"""', *self.files[name].split("\n"), '"""']
+                yield Step(f'the file "{name}" should be:', block=quoted(self.files[name]), keyword=keyword)
             else:
-                yield BUILT_IN["file_absent"].format(file=name), []
+                yield Step(BUILT_IN["file_absent"].format(file=name), keyword=keyword)
             for maps, noun in ((self.env, "env"), (self.values, "value")):
                 step = BUILT_IN[f"{noun}_is" if name in maps else f"{noun}_absent"]
-                yield step.format(key=name, text=maps.get(name)), []
+                yield Step(step.format(key=name, text=maps.get(name)), keyword=keyword)
 
 
 def random_change(chance, world):
@@ -136,193 +126,104 @@ def random_change(chance, world):
     return Change(action, name, chance.choice([0, 1, -3, 2**63 - 1] if action == "add_number" else LONG_TEXTS))
 
 
-def step_of(change):
-    """The text of the step of a change, and its block."""
+def step_of(change, reason=None):
+    """The step of a change, which may fail for a reason."""
     action, name, more = change
-    blocks = {"write_block": ['"""', more, more, '"""'], "write_files": []}
+    blocks = {"write_block": quoted(f"{more}\n{more}")}
     if action == "write_files":
         blocks[action] = ["| name | text |", *(f"| {own} | {text} |" for own, text in more)]
-    return BUILT_IN[action].format(file=name, key=name, text=more, to=more, number=more), blocks.get(action, [])
+    text = BUILT_IN[action].format(file=name, key=name, text=more, to=more, number=more)
+    return Step(text, f"failed: {reason}" if reason else "passed", blocks.get(action, []), "When")
 
 
-def changes_to_failure(chance, count):
-    """At most so many changes of a world that begins with nothing. After one that fails there is one more."""
-    world, changes, has_failed = World(NAMES), [], False
-    while len(changes) < count:
-        changes.append(random_change(chance, world))
-        if has_failed:
-            break
-        has_failed = world.change(changes[-1]) is not None
-    return changes
-
-
-def changes_of_layer(chance, world, count):
-    """So many changes of a layer that begins, of which each is carried out."""
+def changes_of_layer(chance, world, count, may_fail=False):
+    """So many changes of a layer that begins. Where one may fail, there is one more after it at most."""
     world.begin()
-    changes = []
-    while len(changes) < count:
+    changes, has_failed = [], False
+    while len(changes) < count and not has_failed:
         change = random_change(chance, world)
-        if world.is_changed_by(change):
-            changes.append(change)
-    return changes
+        is_done = world.carries_out(change)
+        has_failed = may_fail and not is_done
+        changes += [change] * (is_done or has_failed)
+    return [*changes, *[random_change(chance, world)] * has_failed]
 
 
-# ---- scenarios one after another
-
-class Lines:
-    """The lines of a scenario or a hook, and the rows that a report has of its steps."""
-
-    def __init__(self, heading):
-        self.heading, self.lines, self.rows, self.reason = heading, [heading], [], None
-
-    def add(self, keyword, steps, reason=None):
-        """Adds steps with their blocks. One may fail for a reason, and those after it are skipped."""
-        for step, block in steps:
-            self.lines += [f"{keyword} {step}", *block]
-            status = "skipped" if self.reason else f"failed: {reason}" if reason else "passed"
-            self.rows.append((f"{keyword} {step}", status))
-        self.reason = self.reason or reason
-
-    def scenario(self):
-        """The scenario of a report."""
-        return Scenario(self.heading, "failed" if self.reason else "passed", self.rows)
+def steps_of(world, changes, may_fail=False):
+    """The steps of changes and of checks between them. Where none may fail, those that would are left out."""
+    between = 1 if len(world.names) <= len(NAMES) else 20
+    yield from world.checks("Given")
+    for number, change in enumerate(changes, 1):
+        if may_fail or world.carries_out(change):
+            yield step_of(change, world.change(change) if may_fail else None)
+        if number % between == 0:
+            yield from world.checks()
+    yield from world.checks()
 
 
-def flat_scenario(names, number, changes):
-    """A scenario of changes, each checked. It begins with nothing, whatever the others did."""
-    world, lines = World(names), Lines(f"Scenario: s{number}")
-    lines.add("Given", world.checks())
-    for change in changes:
-        if lines.reason:
-            lines.add("When", [step_of(change)])
-            break
-        lines.add("When", [step_of(change)], world.change(change))
-        lines.add("Then", world.checks())
-    return lines
-
-
-def text_of(parts):
-    """The text of a file with these lines."""
-    return "\n".join(line for it in parts for line in it.lines) + "\n"
-
-
-def report_of(features):
-    """A plain report of features, each a name and its scenarios."""
-    found = []
-    for name, scenarios in features:
-        statuses = [it.status for it in scenarios]
-        found.append(Feature(f"Feature: {name}", verdict(statuses, statuses), scenarios))
-    return Report(PLAIN, found)
-
-
-def flat_run(case):
-    """The arguments, the files and the plain report of a run of scenarios."""
-    scenarios = [flat_scenario(case.names, number, changes) for number, changes in enumerate(case.scenarios)]
-    text = text_of([Lines("Feature: f"), *scenarios])
-    return ["a.feature"], {"a.feature": text}, report_of([("f", [it.scenario() for it in scenarios])])
-
-
-# ---- changes in four layers
-
-def carried_out(lines, world, keyword, changes):
-    """Adds the steps of changes to lines, without those that aren't carried out, and those of checks between them."""
-    lines.add("Then", world.checks())
-    done = 0
-    for change in changes:
-        if world.is_changed_by(change):
-            lines.add(keyword, [step_of(change)])
-            done += 1
-            if done % BETWEEN_CHECKS == 0:
-                lines.add("Then", world.checks())
-    lines.add("Then", world.checks())
-    return lines
-
-
-def hooks_around(world, name, changes):
-    """Hooks around a section whose layer begins: one changes it, the other checks that all is there again."""
+def add_hooks(hooks, world, name, changes):
+    """Adds hooks around a section whose layer begins: one changes it, the other checks that all is there again."""
     world.begin()
-    after = Lines(f"after_{name}:")
-    before = carried_out(Lines(f"before_{name}:"), world, "When", changes)
-    after.add("Then", world.checks())
-    return [before, after]
+    hooks.add(f"before_{name}:").steps(*steps_of(world, changes))
+    hooks.add(f"after_{name}:").steps(*world.checks())
 
 
-def last_layer(world, number, changes=()):
-    """A scenario. That of number 1 fails."""
-    world.begin()
-    lines = carried_out(Lines(f"Scenario: s{number}"), world, "When", changes)
-    world.end()
-    if number == 1:
-        lines.add("But", [("it fails", [])], "fail step")
-    return lines
+def add_scenarios(made, world, scenarios):
+    """Adds scenarios, each with a layer that ends with it. That of number 1 fails."""
+    for number, changes in enumerate(scenarios):
+        world.begin()
+        made.scenario(*steps_of(world, changes, may_fail=True), *[FAILING] * (number == 1), name=f"s{number}")
+        world.end()
 
 
-def layered_run(case):
-    """The same of a run that changes 40 names in each of its four layers.
-
-    The layers of the run, of the features and of the rules are changed by hooks, and the hooks after them check that
-    all is there again. What the scenarios of the first feature and of its first rule did changes nothing in those
-    after them. A scenario of no rule finds what the feature's hook left."""
-    world = World(case.names, OUTSIDE)
-    hooks = hooks_around(world, "all", case.all) + hooks_around(world, "feature", case.feature)
-    outside = [last_layer(world, 8, case.scenarios[0]), last_layer(world, 9)]
-    hooks += hooks_around(world, "rule", case.rule)
-    files, features = {"h.hooks": text_of(hooks)}, []
-    for name, before, changes in (("a", outside, case.scenarios[1:]), ("b", outside[1:], [()] * 3)):
-        rules = [[last_layer(world, number, own) for number, own in enumerate(changes)],
-                 [last_layer(world, number) for number in (3, 4)]]
-        parts = [Lines(f"Feature: {name}"), *before, Lines("Rule: one"), *rules[0], Lines("Rule: two"), *rules[1]]
-        files[f"{name}.feature"] = text_of(parts)
-        features.append((name, [it.scenario() for it in (*before, *rules[0], *rules[1])]))
-    options = [f"--env={name}={text}" for name, text in OUTSIDE.items()]
-    return ["--hooks", "h.hooks", *options, "a.feature", "b.feature"], files, report_of(features)
+def run_of(case):
+    """A run whose hooks change the layers of the run, of the features and of the rules, and check after them that all is there
+    again. What the scenarios of the first feature and of its first rule did changes nothing in those after them. A scenario
+    of no rule finds what the feature's hook left."""
+    world, hooks = World(case.names, OUTSIDE), FeatureFile()
+    hooks.lines = []
+    add_hooks(hooks, world, "all", case.all)
+    add_hooks(hooks, world, "feature", case.feature)
+    first, second = FeatureFile(name="a"), FeatureFile(name="b", source="b.feature")
+    add_scenarios(first, world, [*case.scenarios[:1], ()])
+    add_scenarios(second, world, [()])
+    add_hooks(hooks, world, "rule", case.rule)
+    add_scenarios(first.rule("one"), world, case.scenarios[1:])
+    add_scenarios(second.rule("one"), world, [()] * 3)
+    for made in (first, second):
+        add_scenarios(made.rule("two"), world, [()] * 2)
+    options = ["--hooks", "h.hooks", *(f"--env={name}={text}" for name, text in OUTSIDE.items())]
+    return Run(first, second, files={"h.hooks": hooks.text()}, options=options)
 
 
 # ---- cases
 
-def keys(options):
-    """The seeds of the cases."""
-    return search.seeds(options, COUNT)
-
-
-def layers(seed, chance):
-    """A case of changes in four layers."""
-    world, (of_run, of_feature, of_rule, of_scenario) = World(MANY_NAMES, OUTSIDE), CARRIED_OUT
-    outer, inner = changes_of_layer(chance, world, of_run), changes_of_layer(chance, world, of_feature)
-    scenarios = [changes_of_layer(chance, world, of_scenario)]
-    world.end()
-    rule = changes_of_layer(chance, world, of_rule)
-    for _ in range(3):
-        scenarios.append(changes_of_layer(chance, world, of_scenario))
-        world.end()
-    return Layers(seed, MANY_NAMES, outer, inner, rule, scenarios)
-
-
 def case(seed):
-    """A case: most have scenarios one after another, the others four layers."""
-    chance = random.Random(seed)
-    if seed % LAYERED == 0:
-        return layers(seed, chance)
-    return Flat(seed, NAMES, [changes_to_failure(chance, chance.randrange(CHANGES)) for _ in range(SCENARIOS)])
+    """A case, with few names and scenarios that may fail, or with many names and changes of each layer."""
+    chance, is_small = random.Random(seed), seed % LARGE > 0
+    world = World(NAMES if is_small else MANY_NAMES, OUTSIDE)
+    outer, inner, own = (chance.randrange(6) for _ in range(3)) if is_small else (300, 200, 200)
+    counts = [chance.randrange(CHANGES) for _ in range(20)] if is_small else [300] * 4
+    layers, scenarios = [changes_of_layer(chance, world, it) for it in (outer, inner)], []
+    for number, count in enumerate(counts):
+        if number == 1:
+            layers.append(changes_of_layer(chance, world, own))
+        scenarios.append(changes_of_layer(chance, world, count, is_small))
+        world.end()
+    return Case(seed, world.names, *layers, scenarios)
 
 
 def troubles(case, runs):
     """What is wrong with each run of a case: as it is, in one of the formats, and with growths of memory refused."""
-    if isinstance(case, Layers) and len(case.scenarios) < 4:
-        return
-    name = f"changes of seed {case.seed}"
-    arguments, files, report = (layered_run if isinstance(case, Layers) else flat_run)(case)
-    runs.write(files)
-    yield driver.trouble(name, runs.run(arguments), (report.status(), report.text(), b""))
-    styled = ["--format", FORMATS[case.seed % len(FORMATS)], *arguments]
-    ample = Ample(styled, runs.run(styled))
-    is_well = ample.is_read_well() and ample.report.counts == report.counts
-    yield "" if is_well else f"{name}: other counts"
-    chance = random.Random(case.seed)
+    name, chance, run = f"changes of seed {case.seed}", random.Random(case.seed), run_of(case)
+    runs.write(run.files)
+    yield driver.trouble(name, runs.run(run.arguments(None)), run.wanted(None))
+    styled = run.arguments(FORMATS[case.seed % len(FORMATS)])
+    ample = Ample(styled, runs.run(styled), runs.run(in_json(styled)))
+    yield "" if ample.is_read_well() and ample.report == run.report() else f"{name}: another report"
     for _ in range(REFUSALS):
         number = int(10 ** chance.uniform(0, 4.5))
         ended = runs.run(styled, refused=number)
         yield "" if ample.ending(ended) else f"{name}, growth {number} refused: {ended[0]}, {ended[2]}"
 
 
-TESTER = search.Tester(keys, case, troubles)
+TESTER = search.Tester(COUNT, case, troubles)

@@ -15,14 +15,13 @@ variable and a choice by tags. Nothing but the program says what has to come out
 - the formats say the same, with --no-skipped and without, and each counts its own rows.
 """
 
-import json
 import random
 import re
 
 import search
 from generator import TAGS, Maker, Part, Scenario, first_given, text_of, text_of_hooks
-from reports import (AROUND, Feature, Report, Scenario as Row, Style, one_line, read_json_feature, read_json_scenario,
-                     verdict)
+from reports import AROUND, Report, Style, one_line, unreached
+from tables import FORMATS
 
 COUNT = 1215  # suites
 # The lines of an explanation that have a cleanup, and a step that registered one, each with its place.
@@ -33,7 +32,6 @@ REGISTERED = re.compile(r"  (\S+:\d+): (?:before: |after: )?\S+ (?:at cleanup|la
 # ---- rules as features
 
 def joined_hooks(hooks, *names):
-    """The steps of hooks, one after another."""
     return [step for name in names for step in first_given(hooks.get(name, []))]
 
 
@@ -50,15 +48,14 @@ def moved_out(hooks, tags):
 
 def moved_rule(feature, rule):
     """A rule as a feature, with the feature's background in its own."""
-    backgrounds = [it for it in (feature.background, rule.background) if it is not None]
-    background = [step for it in backgrounds for step in first_given(it)] if backgrounds else None
+    found = [it for it in (feature.background, rule.background) if it is not None]
+    background = [step for it in found for step in first_given(it)] if found else None
     return [Part(rule.tags, rule.heading.replace("Rule:", "Feature:"), background, rule.scenarios)]
 
 
 # ---- what is compared
 
 def flat(options):
-    """Options as arguments."""
     return [it for option in options for it in option]
 
 
@@ -82,19 +79,16 @@ class Comparison:
             raise ValueError(f"{options}, {files}: status {status}, {err}")
         return printed, status
 
-    def json(self, options, files=None, hooks="h.hooks"):
-        """The JSON report of a run, read."""
+    def report(self, options, files=None, hooks="h.hooks"):
         printed, status = self.run(["--format", "json", *options], files, hooks)
-        report = Report.of(printed, Style("json", "--no-skipped" in options))
-        document = json.loads(printed)
-        if not report.is_read_well() or document["status"] != status:
-            raise ValueError(f"{options}, {files}: counts or statuses don't follow from the rows")
-        return document
+        report = Report.of(printed)
+        if report.status() != status:
+            raise ValueError(f"{options}, {files}: another status than in the report")
+        return report
 
     def differences(self):
-        """What differs, in words."""
         try:
-            whole, chosen = self.json([]), self.json(self.choices)
+            whole, chosen = self.report([]), self.report(self.choices)
             yield from self.chosen_by_tags()
             yield from self.alone(whole)
             yield from self.turned_round(whole)
@@ -104,7 +98,7 @@ class Comparison:
             yield from self.in_formats(chosen)
             yield from self.stopped(chosen)
             yield from self.explained(chosen, self.choices)
-            yield from self.explained(self.json(["--stop"]), ["--stop"])
+            yield from self.explained(self.report(["--stop"]), ["--stop"])
             yield from self.linted()
             yield from self.rules_as_features()
         except ValueError as trouble:
@@ -113,12 +107,10 @@ class Comparison:
     def chosen_lines(self, *tags):
         """The files and lines of the scenarios that texts of tags choose. In a dry run no other
         is skipped."""
-        features = self.json(["--dry-run", *flat(("--tags", text) for text in tags)])["features"]
-        return {(feature["source"], scenario["line"]) for feature in features
-                for scenario in feature["scenarios"] if scenario["status"] != "skipped"}
+        features = self.report(["--dry-run", *flat(("--tags", text) for text in tags)]).features
+        return {(feature.source, it.line) for feature in features for it in feature.cases if it.status != "skipped"}
 
     def chosen_by_tags(self):
-        """Texts of tags choose the scenarios of whose tags they hold."""
         having = {tag: self.chosen_lines(tag) for tag in TAGS}
         wanted = set()
         for place in self.chosen_lines():
@@ -130,83 +122,63 @@ class Comparison:
             yield f"{texts} don't choose the scenarios of whose tags they hold: {wanted}"
 
     def alone(self, whole):
-        """Each scenario has the same rows alone, by its line, as in the suite."""
-        for feature in whole["features"]:
-            for scenario in feature["scenarios"]:
-                line = scenario["line"]
-                alone = self.json(["--line", str(line)], [feature["source"]])
-                found = alone["features"][0]
-                own = [it for it in found["scenarios"] if it["line"] == line]
-                hooks = found["around"], alone["run"], found.get("rules")
-                wanted = feature["around"], whole["run"], rules_alone(feature, line)
-                if own != [scenario] or hooks != wanted:
-                    yield f"{feature['source']}:{line} alone: {own}, and not {scenario}, or other hooks"
+        for feature in whole.features:
+            for case in feature.cases:
+                alone = self.report(["--line", str(case.line)], [feature.source])
+                found, own = alone.features[0], feature.rule_of(case)
+                # No other rule than its own is begun.
+                rules = [it if it == own else it._replace(around="passed") for it in feature.rules]
+                is_same = [it for it in found.cases if it.line == case.line] == [case]
+                if not is_same or (found.around, alone.around, found.rules) != (feature.around, whole.around, rules):
+                    yield f"{feature.source}:{case.line} alone: {found}, and not {case}, or other hooks"
 
     def turned_round(self, whole):
-        """The scenarios of a file in another order have the same results."""
         for name, parts in self.suite.features.items():
             self.runs.write({"turned.feature": text_of(turned(parts))})
-            other = self.json([], ["turned.feature"])["features"][0]
-            own = next(it for it in whole["features"] if it["source"] == name)
-            is_same = all(other[key] == own[key] for key in ("around", "status"))
-            if by_name(other) != by_name(own) or not is_same:
+            other = self.report([], ["turned.feature"]).features[0]
+            own = next(it for it in whole.features if it.source == name)
+            if (by_name(other), other.around, other.status) != (by_name(own), own.around, own.status):
                 yield f"{name} in another order: {by_name(other)}, and not {by_name(own)}"
 
     def file_by_file(self, whole, options=()):
-        """A run over several files has the parts of the runs over each of them."""
-        parts = [self.json(options, [name]) for name in self.suite.features]
-        if [it for part in parts for it in part["features"]] != whole["features"]:
+        parts = [self.report(options, [name]) for name in self.suite.features]
+        if [it for part in parts for it in part.features] != whole.features:
             yield f"{options}: the files one by one have other results"
-        has_other_hooks = any(part["run"] != whole["run"] for part in parts)
-        if has_other_hooks or max(part["status"] for part in parts) != whole["status"]:
+        if any(it.around != whole.around for it in parts) or max(it.status() for it in parts) != whole.status():
             yield f"{options}: the files one by one have another status, or other hooks"
-        for noun, counts in whole["summary"].items():
-            for status, number in counts.items():
-                if number != sum(part["summary"][noun][status] for part in parts):
-                    yield f"{options}: the files one by one have other counts of {noun}"
 
     def dry(self, whole):
-        """A dry run calls undefined what the run does, and nothing that the run carried out."""
-        dry = self.json(["--dry-run", *self.choices])
-        if dry != self.json(["--dry-run", "--stop", *self.choices]) or set(arounds(dry)) != {"passed"}:
+        dry, stopped = (self.report(["--dry-run", *words, *self.choices]) for words in ([], ["--stop"]))
+        rows = [row for it in dry.features for row in (it, *it.rules, *it.cases)]
+        if dry != stopped or {it.around for it in (dry, *rows)} != {"passed"}:
             yield "--stop has an effect in a dry run, or hooks ran"
-        for feature, other in zip(whole["features"], dry["features"], strict=True):
-            for scenario, own in zip(feature["scenarios"], other["scenarios"], strict=True):
-                for step, looked_up in zip(scenario["steps"], own["steps"], strict=True):
-                    if not agree(scenario, step["status"], own["status"], looked_up["status"]):
-                        yield f"{feature['source']}:{scenario['line']}: {step} in a run, {looked_up} in a dry run"
+        for feature, other in zip(whole.features, dry.features, strict=True):
+            for case, own in zip(feature.cases, other.cases, strict=True):
+                for step, looked_up in zip(case.steps, own.steps, strict=True):
+                    if not agree(case, step.status.split(":")[0], own.status, looked_up.status):
+                        yield f"{feature.source}:{case.line}: {step} in a run, {looked_up} in a dry run"
 
     def in_formats(self, whole):
-        """Each format says the same, with what is skipped and without."""
-        for options in ([], ["--no-skipped"]):
-            document = self.json([*options, *self.choices])
-            if options and document["features"] != without_skipped(whole["features"]):
-                yield "--no-skipped leaves out other rows as JSON"
-            if document["summary"] != whole["summary"] or document["status"] != whole["status"]:
-                yield "--no-skipped changes the counts or the status"
-            for style in ("plain", "progress"):
-                printed, status = self.run(["--format", style, *options, *self.choices])
-                if printed != converted(document, style) or status != whole["status"]:
-                    yield f"{style} {options} isn't what JSON says: {printed.decode()}"
+        for style in (Style(form, is_short) for form in FORMATS for is_short in (False, True)):
+            printed, status = self.run(["--format", style.format, *["--no-skipped"] * style.no_skipped, *self.choices])
+            if (printed, status) != (whole.text(style), whole.status()):
+                yield f"{style} isn't what JSON says: {printed.decode()}"
 
     def stopped(self, whole):
-        """A run that stops has the same results up to the first failure, and after it none."""
-        stopped, dry = self.json(["--stop", *self.choices]), self.json(["--dry-run", *self.choices])
-        wanted = until_failure(whole["features"], dry["features"])
-        if stopped["features"] != wanted:
-            yield f"--stop gives {stopped['features']}, and not {wanted}"
-        if stopped["run"] != whole["run"]:
-            yield "--stop changes the run's own hooks"
+        stopped, dry = self.report(["--stop", *self.choices]), self.report(["--dry-run", *self.choices])
+        wanted = Report(until_failure(whole.features, dry.features), whole.around)
+        if stopped != wanted:
+            yield f"--stop gives {stopped}, and not {wanted}"
 
     def explained(self, whole, options):
-        """An explanation has what failed in the report, with the lines of its steps in order, and its closing lines."""
         printed, status = self.run(["--explain", *options])
         text, wanted = printed.decode(), list(failures(whole))
         listed = "".join(f"{heading}\n" for heading, _ in wanted) + ("\n" if wanted else "")
-        if status != whole["status"] or not text.endswith(listed + closing_lines(whole)):
+        ending = listed + whole.pieces(Style("plain"))[-1].decode()
+        if status != whole.status() or not text.endswith(ending):
             yield f"--explain {options} has another status, list or closing lines: {text}"
             return
-        parts = text.removesuffix(listed + closing_lines(whole)).split("\n\n")[:-1]
+        parts = text.removesuffix(ending).split("\n\n")[:-1]
         for part, (heading, steps) in zip(parts, wanted, strict=True):
             first, *events = part.split("\n")
             cleanups = [it for it in events if CLEANUP.match(it)]
@@ -219,8 +191,8 @@ class Comparison:
 
     def linted(self):
         """Of the steps that a dry run has, those are found undefined before a run that the dry run calls that."""
-        steps = [(f"{feature['source']}:{step['line']}:", step["status"]) for feature in self.json(["--dry-run"])["features"]
-                 for scenario in feature["scenarios"] for step in scenario["steps"]]
+        steps = [(f"{feature.source}:{step.line}:", step.status) for feature in self.report(["--dry-run"]).features
+                 for case in feature.cases for step in case.steps]
         lines, ending = self.run(["--lint"])[0].decode().splitlines(), " undefined step"
         found = {line.removesuffix(ending) for line in lines if line.endswith(ending)}
         wanted = {place for place, status in steps if status == "undefined"}
@@ -243,8 +215,11 @@ class Comparison:
                      "inner.feature": text_of([feature._replace(scenarios=[]), *rules])}
             self.runs.write({**inner, **files})
             for options in ([], ["--stop"]):
-                inside = by_rules(self.json(options, ["inner.feature"], "inner.hooks")["features"][0])
-                outside = by_features(self.json(options, list(files), "outer.hooks"))
+                inner = self.report(options, ["inner.feature"], "inner.hooks").features[0]
+                inside = inner.around, [(rule.around, list(map(without_lines, inner.cases[first:behind])))
+                                        for rule, first, behind in inner.spans]
+                report = self.report(options, list(files), "outer.hooks")
+                outside = report.around, [(it.around, list(map(without_lines, it.cases))) for it in report.features]
                 if inside != outside:
                     yield f"{options}: the rules of {name} give {inside}, and as features {outside}"
 
@@ -258,133 +233,47 @@ def turned(parts):
 
 # ---- reports of the same suite
 
-def failures(document):
+def failures(report):
     """What of a run failed, in the order in which it ended: its heading with its place, and the lines of its steps."""
-    for feature in document["features"]:
-        source, scenarios, rules = feature["source"], feature["scenarios"], converted_rules(feature)
-        for place in range(len(scenarios) + 1):
-            yield from ((f"{source}:{it.line}: Rule: {AROUND}", []) for it in rules if it.place == place)
-            if place < len(scenarios) and scenarios[place]["status"] == "failed":
-                row = converted_scenario(scenarios[place])
-                lines = [it["line"] for it in scenarios[place]["steps"]]
-                yield (f"{source}:{scenarios[place]['line']}: {row.head}",
-                       [f"  {source}:{line}: {head} ... {status}" for line, (head, status) in zip(lines, row.steps)])
-        if feature["around"] == "failed":
-            yield f"{source}:{feature['line']}: Feature: {one_line(feature['name'])} {AROUND}", []
-    if document["run"] == "failed":
+    for feature in report.features:
+        source = feature.source
+        for place in range(len(feature.cases) + 1):
+            yield from ((f"{source}:{it.line}: Rule: {AROUND}", []) for it, _, behind in feature.spans
+                        if it.around == "failed" and behind == place)
+            for case in feature.cases[place:place + 1]:
+                if case.status == "failed":
+                    yield (f"{source}:{case.line}: {case.keyword}: {one_line(case.name)}",
+                           [f"  {source}:{line}: {keyword} {one_line(text)} ... {status}" for keyword, line, text, status in case.steps])
+        if feature.around == "failed":
+            yield f"{source}:{feature.line}: Feature: {one_line(feature.name)} {AROUND}", []
+    if report.around == "failed":
         yield f"Run: {AROUND}", []
 
 
-def closing_lines(document):
-    """The closing lines of the plain report of a run."""
-    return converted(dict(document, features=[]), "plain").decode()
-
-
-def by_rules(feature):
-    """How a feature's hooks ended, and for each rule how its own did and what its scenarios gave."""
-    rules = [(it["around"], []) for it in feature["rules"]]
-    for scenario in feature["scenarios"]:
-        rules[place_of_rule(feature, scenario["line"])][1].append(without_lines(scenario))
-    return feature["around"], rules
-
-
-def by_features(report):
-    """How a run's hooks ended, and for each feature how its own did and what its scenarios gave."""
-    features = [(it["around"], [without_lines(own) for own in it["scenarios"]]) for it in report["features"]]
-    return report["run"], features
-
-
-def without_lines(scenario):
-    """A scenario without what differs where it stands in another file: its line, and its steps' lines and keywords."""
-    steps = [without(it, "line", "keyword") for it in scenario["steps"]]
-    return {**without(scenario, "line"), "steps": steps}
-
-
-def place_of_rule(feature, line):
-    """The place of the rule of the scenario in a line, or None."""
-    above = [at for at, it in enumerate(feature.get("rules", [])) if it["line"] < line]
-    return above[-1] if above else None
-
-
-def rules_alone(feature, line):
-    """A feature's rules where the scenario in a line alone is run: no other rule than its own is begun."""
-    own = place_of_rule(feature, line)
-    rules = [it if at == own else {**it, "around": "passed"} for at, it in enumerate(feature.get("rules", []))]
-    return rules or None
-
-
-def arounds(report):
-    """How the hooks and cleanups of a run, its features, their rules and their scenarios ended."""
-    features = report["features"]
-    rows = [row for it in features for row in (it, *it.get("rules", []), *it["scenarios"])]
-    return [report["run"], *(it["around"] for it in rows)]
-
-
-def without(row, *keys):
-    """An object of a JSON report without some of its keys."""
-    return {key: value for key, value in row.items() if key not in keys}
+def without_lines(case):
+    """A scenario without what differs where it is in another file: its line, and its steps' lines and keywords."""
+    return case._replace(line=0, steps=[it._replace(line=0, keyword="") for it in case.steps])
 
 
 def by_name(feature):
     """The scenarios of a feature by their names, without lines, each with how the hooks of its rule ended."""
-    rows, rules = {}, feature.get("rules", [])
-    for row in feature["scenarios"]:
-        place = place_of_rule(feature, row["line"])
-        around = None if place is None else rules[place]["around"]
-        steps = [without(it, "line") for it in row["steps"]]
-        rows[row["name"]] = {**without(row, "line"), "steps": steps, "rule": around}
+    rows = {}
+    for case in feature.cases:
+        rule = feature.rule_of(case)
+        rows[case.name] = case._replace(line=0, steps=[it._replace(line=0) for it in case.steps]), rule and rule.around
     return rows
 
 
-def agree(scenario, status, dry_scenario, dry_status):
-    """Whether a step's status in a run and in a dry run go together."""
+def agree(case, status, dry_scenario, dry_status):
     if dry_scenario == "skipped":
-        return scenario["status"] == status == dry_status == "skipped"
-    if status == "untested" or (status == "skipped" and scenario["status"] == "skipped"):
+        return case.status == status == dry_status == "skipped"
+    if status == "untested" or (status == "skipped" and case.status == "skipped"):
         return dry_status in ("untested", "undefined")
     if status == "skipped":
         # A failed scenario may have skipped itself before a hook or a cleanup failed.
-        is_sure = any(it["status"] in ("failed", "undefined") for it in scenario["steps"])
+        is_sure = any(it.status.startswith(("failed", "undefined")) for it in case.steps)
         return dry_status == "untested" or not is_sure
     return dry_status == ("undefined" if status == "undefined" else "untested")
-
-
-def without_skipped(features):
-    """The features and scenarios that aren't skipped."""
-    return [{**it, "scenarios": [own for own in it["scenarios"] if own["status"] != "skipped"]}
-            for it in features if it["status"] != "skipped"]
-
-
-def converted_scenario(row):
-    """A scenario of a JSON report, as the other reports have it."""
-    found = read_json_scenario(row)
-    keyword, name, _ = found.head
-    steps = [(f"{own} {one_line(text)}", status) for (own, text, _), status in found.steps]
-    return Row(f"{keyword}: {one_line(name)}", found.status, steps, found.around)
-
-
-def converted_rules(feature):
-    """The rules of a JSON report that a plain one has a line for, with the place of that line."""
-    found = read_json_feature(feature)
-    return [it._replace(place=found.span(it)[1]) for it in found.rules if it.around != "passed"]
-
-
-def converted(document, style):
-    """A JSON report in another format."""
-    features = []
-    for row in document["features"]:
-        plain = f"Feature: {one_line(row['name'])}"
-        head = plain if style == "plain" else one_line(row["source"])
-        scenarios = [converted_scenario(it) for it in row["scenarios"]]
-        features.append(Feature(head, row["status"], scenarios, row["around"], converted_rules(row)))
-    counts = {noun[:-1]: numbers for noun, numbers in document["summary"].items()}
-    return Report(Style(style, False), features, document["run"], counts).text()
-
-
-def unreached(scenario):
-    """The same scenario, not reached."""
-    steps = [{**without(it, "reason"), "status": "untested"} for it in scenario["steps"]]
-    return {**scenario, "status": "untested", "around": "passed", "steps": steps}
 
 
 def until_failure(features, dry):
@@ -393,33 +282,23 @@ def until_failure(features, dry):
     In the dry run of the same files what isn't chosen is skipped."""
     given, is_over = [], False
     for feature, looked_up in zip(features, dry, strict=True):
-        around, scenarios = "passed" if is_over else feature["around"], []
-        begun, rules = set(), feature.get("rules", [])
-        for scenario, own in zip(feature["scenarios"], looked_up["scenarios"], strict=True):
-            place = place_of_rule(feature, scenario["line"])
-            is_over = is_over or any(rules[it]["around"] == "failed" for it in begun - {place})
-            is_cut = is_over and own["status"] != "skipped"
-            begun |= set() if is_over or own["status"] == "skipped" else {place} - {None}
-            scenarios.append(unreached(scenario) if is_cut else scenario)
-            is_over = is_over or scenarios[-1]["status"] == "failed"
-        rules = [it if at in begun else {**it, "around": "passed"} for at, it in enumerate(rules)]
-        statuses = [it["status"] for it in scenarios]
-        status = verdict([around, *(it["around"] for it in rules), *statuses], statuses)
-        ruled = {"rules": rules} if rules else {}
-        given.append({**feature, "around": around, **ruled, "scenarios": scenarios, "status": status})
-        is_over = is_over or status == "failed"
+        cases, begun, around = [], [], "passed" if is_over else feature.around
+        for case, own in zip(feature.cases, looked_up.cases, strict=True):
+            rule, is_chosen = feature.rule_of(case), own.status != "skipped"
+            is_over = is_over or any(it.around == "failed" for it in begun if it != rule)
+            if is_chosen and not is_over:
+                begun.append(rule) if rule else None
+            cases.append(unreached(case) if is_over and is_chosen else case)
+            is_over = is_over or cases[-1].status == "failed"
+        rules = [it if it in begun else it._replace(around="passed") for it in feature.rules]
+        given.append(feature._replace(around=around, cases=cases, rules=rules))
+        is_over = is_over or given[-1].status == "failed"
     return given
 
 
 # ---- running them
 
-def keys(options):
-    """The seeds of the suites."""
-    return search.seeds(options, COUNT)
-
-
 def case(seed):
-    """A suite."""
     return Maker(seed).suite()
 
 
@@ -431,4 +310,4 @@ def troubles(suite, runs):
         yield next(Comparison(suite, runs).differences(), "")
 
 
-TESTER = search.Tester(keys, case, troubles)
+TESTER = search.Tester(COUNT, case, troubles)

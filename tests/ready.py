@@ -72,7 +72,6 @@ class Clone:
                                 start_new_session=True, preexec_fn=as_from_a_terminal)
 
     def run(self, *words, **more):
-        """Runs ./run; its status and what it printed on its two streams."""
         process = self.start(*(words or [EXAMPLE]), **more)
         out, err = process.communicate(timeout=60)
         return process.returncode, out, err
@@ -99,7 +98,6 @@ class Clone:
         os.utime(self.path(name), ns=(was.st_atime_ns, was.st_mtime_ns))
 
     def called(self):
-        """What the stand-in for rt was called for."""
         return driver.read(self.calls).decode().splitlines() if os.path.exists(self.calls) else []
 
     def sources(self):

@@ -1,5 +1,5 @@
 #!/usr/bin/env python3
-"""What the random testers share: the runs of a case, and the smallest case that fails, as commands of a shell.
+"""What the random testers share: the runs of a case, and the smallest case that fails, with its files and arguments.
 
 tests/search.py TESTER [--seed N] [--count N] [--seconds N] tries cases of random_runs, random_changes or hostile_bytes.
 GHERKIN_RUN of the environment is the program, or without it the one that ./run runs.
@@ -11,7 +11,6 @@ import concurrent.futures
 import importlib
 import itertools
 import os
-import shlex
 import shutil
 import sys
 import tempfile
@@ -24,24 +23,23 @@ BATCH = 12  # and how many of them to one at once
 SHRINKING = 60  # seconds for the case of one failure
 SHRUNK = 3  # failures; of others only the keys are printed
 
-# What differs between random testers: a function that has the keys of its cases by the options; one that makes the case
-# of a key; and one that runs a case and yields, for each test of it, what is wrong, or nothing.
-Tester = collections.namedtuple("Tester", "keys case troubles")
+# What differs between random testers: how many cases there are, whose keys are seeds; a function that makes the case of a
+# key; one that runs a case and yields, for each test of it, what is wrong, or nothing; and maybe one that has more keys.
+Tester = collections.namedtuple("Tester", "count case troubles more", defaults=(list,))
 
 
 class Runs:
     """Runs the program in a folder, and remembers how."""
 
-    def __init__(self, program, room, folder):
-        self.program, self.room, self.folder, self.commands = program, room, folder, []
+    def __init__(self, program, room, name):
+        self.program, self.room, self.folder, self.commands = program, room, os.path.join(room, name), []
 
     def write(self, files):
-        """Writes files to the folder."""
         driver.write(self.folder, files)
 
     def run(self, arguments, refused=None):
         """What a run gives. The growth of memory of this number may be refused."""
-        self.commands.append(("" if refused is None else f"REFUSE={refused} LD_PRELOAD=refuse.so ", arguments))
+        self.commands.append(("" if refused is None else f"with growth {refused} refused: ", arguments))
         environment = None if refused is None else driver.limited(self.room, REFUSE=refused)
         return driver.start(self.program, arguments, self.folder, environment)
 
@@ -94,49 +92,11 @@ def smallest(case, fails):
     return case
 
 
-# ---- a case as commands of a shell
-
-def is_shown(text):
-    """Whether bytes are a text whose lines a terminal shows."""
-    shown = text.decode("utf-8", "replace").replace("\n", "")
-    return shown.isprintable() and "\ufffd" not in shown
-
-
-def octal(text):
-    """Bytes between single quotes, for printf and for $''."""
-    return "'" + "".join(chr(it) if 32 <= it < 127 and it not in b"'\\%" else f"\\{it:03o}" for it in text) + "'"
-
-
-def written(name, text):
-    """The command that writes a file."""
-    if is_shown(text) and text.endswith(b"\n"):
-        return f"cat > {name} << 'END'\n{text.decode()}END\n"
-    return f"printf {octal(text)} > {name}\n"
-
-
-def word(argument):
-    """An argument of a command."""
-    text = os.fsencode(argument)
-    return shlex.quote(argument) if is_shown(text) and b"\n" not in text else "$" + octal(text)
-
-
-def as_shell(folder, commands):
-    """The first and the last command that ran in a folder, and the files that they name."""
-    kept = [commands[0], *commands[-1:]]
-    names = [it for it in sorted(os.listdir(folder)) if any(it in argument for _, own in kept for argument in own)]
-    lines = [before + " ".join(["gherkin_run", *map(word, own)]) + "\n" for before, own in kept]
-    return "".join([*(written(it, driver.read(os.path.join(folder, it))) for it in names), *dict.fromkeys(lines)])
-
-
 class Search:
     """Tries cases of a tester, until a time."""
 
     def __init__(self, tester, program, room, end):
         self.tester, self.program, self.room, self.end = tester, program, room, end
-
-    def runs(self, name):
-        """Runs in a new folder."""
-        return Runs(self.program, self.room, os.path.join(self.room, name))
 
     def troubles(self, case, runs):
         """What is wrong with each test of a case, or nothing. A report that can't be read is one trouble, too."""
@@ -145,54 +105,48 @@ class Search:
         except ValueError as trouble:
             yield f"a report can't be read: {trouble}"
 
-    def tried(self, keys):
-        """For each of these keys what is wrong with each test of its case, and how many runs it took."""
-        found = []
-        for key in keys:
-            if time.monotonic() > self.end:
-                break
-            runs = self.runs(f"of_process{os.getpid()}")
-            found.append((key, list(self.troubles(self.tester.case(key), runs)), len(runs.commands)))
-        return found
+    def tried(self, key):
+        """The key of a case, and what is wrong with each test of it, if there is time."""
+        if time.monotonic() > self.end:
+            return None
+        return key, list(self.troubles(self.tester.case(key), Runs(self.program, self.room, f"of_process{os.getpid()}")))
 
     def all_tried(self, keys):
-        """The same for many keys. Python itself takes time for a case, so several processes share them."""
+        """The same of many keys. Python itself takes time for a case, so several processes share them."""
         with concurrent.futures.ProcessPoolExecutor(driver.processors()) as pool:
             while time.monotonic() < self.end and (chunk := list(itertools.islice(keys, CHUNK))):
-                batches = [chunk[at:at + BATCH] for at in range(0, len(chunk), BATCH)]
-                for found in pool.map(self.tried, batches):
-                    yield from found
+                yield from filter(None, pool.map(self.tried, chunk, chunksize=BATCH))
 
     def first_trouble(self, case):
         """The first thing that is wrong with a case, or nothing, and its folder and its commands as they are then."""
-        runs = self.runs("smallest")
+        runs = Runs(self.program, self.room, "smallest")
         shutil.rmtree(runs.folder, ignore_errors=True)
         return next(filter(None, self.troubles(case, runs)), ""), runs
 
     def fails(self, case):
-        """Whether something is wrong with a case."""
         return self.first_trouble(case)[0] != ""
 
     def smallest_case(self, key):
-        """The smallest case that fails and is a part of that of a key."""
         return smallest(self.tester.case(key), self.fails)
 
     def smallest_failure(self, key):
-        """What is wrong with that case, with its files and commands."""
+        """What is wrong with that case, with its files and its last run."""
         case = self.smallest_case(key)
         found, runs = self.first_trouble(case)
-        return f"case {key}, made as small as it fails: {found}\n{as_shell(runs.folder, runs.commands)}"
+        files = {it: driver.read(os.path.join(runs.folder, it)) for it in sorted(os.listdir(runs.folder))}
+        shown = [f"{name}: {text}" for name, text in files.items()] + [f"{refused}{words}" for refused, words in runs.commands[-1:]]
+        return "\n  ".join([f"case {key}, made as small as it fails: {found}", *shown])
 
 
-def seeds(options, count):
-    """Seeds one after another: as many as the options say, or without these a count."""
+def keys(tester, options):
+    """Seeds one after another: as many as the options say, or without these those of a tester, and its other keys."""
     if options.count is None and options.seconds is not None:
         return itertools.count(options.seed)
-    return range(options.seed, options.seed + (count if options.count is None else options.count))
+    seeds = range(options.seed, options.seed + (tester.count if options.count is None else options.count))
+    return itertools.chain(seeds, tester.more() if options.count is None else [])
 
 
 def parser():
-    """The reader of the options."""
     options = argparse.ArgumentParser()
     options.add_argument("--seed", type=int, default=1, help="the seed of the first case (default: 1)")
     options.add_argument("--count", type=int, help="how many cases")
@@ -205,7 +159,7 @@ def tried(tester, room, options):
     smallest."""
     end = time.monotonic() + (options.seconds or float("inf"))
     search, failed = Search(tester, driver.program(), room, end), 0
-    for key, troubles, _ in search.all_tried(iter(tester.keys(options))):
+    for key, troubles in search.all_tried(keys(tester, options)):
         if any(troubles):
             failed += 1
             troubles[troubles.index(next(filter(None, troubles)))] = (

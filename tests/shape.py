@@ -13,7 +13,6 @@ import re
 
 import driver
 
-CRATES = os.path.join(driver.HOME, "crates")
 LIMITS = os.path.join(driver.HOME, "tests", "shape.limits")
 WIDTH = 100  # columns of a contract line
 ARGUMENTS = 7  # of a function that isn't public
@@ -34,12 +33,7 @@ Place = collections.namedtuple("Place", "path line text")
 # ---- sources
 
 def sources(*endings):
-    """The paths below crates/, from the top of the repository, of the files with these endings."""
-    for folder, folders, names in os.walk(CRATES):
-        folders[:] = sorted(it for it in folders if it not in ("out", "must-fail"))
-        for name in sorted(names):
-            if name.endswith(endings):
-                yield os.path.relpath(os.path.join(folder, name), driver.HOME)
+    return [it for it in driver.repository_files() if it.startswith("crates/") and it.endswith(endings) and "/must-fail/" not in it]
 
 
 def code():
@@ -48,7 +42,6 @@ def code():
 
 
 def lines_of(path):
-    """The lines of a file of the repository."""
     return driver.text(path).split("\n")
 
 
@@ -92,38 +85,23 @@ def wide_contract_lines():
 
 FUNCTION = re.compile(r"^[ \t]*(?P<before>(?:[a-z]+(?:\([a-z]+\))? )*)fn (?P<name>\w+)",
                       re.MULTILINE)
-SELF = re.compile(r"(&\s*('\w+\s+)?)?(mut\s+)?self\b")
-OPENING, CLOSING = "([{<", ")]}>"
+MARK = re.compile(r"[(\[{<]|[)\]}]|(?<![-=])>|(?<!:):(?!:)")
 
 
-def list_at(text, start, opening):
-    """The parts of the list in brackets that begins there, and the place after it.
-
-    There is no list, and nothing is passed over, where no such bracket stands there."""
-    if not text.startswith(opening, start):
-        return [], start
-    parts, depth = [""], 0
-    for place in range(start, len(text)):
-        character = text[place]
-        is_arrow = character == ">" and text[place - 1] in "-="
-        if character in CLOSING and not is_arrow:
-            depth -= 1
-            if depth == 0:
-                return [it.strip() for it in parts if it.strip()], place + 1
-        if character == "," and depth == 1:
-            parts.append("")
-        elif depth > 0:
-            parts[-1] += character
-        if character in OPENING:
+def count_arguments(text, start):
+    """The number of arguments of a function whose name ends there, except self. Each has a colon in the parentheses."""
+    depth, count, is_inside = 0, 0, False
+    for mark in (it[0] for it in MARK.finditer(text, start)):
+        if mark == ":":
+            count += is_inside and depth == 1
+        elif mark in "([{<":
+            is_inside = is_inside or (depth, mark) == (0, "(")
             depth += 1
+        else:
+            depth -= 1
+            if is_inside and depth == 0:
+                return count
     raise ValueError(f"a list without end: {text[start:start + 80]}")
-
-
-def arguments_of(text, start):
-    """The arguments of a function whose name ends there, but for self."""
-    _, start = list_at(text, start, "<")
-    arguments, _ = list_at(text, start, "(")
-    return [it for it in arguments if not SELF.match(it)]
 
 
 def long_argument_lists():
@@ -131,7 +109,7 @@ def long_argument_lists():
     for path in code():
         text = "\n".join(without_literals(line) for line in lines_of(path))
         for found in FUNCTION.finditer(text):
-            count = len(arguments_of(text, found.end()))
+            count = count_arguments(text, found.end())
             if "pub" not in found["before"].split() and count > ARGUMENTS:
                 line = text.count("\n", 0, found.start("name")) + 1
                 yield Place(path, line, f"{found['name']} has {count} arguments")
@@ -139,31 +117,15 @@ def long_argument_lists():
 
 # ---- modules and their specifications
 
-def crates_with_specs():
-    """The folders of the crates that have specifications."""
-    for crate in sorted(os.listdir(CRATES)):
-        if os.path.isdir(os.path.join(CRATES, crate, "specs")):
-            yield os.path.join("crates", crate)
-
-
-def names_in(folder, ending):
-    """The names of the files of a folder of the repository with an ending, without it."""
-    names = sorted(os.listdir(os.path.join(driver.HOME, folder)))
-    return [it.removesuffix(ending) for it in names if it.endswith(ending)]
-
-
-def snake_case(name):
-    """The name of the module that a specification of a name is of."""
-    return re.sub(r"(?<!^)(?=[A-Z])", "_", name).lower()
-
-
 def modules_without_spec():
     """Modules of src/ for which specs/ has no file of the same name."""
-    for crate in crates_with_specs():
-        specified = {snake_case(it) for it in names_in(os.path.join(crate, "specs"), ".antt")}
-        for name in names_in(os.path.join(crate, "src"), ".rt"):
-            if name not in specified and name not in ROOTS:
-                yield Place(os.path.join(crate, "src", f"{name}.rt"), 1, "no file of specs/")
+    paths = set(sources(".rt", ".antt"))
+    with_specs = {os.path.dirname(os.path.dirname(it)) for it in paths if os.path.dirname(it).endswith("specs")}
+    for path in sorted(it for it in paths if re.fullmatch(r"crates/\w+/src/\w+[.]rt", it)):
+        crate, name = path.split("/src/")
+        specified = f"{crate}/specs/{name[:-3].title().replace('_', '')}.antt"
+        if crate in with_specs and specified not in paths and name[:-3] not in ROOTS:
+            yield Place(path, 1, "no file of specs/")
 
 
 # ---- lines of one shape
@@ -189,28 +151,18 @@ def shapes_of(path):
             yield number, shape(line)
 
 
-def windows(files):
-    """The places, each a path and an index, of SHARED lines one after another, by their shapes.
+def sharing_pairs(files):
+    """The pairs of places, each a path and an index, that share SHARED lines of one shape and don't overlap.
 
     Lines of a few shapes that come again and again, as those of a table, aren't counted."""
     found = collections.defaultdict(list)
     for path, lines in files.items():
-        shapes = [it for _, it in lines]
-        for at in range(len(shapes) - SHARED + 1):
-            window = tuple(shapes[at:at + SHARED])
+        for at in range(len(lines) - SHARED + 1):
+            window = tuple(it for _, it in lines[at:at + SHARED])
             if len(set(window)) >= SHARED // 2:
                 found[window].append((path, at))
-    return found
-
-
-def sharing_pairs(files):
-    """The pairs of places that share SHARED lines and don't overlap."""
-    pairs = set()
-    for places in windows(files).values():
-        for (one, at), (other, place) in itertools.combinations(places, 2):
-            if one != other or abs(at - place) >= SHARED:
-                pairs.add((one, at, other, place))
-    return pairs
+    return {(*one, *other) for places in found.values() for one, other in itertools.combinations(places, 2)
+            if one[0] != other[0] or abs(one[1] - other[1]) >= SHARED}
 
 
 def repeated_places():
@@ -234,7 +186,6 @@ CHECKS = (wide_contract_lines, long_argument_lists, modules_without_spec, repeat
 
 
 def limits():
-    """The stored limits, by the names of the counts."""
     rows = (line.split() for line in driver.read(LIMITS).decode().splitlines())
     return {name: int(number) for name, number in rows}
 

@@ -28,5 +28,4 @@ exec %s "$@"
 
 
 def make(folder, names, step=STEP):
-    """Makes a folder with these commands."""
     driver.write(folder, {it: step.replace("%s", shutil.which(it)) for it in names}, 0o755)

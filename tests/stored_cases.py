@@ -9,9 +9,8 @@ import blocks
 import driver
 
 RUNS = os.path.join(driver.HOME, "tests", "runs")
-# A run: where it is, what it reads, what comes out, where its streams go if they aren't kept, and its link's target.
-Case = collections.namedtuple("Case", "page name files arguments status stdout stderr targets link")
-REDIRECTION = re.compile(r"(.*) (2?)>(&-| \S+)")
+# A run: where it is, what it reads, what comes out, and its link's target.
+Case = collections.namedtuple("Case", "page name files arguments status stdout stderr link")
 
 
 def cases(*others):
@@ -22,29 +21,22 @@ def cases(*others):
 
 
 def case(page, name, files, commands):
-    """The stored run of a console block."""
-    arguments, targets, printed, status, link = None, {}, {}, 0, ""
+    arguments, printed, status, link = None, {}, 0, ""
     for command, below in commands:
         command = command.decode("utf-8", "surrogateescape")
         if command.startswith("gherkin_run"):
-            while found := REDIRECTION.fullmatch(command):
-                command, stream = found[1], found[2]
-                targets[stream] = found[3].strip()
-            arguments = [it.encode("utf-8", "surrogateescape") for it in shlex.split(command)[1:]]
-            printed[targets.get("", "")] = below
+            words = shlex.split(command.removesuffix(" 2> stderr"))[1:]
+            arguments, printed["stdout"] = [it.encode("utf-8", "surrogateescape") for it in words], below
         elif command == "echo $?":
             status = int(below)
-        elif command.startswith("cat "):
-            printed[command.removeprefix("cat ")] = below
+        elif command == "cat stderr":
+            printed["stderr"] = below
         else:
             link = re.fullmatch(r"ln -s (\S+) link\.feature", command)[1]
-    out, err = targets.get("", ""), targets.get("2", "")
-    return Case(page, name, files, arguments, status, printed.get(out, b""), printed.get(err, b"") if err else b"",
-                (out, err.replace("stderr", "")), link)
+    return Case(page, name, files, arguments, status, printed["stdout"], printed.get("stderr", b""), link)
 
 
 def lay(found, folder):
-    """Writes the files of a stored run to a folder, and its link."""
     driver.write(folder, found.files)
     if found.link:
         os.symlink(found.link, os.path.join(folder, "link.feature"))

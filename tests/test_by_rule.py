@@ -22,7 +22,6 @@ def named(option):
 
 
 def given(option):
-    """An option as an argument, with a value."""
     return f"--{option.name}={VALUES[option.value]}" if option.value else f"--{option.name}"
 
 
@@ -37,7 +36,6 @@ class ByRule(Checks):
         driver.write(self.room, {"a.feature": FEATURE})
 
     def refuses(self, words, status, text):
-        """Counts a check, which fails unless the program refuses these arguments with this text."""
         ended = driver.start(self.program, [*words, "a.feature"], self.room)
         self.compare(" ".join(words), ended, (status, b"", text.encode()))
 
@@ -76,7 +74,6 @@ class ByRule(Checks):
                 self.refuses([f"--{it.name}"], 2, f"error: the argument '--{it.name}' needs '--lint'\n{USAGE}{HELP}")
 
     def library_refuses(self, entry, fault):
-        """Counts a check, which fails unless a library with this entry has this fault."""
         driver.write(self.room, {"lib.steps": f"{entry}\n"})
         self.refuses(["--library=lib.steps"], 3, f"gherkin_run: lib.steps:1: {fault}\n")
 

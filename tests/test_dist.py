@@ -13,13 +13,11 @@ LIBRARIES = {"libgherkin_run.so": "tools/shared_library.sh", "libgherkin_run.a":
 
 
 def said(*command):
-    """What a command prints, called at the top."""
     return subprocess.run(command, cwd=driver.HOME, stdout=subprocess.PIPE, check=True).stdout
 
 
 class Dist(Checks):
     def compare_built(self, name, path):
-        """Checks that a file of dist/ is the one that was built."""
         is_same = driver.read(path) == driver.read(os.path.join(DIST, name))
         self.unless(f"dist/{name} isn't what was just built" + RENEW, is_same)
 

@@ -1,39 +1,32 @@
 """The documents against the repository. A test says what it looks for; of the words of pages prose.py counts some."""
 
+import collections
 import functools
+import itertools
 import os
 import re
+import shutil
 import subprocess
 import sys
 
 import blocks
 import driver
+import pages
 import prose
 from checks import Checks
-from driver import HOME
+from driver import BUILT, HOME
 
 # Words that Rust's own documentation doesn't use so.
 WORDS = re.compile(r"\b(front|fronts|behind|tells|told|want of memory)\b", re.IGNORECASE)
 README_LINES = 120
-# Folders that checking and building make. A fresh clone has none of them.
-BUILT = ("out", "__pycache__")
 # The endings of files that pages name.
 SOURCES = (".rt", ".antt", ".py", ".sh", ".awk", ".c", ".feature", ".steps", ".edit", ".arguments", ".report", ".status", ".fault")
 
-
-def repository_files():
-    """All files of the repository but what is built."""
-    found = []
-    for folder, folders, names in os.walk(HOME):
-        folders[:] = sorted(it for it in folders if it not in (".git", *BUILT))
-        found += [os.path.relpath(os.path.join(folder, it), HOME) for it in sorted(names)]
-    return found
-
-
-FILES = repository_files()
+FILES = driver.repository_files()
 CRATES = [line.split(":")[0].split()[0] for line in driver.text("crates.txt").splitlines() if line.strip()]
 # The crates of tests, whose texts are no faults of the program.
 TESTS = ("crates/gk_tests/", "crates/gk_cli_tests/")
+CODE = [it for it in FILES if re.fullmatch(r"crates/[^/]+/src/.*[.]rt", it)]
 DOCUMENTS = [it for it in FILES if it.endswith(".md")]
 PAGES = [it for it in DOCUMENTS if "/" not in it or it.startswith("docs/")]
 
@@ -47,7 +40,6 @@ def prose_of(page):
 # ---- names
 
 def code_names():
-    """Every name that code, definitions and proofs declare."""
     names = set(CRATES)
     rust = re.compile(r"\b(?:fn|struct|enum|trait|const|static|type|mod|union)\s+(?:r#)?([A-Za-z_][A-Za-z0-9_]*)")
     clause = re.compile(r"\b(?:ensures|requires|invariant)\s+([a-z_][a-z0-9_]*)\s*\{")
@@ -56,26 +48,16 @@ def code_names():
     spec = re.compile(r"^\s*(?:(?:abbrev|unfoldable|ghost)\s+)*(?:pub\s+)?(?:record\s+|data\s+|mod\s+|law\s+|lemma\s+)?([A-Za-z_][A-Za-z0-9_]*)\s*[:({]", re.MULTILINE)
     header = re.compile(r"^\s*(?:(?:abbrev|unfoldable)\s+)*pub\s+(?:record\s+|data\s+|mod\s+)?([A-Za-z_][A-Za-z0-9_]*)", re.MULTILINE)
     callers = re.compile(r"\b(GHERKIN_[A-Z_]+|(?<=^import )[a-z]+|(?<=^const )[A-Z]+)\b", re.MULTILINE)
+    patterns = {".rt": (rust, clause, ghost, member), ".antt": (spec, header, member)}
     for path in FILES:
-        names.add(os.path.splitext(os.path.basename(path))[0])
-        if path.startswith(("include/", "python/", "web/source/")) and path.endswith((".h", ".py", ".js")):
+        name, ending = os.path.splitext(os.path.basename(path))
+        names.add(name)
+        if path.startswith(("include/", "python/", "web/source/")) and ending in (".h", ".py", ".js"):
             names.update(callers.findall(driver.text(path)))
-        if not path.startswith("crates/"):
-            continue
-        if path.endswith((".rt", ".antt")):
-            for literal in re.findall(r'"([^"\n]*)"', driver.text(path)):
-                names.update(re.findall(r"[A-Za-z_][A-Za-z0-9_]*", literal))
-        if path.endswith(".rt"):
+        if path.startswith("crates/") and ending in patterns:
             text = driver.text(path)
-            for pattern in (rust, clause, ghost, member):
-                names.update(pattern.findall(text))
-        elif path.endswith(".antt"):
-            text = driver.text(path)
-            for pattern in (spec, header, member):
-                names.update(pattern.findall(text))
-            names.add(os.path.basename(path)[:-5])
-        elif path.endswith(".edit"):
-            names.add(os.path.basename(path)[:-5])
+            names.update(re.findall(r"[A-Za-z_][A-Za-z0-9_]*", " ".join(re.findall(r'"([^"\n]*)"', text))))
+            names.update(*(pattern.findall(text) for pattern in patterns[ending]))
     return names
 
 
@@ -100,20 +82,16 @@ USERS_PAGES = (*GUIDE, "docs/FAULTS.md", "bench/README.md", "bench/figures.md",
 
 def members():
     """The functions, fields and variants of each type of the code, by the type's name."""
-    found = {}
-    for path in FILES:
-        if not re.fullmatch(r"crates/[^/]+/src/.*\.rt", path):
-            continue
-        owner = None
+    found = collections.defaultdict(set)
+    for path in CODE:
+        own = set()
         for line in driver.text(path).split("\n"):
             opened = re.match(r"\s*(?:pub(?:\([a-z]+\))? )?(?:impl(?:<.*?>)? (?:[A-Za-z:]+(?:<.*?>)? for )?|struct |enum |trait )"
                               r"(?:[a-z_]+::)*([A-Z][A-Za-z0-9_]*)", line)
             if opened and "fn " not in line:
-                owner = opened.group(1)
-                found.setdefault(owner, set())
+                own = found[opened.group(1)]
             member = re.match(r"\s+(?:pub(?:\([a-z]+\))? )?(?:fn |type )?([A-Za-z_][A-Za-z0-9_]*)\s*[<(:,{;=]|\s+([A-Z][A-Za-z0-9]*)$", line)
-            if member and owner:
-                found[owner].add(member.group(1) or member.group(2))
+            own |= {member.group(1) or member.group(2)} if member else set()
     return found
 
 
@@ -126,11 +104,8 @@ def path_is_there(name, page):
         return name in BUILT
     bases = [HOME, os.path.join(HOME, "crates"), os.path.dirname(os.path.join(HOME, page))]
     bases += [os.path.join(HOME, "crates", crate) for crate in CRATES]
-    if any(os.path.exists(os.path.join(base, name)) for base in bases):
-        return True
-    if "/" not in name:
-        return any(os.path.basename(it) == name for it in FILES)
-    return False
+    is_below = any(os.path.exists(os.path.join(base, name)) for base in bases)
+    return is_below or "/" not in name and any(os.path.basename(it) == name for it in FILES)
 
 
 def named_wrongly(page, names, owned):
@@ -168,27 +143,12 @@ def named_clauses(line, clauses):
                 yield f"no clause {clause} of {call}"
 
 
-def named_clauses_of(page):
-    clauses = clauses_by_function()
-    for number, line in enumerate(prose_of(page).split("\n"), 1):
-        yield from ((number, it) for it in named_clauses(line, clauses))
-
-
 def clauses_by_function():
-    """The names of the clauses of each function, by the function's name."""
-    found = {}
-    for path in FILES:
-        if not (path.startswith("crates/") and path.endswith(".rt")):
-            continue
-        function = None
-        for line in driver.text(path).split("\n"):
-            declared = re.search(r"\bfn\s+([A-Za-z_][A-Za-z0-9_]*)", line)
-            if declared:
-                function = declared.group(1)
-                found.setdefault(function, set())
-            clause = re.search(r"^\s*(?:ensures|requires)\s+([a-z_][a-z0-9_]*)\s*\{", line)
-            if clause and function:
-                found[function].add(clause.group(1))
+    found = collections.defaultdict(set)
+    for path in (it for it in FILES if it.startswith("crates/") and it.endswith(".rt")):
+        _, *parts = re.split(r"\bfn\s+(\w+)", driver.text(path))
+        for function, text in zip(parts[::2], parts[1::2]):
+            found[function].update(re.findall(r"(?m)^\s*(?:ensures|requires)\s+([a-z_][a-z0-9_]*)\s*\{", text))
     return found
 
 
@@ -217,7 +177,7 @@ def public_functions(crate):
     """The functions that lib.rt of a crate has or exports, and those of the types that it exports."""
     library = driver.text(f"crates/{crate}/src/lib.rt")
     exported = set(re.findall(r"\w+", " ".join(re.findall(r"^pub use \w+::([^;]+);", library, re.MULTILINE))))
-    code = "\n".join(driver.text(it) for it in FILES if re.fullmatch(f"crates/{crate}/src/.*[.]rt", it))
+    code = "\n".join(driver.text(it) for it in CODE if it.startswith(f"crates/{crate}/"))
     found = set(re.findall(r'^pub extern "C" fn (\w+)', library, re.MULTILINE))
     found |= exported & set(re.findall(r"^pub fn (\w+)", code, re.MULTILINE))
     for owner, body in re.findall(r"^impl(?:<\S*>)? (\w+)(?:<\S*>)? \{$(.*?)^\}", code, re.MULTILINE | re.DOTALL):
@@ -273,67 +233,46 @@ def unlisted_pages():
 
 # ---- runs that a page shows
 
+@functools.cache
 def shown_files(page):
-    """The files that a page shows: the line, the name and the text."""
-    for block in blocks.blocks(driver.text(page)):
-        if blocks.is_file(block):
-            yield block.line, block.name, block.text
+    return [it for it in blocks.blocks(driver.text(page)) if blocks.is_file(it)]
 
 
 @functools.cache
 def names_shown_in(folder):
-    """The names of the files that the pages of a folder show."""
-    return {name for page in DOCUMENTS if os.path.dirname(page) == folder for _, name, _ in shown_files(page)}
-
-
-def guide_beside(page):
-    """The other pages of the guide, where a page is one of its."""
-    return [it for it in GUIDE if it != page] if page in GUIDE else []
+    return {it.name for page in DOCUMENTS if os.path.dirname(page) == folder for it in shown_files(page)}
 
 
 def shown_twice():
     """Files of the guide that two of its pages show."""
     found = {}
     for page in GUIDE:
-        for number, name, _ in shown_files(page):
-            other = found.setdefault(name, page)
-            if other != page:
-                yield f"{page}:{number}: {other} shows a file {name} as well"
-
-
-def is_example(name):
-    """Whether a file that a page shows is one of examples/, which is there already."""
-    return name.startswith("examples/")
+        for it in shown_files(page):
+            if found.setdefault(it.name, page) != page:
+                yield f"{page}:{it.line}: {found[it.name]} shows a file {it.name} as well"
 
 
 def example_differences(page):
     """Files of examples/ that a page shows otherwise than they are."""
-    for number, name, text in shown_files(page):
-        if is_example(name) and (name not in FILES or driver.text(name) != text):
-            yield number, f"{name} is another file"
+    for it in shown_files(page):
+        if it.name.startswith("examples/") and (it.name not in FILES or driver.text(it.name) != it.text):
+            yield it.line, f"{it.name} is another file"
 
 
-def lay(folder, name, text):
-    """Puts a file that a page shows where its runs find it."""
-    if not is_example(name):
-        driver.write(folder, {name: text})
+def laid(shown):
+    """Files that pages show, without those of examples/, which are there already."""
+    return {it.name: it.text.encode() for it in shown if not it.name.startswith("examples/")}
 
 
-def run_differences(page, program, room):
+def run_differences(page, room):
     """Runs what a page shows, over the files that stand above it on the page, and on other pages of the guide."""
-    folder = os.path.join(room, page.replace("/", "_"))
-    os.makedirs(folder)
+    folder, others = os.path.join(room, page.replace("/", "_")), [it for it in GUIDE if it != page] if page in GUIDE else []
+    pages.lay(folder, laid(it for other in others for it in shown_files(other)), {})
     # A page calls the program from the top of the repository, or from a folder below.
-    for place in (folder, room):
-        driver.write(place, {"run": f'#!/bin/sh\nexec "{program}" "$@"\n'})
-        os.chmod(os.path.join(place, "run"), 0o755)
-    os.symlink(os.path.join(HOME, "examples"), os.path.join(folder, "examples"))
-    for other in guide_beside(page):
-        for _, name, text in shown_files(other):
-            lay(folder, name, text)
+    shutil.copy(os.path.join(folder, "run"), room)
     for block in blocks.blocks(driver.text(page)):
         if blocks.is_file(block):
-            lay(folder, block.name, block.text)
+            driver.write(folder, laid([block]))
         elif block.kind == "console":
             status = 0
             for command, wanted in blocks.commands(block):
@@ -352,55 +291,30 @@ DEFINITION = re.compile(r"(?:\s*(?:(?:abbrev|unfoldable) )+pub |pub (?!mod\b|use
 
 
 def broken_comments(path):
-    """The definitions of a file of specs/ without a comment above them, or with a broken one."""
+    """The definitions of a file of specs/ without a comment above them, or with one that is no sentence. Its source may
+    follow in parentheses."""
     lines = driver.text(path).split("\n")
     for number, line in enumerate(lines):
-        found = DEFINITION.match(line)
-        if not found:
-            continue
-        comment, above = [], number - 1
-        while above >= 0 and lines[above].lstrip().startswith("--"):
-            comment.insert(0, lines[above].strip()[2:].strip())
-            above -= 1
-        trouble = trouble_of(" ".join(comment))
-        if trouble:
-            yield number + 1, f"{found.group(1)}: {trouble}"
-
-
-def trouble_of(comment):
-    """What is wrong with the comment above a definition. Its source may follow in parentheses."""
-    if not comment:
-        return "no comment above it"
-    if not comment[:1].isupper():
-        return "its comment begins without a capital letter"
-    if "  " in comment:
-        return "its comment has two blanks in a row"
-    if not re.search(r"\.(\s*\(.*\))?$", comment):
-        return "its comment has no period at its end"
-    return None
+        if found := DEFINITION.match(line):
+            above = itertools.takewhile(lambda it: it.lstrip().startswith("--"), reversed(lines[:number]))
+            comment = " ".join(it.strip()[2:].strip() for it in reversed(list(above)))
+            if not comment:
+                yield number + 1, f"{found.group(1)}: no comment above it"
+            elif "  " in comment or not comment[0].isupper() or not re.search(r"\.(\s*\(.*\))?$", comment):
+                yield number + 1, f"{found.group(1)}: its comment isn't a sentence, with single spaces"
 
 
 # ---- modules
 
-def modules():
-    """The modules of each crate: files and folders of src/, files of specs/ and lemma files of proofs/."""
-    found = {}
-    for path in FILES:
-        parts = path.split("/")
-        if parts[0] != "crates" or len(parts) < 4 or parts[2] not in ("src", "specs", "proofs"):
-            continue
-        if len(parts) > 4:
-            continue
-        name, ending = os.path.splitext(parts[3])
-        if ending in (".rt", ".antt") and name not in ("lib", "main", "tests", "Lib"):
-            found.setdefault((parts[2], name), set()).add(parts[1])
-    return found
-
-
 def shared_modules():
     """The modules that have the name of a module of another crate. Each crate may have its laws, and what its calls return."""
-    for (kind, name), crates in sorted(modules().items()):
-        if len(crates) > 1 and name not in ("laws", "Results"):
+    found = collections.defaultdict(set)
+    for path in FILES:
+        module = re.fullmatch(r"crates/(\w+)/(src|specs|proofs)/(\w+)\.(?:rt|antt)", path)
+        if module and module[3] not in ("lib", "main", "tests", "Lib", "laws", "Results"):
+            found[module[2], module[3]].add(module[1])
+    for (kind, name), crates in sorted(found.items()):
+        if len(crates) > 1:
             yield f"a module {name} is in {kind}/ of {' and of '.join(sorted(crates))}"
 
 
@@ -412,8 +326,8 @@ STATUSES = {"passed", "failed", "skipped", "undefined", "untested", "memory"}
 def fault_texts():
     """The texts of faults and the reasons that the code prints."""
     texts = set()
-    for path in FILES:
-        if not re.fullmatch(r"crates/[^/]+/src/.*\.rt", path) or path.startswith(TESTS) or path == HINTS:
+    for path in CODE:
+        if path.startswith(TESTS) or path == HINTS:
             continue
         code = re.sub(r"//.*", "", driver.text(path)).replace('\\n"', '"')
         for pattern in (r'#\[error\("([^"{}]+)"\)\]', r'write_str\("([^"{}]+)"\)', r'=>\s*"([^"{}]+)"',
@@ -424,7 +338,7 @@ def fault_texts():
 
 
 # What is to be done about each fault: its fix in docs/FAULTS.md begins so.
-HINTS = "crates/gk_cli/src/hints.rt"
+HINTS = "crates/gk_findings/src/hints.rt"
 
 # Reasons that are one word; other single words in the code are keywords and names.
 REASONS_OF_ONE_WORD = {"absent", "present", "differs"}
@@ -464,30 +378,18 @@ def picture_differences(program):
 
 # ---- words
 
-def counted_words():
-    """Words of WORDS in pages, which are faults, and how many there are elsewhere, by folder."""
-    faults, elsewhere = [], {}
-    for path in FILES:
-        if not path.endswith((".md", ".rt", ".antt", ".sh", ".py", ".awk", ".c")) or path == "tests/test_documents.py":
-            continue
-        for number, line in enumerate(driver.text(path).split("\n"), 1):
+def foreign_words():
+    for page in PAGES:
+        for number, line in enumerate(driver.text(page).split("\n"), 1):
             # A name in code style is the code's own.
-            line = re.sub(r"`[^`]*`|TODO\([^)]*\)", "", line)
-            if not WORDS.search(line):
-                continue
-            if path in PAGES:
-                faults.append((path, number, f"the word '{WORDS.search(line).group(0)}'"))
-            else:
-                top = "/".join(path.split("/")[:2])
-                elsewhere[top] = elsewhere.get(top, 0) + len(WORDS.findall(line))
-    return faults, elsewhere
+            if found := WORDS.search(re.sub(r"`[^`]*`|TODO\([^)]*\)", "", line)):
+                yield f"{page}:{number}: the word '{found.group(0)}'"
 
 
 # ---- all of it
 
 class Documents(Checks):
     def check_lines(self, name, path, pairs):
-        """Checks that nothing was found in a file, each with its line."""
         self.check_list(f"{name} {path}", (f"{path}:{number}: {text}" for number, text in pairs))
 
     def test_names(self):
@@ -497,8 +399,11 @@ class Documents(Checks):
             self.check_lines("names in", page, named_wrongly(page, names, owned))
 
     def test_clauses(self):
+        clauses = clauses_by_function()
         for page in PAGES:
-            self.check_lines("clauses in", page, named_clauses_of(page))
+            lines = enumerate(prose_of(page).split("\n"), 1)
+            found = ((number, it) for number, line in lines for it in named_clauses(line, clauses))
+            self.check_lines("clauses in", page, found)
 
     def test_edits(self):
         """A must-fail edit says what it breaks and which clause refuses it."""
@@ -516,7 +421,7 @@ class Documents(Checks):
     def test_runs(self):
         """A run that a document shows gives that: a `console` block over the files above it, and those of the guide."""
         for page in PAGES:
-            for number, difference in run_differences(page, self.program, self.room):
+            for number, difference in run_differences(page, self.room):
                 self.check_list(f"{page}:{number}", [difference] if difference else [])
 
     def test_files_of_the_guide(self):
@@ -532,11 +437,8 @@ class Documents(Checks):
         self.unless(f"README.md has {length} lines", length <= README_LINES)
 
     def test_words(self):
-        """A page at the top or of docs/ has no word of WORDS; elsewhere such words are counted only."""
-        faults, elsewhere = counted_words()
-        self.check_list("words in pages", (f"{path}:{number}: {text}" for path, number, text in faults))
-        if elsewhere:
-            print("such words elsewhere: " + ", ".join(f"{count} in {top}" for top, count in sorted(elsewhere.items())))
+        """A page at the top or of docs/ has no word of WORDS."""
+        self.check_list("words in pages", foreign_words())
 
     def test_lists_of_pages(self):
         """The README of tests/runs/ and of tests/side_by_side/ lists each page."""

@@ -8,10 +8,10 @@ escaped; JSON has it with JSON's escapes.
 In each folder is a file `a`, too. A name without its first or its last byte is usually that of this file.
 """
 
-import os
+import re
 
 import driver
-from builder import FAILING, FeatureFile, Run, Step
+from builder import FAILING, FeatureFile, Run, Step, troubles
 from checks import Checks
 from reports import one_line
 from tables import FORMATS
@@ -19,7 +19,7 @@ from tables import FORMATS
 BYTES = (*range(1, 33), 127)
 FAILING_FILE, PASSING_FILE = (driver.feature(f"Given {it}") for it in ("it fails", "it passes"))
 # The escapes of control characters that have a letter in an explanation.
-SHOWN = {9: "\\t", 10: "\\n", 13: "\\r"}
+SHOWN = {"\t": "\\t", "\n": "\\n", "\r": "\\r"}
 CLOSING = """
 0 features passed, 1 failed, 0 skipped
 0 scenarios passed, 1 failed, 0 skipped
@@ -41,10 +41,7 @@ def edged(byte, text):
 
 def shown(text):
     """A text as it is in a line of an explanation or of a finding."""
-    def escaped(character):
-        code = ord(character)
-        return SHOWN.get(code, f"\\u{{{code:x}}}") if code < 32 or code == 127 else character
-    return "".join(escaped(it) for it in text)
+    return re.sub(r"[\x00-\x1f\x7f]", lambda it: SHOWN.get(it[0], f"\\u{{{ord(it[0]):x}}}"), text)
 
 
 def both_forms(option, value):
@@ -130,7 +127,6 @@ def options_of(byte):
 
 
 def runs():
-    """All runs, each with its format."""
     for byte in BYTES:
         for text in (*edged(byte, "a"), chr(byte)):
             for kind in (feature_files, faults, other_files, variables, world_files):
@@ -140,15 +136,5 @@ def runs():
 
 
 class EdgeBytes(Checks):
-    def trouble(self, numbered):
-        """What is wrong with a run, or nothing."""
-        number, (run, style) = numbered
-        folder = os.path.join(self.room, str(number))
-        driver.write(folder, run.files)
-        arguments = run.arguments(style)
-        return driver.trouble(f"arguments {arguments}", driver.start(self.program, arguments, folder),
-                              run.wanted(style))
-
     def test_each_byte(self):
-        pairs = ((run, style) for run in runs() for style in run.formats or [None])
-        self.check_all(driver.on_all_processors(self.trouble, enumerate(pairs)))
+        self.check_all(troubles(self.room, runs()))

@@ -30,7 +30,6 @@ def runs():
 
 
 def tasks():
-    """The tasks of tasks.json."""
     return json.loads(driver.read(os.path.join(EDITORS, "tasks.json")))["tasks"]
 
 
@@ -76,7 +75,6 @@ class Places(Checks):
 
     @classmethod
     def printed(cls, arguments):
-        """All that a run prints."""
         _, printed, _ = driver.start(driver.program(), arguments, cls.room, stderr=subprocess.STDOUT)
         return printed.decode()
 

@@ -70,24 +70,15 @@ class FailingReads(Refusing):
         driver.write(cls.folder, {**FILES, **OTHER_FILES})
         cls.ample = driver.start(driver.program(), ARGUMENTS, cls.folder)
 
-    def opened_of(self, log):
-        """The names in a log of what was opened, without the files outside of the folder.
-
-        The runtime of the program may open such."""
-        for name in log.decode().split("\n")[:-1]:
-            path = os.path.normpath(os.path.join(self.folder, name))
-            if os.path.commonpath([path, self.folder]) == self.folder:
-                yield name
-
     def noted(self, arguments, **limits):
-        """How a run ends, and the names of the files that it opens."""
+        """How a run ends, and the names of the files that it opens. Its runtime may open such outside of the folder."""
         with tempfile.NamedTemporaryFile(dir=self.room) as log:
             environment = driver.limited(self.room, OPEN_LOG=log.name, **limits)
             ended = driver.start(self.program, arguments, self.folder, environment)
-            return ended, list(self.opened_of(log.read()))
+            return ended, [it for it in log.read().decode().split("\n")[:-1] if os.path.commonpath(
+                [os.path.normpath(os.path.join(self.folder, it)), self.folder]) == self.folder]
 
     def trouble(self, name, wanted, opened=tuple(FILES), **limits):
-        """What is wrong with a run whose files are limited, and with the files that it opens, or nothing."""
         ended, noted = self.noted(ARGUMENTS, **limits)
         found = driver.trouble(name, ended, wanted)
         return found if noted == list(opened) else f"{found or name}\n  opened {noted}, and not {list(opened)}"

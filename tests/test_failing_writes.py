@@ -12,7 +12,7 @@ import os
 import driver
 import stored_cases
 from checks import Refusing
-from reports import Report, style_of
+from reports import Ample, in_json
 from tables import FORMATS
 
 BYTES_TRIED = 4096  # of a report that is longer only the pieces are
@@ -33,11 +33,10 @@ class Case:
 
     def beginnings(self):
         """What was written before each piece of the report that isn't empty."""
-        report = Report.of(self.ample[1], style_of(self.arguments))
-        return [before for before, piece in zip(report.beginnings(), report.pieces()) if piece]
+        ample = Ample(self.arguments, self.ample, driver.start(self.program, in_json(self.arguments), self.folder))
+        return [before for before, piece in zip(ample.beginnings, ample.pieces) if piece]
 
     def trouble(self, name, wanted, **limits):
-        """What is wrong with a run whose standard output is limited, or nothing."""
         environment = driver.limited(self.room, **limits)
         ended = driver.start(self.program, self.arguments, self.folder, environment)
         return driver.trouble(f"{self.arguments}, {name}", ended, wanted)
@@ -49,23 +48,15 @@ class Case:
         call fails, or takes nothing, what was taken before it is all that is written."""
         for piece in (1, 7):
             yield self.trouble(f"{piece} bytes a call", self.ample, WRITE_PIECE=piece)
-        yield from self.piece_troubles()
-        if len(self.ample[1]) <= BYTES_TRIED:
-            yield from self.byte_troubles()
-
-    def piece_troubles(self):
-        """What is wrong with the runs whose call for a piece fails."""
-        beginnings = self.beginnings()
+        beginnings, everything = self.beginnings(), self.ample[1]
         for number, before in enumerate(beginnings, 1):
             for error in PIECE_ERRORS:
                 yield self.trouble(f"error {error} at piece {number}", (3, before, CANNOT_WRITE),
                                    WRITE_FAILS=number, WRITE_ERROR=error)
         yield self.trouble("no call left to fail", self.ample,
                            WRITE_FAILS=len(beginnings) + 1, WRITE_ERROR=errno.EIO)
-
-    def byte_troubles(self):
-        """What is wrong with the runs whose call for a byte fails."""
-        everything = self.ample[1]
+        if len(everything) > BYTES_TRIED:
+            return
         for number in range(1, len(everything) + 1):
             error = BYTE_ERRORS[number % len(BYTE_ERRORS)]
             wanted = (3, everything[:number - 1], CANNOT_WRITE)

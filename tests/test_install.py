@@ -55,7 +55,6 @@ def make_repository(folder, version):
 
 
 def files_of(tree):
-    """The files and links of what is below a folder."""
     return {it: found for it, found in tree.items() if found[1] is not None}
 
 
@@ -69,7 +68,6 @@ def without_list(found):
 
 
 def listed_files(found):
-    """The files that the list names."""
     return [it for it in found[LIST][1].splitlines() if it.startswith(b"file ")]
 
 
@@ -116,7 +114,6 @@ class Copies(Checks):
 
     @classmethod
     def run_install(cls, repository, *words, **more):
-        """Runs ./install, until its end."""
         process = cls.start(repository, *words, **more)
         out, said = process.communicate(timeout=driver.PATIENCE)
         calls = int(driver.read(os.path.join(process.room, "calls")))
@@ -146,7 +143,6 @@ class Copies(Checks):
         return victim
 
     def put_link(self, folder, name, target):
-        """Puts a link in place of a path below PREFIX."""
         os.makedirs(os.path.join(folder, os.path.dirname(name)), exist_ok=True)
         os.symlink(target, os.path.join(folder, name))
 
@@ -284,7 +280,6 @@ class Whole(Checks):
         os.symlink(os.path.join(HOME, "install"), os.path.join(self.top, "install"))
 
     def block(self, name):
-        """The commands of a block."""
         text, = (it.text for it in blocks.blocks(driver.read(os.path.join(GUIDE, "installing.md")).decode()) if (it.kind, it.name) == ("sh", name))
         return text
 

@@ -62,7 +62,6 @@ class Parts(Checks):
 
 
 def encoded(value):
-    """Bytes or a text as base64."""
     return base64.b64encode(value if isinstance(value, bytes) else os.fsencode(value)).decode()
 
 
@@ -170,7 +169,6 @@ class Use(Checks):
         events.events.clear()
 
     def complaints(self):
-        """What the browser complains of."""
         return [it["entry"]["text"] for it in self.browser.events_of("Log.entryAdded")]
 
     def load(self, fragment="", width=1280, height=800):
@@ -192,7 +190,6 @@ class Use(Checks):
         return self.value(f"document.querySelector({json.dumps(selector)}).{rest}")
 
     def text(self, selector):
-        """What an element shows."""
         return self.one(selector, "textContent")
 
     def says(self, selector, text):
@@ -214,11 +211,9 @@ class Use(Checks):
         return "as the program" if shown == wanted else f"{driver.cut(repr(shown))} and not {driver.cut(repr(wanted))}"
 
     def show(self, inputs):
-        """Lets the page show other inputs."""
         self.value(f"show({json.dumps(inputs)})")
 
     def fill(self, selector, text):
-        """Puts a text into a field at once."""
         self.value("(() => { const it = document.querySelector(%s); it.value = %s; "
                    "it.dispatchEvent(new Event('input', { bubbles: true })); })()" % (json.dumps(selector), json.dumps(text)))
 
@@ -230,16 +225,13 @@ class Use(Checks):
         self.browser.type(text)
 
     def open_example(self, name):
-        """Chooses an example, and opens it."""
         self.value(f"$('example').value = {json.dumps(name)}")
         self.click("#open")
 
     def inputs(self):
-        """All that the fields hold."""
         return self.value("inputs()")
 
     def names(self):
-        """The names of the feature files."""
         return [name for name, _ in self.inputs()["files"]]
 
     def focused(self):

@@ -17,7 +17,6 @@ class PreCommit(Checks):
     NEEDS = ("git", "pre-commit")
 
     def call(self, folder, *words):
-        """The status and the output of a command in a folder of the room."""
         environment = {**os.environ, **AUTHOR, "HOME": self.room, "PRE_COMMIT_HOME": os.path.join(self.room, "home")}
         done = subprocess.run(words, cwd=os.path.join(self.room, folder), env=environment, stdin=subprocess.DEVNULL,
                               stdout=subprocess.PIPE, stderr=subprocess.STDOUT, text=True, check=False)

@@ -14,8 +14,6 @@ from checks import Checks, Refusing
 
 
 class Random:
-    """The test of a tester. Each case has checks."""
-
     def test_cases(self):
         self.check_all(search.tried(self.TESTER, self.room, search.parser().parse_args([])))
 
@@ -57,7 +55,7 @@ class Shrinking(Refusing):
         driver.write_program(planted,
                              f'#!/bin/sh\n"{self.program}" "$@" > printed\nstatus=$?\n{mistake}\nexit "$status"\n')
         found = search.Search(tester, planted, self.room, float("inf"))
-        key = next(it for it in tester.keys(search.parser().parse_args([])) if found.fails(tester.case(it)))
+        key = next(it for it in search.keys(tester, search.parser().parse_args([])) if found.fails(tester.case(it)))
         case = found.smallest_case(key)
         self.unless(f"the smallest case doesn't fail: {case}", found.fails(case))
         less = [it for it in smaller(case) if found.fails(it)]

@@ -40,7 +40,6 @@ def shell(folder, command, **more):
 
 
 def rules_of(report):
-    """The rules of all features of a report."""
     return [it for one in report["features"] for it in one.get("rules", [])]
 
 
@@ -110,7 +109,6 @@ def escaped(text):
 
 
 def readable(name):
-    """A name as the JUnit file has it."""
     return "".join("\ufffd" if it in "\ufffe\uffff" else f"\\x{ord(it):02x}" if CONTROL.match(it) and it not in "\t\r" else it for it in name)
 
 
@@ -155,15 +153,12 @@ class Recipes(Checks):
         return folder
 
     def names_in(self, folder):
-        """The names of the suite's files."""
         return sorted(os.path.join("features", it) for it in os.listdir(os.path.join(folder, "features")))
 
     def one_run(self, folder, *options):
-        """The status and the output of one run over the whole suite."""
         return driver.start(self.program, [*options, "--", *self.names_in(folder)], folder)
 
     def read_report(self, folder):
-        """The report that a command made."""
         return driver.read(os.path.join(folder, "report.json"))
 
     def try_makers(self, folder, name, report):

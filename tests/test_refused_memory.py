@@ -19,13 +19,14 @@ a report with which some run has to end. Some are run with --explain, too: then 
 written, or one event of it is memory, or it is as with ample memory.
 """
 
+import itertools
 import os
 import re
 
 import driver
 import stored_cases
 from checks import Refusing
-from reports import MEMORY, Ample, Report, Style, style_of
+from reports import MEMORY, Ample, in_json
 from tables import FORMATS
 
 PAGES = ("refused_memory.md", "refused_hooks.md", "refused_rules.md")
@@ -52,30 +53,18 @@ RUNS = dict(shown_runs())
 
 
 class Refusals:
-    """The runs of one case, each with one growth refused."""
-
     def __init__(self, program, room, name, arguments, folder):
         self.program, self.room, self.name = program, room, name
         self.arguments, self.folder = arguments, folder
         ended = self.start(arguments)
-        if "--explain" in arguments:
-            self.ample = AmpleExplanation(ended)
-        elif "--lint" in arguments:
-            self.ample = AmpleFindings(ended)
-        else:
-            self.ample = Ample(arguments, ended, self.whole())
+        is_text = {"--explain", "--lint"} & {*arguments}
+        self.ample = AmpleText(ended, "--explain" in arguments) if is_text else Ample(arguments, ended, self.in_json())
 
     def start(self, arguments, environment=None):
-        """Runs the program: its status, and what was written."""
         return driver.start(self.program, arguments, self.folder, environment)
 
-    def whole(self):
-        """The report of the same run that leaves nothing out."""
-        if "--no-skipped" not in self.arguments:
-            return None
-        arguments = [it for it in self.arguments if it != "--no-skipped"]
-        _, printed, _ = self.start(arguments)
-        return Report.of(printed, Style(style_of(arguments).format, False))
+    def in_json(self):
+        return self.start(in_json(self.arguments))
 
     def ending(self, number):
         """How the run ends whose growth of a number is refused, and what was written.
@@ -111,57 +100,39 @@ class Refusals:
             number += 64
 
 
-class AmpleExplanation:
-    """What a run with --explain does with ample memory, and how a run with a refused growth ends beside it."""
+class AmpleText:
+    """What a run with --explain or --lint does with ample memory, and how a run with a refused growth ends beside it."""
 
-    # Its pieces aren't worked out.
+    # It is no report, and its pieces aren't worked out.
     report = None
 
-    def __init__(self, ended):
-        self.ended = ended
+    def __init__(self, ended, is_explained):
+        self.ended, self.is_explained = ended, is_explained
 
     def is_read_well(self):
-        """Whether the run ends with the closing lines of a report."""
-        _, printed, complained = self.ended
-        return complained == b"" and re.search(rb"(?m)^\d+ steps? passed, ", printed) is not None
-
-    def ending(self, ended):
-        """How a run ends: as one of ENDINGS but the last, or nothing where it ends otherwise.
-
-        A run that is marked explains the one section, or the one scenario, in which an event is marked."""
-        status, printed, complained = ended
-        if ended == self.ended:
-            return "unharmed"
-        if status != 4:
-            return None
-        if complained == MEMORY:
-            return "stopped" if self.ended[1].startswith(printed) else None
-        events = re.findall(rb"(?m)^  \S.* \.\.\. memory$", printed)
-        closing = printed.rpartition(b"\n\n")[2]
-        return "marked" if complained == b"" and len(events) == 1 and b" memory" in closing else None
-
-
-class AmpleFindings:
-    """What a run with --lint does with ample memory, and how a run with a refused growth ends beside it."""
-
-    # It is no report.
-    report = None
-
-    def __init__(self, ended):
-        self.ended = ended
-
-    def is_read_well(self):
-        """Whether something is found, or more than one file doesn't read."""
+        """Whether an explanation ends with the closing lines of a report, and whether something is found, or more than
+        one file doesn't read."""
         status, printed, complained = self.ended
+        if self.is_explained:
+            return complained == b"" and re.search(rb"(?m)^\d+ steps? passed, ", printed) is not None
         if status == 1:
             return complained == b"" and printed != b""
         return status == 3 and printed == b"" and complained.count(b"gherkin_run: ") > 1
 
     def ending(self, ended):
-        """How a run ends: as one of ENDINGS, or nothing. What is found is written as one piece, or not at all."""
+        """How a run ends: as one of ENDINGS but the last, or nothing where it ends otherwise.
+
+        What is found is written as one piece, or not at all. A run that is marked explains the one section, or the one
+        scenario, in which an event is marked."""
+        status, printed, complained = ended
         if ended == self.ended:
             return "unharmed"
-        return "stopped" if ended == (4, b"", MEMORY) else None
+        if (status, complained) == (4, MEMORY):
+            return "stopped" if (self.ended[1] if self.is_explained else b"").startswith(printed) else None
+        events = re.findall(rb"(?m)^  \S.* \.\.\. memory$", printed)
+        closing = printed.rpartition(b"\n\n")[2]
+        is_marked = self.is_explained and (status, complained) == (4, b"") and len(events) == 1 and b" memory" in closing
+        return "marked" if is_marked else None
 
 
 ENDINGS = ("stopped", "marked", "unharmed", "told", "unmet", "before")
@@ -194,7 +165,7 @@ class RefusedMemory(OfGrowths):
         self.unless(f"{name}: no run stopped", "stopped" in endings)
         if case.ample.report is not None:
             # Each piece is made when those before it are written, so some run ends at each of them.
-            for before, piece in zip(case.ample.beginnings, case.ample.report.pieces()):
+            for before, piece in zip(case.ample.beginnings, case.ample.pieces):
                 if piece:
                     self.unless(f"{name}: no run stopped after {len(before)} bytes, where a piece is made",
                                 before in written)
@@ -218,7 +189,6 @@ class RefusedMemory(OfGrowths):
 
 
 def add_test(name, *options):
-    """Adds a test for a run of a page."""
     words = "_".join(re.findall("[a-z0-9]+", " ".join([name, *options]).lower()))
     setattr(RefusedMemory, f"test_{words}", lambda self: self.try_page(name, *options))
 
@@ -249,18 +219,12 @@ NAMES = (
 NOT_BEGUN = 4, b"", b"not begun\n"
 # What the program writes of a sandbox with nothing in it and no layer open.
 EMPTY = b"depth 0, recorded 0, files [], variables [], values []\n"
-# What is written where a file was removed in a layer: the answers to the removal and to the change
-# after it, whether the file was there then, and after the layer.
-REMOVED = re.compile(rb"removal (\S+), next (\S+)\nin the layer (true|false)\n(.*)\Z", re.DOTALL)
-# The file is there again after the layer, and the one that was put in the layer isn't.
-AFTERWARDS = b'after it Some("one") None\ndepth 0, recorded 0\n'
-DONE, REFUSED = b"Ok(())", b"Err(Memory)"
-# The answers in the order in which growths are refused: in the removal, after it, nowhere.
-ANSWERS = [
-    (REFUSED, DONE, b"true"),
-    (DONE, REFUSED, b"false"),
-    (DONE, DONE, b"false"),
-]
+# What is written if a file is removed in a layer: the results of the removal and of the change after it, whether the file was
+# there then, and that it is there again after the layer, and the file that was put in the layer isn't. In the order in which
+# growths are refused: in the removal, after it, nowhere.
+REMOVED = [f"removal {removal}, next {following}\nin the layer {is_there}\nafter it Some(\"one\") None\ndepth 0, recorded 0\n".encode()
+           for removal, following, is_there in (("Err(Memory)", "Ok(())", "true"), ("Ok(())", "Err(Memory)", "false"),
+                                                ("Ok(())", "Ok(())", "false"))]
 
 
 class Inside(Refusals):
@@ -278,6 +242,11 @@ class Inside(Refusals):
         if err.endswith(EMPTY) and answer in said:
             return status, printed, said[answer]
         return status, printed, err
+
+    def in_json(self):
+        """The report of gherkin_run itself."""
+        hooks = ["--hooks", HOOKS] if HOOKS in self.arguments else []
+        return driver.start(driver.program(), ["--format", "json", *hooks, FEATURE], self.folder)
 
     def ending(self, number):
         """How the run ends whose growth of a number is refused, `before` where it wasn't begun."""
@@ -326,9 +295,8 @@ class RefusedInside(OfGrowths):
         files = RUNS[HOOKS_OF_TAGS][1]
         self.try_inside(NOT_BEGUN_FEATURE, {**files, HOOKS: b"before_feature:\nGiven it fails\n" + files[HOOKS]})
 
-    def removed_answers(self):
-        """The answers if a file is removed in a layer and growth 1, 2, 3, .. is refused."""
-        number, is_met = 0, True
+    def test_removed_file(self):
+        number, is_met, found = 0, True, []
         while is_met:
             number += 1
             log = os.path.join(self.room, "removed.log")
@@ -337,16 +305,9 @@ class RefusedInside(OfGrowths):
             if is_met and ended == NOT_BEGUN:
                 self.check("")
                 continue
-            found = REMOVED.match(ended[2])
-            answer = found.group(1, 2, 3) if found else None
-            is_back = ended[:2] == (0, b"") and found and found[4] == AFTERWARDS
-            # A refused growth that was a guess is asked for again, and harms nothing.
-            is_well = is_back and (is_met or answer == ANSWERS[2])
+            is_well = ended[:2] == (0, b"") and ended[2] in (REMOVED if is_met else REMOVED[2:])
             self.unless(f"a file is removed, growth {number} refused: {ended}", is_well)
-            if not (is_met and answer == ANSWERS[2]):
-                yield answer
-
-    def test_removed_file(self):
-        answers = list(self.removed_answers())
-        in_order = sorted(answers, key=lambda it: ANSWERS.index(it) if it in ANSWERS else -1)
-        self.unless(f"a file is removed in a layer: {answers}", answers == in_order and set(answers) == set(ANSWERS))
+            # A refused growth that was a guess is asked for again, and harms nothing.
+            found += [] if is_met and ended[2] == REMOVED[2] else [ended[2]]
+        in_order = [it for it, _ in itertools.groupby(found)]
+        self.same("the results if a file is removed in a layer", in_order, REMOVED)

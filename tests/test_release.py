@@ -32,8 +32,6 @@ echo $((calls""", 1)
 
 
 class Released(Checks):
-    """Tests with a clone that has a program in out/, and with what its first release makes."""
-
     @classmethod
     def setUpClass(cls):
         super().setUpClass()
@@ -61,7 +59,6 @@ class Released(Checks):
 
     @classmethod
     def copied(cls, name):
-        """Copies both folders."""
         for it in RELEASED:
             shutil.copytree(cls.clone.path(it), os.path.join(cls.room, name, it))
         return os.path.join(cls.room, name)

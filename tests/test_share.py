@@ -34,7 +34,6 @@ class Share(Checks):
         cls.sections = dict(re.findall(r"^\.SH (.*)\n((?:(?!\.SH ).*\n)*)", cls.man, re.MULTILINE))
 
     def status(self, *words, **more):
-        """The status of a run in examples/."""
         return driver.start(self.program, words, EXAMPLES, **more)[0]
 
     def read_by(self, reader, *words):

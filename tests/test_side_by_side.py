@@ -70,7 +70,6 @@ class Pairs:
     """The tests of both programs. WHO is the one whose commands are run."""
 
     def pair_trouble(self, job):
-        """What is wrong with one command of a pair."""
         folder, name, words, wanted = job
         found = self.said(folder, words[1:])
         shown = ["  says", *(f"    {it}" for it in found), "  and not", *(f"    {it}" for it in wanted)]
@@ -91,7 +90,6 @@ class SideBySide(Pairs, Checks):
     WHO = "gherkin_run"
 
     def said(self, folder, words):
-        """What a command says."""
         status, printed, fault = driver.start(self.program, words, folder)
         return said_of(status, printed + fault)
 

@@ -7,8 +7,8 @@ that are its own: those up to SMALL in each format, larger ones in one format. W
 size is tried in each format, in some two minutes. Some rows end at 4,097, since their cost grows faster than their
 number, or there is a limit below; those of one argument end where the system takes no longer one.
 
-A group has runs of names, which have no size. A growing run is made of two sizes, and the larger may take only so many
-times the processor time of the smaller.
+A growing run is made of two sizes, and the larger may take only so many times the processor time of the smaller. Runs at
+the limits are on the page sizes.md.
 """
 
 import collections
@@ -19,6 +19,7 @@ import tempfile
 import threading
 
 import driver
+import pages
 from builder import FAILING, HINTS, FeatureFile, Run, Step, judged, quoted, with_hooks, with_library
 from checks import Checks
 from reports import closing
@@ -32,10 +33,8 @@ NAME_LIMIT = 255
 PATH_LIMIT = 4095  # of the system, not of the program
 TEXT_LIMIT = 1_048_576
 FILE_LIMIT = 16_777_216
-STEPS_LIMIT = 1_000_000
 DEPTH_LIMIT = 100  # of an expression
 PIPE = 65_536  # bytes that a pipe holds, as the system makes it
-PATIENCE = 120  # seconds
 TIMES = 10  # a growing run is made once more so many times as large
 MOST_TIMES = 30  # and takes at most so many times the processor time; 100 where each part is compared with each other
 # Not the same letters again after a while, so that a part that is lost or doubled is seen.
@@ -51,7 +50,7 @@ UNTESTED = Step("it passes", "untested")
 
 # What makes the run of a size, the sizes, and the formats, where each of them is tried with these.
 Row = collections.namedtuple("Row", "name make sizes formats")
-ROWS, GROUPS, GROWING = [], [], []
+ROWS, GROWING = [], []
 
 
 def rows(table, least=0, most=MOST, also=(), only=None, formats=None):
@@ -69,12 +68,6 @@ def row(**limits):
         rows({make.__name__: make}, **limits)
         return make
     return marked
-
-
-def group(make):
-    """Marks a function that makes runs, each with a name."""
-    GROUPS.append(make)
-    return make
 
 
 def growing(size, table):
@@ -97,12 +90,10 @@ def other(text):
 
 
 def blanks(count):
-    """So many blanks, of both kinds."""
     return (" \t\t" * (count // 3 + 1))[:count]
 
 
 def one(*steps, **more):
-    """A feature file with one scenario."""
     return FeatureFile().scenario(*steps, **more)
 
 
@@ -157,20 +148,6 @@ rows({"bytes of a comment": lambda size: one("it passes").add(("#" + letters(siz
      also=(FILE_LIMIT - len(PASSING) - 1,))
 
 
-@group
-def files_of_the_greatest_length():
-    comment, lines = "#" + "x" * (FILE_LIMIT - 1), FILE_LIMIT // 2
-    yield "a comment alone", Run(files={"a.feature": comment}, sources=["a.feature"])
-    yield "a comment alone, one byte longer", Run(files={"a.feature": comment + "x"}, sources=["a.feature"],
-                                                  fault=too_long("a.feature", FILE_LIMIT + 1))
-    files = {"a.feature": "Feature: a\n", "b.feature": "\n" * (FILE_LIMIT + 1)}
-    yield "the second file", Run(files=files, sources=files, fault=too_long("b.feature", FILE_LIMIT + 1))
-    files = {"a.feature": b"\xff" * (FILE_LIMIT + 1)}
-    yield "too long, and not UTF-8", Run(files=files, sources=files, fault=too_long("a.feature", FILE_LIMIT + 1))
-    files = {"a.feature": b"#\n" * (lines - 1) + b"#\xff"}
-    yield "its last byte is not UTF-8", Run(files=files, sources=files, fault=f"a.feature:{lines}: not UTF-8")
-
-
 rows({"bytes of a description": lambda size: FeatureFile().add(letters(size)).scenario("it passes")}, least=1)
 rows({
     "bytes of a line of blanks": lambda size: FeatureFile(blanks(size)).scenario("it passes").add(blanks(size)),
@@ -205,16 +182,17 @@ rows({"blanks before a doc string": lambda size: one(
 # ---- lengths of texts
 
 def kept(size, reason="text too long", limit=TEXT_LIMIT):
-    """The status of a step that makes something of this size."""
     return "passed" if size <= limit else f"failed: {reason}"
 
 
+def found(step, text):
+    """Steps that find a text as it was: the same again is equal, and one with another last letter is not."""
+    return Step(step, block=quoted(text)), Step(step, "failed: differs", quoted(other(text)))
+
+
 def kept_text(noun, letter, size):
-    """A text is kept as it is: the same again is equal, and one with another last letter is not."""
     text = letters(size, letter)
-    made = one(Step("put n", kept(size), quoted(text)), Step("see n", block=quoted(text)),
-                                  Step("see n", "failed: differs", quoted(other(text))))
-    return with_library(made, OWN_ENTRIES[noun])
+    return with_library(one(Step("put n", kept(size), quoted(text)), *found("see n", text)), OWN_ENTRIES[noun])
 
 
 rows({f"bytes of the text of a {noun}": functools.partial(kept_text, noun, "") for noun in OWN_ENTRIES},
@@ -223,13 +201,10 @@ rows({"bytes of a text of longer characters": functools.partial(kept_text, "file
      only=(TEXT_LIMIT, TEXT_LIMIT + 1, TEXT_LIMIT + 2))
 
 
-@row(also=(TEXT_LIMIT, TEXT_LIMIT + 1))
-def bytes_of_the_text_of_a_cell(size):
-    text = letters(size)
-    return one(
-        Step("these files:", kept(size), ("| name | text |", f"| f | {text} |")),
-        Step('the file "f" should contain:', block=quoted(text)), Step('the file "f" should be:', block=quoted(text)),
-        Step('the file "f" should be:', "failed: differs", quoted(other(text))))
+rows({"bytes of the text of a cell": lambda size: one(
+    Step("these files:", kept(size), ("| name | text |", f"| f | {letters(size)} |")),
+    Step('the file "f" should contain:', block=quoted(letters(size))), *found('the file "f" should be:', letters(size)))},
+     also=(TEXT_LIMIT, TEXT_LIMIT + 1))
 
 
 @row(also=(TEXT_LIMIT - 1, TEXT_LIMIT, TEXT_LIMIT + 1))
@@ -256,25 +231,6 @@ def bytes_of_a_text_in_a_step(size):
              Step(f'the file "f" should contain "{other(text)}"', "failed: differs"))):
         made.scenario(Step(put.format(text), kept(size)), see.format(text), last)
     return made
-
-
-@group
-def texts_beyond_the_limit():
-    """How many bytes a text has that is too long, of a file, of one that is extended, and of a row of a table."""
-    text, fault = "x" * TEXT_LIMIT, "failed: text too long"
-    made = one(Step('a file named "f" with:', block=quoted(text + "x")), name="of a file")
-    made.scenario(Step('a file named "f" with:', block=quoted(text)), 'the file "f" is extended with "xyz"', name="at the end")
-    made.scenario(Step("these files:", block=("| name | text |", "| f | |", f"| g | {text}xy |")), name="in a table")
-    note = "      the text has {} bytes; at most 1048576 are allowed\n\n"
-    explained = (
-        f"a.feature:2: Scenario: of a file ... failed\n  a.feature:3: Given a file named \"f\" with: ... {fault}\n"
-        + note.format(TEXT_LIMIT + 1)
-        + "a.feature:7: Scenario: at the end ... failed\n  a.feature:8: Given a file named \"f\" with: ... passed\n"
-        f"  a.feature:12: Given the file \"f\" is extended with \"xyz\" ... {fault}\n" + note.format(TEXT_LIMIT + 3)
-        + f"a.feature:13: Scenario: in a table ... failed\n  a.feature:14: Given these files: ... {fault}\n"
-        + note.format(TEXT_LIMIT + 2)
-        + "a.feature:2: Scenario: of a file\na.feature:7: Scenario: at the end\na.feature:13: Scenario: in a table\n\n")
-    yield "explained", Run(made, options=["--explain"], printed=explained + counts((0, 1), (0, 3), (1, 3)), status=1)
 
 
 rows({
@@ -343,7 +299,6 @@ rows({
 
 
 def named(name):
-    """A feature, a scenario and an undefined step of this name."""
     return FeatureFile(name=name).scenario(Step(name, "undefined"), name=name)
 
 
@@ -391,36 +346,14 @@ rows({
 
 @row(most=4097)
 def fields_of_a_pattern(size):
-    fields = ",".join(f"{{f{number}}}" for number in range(size))
-    texts = ",".join(f"t{number}" for number in range(size))
-    made = one(f"a {texts}." if size else "a .", Step(f"a {texts}", "undefined"))
-    return with_library(made, f"step a {fields}. => pass\n")
+    fields, texts = (",".join(it % number for number in range(size)) for it in ("{f%d}", "t%d"))
+    return with_library(one(f"a {texts}.", Step(f"a {texts}", "undefined")), f"step a {fields}. => pass\n")
 
 
 @row(most=4097)
 def entries_of_a_library(size):
     steps = [f"w{number}" for number in (0, size // 2, size - 1)] if size else []
     return with_library(one(*steps, Step(f"w{size}", "undefined")), each("step w{} => pass\n", size))
-
-
-ALIKE = "the user opens the order of the"
-
-
-@group
-def entries_of_libraries():
-    """Each entry is compared with those before it. Many begin as they do."""
-    different = each("step w{} {{name}} is {{text}} => set_env\n", 1000)
-    alike = f"step {ALIKE} {{{{name}}}} at {{}} => pass\n"
-    steps = ["w0 A is 1", "w999 B is 2", "A = 1", "B = 2"]
-    yield "many", with_library(one(*steps), different + "step {name} = {text} => env_is\n")
-    yield "many, and a fault", with_library(FeatureFile(), different + "step w7 {x} is {y} => pass\n",
-                                            fault="l.steps:1001: ambiguous with an earlier line")
-    steps = [f"{ALIKE} x at {number}" for number in (0, 17, 29_999)]
-    yield "alike", with_library(one(*steps), each(alike, 30_000))
-    yield "alike, and a fault", with_library(FeatureFile(), each(alike, 3000) + f"step {ALIKE} {{other}} at 17 => pass\n",
-                                             fault="l.steps:3001: ambiguous with an earlier line")
-    steps = [f"{ALIKE} {number}" for number in (0, 17, 29_999)]
-    yield "literals alike", with_library(one(*steps), each(f"step {ALIKE} {{}} => pass\n", 30_000))
 
 
 growing(3000, {
@@ -430,30 +363,6 @@ growing(3000, {
     "entries of a library with fields": lambda count: with_library(
         one(f"w0 is 1 of {count}", Step("w0 is", "undefined")), each("step w{} is {{n:d}} of {{m:d}} => pass\n", count)),
 })
-
-
-def explained_beside(count):
-    """Entries that begin alike, below 30 undefined steps. Of them the first is the nearest."""
-    texts = [f"the entry was {number}" for number in range(30)]
-    made = one(*(Step(text, "undefined") for text in texts))
-    told = "  a.feature:{}: Given {} ... undefined\n      the nearest entry is: step the entry is 0\n"
-    said = [told.format(number, text) for number, text in enumerate(texts, 3)]
-    heading = "a.feature:2: Scenario: s"
-    printed = f"{heading} ... failed\n{''.join(said)}\n{heading}\n\n" + counts((0, 1), (0, 1), (0, 0, 0, 30))
-    return Run(made, files={"l.steps": each("step the entry is {} => pass\n", count)}, printed=printed, status=1,
-               options=["--library", "l.steps", "--explain"])
-
-
-growing(3000, {"entries beside undefined steps": explained_beside})
-
-
-@group
-def hopeless_patterns():
-    """Taking the fields' lengths one after another would not end."""
-    yield "texts", with_library(one(Step("a" * 400 + "x", "undefined")),
-                                "step {a}{b}{c}{d}{e}{f}{g}{h}z{i}x => pass\n")
-    yield "numbers", with_library(one(Step("1" * 400, "undefined")),
-                                  f"step {each('{{n{}:d}}', 12)} => pass\n")
 
 
 # ---- counts in a feature file
@@ -497,12 +406,8 @@ def steps_of_a_dry_run(size):
     return Run(made, options=["--dry-run"])
 
 
-@row()
-def rules_of_a_feature(size):
-    made = FeatureFile()
-    for number in range(size):
-        made.rule(f"r{number}").scenario("it passes", name=f"s{number}")
-    return made
+rows({"rules of a feature": lambda size: FeatureFile().repeat(
+    size, lambda made, at: made.rule(f"r{at}").scenario("it passes", name=f"s{at}"))})
 
 
 @row()
@@ -517,31 +422,15 @@ def rules_with_hooks(size):
     return with_hooks(made, RULE_HOOKS)
 
 
-@row(only=(1000,), formats=FORMATS)
-def rules_with_hooks_and_changes(size):
-    made = FeatureFile()
-    for number in range(size):
-        made.rule(f"r{number}", "@bad" * (number % 2), "failed" if number % 2 else "passed")
-        made.scenario(*GROWN, name="a").scenario(SEEN, name="b")
-    return with_hooks(made, RULE_HOOKS)
-
-
-@row(also=(999,))
-def rules_after_the_one_that_stops_the_run(size):
-    made = FeatureFile().rule("r", "@bad", "failed").scenario("it passes")
-    for number in range(size):
-        made.rule(f"r{number}").scenario(UNTESTED, name=f"s{number}").scenario(UNTESTED, name="t")
-    return with_hooks(made, RULE_HOOKS, ["--stop"])
-
-
-@row(only=(300,))
-def examples_and_rules_in_turn(size):
-    made = FeatureFile().outline("o", 'a file named "<a>" containing "x"')
-    for number in range(size):
-        made.examples([str(number)], ["x"], name=f"e{number}")
-    for number in range(size):
-        made.rule(f"r{number}").background("it passes").scenario(name=f"e{number}", keyword="Example")
-    return made
+rows({"rules with hooks and changes": lambda size: with_hooks(FeatureFile().repeat(size, lambda made, at: made.rule(
+    f"r{at}", "@bad" * (at % 2), "failed" if at % 2 else "passed").scenario(*GROWN, name="a").scenario(
+        SEEN, name="b")), RULE_HOOKS)}, only=(1000,), formats=FORMATS)
+rows({"rules after the one that stops the run": lambda size: with_hooks(
+    FeatureFile().rule("r", "@bad", "failed").scenario("it passes").repeat(size, lambda made, at: made.rule(
+        f"r{at}").scenario(UNTESTED, name=f"s{at}").scenario(UNTESTED, name="t")), RULE_HOOKS, ["--stop"])}, also=(999,))
+rows({"examples and rules in turn": lambda size: FeatureFile().outline("o", 'a file named "<a>" containing "x"').repeat(
+    size, lambda made, at: made.examples([str(at)], ["x"], name=f"e{at}")).repeat(size, lambda made, at: made.rule(
+        f"r{at}").background("it passes").scenario(name=f"e{at}", keyword="Example"))}, only=(300,))
 
 
 @row(only=(60 * 41,), formats=FORMATS)
@@ -580,18 +469,11 @@ rows({"cells of a row with one more": lambda size: Run(
     fault="a.feature:6: row with another number of cells")}, least=1, also=(100_000,))
 
 
-rows({"rows of examples": lambda size: FeatureFile().outline("o", "it passes").examples(
-    *([str(number)] for number in range(size)))})
-
-
-@row()
-def examples_of_an_outline(size):
-    made = FeatureFile().outline("o", "it passes")
-    for _ in range(size):
-        made.examples(["x"], name="e")
-    return made
-
-
+rows({
+    "rows of examples": lambda size: FeatureFile().outline("o", "it passes").examples(*([str(at)] for at in range(size))),
+    "examples of an outline": lambda size: FeatureFile().outline("o", "it passes").repeat(
+        size, lambda made, _: made.examples(["x"], name="e")),
+})
 rows({"placeholders in a text": lambda size: FeatureFile().outline(
     "o", Step(f"x{'<a>' * size}<b>", "undefined")).examples(["12"])})
 
@@ -605,13 +487,9 @@ def under(header, text, told):
     return Run(made.case("Scenario Outline", "o -- @1.1", len(made.lines), steps))
 
 
-def columns_of_an_outline(count):
-    """Each is used once."""
-    return under([f"h{number}" for number in range(count)], each("<h{}>", count), each("c{}", count))
-
-
 growing(3000, {
-    "columns of an outline": columns_of_an_outline,
+    "columns of an outline": lambda count: under(
+        [f"h{number}" for number in range(count)], each("<h{}>", count), each("c{}", count)),
     "placeholders in a long text": lambda count: under(["a", "b"], "<a><b><c>" * count, "c0c1<c>" * count),
     # Behind each `<` as many bytes may be a name. A header of 21 columns has an index.
     "brackets before a placeholder": lambda count: under(
@@ -642,50 +520,27 @@ def lines_of_a_doc_string(size):
 
 # ---- files of a run
 
-@group
-def many_files():
-    seen = ['the variable "V{}" should be unset', 'the variable "V{}" is set to "x"']
-    made = [FeatureFile(name=f"f{number}", source=f"{number}.feature").scenario(
-        *(it.format(number) for it in seen), name=f"s{number}") for number in range(100)]
-    yield "in order", Run(*made)
-    yield "backwards", Run(*reversed(made))
-    made = [FeatureFile(source=f"{number}.feature") for number in range(300)]
-    yield "without scenarios", Run(*made, formats=FORMATS)
-    made[-1].add("Feature: g")
-    yield "a fault of the last", Run(*made, fault="299.feature:2: unexpected line")
+def changing_files(size):
+    """Files whose scenarios each find a variable unset, and set it."""
+    return [FeatureFile(name=f"f{at}", source=f"{at}.feature").scenario(
+        f'the variable "V{at}" should be unset', f'the variable "V{at}" is set to "x"', name=f"s{at}") for at in range(size)]
 
 
+def empty_files(size, *last):
+    made = [FeatureFile(source=f"{at}.feature") for at in range(size)]
+    made[-1].add(*last)
+    return made
+
+
+rows({"files that change something": lambda size: Run(*changing_files(size)),
+      "files that change something, backwards": lambda size: Run(*reversed(changing_files(size)))}, only=(100,), formats=["plain"])
+rows({"files without scenarios": lambda size: Run(*empty_files(size))}, only=(300,), formats=FORMATS)
+rows({"files before one with a fault": lambda size: Run(
+    *empty_files(size, "Feature: g"), fault=f"{size - 1}.feature:2: unexpected line")}, only=(300,), formats=["plain"])
 # The same file again and again.
 rows({"files of a run": lambda size: Run(*[FeatureFile(source="a").scenario("it passes")] * size)}, least=1)
-
-
-# ---- the limit of the steps of a file
-
-def outlined(steps, examples, step="it passes", source="a.feature"):
-    """An outline of so many steps, with so many rows."""
-    return FeatureFile(source=source).outline("o", *[step] * steps).examples(*[["x"]] * examples)
-
-
-def with_backgrounds(step, count):
-    """A background of 1,000 steps, and so many scenarios. The report of those that pass it would take the time."""
-    made = FeatureFile()
-    made.before = [it._replace(status="skipped") for it in made.add("Background:").steps(*[step] * 1000)]
-    return made.scenarios(count, [])
-
-
-@group
-def steps_of_a_file():
-    """Some are chosen, so that a report is all that takes time. Very many steps are counted, and not made."""
-    fault = "a.feature: more than 1000000 steps"
-    yield "at the limit", Run(outlined(1000, STEPS_LIMIT // 1000))
-    yield "a row more", Run(outlined(1000, 1001), fault=fault)
-    yield "a step more", Run(outlined(1000, 1000).scenario("it passes"), fault=fault)
-    yield "a later fault", Run(outlined(1000, 1001), FeatureFile(source="b.feature").add("Feature: g"), fault=fault)
-    text = "Feature: f\nScenario Outline: o\n" + "Given it passes\n" * 500_000 + "Examples:\n| a |\n" + "| x |\n" * 1_000_000
-    yield "very many", Run(files={"a.feature": text}, sources=["a.feature"], fault=fault)
-    yield "of backgrounds, too many", Run(with_backgrounds("it passes", 1001), fault=fault)
-    yield "of backgrounds", Run(with_backgrounds("it fails", 1000), options=["--tags", "@no"])
-    yield "of each of two files", Run(*(outlined(1000, 600, SKIPPED, f"{it}.feature") for it in "ab"), options=["--line", "1"])
+rows({"steps of a file": lambda size: FeatureFile().outline("o", *["it passes"] * 1000).examples(*[["x"]] * (size // 1000))},
+     only=(1_000_000,), formats=["plain"])
 
 
 # ---- counts in a run
@@ -723,23 +578,16 @@ rows({"cleanups of a scenario": lambda size: one(
     'at cleanup the number "n" is set to 0').scenario('the value "n" should be absent')})
 
 
-@row(only=(100_000,))
-def cleanups_with_a_table(size):
-    table = ["| name | text |", *(f"| f{number} | {number} |" for number in range(size // 10))]
-    last = size // 10 - 1
-    return one(
-        f'at cleanup the number "n" should be {size}', f'at cleanup the file "f{last}" should be "{last}"',
-        *['at cleanup the number "n" grows by 1'] * size, 'at cleanup the number "n" is set to 0',
-        Step("at cleanup these files:", block=table))
-
-
-@row()
-def cleanups_of_a_rule(size):
-    """They run after its scenarios and last in, first out, and the last of them fails."""
-    hooks = ["before_rule:", "* at cleanup it fails", f'* at cleanup the number "n" should be {size}',
-             *['* at cleanup the number "n" grows by 1'] * size, '* at cleanup the number "n" is set to 0', ""]
-    made = FeatureFile().rule("r", around="failed").scenario('the value "n" should be absent')
-    return with_hooks(made, "\n".join(hooks))
+rows({"cleanups with a table": lambda size: one(
+    f'at cleanup the number "n" should be {size}', f'at cleanup the file "f{size // 10 - 1}" should be "{size // 10 - 1}"',
+    *['at cleanup the number "n" grows by 1'] * size, 'at cleanup the number "n" is set to 0',
+    Step("at cleanup these files:", block=["| name | text |", *(f"| f{at} | {at} |" for at in range(size // 10))]))},
+     only=(100_000,))
+# They run after its scenarios and last in, first out, and the last of them fails.
+rows({"cleanups of a rule": lambda size: with_hooks(
+    FeatureFile().rule("r", around="failed").scenario('the value "n" should be absent'),
+    f'before_rule:\n* at cleanup it fails\n* at cleanup the number "n" should be {size}\n'
+    + '* at cleanup the number "n" grows by 1\n' * size + '* at cleanup the number "n" is set to 0\n')})
 
 
 # ---- hooks
@@ -749,23 +597,16 @@ SETTING = 'before_tag @t{0}:\n* the variable "V" is set to "{0}"\n'
 EMPTY_HOOKS = "before_tag @t{0}:\nafter_tag @t{0}:\n"
 
 
-def counting_hooks(size):
-    """Hooks of so many tags, of which each grows a number, the tags, and a step that passes if each ran once, in
-    order."""
+def under_counting_hooks(size, of_rule):
+    """One scenario, or two of a rule, with tags whose hooks each grow a number. A step passes if each ran once, in order."""
     hooks = 'before_tag @t:\n* the number "n" is set to 0\n' + each('before_tag @t{}:\n* the number "n" grows by 1\n', size)
-    return hooks, "@t" + each(" @t{}", size), f'the number "n" should be {size}'
+    tags, seen = "@t" + each(" @t{}", size), f'the number "n" should be {size}'
+    in_rule = FeatureFile().rule("r", tags).scenario(seen, name="one").scenario(seen, name="two")
+    return with_hooks(in_rule if of_rule else one(seen, tags=tags), hooks)
 
 
-@row(most=4097)
-def hooks_of_a_rule(size):
-    hooks, tags, seen = counting_hooks(size)
-    return with_hooks(FeatureFile().rule("r", tags).scenario(seen, name="one").scenario(seen, name="two"), hooks)
-
-
-@row(most=4097)
-def hooks_of_a_scenario(size):
-    hooks, tags, seen = counting_hooks(size)
-    return with_hooks(one(seen, tags=tags), hooks)
+rows({"hooks of a rule": lambda size: under_counting_hooks(size, True),
+      "hooks of a scenario": lambda size: under_counting_hooks(size, False)}, most=4097)
 
 
 @row(most=4097, also=(1000,))
@@ -778,12 +619,10 @@ def hooks_of_a_file(size):
     return with_hooks(made, each(SETTING, size))
 
 
-@row(also=(70_000,))
-def steps_of_a_hook(size):
-    hooks = ["before_scenario:", '* the number "n" is set to 0', *['* the number "n" grows by 1'] * size,
-             "after_scenario:", f'* the number "n" should be {size + 1}', ""]
-    made = one(f'the number "n" should be {size}', 'the number "n" grows by 1')
-    return with_hooks(made, "\n".join(hooks))
+rows({"steps of a hook": lambda size: with_hooks(
+    one(f'the number "n" should be {size}', 'the number "n" grows by 1'),
+    'before_scenario:\n* the number "n" is set to 0\n' + '* the number "n" grows by 1\n' * size
+    + f'after_scenario:\n* the number "n" should be {size + 1}\n')}, also=(70_000,))
 
 
 growing(3000, {
@@ -796,24 +635,16 @@ growing(3000, {
 })
 
 
-def tags_with_hooks(count):
-    """Each tag of each of 20 scenarios has a hook before it and one after it."""
-    made, tags = FeatureFile(), each("@t{} ", count) + "@last"
-    for number in range(20):
-        made.scenario(VARIABLE_SEEN.format("x"), name=f"s{number}", tags=tags)
-    return with_hooks(made, each(EMPTY_HOOKS, count) + 'before_tag @last:\n* the variable "V" is set to "x"\n')
-
-
-def scenarios_with_hooks(count):
-    """Each scenario has a tag of its own, and each tag a hook."""
-    made = FeatureFile()
-    for number in range(count):
-        made.scenario(VARIABLE_SEEN.format(number), tags=f"@t{number}")
-    return with_hooks(made, each(SETTING, count))
-
-
-growing(300, {"tags with hooks": tags_with_hooks})
-growing(3000, {"scenarios with hooks": scenarios_with_hooks})
+growing(300, {
+    # Each tag of each of 20 scenarios has a hook before it and one after it.
+    "tags with hooks": lambda count: with_hooks(
+        FeatureFile().repeat(20, lambda made, at: made.scenario(
+            VARIABLE_SEEN.format("x"), name=f"s{at}", tags=each("@t{} ", count) + "@last")),
+        each(EMPTY_HOOKS, count) + 'before_tag @last:\n* the variable "V" is set to "x"\n')})
+growing(3000, {
+    # Each scenario has a tag of its own, and each tag a hook.
+    "scenarios with hooks": lambda count: with_hooks(FeatureFile().repeat(count, lambda made, at: made.scenario(
+        VARIABLE_SEEN.format(at), name=f"s{at}", tags=f"@t{at}")), each(SETTING, count))})
 
 # ---- counts and lengths of arguments
 
@@ -852,24 +683,6 @@ def bytes_of_a_text_of_tags(size):
                options=[f"--tags={tag}"])
 
 
-@group
-def long_texts_of_tags():
-    """An argument has 131,071 bytes at most: these come near that."""
-    deep = "not (" * 50 + "@b" + ")" * 50
-    for name, texts in (
-            ("alternatives", ["~@a," * 30_000 + "@b"]), ("groups", ["(@x)or" * 21_800 + "(@b)"]),
-            ("negated terms", ["not @b or " * 13_000 + "@b", "not @c and " * 11_900 + "@b"]),
-            ("deep terms", [" or ".join([deep] * 400), " and ".join([deep] * 400)]),
-            ("expressions", [f"@b or @t{number}" for number in range(1000)]),
-            ("a long tag", ["@b or @" + "t" * 130_000])):
-        yield name, chosen(*(f"--tags={it}" for it in texts), no="@a")
-    for name, text in (
-            ("nothing after its terms", "@a or " * 21_800), ("parentheses", "(" * 65_000 + "@a" + ")" * 65_000),
-            ("open parentheses", "(" * 131_000), ("closing parentheses", "@a" + ")" * 131_000),
-            ("negations", "not " * 32_000 + "@a"), ("blanks", " \t" * 65_000)):
-        yield name, chosen("--tags", "@a or @b", "--tags", text, fault="bad tag expression", status=2)
-
-
 rows({
     # The last of equal names counts.
     "options of variables": lambda size: Run(
@@ -884,39 +697,17 @@ rows({
 })
 
 
-@row(also=(100_000,))
-def bytes_of_the_text_of_an_option(size):
-    text = letters(size)
-    made = one(Step("see V", block=quoted(text)), Step("see V", "failed: differs", quoted(other(text))))
-    run = with_library(made, OWN_ENTRIES["variable"])
-    run.options += [f"--env=V={text}", f"--tags=~@{text}t"]
-    return run
-
-
-@row(also=(TEXT_LIMIT - 1, TEXT_LIMIT, TEXT_LIMIT + 1, FILE_LIMIT + 1))
-def bytes_of_the_file_of_an_option(size):
-    text = letters(size)
-    made = one(Step("see f", block=quoted(text)), Step("see f", "failed: differs", quoted(other(text))))
-    if size > TEXT_LIMIT:
-        return Run(one("it passes"), files={"x.txt": text}, options=["--file=f=x.txt"],
-                   fault=f"x.txt: longer than {TEXT_LIMIT} bytes")
-    run = with_library(made, OWN_ENTRIES["file"])
-    run.files["x.txt"] = text
-    run.options.append("--file=f=x.txt")
-    return run
+rows({"bytes of the text of an option": lambda size: with_library(
+    one(*found("see V", letters(size))), OWN_ENTRIES["variable"], [f"--env=V={letters(size)}", f"--tags=~@{letters(size)}t"])},
+     also=(100_000,))
+rows({"bytes of the file of an option": lambda size: with_library(
+    one(*(found("see f", letters(size)) if size <= TEXT_LIMIT else [])), OWN_ENTRIES["file"], ["--file=f=x.txt"],
+    {"x.txt": letters(size)}, fault=f"x.txt: longer than {TEXT_LIMIT} bytes" if size > TEXT_LIMIT else "")},
+     also=(TEXT_LIMIT - 1, TEXT_LIMIT, TEXT_LIMIT + 1, FILE_LIMIT + 1))
 
 
 def given(option, values):
-    """An option with each of these values."""
     return [it for value in values for it in (option, str(value))]
-
-
-@group
-def many_options():
-    steps = [f'the variable "V{number}" should be "{number}"' for number in (0, 999)]
-    options = given("--tags", (f"~@t{number}" for number in range(1000))) + given("--line", range(1000, 0, -1))
-    options += given("--env", (f"V{number}={number}" for number in range(1000)))
-    yield "of each kind", Run(one(*steps), options=options)
 
 
 growing(1000, {
@@ -940,7 +731,7 @@ growing(1000, {
 
 # ---- explanations
 
-def explained(*files, note="", options=()):
+def explained(*files, note="", entries=""):
     """A run that is explained. A note stands below each step that is undefined."""
     cases = [(it.source, case) for it in files for case in it.cases]
     failed = [(source, case) for source, case in cases if case.status == "failed"]
@@ -955,7 +746,8 @@ def explained(*files, note="", options=()):
     numbers = [[judged(it.cases) if it.cases else "skipped" for it in files], [case.status for _, case in cases],
                [step.status.split(":")[0] for _, case in cases for step in case.steps]]
     text += counts(*([kinds.count(it) for it in ("passed", "failed", "skipped", "undefined")] for kinds in numbers))
-    return Run(*files, options=["--explain", *options], printed=text, status=int(bool(failed)))
+    library = ["--library", "l.steps"] if entries else []
+    return Run(*files, files={"l.steps": entries}, options=["--explain", *library], printed=text, status=int(bool(failed)))
 
 
 rows({
@@ -967,13 +759,14 @@ rows({
 }, only=(1, 255, 256, 257, 300, 4097, 70_000))
 
 
-@row(only=(1, 999, 1000, 1001, 34_302, 70_000))
-def entries_that_may_be_meant(size):
-    """The first of those that agree equally long with a step is named below it."""
-    made = one("an old lamp 0", Step("an old lamp burns", "undefined"))
-    run = explained(made, note="      the nearest entry is: step an old lamp 0\n", options=["--library", "l.steps"])
-    run.files["l.steps"] = each("step an old lamp {} => pass\n", size)
-    return run
+# The first of those that are equally near to a step is named below it.
+rows({"entries that may be meant": lambda size: explained(
+    one("an old lamp 0", Step("an old lamp burns", "undefined")), note="      the nearest entry is: step an old lamp 0\n",
+    entries=each("step an old lamp {} => pass\n", size))}, only=(1, 999, 1000, 1001, 34_302, 70_000))
+# Entries that begin alike, below 30 undefined steps.
+growing(3000, {"entries beside undefined steps": lambda count: explained(
+    FeatureFile().repeat(30, lambda made, at: made.scenario(Step(f"the entry is {'x' * (at + 1)}", "undefined"))),
+    note="      the nearest entry is: step the entry is 0\n", entries=each("step the entry is {} => pass\n", count))})
 
 
 # ---- what is found before a run
@@ -1028,17 +821,10 @@ growing(2000, {"findings of a file": lambda count: Run(
 
 # ---- running them
 
-def trouble(folder, name, run, style):
-    """What is wrong with a run in a folder, in a format, or nothing."""
-    ended = driver.start(driver.program(), run.arguments(style), folder, patience=PATIENCE)
-    return driver.trouble(f"{name}, {style}", ended, run.wanted(style))
-
-
 def of_run(name, run, styles):
     """What is wrong with a run in each of these formats, or nothing."""
     with tempfile.TemporaryDirectory() as folder:
-        driver.write(folder, run.files)
-        return [trouble(folder, name, run, style) for style in styles]
+        return [run.trouble(folder, style, f"{name}, {style}") for style in styles]
 
 
 def of_row(place):
@@ -1053,36 +839,36 @@ def of_row(place):
     return found
 
 
-def of_group(place):
-    """The same of each run of a group."""
-    make = GROUPS[place]
-    return [it for name, run in make() for it in of_run(f"{make.__name__}: {name}", run, run.formats or ["plain"])]
-
-
 def of_growing(place):
     """The same of a growing run. Of three times the least counts."""
     (name, make, size), least = GROWING[place], []
     for own in (size, size * TIMES):
         run, times = make(own), []
-        with tempfile.TemporaryDirectory() as folder:
-            driver.write(folder, run.files)
-            for _ in range(3):
-                before = driver.processor_time()
-                found = trouble(folder, f"{name}: {own}", run, None)
-                times.append(driver.processor_time() - before)
-                if found:
-                    return [found]
+        for _ in range(3):
+            before = driver.processor_time()
+            found = of_run(f"{name}: {own}", run, [None])
+            times.append(driver.processor_time() - before)
+            if found != [""]:
+                return found
         least.append(min(times))
     return [driver.unless(f"{name}: {least[0]:.3f} s, and {TIMES} times as large {least[1]:.3f} s", least[1] <= MOST_TIMES * least[0])]
 
 
+@pages.tests("sizes.md", shows_statuses=True)
 class Sizes(Checks):
+    @classmethod
+    def setUpClass(cls):
+        super().setUpClass()
+        driver.write(cls.room, {"two.feature": one("it passes", tags="@a @b").scenario("it passes", tags="@a").text()})
+
     def try_all(self, of_one, count):
         for troubles in driver.in_processes(of_one, range(count)):
             self.check_all(troubles)
 
-    def test_groups(self):
-        self.try_all(of_group, len(GROUPS))
+    def with_tags(self, *texts):
+        """Which of two scenarios a run with these texts of tags chooses, or its fault."""
+        _, printed, err = driver.start(self.program, ["--format", "progress", *given("--tags", texts), "two.feature"], self.room)
+        return {b".S": "the first", b"SS": "none"}.get(printed[13:15]) or err.decode()[len("gherkin_run: "):-1]
 
     def test_growing(self):
         self.try_all(of_growing, len(GROWING))
@@ -1102,5 +888,7 @@ class Sizes(Checks):
 
         writer = threading.Thread(target=feed)
         writer.start()
-        self.check(trouble(self.room, "from a pipe", Run(made), "plain"))
+        run = Run(made)
+        run.files = {}
+        self.check(run.trouble(self.room, "plain", "from a pipe"))
         writer.join()

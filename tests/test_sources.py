@@ -1,10 +1,12 @@
 """The shape of the crates' sources, calls of public functions, what tables are written into, and notes on edits."""
 
 import os
+import re
 
 import calls
 import driver
 import edit_notes
+import pages
 import shape
 import tables
 from checks import Checks
@@ -46,11 +48,20 @@ class Edits(Checks):
         self.unless(f"edits.sh ends with {status}", status == 0, said.decode())
 
 
+@pages.tests("edits.md")
 class EditNotes(Checks):
     def test_edits_apply(self):
         """Each edit changes the code as it is."""
         self.check_all(edit_notes.unapplied())
 
-    def test_what_no_note_survives(self):
-        """On two small crates, notes don't survive a change, and no refusal is noted that shows too little."""
-        self.check_all(edit_notes.troubles(self.room))
+    def noted(self, **environment):
+        """A repository in which the edits of two small crates were tried and noted."""
+        made = edit_notes.Repository(self.room)
+        made.ended = made.run(**environment)
+        return made
+
+    def failing(self, repository, **environment):
+        """The crates of which `tests/edits.sh --check` says that it fails."""
+        ended_well, said = repository.run("--check", **environment)
+        found = re.findall(r"^edits: (\w+)", said, re.MULTILINE)
+        return " ".join(sorted(set(found))) if ended_well == (not found) else said

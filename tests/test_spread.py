@@ -58,7 +58,6 @@ class Place:
         return (*ended[:2], ended[2] + f"left over: {left}\n".encode()) if left else ended
 
     def spread(self, *words, folder=None, **environment):
-        """Runs the script."""
         return self.start(SPREAD, words, folder, self.environment(**environment))
 
     def left(self, temporary="temporary"):
@@ -67,7 +66,6 @@ class Place:
         return [it for place in places if os.path.isdir(place) for it in os.listdir(place)]
 
     def noted(self, name, end="\n"):
-        """The lines of a file that programs wrote."""
         return os.fsdecode(driver.read(self.path(name))).split(end)[:-1] if os.path.exists(self.path(name)) else []
 
     def words(self):
@@ -89,12 +87,10 @@ class Spread(Checks):
         return Place(self.room, self.suite, dict(programs))
 
     def each(self, work, cases):
-        """Checks what a function finds wrong with each case. Several cases are tried at a time."""
         for found in driver.on_all_processors(lambda case: list(work(case)), cases):
             self.check_all(found)
 
     def whole(self, *options, files=FILES, folder=None):
-        """One run over all files."""
         return driver.start(PROGRAM, [*options, "--format", "json", "--", *files], folder or self.suite)
 
     def ended_by(self, place, number, machines):

@@ -11,6 +11,7 @@ import driver
 import pages
 import stored_cases
 from checks import Checks
+from reports import without_format
 
 ADD = os.path.join(driver.EXAMPLES, "add_reports.sh")
 # Whether a report counts its own rows well.
@@ -22,20 +23,12 @@ COUNTS = """def tally(rows): reduce rows as $it ({}; .[$it] += 1);
 
 
 def jq(*words, given=b""):
-    """The status of jq, and what it prints."""
     done = subprocess.run(["jq", *words], input=given, stdout=subprocess.PIPE, stderr=subprocess.DEVNULL, check=False)
     return done.returncode, done.stdout
 
 
 def plain(report):
-    """The plain report that jq makes of a JSON one."""
     return jq("--raw-output", "--from-file", os.path.join(driver.EXAMPLES, "recipes", "plain.jq"), given=report)[1]
-
-
-def without_format(arguments):
-    """Arguments without the choice of a format."""
-    rest = iter(os.fsdecode(it) for it in arguments)
-    return [it for it in rest if not it.startswith("--format=") and not (it == "--format" and next(rest))]
 
 
 @pages.tests("recipes/add.md")
@@ -43,7 +36,6 @@ class WithJq(Checks):
     NEEDS = ("jq",)
 
     def json_of(self, *arguments, folder=driver.HOME):
-        """A run with a JSON report."""
         return driver.start(self.program, ["--format", "json", *arguments], folder)
 
     def added(self, *files, options=()):
@@ -54,8 +46,7 @@ class WithJq(Checks):
         return "the same status and report" if ended[:2] == wanted[:2] else (ended, wanted)
 
     def compare(self, name, arguments, folder=driver.HOME):
-        """Compares the JSON report of a run with its plain one."""
-        arguments = without_format(arguments)
+        arguments = without_format(map(os.fsdecode, arguments))
         wanted, text, _ = driver.start(self.program, ["--format", "plain", *arguments], folder)
         status, report, _ = self.json_of(*arguments, folder=folder)
         self.unless(f"{name}: another status as JSON", status == wanted)

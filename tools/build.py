@@ -1,10 +1,10 @@
 #!/usr/bin/env python3
 """Builds the program: tools/build.py [--jobs N]. Called by ./run.
 
-Proves every crate that the program stands on, lowest first, and says on standard error how far it is. The
-program and its sums are put into out/ once the last crate is proved. N is the number of processors to use;
-without it, those of this machine. Ends with status 0 where the program of these sources stands in out/, with
-1 where a crate isn't proved, and with 130 where it was interrupted.
+Proves every crate that the program uses, lowest first, and says on standard error how far it is. Puts the
+program and its sums into out/ once the last crate is proved. N is the number of processors to use; without it,
+those of this machine. The status is 0 if out/ has the program of these sources, 1 if a crate isn't proved, and
+130 if the build was interrupted.
 """
 
 import argparse
@@ -47,7 +47,7 @@ def listed_crates():
 
 
 def below(needs, name):
-    """The crates that a crate stands on, lowest first, and then the crate."""
+    """Returns the crates that a crate uses, lowest first, and then the crate."""
     found = []
     for need in needs[name]:
         found += [it for it in below(needs, need) if it not in found]
@@ -61,7 +61,7 @@ def clock(seconds):
 
 
 class Progress:
-    """What stands on standard error: on a terminal one line that is written anew, else a line a crate."""
+    """The progress on standard error: one line that is rewritten on a terminal, otherwise a line for each crate."""
 
     def __init__(self, crates):
         self.total = len(crates)
@@ -78,7 +78,7 @@ class Progress:
         sys.stderr.flush()
 
     def show(self):
-        """Writes the line that is written anew."""
+        """Rewrites the last line of a terminal."""
         if not self.is_terminal:
             return
         with self.lock:
@@ -89,19 +89,19 @@ class Progress:
             sys.stderr.flush()
 
     def starts(self, name):
-        """A crate is begun."""
+        """Shows that a crate is begun."""
         with self.lock:
             self.running[name] = "begins"
 
     def reads(self, name, line):
-        """A line that was said of a crate."""
+        """Shows a line that the toolchain said of a crate."""
         found = SO_FAR.match(line)
         if found:
             with self.lock:
                 self.running[name] = f"{found[1]} of {found[2]} functions"
 
     def ends(self, name, is_proved, seconds):
-        """A crate is proved, or isn't."""
+        """Shows whether a crate was proved, and how far the build is."""
         with self.lock:
             del self.running[name]
             if not is_proved:
@@ -140,7 +140,7 @@ class Build:
         self.running = {}
 
     def prove(self, name, jobs, home=HOME):
-        """Proves a crate in a tree, and builds the program where it is the last one. Returns whether it is proved."""
+        """Proves a crate in a tree, and builds the program if it is the last one. Returns whether it is proved."""
         words = ["run", "--jobs", str(jobs), "--", "--help"] if name == PROGRAM else ["lib", "--jobs", str(jobs)]
         began = time.monotonic()
         self.progress.starts(name)
@@ -158,8 +158,8 @@ class Build:
         return is_proved
 
     def prove_apart(self, name, jobs):
-        """Proves a crate in a tree of its own, since the toolchain locks a crate and all that it stands on.
-        What is kept of it is then moved to its place."""
+        """Proves a crate in a tree of its own, since the toolchain locks a crate and all that it uses.
+        Then moves what was built to its place."""
         with tempfile.TemporaryDirectory(prefix="beside.", dir=OUT) as home:
             crates = below(self.needs, name)
             with open(os.path.join(home, "crates.txt"), "w", encoding="utf-8") as listed:
@@ -225,7 +225,7 @@ def log_of(name):
 
 
 def size_of_work():
-    """How much building left below crates/, in words."""
+    """Returns the size of what building left below crates/, in words."""
     done = subprocess.run(["du", "-shc", *glob.glob(os.path.join(HOME, "crates", "*", "out"))],
                           stdout=subprocess.PIPE, text=True, check=False)
     return done.stdout.split("\n")[-2].split("\t")[0] if done.stdout else "nothing"
@@ -238,7 +238,7 @@ def sources():
 
 
 def is_built(wanted):
-    """Whether the program of these sources stands in out/."""
+    """Returns whether out/ has the program of these sources."""
     kept = os.path.join(OUT, f"{PROGRAM}.sources")
     if not os.path.exists(kept):
         return False

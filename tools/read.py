@@ -1,5 +1,5 @@
 #!/usr/bin/env python3
-"""Prints what the crates say of themselves, as pages to read: tools/read.py COMMAND [CRATE..]
+"""Prints pages about the crates: tools/read.py COMMAND [CRATE..]
 
     edits         the must-fail edits: what each breaks, and the clause that refuses it
     definitions   the definitions of specs/ in reading order; with --code their code, too

@@ -1,7 +1,7 @@
 #!/bin/sh
 # Prints a sum over the sources of the program, by their names and their contents: tools/sources.sh
 #
-# The sources are crates.txt and every .rt and .antt file of the crates that the program stands on. File times don't count.
+# The sources are crates.txt and every .rt and .antt file of the crates that the program uses. File times don't count.
 set -eu
 
 cd "$(dirname -- "$(readlink -f -- "$0")")/.."

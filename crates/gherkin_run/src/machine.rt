@@ -1,6 +1,9 @@
 //! The files of the machine that the program runs on, and its arguments.
-use gk_cli::{Counted, SourceFault, read_source};
+ghost use Rattle.std.specs.Prelude.{◌≡◌};
+ghost use Rattle.gherkin_run.specs.Machine as spec;
+
 use gk_program::{ArgumentsFault, System};
+use gk_request::{Counted, SourceFault, read_source};
 use std::alloc::Global;
 use std::rt::{Env, Files};
 use std::{env, fs, io};
@@ -13,6 +16,26 @@ pub struct Machine<'a, R: Files> {
     pub rt: &'a R,
 }
 
+// Returns the fault of a file that can't be opened, for this reason.
+fn fault_of_open(kind: io::ErrorKind) -> SourceFault
+    ensures { result ≡ spec.fault_of_open kind }
+{
+    match kind {
+        io::ErrorKind::OutOfMemory => SourceFault::Memory,
+        _ => SourceFault::Device,
+    }
+}
+
+// Returns the fault of arguments that can't be had, for this reason.
+fn fault_of_arguments(kind: io::ErrorKind) -> ArgumentsFault
+    ensures { result ≡ spec.fault_of_arguments kind }
+{
+    match kind {
+        io::ErrorKind::OutOfMemory => ArgumentsFault::Memory,
+        _ => ArgumentsFault::NotUtf8,
+    }
+}
+
 impl<R: Files> System for Machine<'_, R> {
     ghost use Rattle.gherkin_run.specs.Machine.{reads_some};
 
@@ -21,10 +44,7 @@ impl<R: Files> System for Machine<'_, R> {
     fn read(&mut self, alloc: Global, name: &str) -> Result<Vec<u8>, SourceFault> {
         match fs::open(self.rt, name) {
             Ok(file) => read_source(alloc, &mut Counted::new(file)),
-            Err(error) => match error.kind() {
-                io::ErrorKind::OutOfMemory => Err(SourceFault::Memory),
-                _ => Err(SourceFault::Device),
-            },
+            Err(error) => Err(fault_of_open(error.kind())),
         }
     }
 }
@@ -37,9 +57,6 @@ pub fn arguments_of<R: Env + AllocGlobal>(rt: &R) -> Result<Vec<String>, Argumen
             Ok(arguments) => Ok(arguments),
             Err(_) => Err(ArgumentsFault::Memory),
         },
-        Err(error) => match error.kind() {
-            io::ErrorKind::OutOfMemory => Err(ArgumentsFault::Memory),
-            _ => Err(ArgumentsFault::NotUtf8),
-        },
+        Err(error) => Err(fault_of_arguments(error.kind())),
     }
 }

@@ -2,14 +2,14 @@
 #![tactic(auto)]
 
 ghost use Rattle.std.specs.Process.{exit_status};
-ghost use Rattle.gk_cli.specs.Counted.{FailuresCanRise};
+ghost use Rattle.gk_request.specs.Counted.{FailuresCanRise};
 ghost use Rattle.gk_cli.specs.Writing.{device_of};
 ghost use Rattle.gherkin_run.specs.Machine.{IsRunOn, reads_some};
 
 mod machine;
 
-use gk_cli::Counted;
 use gk_program::run;
+use gk_request::Counted;
 use machine::{Machine, arguments_of};
 use std::io::Write;
 use std::process::ExitCode;

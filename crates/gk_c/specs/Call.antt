@@ -1,6 +1,6 @@
 -- The `Answer` to a call.
 use Rattle.std.specs.Prelude.{◌≡◌, ◌⊎◌, ◌++◌, ◌-◌, ◌^◌, ℕ, List, [], ◌∷◌, codes, flat_map, Some, Result}
-use Rattle.gk_cli.specs.Source.{SourceValue}
+use Rattle.gk_request.specs.Source.{SourceValue}
 use Rattle.gk_cli.specs.Writing.{Device}
 use Rattle.gk_program.specs.Asked.{AreNamesAsked}
 use Rattle.gk_program.specs.Ended.{IsEnded}

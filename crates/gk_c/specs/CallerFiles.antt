@@ -2,9 +2,9 @@
 use Rattle.std.specs.Prelude.{◌≡◌, ◌<◌, ◌≤◌, ℕ, Bool, List, length, map, find, Option, Some, None, Result, Ok, Err, option_map}
 use Rattle.std.specs.Str.{bytes_eq}
 use Rattle.gk_gherkin.specs.Lines.{limit}
-use Rattle.gk_cli.specs.Source.{SourceValue}
-use Rattle.gk_cli.specs.declared.source.SourceFault.{SourceFault}
-use Rattle.gk_cli.specs.declared.source.SourceFault.TheVariants.{Device, TooLong, Memory}
+use Rattle.gk_request.specs.Source.{SourceValue}
+use Rattle.gk_request.specs.declared.source.SourceFault.{SourceFault}
+use Rattle.gk_request.specs.declared.source.SourceFault.TheVariants.{Device, TooLong, Memory}
 use Rattle.gk_program.specs.Files.{Reading}
 use Rattle.gk_c.specs.declared.caller_files.File.{File}
 use Rattle.gk_c.specs.declared.caller_files.InMemory.{InMemory}

@@ -1,6 +1,6 @@
 //! Answering a call.
 ghost use Rattle.std.specs.Prelude.{◌≡◌, ◌++◌, [], Some, codes, map, IfOk, OnOk, string_bytes};
-ghost use Rattle.gk_cli.specs.Counted.{inner_of};
+ghost use Rattle.gk_request.specs.Counted.{inner_of};
 ghost use Rattle.gk_cli.specs.Writing.{device_of};
 ghost use Rattle.gk_c.specs.Answer.{IsPut, put_over};
 ghost use Rattle.gk_c.specs.Call.{AreFilesPut, AreNamesListed, IsAnswer, IsAnsweredBy, IsAnsweredWith, IsRefusal, IsRunOver, fresh, listed, one_listed, refusal};
@@ -10,8 +10,8 @@ ghost use Rattle.gk_c.specs.Words.{text_value};
 use crate::answer::{Answer, put_out};
 use crate::caller_files::{File, InMemory};
 use crate::words::{Text, words_from};
-use gk_cli::Counted;
 use gk_program::{Ended, files_asked, run};
+use gk_request::Counted;
 use std::alloc::{AllocError, Global};
 
 // Returns a buffer that takes a text as long as the caller's room without growing. If there is no memory for it, returns

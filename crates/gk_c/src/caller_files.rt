@@ -5,9 +5,9 @@ ghost use Rattle.gk_program.specs.Files.{bytes_or_fault};
 ghost use Rattle.gk_c.specs.CallerFiles as spec;
 ghost use Rattle.gk_c.specs.CallerFiles.{SaysCopy, bytes_of, file_value};
 
-use gk_cli::SourceFault;
 use gk_gherkin::LIMIT;
 use gk_program::System;
+use gk_request::SourceFault;
 use std::alloc::Global;
 
 /// A file of the caller: its name and its bytes.

@@ -1,6 +1,6 @@
 -- The command that reads the arguments, and what its matches hold.
 use Rattle.std.proofs.Common.{◌≡◌, ◌≢◌, ◌⊎◌, ◌∙◌, ◌<◌, ◌≤◌, ◌&&◌, ◌||◌, ◌==◌, ◌+◌, ◌++◌, ap, ap₂, sym, subst, refl, inl, inr, arith, zero, suc, ℕ, Bool, true, false, not, List, [], ◌∷◌, length, map, codes, drop, fold, take, is_some, get_or, Option, Some, None, Result, Ok, Err}
-use Rattle.std.specs.Prelude.{IsOk, cond, find, if◌then◌else◌, option_map, unwrap_or, IsErrAnd, IsSomeAnd}
+use Rattle.std.specs.Prelude.{IsOk, cond, find, if◌then◌else◌, option_map, unwrap_or, IsErrAnd}
 use Rattle.std.specs.Option.{option_map_or}
 use Rattle.std.specs.List.{All, after_first, before_first, slice_index_or, list_all}
 use Rattle.std.specs.Str.{bytes_eq}
@@ -42,11 +42,6 @@ use Rattle.gk_cli.specs.declared.arguments.Words.{Words}
 use Rattle.gk_cli.specs.declared.arguments.WordsFault.{WordsFault}
 use Rattle.gk_cli.specs.declared.arguments.WordsFault.TheVariants.{Usage, Env, File, Memory}
 use Rattle.gk_cli.specs.declared.option_table.OptionRow.{OptionRow}
-
--- what some value is known to be
-pub some_is : {X : Type 0} (o : Option X) (x : X) → IsSomeAnd o (λ y. y ≡ x) → o ≡ Some x
-some_is None x h = absurd h
-some_is (Some y) x h = ap Some h
 
 -- ---- the command
 
@@ -449,9 +444,6 @@ some_files old new m is left from parsed =
         let got = entry_by_id (EntryPasses new) (found_of m).entries.items (codes "files") x all.values e in
         let same : got.0.1 ≡ x = got.1 in
         no_text x.vals.items (subst (λ (a : MatchedArg). 0 < length a.vals.items) same (has_values new got.0 left groups got.2 got.3.1))
-
-no_files : {X : Type 0} (f : X → Text) (xs : List X) → map f xs ≢ [] → xs ≢ []
-no_files f xs none e = none (ap (map f) e)
 
 simple : is_simple command ≡ true
 simple = refl

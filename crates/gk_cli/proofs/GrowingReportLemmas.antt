@@ -19,9 +19,9 @@ use Rattle.gk_report.specs.Report.{head, parts, parts_from, tail, report, is_emp
 use Rattle.gk_report.specs.Summary.{status, summary_of}
 use Rattle.gk_report.specs.PartPieces.{IsPiece}
 use Rattle.gk_cli.specs.declared.growing_report.GrowingReport.{GrowingReport}
-use Rattle.gk_cli.specs.declared.run_fault.RunFault.{RunFault}
-use Rattle.gk_cli.specs.declared.run_fault.RunFault.TheVariants.{Read, Library, Hooks, Select, Write, Memory}
-use Rattle.gk_cli.specs.Counted.{one_more}
+use Rattle.gk_request.specs.declared.run_fault.RunFault.{RunFault}
+use Rattle.gk_request.specs.declared.run_fault.RunFault.TheVariants.{Read, Library, Hooks, Select, Write, Memory}
+use Rattle.gk_request.specs.Counted.{one_more}
 use Rattle.gk_cli.specs.Suite.{IsReported}
 use Rattle.gk_cli.specs.Writing.{Device, IsUntouched, IsWritten, StopsBy, IsStopped}
 use Rattle.gk_cli.specs.GrowingReport.{style_of, prints_nothing, results_with, Stays, AddsPart, ClosesByTail}
@@ -160,16 +160,6 @@ piece_stopped old mid new first still whole left text later fault w p q =
 -- Memory was refused for the next piece.
 pub piece_refused : (old new : Device) (first still : Bool) (whole left : List ℕ) → IsWrittenUpTo old new first still whole left → IsStopped old new whole Memory
 piece_refused old new first still whole left w = subst (λ xs. IsStopped old new xs Memory) w.split (stopped_before old new w.done left w.written)
-
-all_done : (old new : Device) (first still : Bool) (whole left : List ℕ) (w : IsWrittenUpTo old new first still whole left) → left ≡ [] → w.done ≡ whole
-all_done old new first still whole left w e = sym (append-nil w.done) ∙ ap (λ (xs : List ℕ). w.done ++ xs) (sym e) ∙ w.split
-
--- All pieces were written.
-pub all_written : (old new : Device) (first still : Bool) (whole left : List ℕ) → IsWrittenUpTo old new first still whole left → left ≡ [] → IsWritten old new whole
-all_written old new first still whole left w e = subst (IsWritten old new) (all_done old new first still whole left w e) w.written
-
-pub first_after_all : (old new : Device) (first still : Bool) (whole left : List ℕ) → IsWrittenUpTo old new first still whole left → left ≡ [] → still ≡ (first && is_empty whole)
-first_after_all old new first still whole left w e = w.is_first ∙ ap (λ (xs : List ℕ). first && is_empty xs) (all_done old new first still whole left w e)
 
 -- ---- the parts of a report
 

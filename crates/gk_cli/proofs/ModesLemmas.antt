@@ -1,12 +1,15 @@
 -- What is written for a suite, in a mode that is known.
-use Rattle.std.proofs.Common.{◌≡◌, ℕ, Result, IfErr, IfOk, subst, sym}
+use Rattle.std.proofs.Common.{◌≡◌, ℕ, Bool, List, Result, IfErr, IfOk, subst, sym}
 use Rattle.gk_world.specs.State.{Contents}
 use Rattle.gk_cli.specs.declared.arguments.Mode.{Mode}
-use Rattle.gk_cli.specs.declared.run_fault.RunFault.{RunFault}
-use Rattle.gk_cli.specs.Inputs.{Request}
-use Rattle.gk_cli.specs.Modes.{AreLeft, IsWrittenAs, SaysFaultAs}
-use Rattle.gk_cli.specs.SuiteFiles.{FilesValue}
-use Rattle.gk_cli.specs.Writing.{Device}
+use Rattle.gk_request.specs.declared.run_fault.RunFault.{RunFault}
+use Rattle.gk_request.specs.declared.run_fault.RunFault.TheVariants as faults
+use Rattle.gk_request.specs.Request.{Request, FilesValue}
+use Rattle.gk_findings.specs.LintedSuite.{IsLinted}
+use Rattle.gk_cli.specs.Modes.{AreLeft, IsWrittenAs, LintedInPart, SaysFaultAs}
+use Rattle.gk_cli.specs.Suite.{SaysFaultBy}
+use Rattle.gk_cli.specs.Writing.{Device, IsStopped}
+use Rattle.gk_cli.proofs.SuiteLemmas.{cut_says}
 
 pub in_mode : (mode known : Mode) (files : FilesValue) (r : Request) (c : Contents) (old new : Device) (result : Result ℕ RunFault) → mode ≡ known → IfOk result (IsWrittenAs known files r c old new) → IfOk result (IsWrittenAs mode files r c old new)
 in_mode mode known files r c old new result is written = subst (λ (m : Mode). IfOk result (IsWrittenAs m files r c old new)) (sym is) written
@@ -16,3 +19,7 @@ fault_in_mode mode known files r c old new result is says = subst (λ (m : Mode)
 
 pub left_in_mode : (mode known : Mode) (result : Result ℕ RunFault) (old new : FilesValue) → mode ≡ known → AreLeft known result old new → AreLeft mode result old new
 left_in_mode mode known result old new is left = subst (λ (m : Mode). AreLeft m result old new) (sym is) left
+
+-- A text cut short is what the one fault of a writer says.
+pub part_of_lint : (steps : Bool) (r : Request) (library hooks : List ℕ) (old new : Device) (text : List ℕ) (fault : RunFault) → fault ≡ faults.Write → IsLinted steps r library hooks text → IsStopped old new text fault → SaysFaultBy (LintedInPart steps r library hooks old new) r old new fault
+part_of_lint steps r library hooks old new text fault named linted stopped = cut_says (LintedInPart steps r library hooks old new) r old new fault stopped.why (text, linted, stopped, named)

@@ -27,8 +27,8 @@ use Rattle.gk_run.specs.Results.{CaseRow, RuleRow, FeatureRow, Results}
 use Rattle.gk_run.specs.Section.{Cut, before_passed, nowhere}
 use Rattle.gk_report.specs.RuleGroups.{AreInFileOrder}
 use Rattle.gk_cli.specs.RowOrder.{RowsAreInFileOrder, JudgedRowsAreInFileOrder}
-use Rattle.gk_cli.specs.Inputs.{member_by, head_of, chosen_of, with_reading, AreRead}
-use Rattle.gk_cli.specs.Source.{SourceValue}
+use Rattle.gk_request.specs.Inputs.{member_by, head_of, chosen_of, with_reading, AreRead}
+use Rattle.gk_request.specs.Source.{SourceValue}
 use Rattle.gk_cli.specs.Suite.{run_with}
 
 -- Two lists with the same numbers rise alike.

@@ -19,11 +19,12 @@ use Rattle.gk_run.specs.OpenRun.{AreFeatures, FinishedRunsAreJudged, IsFinished,
 use Rattle.gk_run.specs.DryRun.{dry_features_of}
 use Rattle.gk_steps.specs.Finding.{LibraryValue}
 use Rattle.gk_report.specs.Summary.{feature_statuses, scenario_statuses, step_statuses, status}
-use Rattle.gk_cli.specs.declared.run_fault.RunFault.{RunFault}
-use Rattle.gk_cli.specs.declared.run_fault.RunFault.TheVariants.{Read, Library, Hooks, Select, Write, Memory}
-use Rattle.gk_cli.specs.Inputs.{Request, Inputs, AreInputs}
-use Rattle.gk_cli.specs.RunFault.{IsUnread}
-use Rattle.gk_cli.specs.Suite.{IsReported, JudgedReport, OnlyReport, AreJudged, ReportedInPart, SaysFaultBy, InputsAreUnique, run_with}
+use Rattle.gk_request.specs.declared.run_fault.RunFault.{RunFault}
+use Rattle.gk_request.specs.declared.run_fault.RunFault.TheVariants.{Read, Library, Hooks, Select, Write, Memory}
+use Rattle.gk_request.specs.Inputs.{Inputs, AreInputs, InputsAreUnique}
+use Rattle.gk_request.specs.Request.{Request}
+use Rattle.gk_request.specs.RunFault.{IsUnread}
+use Rattle.gk_cli.specs.Suite.{IsReported, JudgedReport, OnlyReport, AreJudged, ReportedInPart, SaysFaultBy, run_with}
 use Rattle.gk_cli.specs.Writing.{Device, IsUntouched, IsWritten, StopsBy, UsesWriter}
 use Rattle.gk_cli.specs.WrittenRun.{IsWhole, IsPrefix}
 

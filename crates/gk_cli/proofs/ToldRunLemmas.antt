@@ -20,8 +20,8 @@ use Rattle.gk_run.specs.Events.{result_of, Event, SoFar, Stand, left_by, stand_o
 use Rattle.gk_run.specs.OpenRun.{AreFeatures, FinishedRunsAreJudged, IsFinishTold, IsKept, IsStarted, SuiteValue, opens_features}
 use Rattle.gk_run.specs.SectionHooks.{begun as begun_by, entered}
 use Rattle.gk_report.specs.Summary.{summary_of}
-use Rattle.gk_cli.specs.declared.run_fault.RunFault.{RunFault}
-use Rattle.gk_cli.specs.declared.run_fault.RunFault.TheVariants.{Memory}
+use Rattle.gk_request.specs.declared.run_fault.RunFault.{RunFault}
+use Rattle.gk_request.specs.declared.run_fault.RunFault.TheVariants.{Memory}
 use Rattle.gk_cli.specs.declared.told_run.Told.{Told}
 use Rattle.gk_cli.specs.Writing.{Device, IsWritten, IsStopped}
 use Rattle.gk_cli.specs.GrowingReport.{results_with}

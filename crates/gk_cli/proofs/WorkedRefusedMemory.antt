@@ -1,45 +1,40 @@
 -- Whole runs by computation, in which memory may have been refused: each report that such a run may write.
-use Rattle.std.specs.Prelude.{◌≡◌, ◌⊎◌, ℕ, zero, suc, false, List, [], ◌∷◌, map, Some, None, codes}
+use Rattle.std.specs.Prelude.{◌≡◌, ◌⊎◌, ℕ, zero, suc, List, [], ◌∷◌, map, Option, Some, None, codes}
 use Rattle.std.specs.Io.KnownBytes.{Appends}
-use Rattle.std.specs.Fmt.{digits}
-use Rattle.std.specs.Str.{chars, is_utf8}
-use lib.Utf8
-use Rattle.std.proofs.Common.{refl, ap, ap₂, sym, subst, ◌∙◌, inl, inr}
+use Rattle.std.proofs.Common.{refl, ap₂, sym, subst, ◌∙◌, inl, inr, false}
 use Rattle.gk_select.specs.Case.{CaseValue}
 use Rattle.gk_select.specs.Expansion.{cases}
 use Rattle.gk_select.specs.Choice.{is_chosen}
 use Rattle.gk_steps.specs.DefaultFile.{default_entries}
-use Rattle.gk_steps.specs.Matching.{match_of}
-use Rattle.gk_steps.specs.Finding.{LibraryValue, found}
+use Rattle.gk_steps.specs.Finding.{LibraryValue}
 use Rattle.gk_world.specs.State.{nothing_yet, State}
+use Rattle.gk_run.specs.declared.results.Status.{Status}
 use Rattle.gk_run.specs.declared.results.Status.TheVariants as statuses
+use Rattle.gk_run.specs.declared.results.Reason.{Reason}
 use Rattle.gk_run.specs.declared.results.Reason.TheVariants as reasons
 use Rattle.gk_run.specs.declared.section.Level.TheVariants as levels
-use Rattle.gk_run.specs.Acting.{act}
-use Rattle.gk_run.specs.Results.{CaseRow, Results}
+use Rattle.gk_run.specs.Results.{StepRow, CaseRow, Results}
 use Rattle.gk_run.specs.Section.{Cut, nowhere, in_before, in_steps, in_after, in_cleanups}
 use Rattle.gk_run.specs.OpenSection.{Run, section_state}
 use Rattle.gk_run.specs.Running.{reached_row, first_or, later}
 use Rattle.gk_run.specs.Chosen.{MemberValue, ChosenValue}
 use Rattle.gk_run.specs.Features.{FeatureCuts, uncut_feature, feature_verdict, RuleCuts}
 use Rattle.gk_run.specs.Judged.{Cuts, Judged}
-use Rattle.gk_report.specs.ReportTexts.{status_text, reason_text, one_line}
-use Rattle.gk_report.specs.Summary.{status}
-use Rattle.gk_report.specs.PlainReport.{status_line, step_line, case_line, around_line, feature_line, counted, count_line, closing_lines, plain_part}
-use Rattle.gk_report.specs.Report.{report}
-use Rattle.gk_cli.specs.Inputs.{Request, Inputs, AreInputs, IsLibrary, member_by}
-use Rattle.gk_cli.specs.Suite.{IsReported, JudgedReport, InputsAreUnique, run_with}
+use Rattle.gk_report.proofs.WorkedReports.{plain, Gives, plain_on_literals}
+use Rattle.gk_request.specs.Inputs.{Inputs, AreInputs, IsLibrary, member_by, InputsAreUnique}
+use Rattle.gk_request.specs.Request.{Request}
+use Rattle.gk_cli.specs.Suite.{IsReported, JudgedReport, run_with}
 use Rattle.gk_cli.specs.Writing.{Device}
-use Rattle.gk_cli.proofs.WorkedRun.{plain_style, bare_state, one_feature, two_feature, set_step, ask_step, results_from_bare, same_from_bare, one_request, one_inputs, one_inputs_read, one_results, one_report, one_reports, one_status, two_request, two_inputs, two_inputs_read, two_results, two_report, two_reports, two_status, one_row, results_with, row_A, row_B, two_rows}
+use Rattle.gk_cli.proofs.WorkedRun.{on_literals, bare_state, results_from_bare, same_from_bare, one_feature, one_request, one_inputs, one_inputs_read, one_report, set_step, ask_step, two_feature, two_request, two_inputs, two_inputs_read, two_report}
 
 -- This report was written, and this status is returned.
 abbrev IsReturned : Device → Device → ℕ → List ℕ → ℕ → Type 0
 IsReturned old new answer text number = Appends old.bytes new.bytes text × (answer ≡ number)
 
--- What the report and the status of results say, where these are known.
-returned : (old new : Device) (answer : ℕ) (results known : Results) (text : List ℕ) (number : ℕ) → results ≡ known → report plain_style known ≡ text → status known ≡ number → IsReported plain_style old new answer results → IsReturned old new answer text number
-returned old new answer results known text number are reports ends r =
-    (subst (λ (bytes : List ℕ). Appends old.bytes new.bytes bytes) (ap (report plain_style) are ∙ reports) r.written.written, r.returned ∙ ap status are ∙ ends)
+-- What was written and is returned, if these results were reported and have this report and this status.
+returned : (old new : Device) (answer : ℕ) (results : Results) (text : List ℕ) (number : ℕ) → IsReported plain old new answer results → Gives plain results text number → IsReturned old new answer text number
+returned old new answer results text number r gives =
+    (subst (λ (bytes : List ℕ). Appends old.bytes new.bytes bytes) gives.0 r.written.written, r.returned ∙ gives.1)
 
 -- A run of a request whose inputs are known writes and answers what some cuts give.
 judged_ends : (r : Request) (inputs : Inputs) → r.dry_run ≡ false → AreInputs r inputs → InputsAreUnique → (old new : Device) (answer : ℕ) → JudgedReport r nothing_yet old new answer → (cuts : Cuts) × IsReported r.style old new answer (results_from_bare (run_with r inputs) cuts inputs.features)
@@ -87,37 +82,29 @@ scenarios_cut library cuts source name line members =
     run_uncut library cuts.own (first ∷ []) (bare_feature source name line members ∷ []) ∙ feature_uncut library first.own first.cases first.rules source name line members
 
 -- One scenario with one step, at which memory was refused.
-abbrev one_memory : Results
-one_memory = results_with (one_row (codes "one.feature") statuses.Memory ∷ [])
-
--- Their report.
 abbrev one_memory_report : List ℕ
 one_memory_report = codes "Feature: one ... memory\n  Scenario: first ... memory\n    Given it passes ... memory\n\n0 features passed, 0 failed, 0 skipped, 1 memory\n0 scenarios passed, 0 failed, 0 skipped, 1 memory\n0 steps passed, 0 failed, 0 skipped, 0 undefined, 1 memory\n"
 
--- The results have that report.
-one_memory_reports : report plain_style one_memory ≡ one_memory_report
-unfolding digits status_text reason_text one_line status_line step_line case_line around_line feature_line counted count_line closing_lines plain_part
-one_memory_reports = refl
+-- Results have the plain report of that scenario, or the one in which memory was refused.
+abbrev IsOneOfTwo : Results → Type 0
+IsOneOfTwo results = Gives plain results one_report 0 ⊎ Gives plain results one_memory_report 4
 
--- The results of that scenario, by its cut: a cut at an event that it doesn't have is none.
-one_by_cut : (cut : Cut) → let results : Results = results_from_bare (run_with one_request one_inputs) (cuts_of (cut ∷ [])) one_inputs.features in (results ≡ one_results) ⊎ (results ≡ one_memory)
-unfolding cases is_chosen found match_of is_utf8 chars lib.Utf8.encode act
-one_by_cut nowhere = inl refl
-one_by_cut (in_before n s) = inl refl
-one_by_cut (in_steps zero s) = inr refl
-one_by_cut (in_steps (suc n) s) = inl refl
-one_by_cut (in_after n s) = inl refl
-one_by_cut (in_cleanups n s) = inl refl
+-- So it is by the scenario's cut: a cut at an event that it doesn't have is none.
+one_by_cut : (cut : Cut) → IsOneOfTwo (results_from_bare (run_with one_request one_inputs) (cuts_of (cut ∷ [])) one_inputs.features)
+unfolding on_literals
+one_by_cut nowhere = inl (refl, refl)
+one_by_cut (in_before n s) = inl (refl, refl)
+one_by_cut (in_steps zero s) = inr (refl, refl)
+one_by_cut (in_steps (suc n) s) = inl (refl, refl)
+one_by_cut (in_after n s) = inl (refl, refl)
+one_by_cut (in_cleanups n s) = inl (refl, refl)
 
 -- The same by all cuts of a run.
-one_by_cuts : (cuts : Cuts) → let results : Results = results_from_bare (run_with one_request one_inputs) cuts one_inputs.features in (results ≡ one_results) ⊎ (results ≡ one_memory)
+one_by_cuts : (cuts : Cuts) → IsOneOfTwo (results_from_bare (run_with one_request one_inputs) cuts one_inputs.features)
 unfolding cases
 one_by_cuts cuts =
     let same = scenarios_cut one_inputs.library cuts (codes "one.feature") (codes "one") 1 (map (member_by (is_chosen [] [])) (cases one_feature)) in
-    elim (one_by_cut (first_or nowhere (first_or uncut_feature cuts.features).cases)) [
-      | inl is ↦ inl (same ∙ is)
-      | inr is ↦ inr (same ∙ is)
-    ]
+    subst (λ (results : Results). IsOneOfTwo results) (sym same) (one_by_cut (first_or nowhere (first_or uncut_feature cuts.features).cases))
 
 -- A run of that request writes the plain report and ends with 0, or writes that memory was refused and ends with 4.
 pub one_judged : IsLibrary None default_entries → InputsAreUnique → (old new : Device) (answer : ℕ) → JudgedReport one_request nothing_yet old new answer →
@@ -126,57 +113,47 @@ one_judged spelled unique old new answer judged =
     let (cuts, reported) = judged_ends one_request one_inputs refl (one_inputs_read spelled) unique old new answer judged in
     let results : Results = results_from_bare (run_with one_request one_inputs) cuts one_inputs.features in
     elim (one_by_cuts cuts) [
-      | inl is ↦ inl (returned old new answer results one_results one_report 0 is one_reports one_status reported)
-      | inr is ↦ inr (returned old new answer results one_memory one_memory_report 4 is one_memory_reports refl reported)
+      | inl is ↦ inl (returned old new answer results one_report 0 reported is)
+      | inr is ↦ inr (returned old new answer results one_memory_report 4 reported is)
     ]
 
--- The row of the second scenario, where its step was carried out, and where memory was refused in it.
+-- The row of a scenario with one step, and the rows of the two scenarios, by what became of their steps.
+abbrev one_step_row : List ℕ → ℕ → StepRow → CaseRow
+one_step_row name line s = record { keyword = codes "Scenario"; name = name; line = line; status = s.status; around = statuses.Passed; cleanups = []; steps = s ∷ [] }
+
+abbrev row_A : Status → CaseRow
+row_A verdict = one_step_row (codes "A") 2 (record { keyword = codes "When"; text = codes "the variable \"X\" is set to \"1\""; line = 3; status = verdict; reason = None })
+
+abbrev row_B : Status → Option Reason → CaseRow
+row_B verdict reason = one_step_row (codes "B") 4 (record { keyword = codes "Then"; text = codes "the variable \"X\" should be \"1\""; line = 5; status = verdict; reason = reason })
+
+-- The row of the second scenario, if its step was carried out, and if memory was refused in it.
 abbrev failed_B : CaseRow
 failed_B = row_B statuses.Failed (Some reasons.Absent)
 
 abbrev memory_B : CaseRow
 memory_B = row_B statuses.Memory None
 
--- Memory was refused in the first scenario, in the second, and in each.
-abbrev memory_in_A : Results
-memory_in_A = two_rows statuses.Memory (row_A statuses.Memory) failed_B
+-- The results with these two rows.
+abbrev two_of : CaseRow → CaseRow → Results
+two_of a b = record {
+  features = record { source = codes "two.feature"; name = codes "two"; line = 1; status = feature_verdict statuses.Passed [] (a.status ∷ b.status ∷ []); around = statuses.Passed; rules = []; cases = a ∷ b ∷ [] } ∷ [];
+  around = statuses.Passed;
+}
 
-abbrev memory_in_B : Results
-memory_in_B = two_rows statuses.Memory (row_A statuses.Passed) memory_B
-
-abbrev memory_in_both : Results
-memory_in_both = two_rows statuses.Memory (row_A statuses.Memory) memory_B
-
--- The report of the first case.
+-- The reports if memory was refused in the first scenario, in the second, and in each.
 abbrev memory_in_A_report : List ℕ
 memory_in_A_report = codes "Feature: two ... memory\n  Scenario: A ... memory\n    When the variable \"X\" is set to \"1\" ... memory\n  Scenario: B ... failed\n    Then the variable \"X\" should be \"1\" ... failed: absent\n\n0 features passed, 0 failed, 0 skipped, 1 memory\n0 scenarios passed, 1 failed, 0 skipped, 1 memory\n0 steps passed, 1 failed, 0 skipped, 0 undefined, 1 memory\n"
 
--- The results have that report.
-memory_in_A_reports : report plain_style memory_in_A ≡ memory_in_A_report
-unfolding digits status_text reason_text one_line status_line step_line case_line around_line feature_line counted count_line closing_lines plain_part
-memory_in_A_reports = refl
-
--- The report of the second case.
 abbrev memory_in_B_report : List ℕ
 memory_in_B_report = codes "Feature: two ... memory\n  Scenario: A ... passed\n    When the variable \"X\" is set to \"1\" ... passed\n  Scenario: B ... memory\n    Then the variable \"X\" should be \"1\" ... memory\n\n0 features passed, 0 failed, 0 skipped, 1 memory\n1 scenario passed, 0 failed, 0 skipped, 1 memory\n1 step passed, 0 failed, 0 skipped, 0 undefined, 1 memory\n"
 
--- The results have that report.
-memory_in_B_reports : report plain_style memory_in_B ≡ memory_in_B_report
-unfolding digits status_text reason_text one_line status_line step_line case_line around_line feature_line counted count_line closing_lines plain_part
-memory_in_B_reports = refl
-
--- The report of the third case.
 abbrev memory_in_both_report : List ℕ
 memory_in_both_report = codes "Feature: two ... memory\n  Scenario: A ... memory\n    When the variable \"X\" is set to \"1\" ... memory\n  Scenario: B ... memory\n    Then the variable \"X\" should be \"1\" ... memory\n\n0 features passed, 0 failed, 0 skipped, 1 memory\n0 scenarios passed, 0 failed, 0 skipped, 2 memory\n0 steps passed, 0 failed, 0 skipped, 0 undefined, 2 memory\n"
 
--- The results have that report.
-memory_in_both_reports : report plain_style memory_in_both ≡ memory_in_both_report
-unfolding digits status_text reason_text one_line status_line step_line case_line around_line feature_line counted count_line closing_lines plain_part
-memory_in_both_reports = refl
-
--- Results are one of four.
+-- Results have one of four reports.
 abbrev IsOneOfFour : Results → Type 0
-IsOneOfFour results = (results ≡ two_results) ⊎ ((results ≡ memory_in_A) ⊎ ((results ≡ memory_in_B) ⊎ (results ≡ memory_in_both)))
+IsOneOfFour results = Gives plain results two_report 1 ⊎ (Gives plain results memory_in_A_report 4 ⊎ (Gives plain results memory_in_B_report 4 ⊎ Gives plain results memory_in_both_report 4))
 
 -- The scenarios' cases, and the state of their section.
 abbrev case_A : CaseValue
@@ -192,7 +169,7 @@ two_section = section_state (run_with two_request two_inputs) levels.Feature [] 
 
 -- The row of the first scenario, by its cut.
 A_by_cut : (cut : Cut) → let row = reached_row (run_with two_request two_inputs) two_section cut case_A in (row ≡ row_A statuses.Passed) ⊎ (row ≡ row_A statuses.Memory)
-unfolding found match_of is_utf8 chars lib.Utf8.encode act
+unfolding on_literals
 A_by_cut nowhere = inl refl
 A_by_cut (in_before n s) = inl refl
 A_by_cut (in_steps zero s) = inr refl
@@ -202,7 +179,7 @@ A_by_cut (in_cleanups n s) = inl refl
 
 -- The row of the second scenario, by its cut.
 B_by_cut : (cut : Cut) → let row = reached_row (run_with two_request two_inputs) two_section cut case_B in (row ≡ failed_B) ⊎ (row ≡ memory_B)
-unfolding found match_of is_utf8 chars lib.Utf8.encode act
+unfolding on_literals
 B_by_cut nowhere = inl refl
 B_by_cut (in_before n s) = inl refl
 B_by_cut (in_steps zero s) = inr refl
@@ -210,35 +187,29 @@ B_by_cut (in_steps (suc n) s) = inl refl
 B_by_cut (in_after n s) = inl refl
 B_by_cut (in_cleanups n s) = inl refl
 
--- The results with these two rows.
-abbrev two_of : CaseRow → CaseRow → Results
-two_of a b = two_rows (feature_verdict statuses.Passed [] (a.status ∷ b.status ∷ [])) a b
-
 -- The results are those with the two scenarios' rows.
 two_by_rows : (a b : Cut) → results_from_bare (run_with two_request two_inputs) (cuts_of (a ∷ b ∷ [])) two_inputs.features ≡ two_of (reached_row (run_with two_request two_inputs) two_section a case_A) (reached_row (run_with two_request two_inputs) two_section b case_B)
 unfolding cases is_chosen
 two_by_rows a b = refl
 
--- The results with these rows are one of four.
-one_of_four : (a b : CaseRow) (results : Results) → results ≡ two_of a b → (a ≡ row_A statuses.Passed) ⊎ (a ≡ row_A statuses.Memory) → (b ≡ failed_B) ⊎ (b ≡ memory_B) → IsOneOfFour results
-one_of_four a b results is (inl p) (inl q) = inl (is ∙ ap₂ two_of p q)
-one_of_four a b results is (inr p) (inl q) = inr (inl (is ∙ ap₂ two_of p q))
-one_of_four a b results is (inl p) (inr q) = inr (inr (inl (is ∙ ap₂ two_of p q)))
-one_of_four a b results is (inr p) (inr q) = inr (inr (inr (is ∙ ap₂ two_of p q)))
-
--- The results, by the two scenarios' cuts.
-two_by_cut : (a b : Cut) → IsOneOfFour (results_from_bare (run_with two_request two_inputs) (cuts_of (a ∷ b ∷ [])) two_inputs.features)
-two_by_cut a b =
-    one_of_four (reached_row (run_with two_request two_inputs) two_section a case_A) (reached_row (run_with two_request two_inputs) two_section b case_B) (results_from_bare (run_with two_request two_inputs) (cuts_of (a ∷ b ∷ [])) two_inputs.features)
-    (two_by_rows a b) (A_by_cut a) (B_by_cut b)
+-- The results with these rows have one of four reports.
+one_of_four : (a b : CaseRow) → (a ≡ row_A statuses.Passed) ⊎ (a ≡ row_A statuses.Memory) → (b ≡ failed_B) ⊎ (b ≡ memory_B) → IsOneOfFour (two_of a b)
+unfolding plain_on_literals
+one_of_four a b (inl p) (inl q) = subst (λ (r : Results). IsOneOfFour r) (sym (ap₂ two_of p q)) (inl (refl, refl))
+one_of_four a b (inr p) (inl q) = subst (λ (r : Results). IsOneOfFour r) (sym (ap₂ two_of p q)) (inr (inl (refl, refl)))
+one_of_four a b (inl p) (inr q) = subst (λ (r : Results). IsOneOfFour r) (sym (ap₂ two_of p q)) (inr (inr (inl (refl, refl))))
+one_of_four a b (inr p) (inr q) = subst (λ (r : Results). IsOneOfFour r) (sym (ap₂ two_of p q)) (inr (inr (inr (refl, refl))))
 
 -- The same by all cuts of a run.
 two_by_cuts : (cuts : Cuts) → IsOneOfFour (results_from_bare (run_with two_request two_inputs) cuts two_inputs.features)
 unfolding cases
 two_by_cuts cuts =
     let own = (first_or uncut_feature cuts.features).cases in
+    let a = first_or nowhere own in
+    let b = first_or nowhere (later own) in
+    let run = run_with two_request two_inputs in
     let same = scenarios_cut two_inputs.library cuts (codes "two.feature") (codes "two") 1 (map (member_by (is_chosen [] [])) (cases two_feature)) in
-    subst (λ (results : Results). IsOneOfFour results) (sym same) (two_by_cut (first_or nowhere own) (first_or nowhere (later own)))
+    subst (λ (results : Results). IsOneOfFour results) (sym (same ∙ two_by_rows a b)) (one_of_four (reached_row run two_section a case_A) (reached_row run two_section b case_B) (A_by_cut a) (B_by_cut b))
 
 -- A run of that request writes the plain report and ends with 1, or writes where memory was refused and ends with 4. Whatever is refused, the second scenario never passes.
 pub two_judged : IsLibrary None default_entries → InputsAreUnique → (old new : Device) (answer : ℕ) → JudgedReport two_request nothing_yet old new answer →
@@ -247,8 +218,8 @@ two_judged spelled unique old new answer judged =
     let (cuts, reported) = judged_ends two_request two_inputs refl (two_inputs_read spelled) unique old new answer judged in
     let results : Results = results_from_bare (run_with two_request two_inputs) cuts two_inputs.features in
     elim (two_by_cuts cuts) [
-      | inl is ↦ inl (returned old new answer results two_results two_report 1 is two_reports two_status reported)
-      | inr (inl is) ↦ inr (inl (returned old new answer results memory_in_A memory_in_A_report 4 is memory_in_A_reports refl reported))
-      | inr (inr (inl is)) ↦ inr (inr (inl (returned old new answer results memory_in_B memory_in_B_report 4 is memory_in_B_reports refl reported)))
-      | inr (inr (inr is)) ↦ inr (inr (inr (returned old new answer results memory_in_both memory_in_both_report 4 is memory_in_both_reports refl reported)))
+      | inl is ↦ inl (returned old new answer results two_report 1 reported is)
+      | inr (inl is) ↦ inr (inl (returned old new answer results memory_in_A_report 4 reported is))
+      | inr (inr (inl is)) ↦ inr (inr (inl (returned old new answer results memory_in_B_report 4 reported is)))
+      | inr (inr (inr is)) ↦ inr (inr (inr (returned old new answer results memory_in_both_report 4 reported is)))
     ]

@@ -1,18 +1,20 @@
--- Whole runs by computation: from the bytes of a feature file to the report's bytes and the status.
-use Rattle.std.specs.Prelude.{◌≡◌, ◌≢◌, ℕ, Bool, false, cond, List, [], ◌∷◌, Option, Some, None, codes}
+-- Whole runs by computation: from the bytes of the files to the report's bytes and the status.
+use Rattle.std.specs.Prelude.{Option, ◌≡◌, ◌≢◌, ⊤, ℕ, Bool, true, false, cond, not, List, [], ◌∷◌, ◌++◌, slice_index, filter, Some, None, codes}
 use Rattle.std.specs.Io.KnownBytes.{Appends}
 use Rattle.std.specs.Fmt.{digits}
 use Rattle.std.specs.FinMap.{get-empty}
 use Rattle.std.specs.Str.{chars, is_utf8}
 use lib.Utf8
-use Rattle.std.proofs.Common.{refl, ap, subst, ◌∙◌, arith}
+use Rattle.std.proofs.Common.{refl, ap, sym, subst, ◌∙◌, arith, inl}
 use Rattle.std.proofs.Math.Path.{fun_ext}
 use Rattle.std.proofs.lemmas.Str.{IsUtf8-from_is_utf8}
 use Rattle.gk_gherkin.specs.declared.feature.StepType.TheVariants.{Given, When, Then}
-use Rattle.gk_gherkin.specs.Lines.{lines_of, IsText}
-use Rattle.gk_gherkin.specs.Feature.{Empty, StepValue, ScenarioValue, FeatureValue}
-use Rattle.gk_gherkin.specs.Grammar.{Reads}
+use Rattle.gk_gherkin.specs.declared.hooks.HookKind.TheVariants.{BeforeScenario, AfterAll}
+use Rattle.gk_gherkin.specs.Lines.{Lines, LineValue, line_at, lines_of}
+use Rattle.gk_gherkin.specs.Feature.{Empty, Text, StepValue, FeatureValue}
+use Rattle.gk_gherkin.specs.Hooks.{HookValue}
 use Rattle.gk_gherkin.specs.Class.{class, class_of, class_of_words, heading_keyword, heading_name, step_keyword, step_text}
+use Rattle.gk_gherkin.specs.HookHeadings.{hooks_class, hook_heading}
 use Rattle.gk_gherkin.specs.Tags.{tags_of}
 use Rattle.gk_gherkin.specs.Rows.{cells_of, parts_of, unescaped}
 use Rattle.gk_gherkin.specs.DocStrings.{closes, content_of}
@@ -21,46 +23,40 @@ use Rattle.gk_gherkin.specs.StepTypes.{type_after}
 use Rattle.gk_gherkin.specs.OpenParts.{on_row, on_block, on_grid, on_body, on_open}
 use Rattle.gk_gherkin.specs.Reading.{step, run_by, finish, reading}
 use Rattle.gk_gherkin.specs.FeatureReader.{on_heading, on_line, on}
+use Rattle.gk_gherkin.specs.HooksReader.{on_hook, on_hook_body, on_plain_line, on as on_hooks_line}
 use Rattle.gk_gherkin.proofs.FeatureReaderSound.{sound}
-use Rattle.gk_select.specs.Case.{CaseValue}
+use Rattle.gk_gherkin.proofs.HooksReaderSound.{hooks_sound}
 use Rattle.gk_select.specs.Expansion.{cases}
+use Rattle.gk_select.specs.Filling.{filled, filled_from, cell_under}
+use Rattle.gk_select.specs.TagGrammar.{Expression, one_term, or_terms, one_factor, tagged, negated}
 use Rattle.gk_select.specs.Choice.{is_chosen}
+use Rattle.gk_steps.specs.declared.action.Action.TheVariants as actions
+use Rattle.gk_steps.specs.declared.pattern.FieldKind.TheVariants as kinds
+use Rattle.gk_steps.specs.Pattern.{Literal, FieldPiece}
 use Rattle.gk_steps.specs.Matching.{match_of}
-use Rattle.gk_steps.specs.Finding.{found}
+use Rattle.gk_steps.specs.Action.{action_row, text_row}
+use Rattle.gk_steps.specs.Finding.{EntryValue, LibraryValue, found}
+use Rattle.gk_steps.specs.LibraryFile.{is_ignored, type_of, sides_of, last_arrow, SpellsEntry, SpellEntries, ReadsLibrary}
 use Rattle.gk_steps.specs.DefaultFile.{default_entries}
 use Rattle.gk_world.specs.State.{nothing_yet, State, Map, nothing, state_of}
-use Rattle.gk_run.specs.declared.results.Status.TheVariants as statuses
-use Rattle.gk_run.specs.declared.results.Reason.TheVariants as reasons
 use Rattle.gk_run.specs.Acting.{act}
-use Rattle.gk_run.specs.declared.results.Reason.{Reason}
-use Rattle.gk_run.specs.declared.results.Status.{Status}
-use Rattle.gk_run.specs.Results.{StepRow, CaseRow, FeatureRow, Results}
+use Rattle.gk_run.specs.Results.{Results}
 use Rattle.gk_run.specs.OpenSection.{Run}
 use Rattle.gk_run.specs.Chosen.{ChosenValue}
 use Rattle.gk_run.specs.Judged.{Cuts, uncut, dry_results, results_from, results_of, plain_results}
-use Rattle.gk_report.specs.ReportTexts.{status_text, reason_text, one_line}
 use Rattle.gk_report.specs.Summary.{status}
-use Rattle.gk_report.specs.PlainReport.{status_line, step_line, case_line, around_line, feature_line, counted, count_line, closing_lines, plain_part}
-use Rattle.gk_report.specs.declared.report.Style.{Style}
-use Rattle.gk_report.specs.declared.report.Format.TheVariants as formats
 use Rattle.gk_report.specs.Report.{report}
-use Rattle.gk_cli.specs.Source.{SourceValue}
-use Rattle.gk_cli.specs.Inputs.{Request, Inputs, AreRead, AreInputs, IsLibrary, IsWithinLimit, chosen_of}
-use Rattle.gk_cli.specs.Suite.{OnlyReport, InputsAreUnique, run_with}
+use Rattle.gk_report.proofs.WorkedReports.{plain, Gives, plain_on_literals}
+use Rattle.gk_request.specs.Source.{SourceValue}
+use Rattle.gk_request.specs.Inputs.{Inputs, IsReadAs, AreRead, AreInputs, AreHooks, IsLibrary, chosen_of, with_reading, InputsAreUnique}
+use Rattle.gk_request.specs.Request.{Request}
+use Rattle.gk_cli.specs.Suite.{OnlyReport, run_with}
 use Rattle.gk_cli.specs.Writing.{Device}
 
--- The plain style, in which nothing is left out.
-abbrev pub plain_style : Style
-plain_style = record { format = formats.Plain; no_skipped = false }
-
--- What a run of a request writes and answers, where its inputs, their results, and the report and the status of these are known.
-pub ends_so : (r : Request) (inputs : Inputs) (results : Results) (text : List ℕ) (number : ℕ) → AreInputs r inputs → plain_results (run_with r inputs) nothing_yet inputs.features ≡ results → report r.style results ≡ text → status results ≡ number →
-    InputsAreUnique → (old new : Device) (answer : ℕ) → OnlyReport r nothing_yet old new answer → answer ≢ 4 → Appends old.bytes new.bytes text × (answer ≡ number)
-ends_so r inputs results text number read is_plain reports ends unique old new answer plain not_memory =
-    let p = plain not_memory in
-    let same : p.inputs ≡ inputs = unique r p.inputs inputs p.read read in
-    let are : plain_results (run_with r p.inputs) nothing_yet p.inputs.features ≡ results = ap (λ (i : Inputs). plain_results (run_with r i) nothing_yet i.features) same ∙ is_plain in
-    (subst (λ (bytes : List ℕ). Appends old.bytes new.bytes bytes) (ap (report r.style) are ∙ reports) p.reported.written.written, p.reported.returned ∙ ap status are ∙ ends)
+-- What a proof unfolds to compute the reading, the results and the report of files that are written out.
+unfoldable pub on_literals : ⊤
+unfolding is_utf8 chars lib.Utf8.encode digits class class_of class_of_words heading_keyword heading_name step_keyword step_text tags_of cells_of parts_of unescaped closes content_of language_of type_after on_heading on_row on_block on_grid on_body on_open on_line on hooks_class hook_heading on_hook on_hook_body on_plain_line on_hooks_line step run_by finish reading cases filled filled_from cell_under is_chosen found match_of act plain_on_literals
+on_literals = tt
 
 -- The state of a new sandbox: no file, no variable, no value.
 abbrev pub bare_state : State
@@ -76,298 +72,353 @@ same_from_bare run cuts features runs =
     ap (λ (b : Bool). let r : Results = cond b (dry_results run cuts features) (results_from run (state_of nothing_yet) cuts features) in r) runs
     ∙ ap (λ (m : Map). let section : State = record { files = m; env = m; outer = nothing; own = nothing } in results_from run section cuts features) (fun_ext (get-empty _))
 
+-- A run of this request that doesn't end with 4 writes this report and ends with this status.
+abbrev Ends : Request → List ℕ → ℕ → Type 0
+Ends r text number = InputsAreUnique → (old new : Device) (answer : ℕ) → OnlyReport r nothing_yet old new answer → answer ≢ 4 → Appends old.bytes new.bytes text × (answer ≡ number)
+
+-- That is so if the request reads as inputs whose results, by plain maps, have that report and status.
+ends_so : (r : Request) (inputs : Inputs) (text : List ℕ) (number : ℕ) → r.dry_run ≡ false → AreInputs r inputs → Gives r.style (results_from_bare (run_with r inputs) uncut inputs.features) text number → Ends r text number
+ends_so r inputs text number runs read gives unique old new answer only not_memory =
+    let p = only not_memory in
+    let same : p.inputs ≡ inputs = unique r p.inputs inputs p.read read in
+    let are : plain_results (run_with r p.inputs) nothing_yet p.inputs.features ≡ results_from_bare (run_with r inputs) uncut inputs.features =
+    ap (λ (i : Inputs). plain_results (run_with r i) nothing_yet i.features) same ∙ same_from_bare (run_with r inputs) uncut inputs.features runs in
+    (subst (λ (bytes : List ℕ). Appends old.bytes new.bytes bytes) (ap (report r.style) are ∙ gives.0) p.reported.written.written, p.reported.returned ∙ ap status are ∙ gives.1)
+
+-- A file with its name.
+abbrev named : List ℕ → List ℕ → SourceValue
+named name bytes = record { name = name; bytes = bytes }
+
+-- What is asked for: the scenarios on some lines of files, or all, with the default library and without hooks.
+abbrev pub asked_for : List ℕ → List SourceValue → Request
+asked_for lines sources = record { tags = []; lines = lines; dry_run = false; stop = false; style = plain; library = None; hooks = None; sources = sources }
+
+-- Such a request reads as these inputs.
+abbrev pub read_with : List ChosenValue → Inputs
+read_with features = record { library = default_entries; hooks = []; features = features }
+
+inputs_read : (lines : List ℕ) (sources : List SourceValue) (features : List ChosenValue) → AreRead (is_chosen [] lines) sources features → IsLibrary None default_entries → AreInputs (asked_for lines sources) (read_with features)
+inputs_read lines sources features read spelled = record { rules = []; tags = refl; library = spelled; hooks = refl; features = read }
+
+-- A file that reads so, before others.
+read_before : (rules : List Expression) (lines : List ℕ) (source : SourceValue) (says : Option FeatureValue) (sources : List SourceValue) (features : List ChosenValue) →
+    IsReadAs source.bytes says → AreRead (is_chosen rules lines) sources features → AreRead (is_chosen rules lines) (source ∷ sources) (with_reading (is_chosen rules lines) source.name says features)
+read_before rules lines source says sources features is others = (says, features, is.text, is.reads, is.limit, others, refl)
+
 -- A feature with one scenario and one step.
-abbrev pub one_bytes : List ℕ
+abbrev one_bytes : List ℕ
 one_bytes = codes "Feature: one\n  Scenario: first\n    Given it passes\n"
 
--- The file with its name.
-abbrev pub one_source : SourceValue
-one_source = record { name = codes "one.feature"; bytes = one_bytes }
-
--- What is asked for: all scenarios of that feature, with the default library.
-abbrev pub one_request : Request
-one_request = record { tags = []; lines = []; dry_run = false; stop = false; style = plain_style; library = None; hooks = None; sources = one_source ∷ [] }
-
--- What the feature file says.
-abbrev pub one_step : StepValue
-one_step = record { keyword = codes "Given"; step_type = Given; text = codes "it passes"; block = Empty; line = 3 }
-
--- Its scenario.
-abbrev pub one_scenario : ScenarioValue
-one_scenario = record { keyword = codes "Scenario"; name = codes "first"; line = 2; tags = []; steps = one_step ∷ []; examples = [] }
-
--- Its feature.
 abbrev pub one_feature : FeatureValue
-one_feature = record { name = codes "one"; line = 1; tags = []; background = None; scenarios = one_scenario ∷ []; rules = [] }
+one_feature = record { name = codes "one"; line = 1; tags = []; background = None; scenarios = (record { keyword = codes "Scenario"; name = codes "first"; line = 2; tags = []; steps = (record { keyword = codes "Given"; step_type = Given; text = codes "it passes"; block = Empty; line = 3 } ∷ []); examples = [] } ∷ []); rules = [] }
 
--- Its lines spell it.
-one_reads : Reads (lines_of one_bytes) (Some one_feature)
-unfolding class class_of class_of_words heading_keyword heading_name step_keyword step_text tags_of cells_of parts_of unescaped closes content_of language_of type_after on_heading on_row on_block on_grid on_body on_open on_line on step run_by finish reading
-one_reads = sound (lines_of one_bytes) (Some one_feature) refl
+-- It reads so.
+one_reads : IsReadAs one_bytes (Some one_feature)
+unfolding on_literals
+one_reads = record { text = (omega arith, IsUtf8-from_is_utf8 one_bytes refl); reads = sound (lines_of one_bytes) (Some one_feature) refl; limit = omega arith }
 
--- The bytes are a text.
-one_is_text : IsText one_bytes
-unfolding is_utf8 chars lib.Utf8.encode
-one_is_text = (omega arith, IsUtf8-from_is_utf8 one_bytes refl)
+-- All scenarios of that feature are asked for.
+abbrev pub one_request : Request
+one_request = asked_for [] (named (codes "one.feature") one_bytes ∷ [])
 
--- What is asked for, as it reads.
 abbrev pub one_inputs : Inputs
-one_inputs = record { library = default_entries; hooks = []; features = chosen_of (is_chosen [] []) (codes "one.feature") one_feature ∷ [] }
+one_inputs = read_with (chosen_of (is_chosen [] []) (codes "one.feature") one_feature ∷ [])
 
--- It has no more steps than the limit.
-one_is_within_limit : IsWithinLimit (Some one_feature)
-unfolding cases
-one_is_within_limit = omega arith
-
--- What is asked for reads as these inputs, given that the default library's text spells its entries.
 pub one_inputs_read : IsLibrary None default_entries → AreInputs one_request one_inputs
-one_inputs_read spelled = record {
-  rules = [];
-  tags = refl;
-  library = spelled;
-  hooks = refl;
-  features = (Some one_feature, [], one_is_text, one_reads, one_is_within_limit, refl, refl);
-}
+one_inputs_read = inputs_read [] one_request.sources one_inputs.features (read_before [] [] (named (codes "one.feature") one_bytes) (Some one_feature) [] [] one_reads refl)
 
--- The row of a scenario with one step, by what became of that.
-abbrev pub one_step_row : List ℕ → ℕ → StepRow → CaseRow
-one_step_row name line s = record { keyword = codes "Scenario"; name = name; line = line; status = s.status; around = statuses.Passed; cleanups = []; steps = s ∷ [] }
-
--- The results of features without rules, in which no hook and no cleanup failed.
-abbrev pub feature_row : List ℕ → List ℕ → Status → List CaseRow → FeatureRow
-feature_row source name verdict rows = record { source = source; name = name; line = 1; status = verdict; around = statuses.Passed; rules = []; cases = rows }
-
-abbrev pub results_with : List FeatureRow → Results
-results_with rows = record { features = rows; around = statuses.Passed }
-
--- The row of the feature, by the name of its source and what became of its step.
-abbrev pub one_row : List ℕ → Status → FeatureRow
-one_row source verdict = feature_row source (codes "one") verdict (one_step_row (codes "first") 2 (record { keyword = codes "Given"; text = codes "it passes"; line = 3; status = verdict; reason = None }) ∷ [])
-
--- The results that plain maps give.
-abbrev pub one_results : Results
-one_results = results_with (one_row (codes "one.feature") statuses.Passed ∷ [])
-
--- They are those of the inputs.
-one_is_plain : plain_results (run_with one_request one_inputs) nothing_yet one_inputs.features ≡ one_results
-unfolding cases is_chosen found match_of is_utf8 chars lib.Utf8.encode act
-one_is_plain = refl
-
--- Their report and their status.
 abbrev pub one_report : List ℕ
 one_report = codes "Feature: one ... passed\n  Scenario: first ... passed\n    Given it passes ... passed\n\n1 feature passed, 0 failed, 0 skipped\n1 scenario passed, 0 failed, 0 skipped\n1 step passed, 0 failed, 0 skipped, 0 undefined\n"
 
--- The results have that report.
-pub one_reports : report plain_style one_results ≡ one_report
-unfolding digits status_text reason_text one_line status_line step_line case_line around_line feature_line counted count_line closing_lines plain_part
-one_reports = refl
-
--- The results have that status.
-pub one_status : status one_results ≡ 0
-one_status = refl
-
--- A run of that request that doesn't end with 4 writes that report and ends with 0.
-pub one_run : IsLibrary None default_entries → InputsAreUnique → (old new : Device) (answer : ℕ) → OnlyReport one_request nothing_yet old new answer → answer ≢ 4 → Appends old.bytes new.bytes one_report × (answer ≡ 0)
-one_run spelled = ends_so one_request one_inputs one_results one_report 0 (one_inputs_read spelled) one_is_plain one_reports one_status
+pub one_run : IsLibrary None default_entries → Ends one_request one_report 0
+unfolding on_literals
+one_run spelled = ends_so one_request one_inputs one_report 0 refl (one_inputs_read spelled) (refl, refl)
 
 -- A feature with two scenarios, the second of which asks for what the first has set.
-abbrev pub two_bytes : List ℕ
+abbrev two_bytes : List ℕ
 two_bytes = codes "Feature: two\n  Scenario: A\n    When the variable \"X\" is set to \"1\"\n  Scenario: B\n    Then the variable \"X\" should be \"1\"\n"
 
--- The file with its name.
-abbrev pub two_source : SourceValue
-two_source = record { name = codes "two.feature"; bytes = two_bytes }
-
--- What is asked for: all scenarios of that feature.
-abbrev pub two_request : Request
-two_request = record { tags = []; lines = []; dry_run = false; stop = false; style = plain_style; library = None; hooks = None; sources = two_source ∷ [] }
-
--- What the feature file says.
 abbrev pub set_step : StepValue
 set_step = record { keyword = codes "When"; step_type = When; text = codes "the variable \"X\" is set to \"1\""; block = Empty; line = 3 }
 
--- The second step.
 abbrev pub ask_step : StepValue
 ask_step = record { keyword = codes "Then"; step_type = Then; text = codes "the variable \"X\" should be \"1\""; block = Empty; line = 5 }
 
--- The scenario that sets.
-abbrev pub scenario_A : ScenarioValue
-scenario_A = record { keyword = codes "Scenario"; name = codes "A"; line = 2; tags = []; steps = set_step ∷ []; examples = [] }
-
--- The scenario that asks.
-abbrev pub scenario_B : ScenarioValue
-scenario_B = record { keyword = codes "Scenario"; name = codes "B"; line = 4; tags = []; steps = ask_step ∷ []; examples = [] }
-
--- The feature.
 abbrev pub two_feature : FeatureValue
-two_feature = record { name = codes "two"; line = 1; tags = []; background = None; scenarios = scenario_A ∷ scenario_B ∷ []; rules = [] }
+two_feature = record {
+  name = codes "two";
+  line = 1;
+  tags = [];
+  background = None;
+  scenarios = (record { keyword = codes "Scenario"; name = codes "A"; line = 2; tags = []; steps = set_step ∷ []; examples = [] }
+      ∷ record { keyword = codes "Scenario"; name = codes "B"; line = 4; tags = []; steps = ask_step ∷ []; examples = [] }
+      ∷ []);
+  rules = [];
+}
 
--- Its lines spell it.
-two_reads : Reads (lines_of two_bytes) (Some two_feature)
-unfolding class class_of class_of_words heading_keyword heading_name step_keyword step_text tags_of cells_of parts_of unescaped closes content_of language_of type_after on_heading on_row on_block on_grid on_body on_open on_line on step run_by finish reading
-two_reads = sound (lines_of two_bytes) (Some two_feature) refl
+-- It reads so.
+two_reads : IsReadAs two_bytes (Some two_feature)
+unfolding on_literals
+two_reads = record { text = (omega arith, IsUtf8-from_is_utf8 two_bytes refl); reads = sound (lines_of two_bytes) (Some two_feature) refl; limit = omega arith }
 
--- The bytes are a text.
-two_is_text : IsText two_bytes
-unfolding is_utf8 chars lib.Utf8.encode
-two_is_text = (omega arith, IsUtf8-from_is_utf8 two_bytes refl)
+-- Some of its scenarios are asked for, or all.
+abbrev two_asked : List ℕ → Request
+two_asked lines = asked_for lines (named (codes "two.feature") two_bytes ∷ [])
 
--- What is asked for, as it reads.
+abbrev two_read : List ℕ → Inputs
+two_read lines = read_with (chosen_of (is_chosen [] lines) (codes "two.feature") two_feature ∷ [])
+
+two_asked_read : (lines : List ℕ) → IsLibrary None default_entries → AreInputs (two_asked lines) (two_read lines)
+two_asked_read lines = inputs_read lines (two_asked lines).sources (two_read lines).features (read_before [] lines (named (codes "two.feature") two_bytes) (Some two_feature) [] [] two_reads refl)
+
+-- All of them: nothing is left of the first scenario in the second.
+abbrev pub two_request : Request
+two_request = two_asked []
+
 abbrev pub two_inputs : Inputs
-two_inputs = record { library = default_entries; hooks = []; features = chosen_of (is_chosen [] []) (codes "two.feature") two_feature ∷ [] }
+two_inputs = two_read []
 
--- The feature has no more steps than the limit.
-two_is_within_limit : IsWithinLimit (Some two_feature)
-unfolding cases
-two_is_within_limit = omega arith
-
--- The source reads as that feature, whichever cases are chosen.
-two_is_read : (chooses : CaseValue → Bool) → AreRead chooses (two_source ∷ []) (chosen_of chooses (codes "two.feature") two_feature ∷ [])
-two_is_read chooses = (Some two_feature, [], two_is_text, two_reads, two_is_within_limit, refl, refl)
-
--- What is asked for reads as these inputs.
 pub two_inputs_read : IsLibrary None default_entries → AreInputs two_request two_inputs
-two_inputs_read spelled = record { rules = []; tags = refl; library = spelled; hooks = refl; features = two_is_read (is_chosen [] []) }
+two_inputs_read = two_asked_read []
 
--- The rows of the two scenarios, by what became of their steps.
-abbrev pub row_A : Status → CaseRow
-row_A verdict = one_step_row (codes "A") 2 (record { keyword = codes "When"; text = codes "the variable \"X\" is set to \"1\""; line = 3; status = verdict; reason = None })
-
-abbrev pub row_B : Status → Option Reason → CaseRow
-row_B verdict reason = one_step_row (codes "B") 4 (record { keyword = codes "Then"; text = codes "the variable \"X\" should be \"1\""; line = 5; status = verdict; reason = reason })
-
--- The results with these rows, by the feature's verdict.
-abbrev pub two_rows : Status → CaseRow → CaseRow → Results
-two_rows verdict a b = results_with (feature_row (codes "two.feature") (codes "two") verdict (a ∷ b ∷ []) ∷ [])
-
--- The results that plain maps give: nothing is left of the first scenario in the second.
-abbrev pub two_results : Results
-two_results = two_rows statuses.Failed (row_A statuses.Passed) (row_B statuses.Failed (Some reasons.Absent))
-
--- They are those of the inputs.
-two_is_plain : plain_results (run_with two_request two_inputs) nothing_yet two_inputs.features ≡ two_results
-unfolding cases is_chosen found match_of is_utf8 chars lib.Utf8.encode act
-two_is_plain = same_from_bare (run_with two_request two_inputs) uncut two_inputs.features refl ∙ refl
-
--- Their report and their status.
 abbrev pub two_report : List ℕ
 two_report = codes "Feature: two ... failed\n  Scenario: A ... passed\n    When the variable \"X\" is set to \"1\" ... passed\n  Scenario: B ... failed\n    Then the variable \"X\" should be \"1\" ... failed: absent\n\n0 features passed, 1 failed, 0 skipped\n1 scenario passed, 1 failed, 0 skipped\n1 step passed, 1 failed, 0 skipped, 0 undefined\n"
 
--- The results have that report.
-pub two_reports : report plain_style two_results ≡ two_report
-unfolding digits status_text reason_text one_line status_line step_line case_line around_line feature_line counted count_line closing_lines plain_part
-two_reports = refl
+pub two_run : IsLibrary None default_entries → Ends two_request two_report 1
+unfolding on_literals
+two_run spelled = ends_so two_request two_inputs two_report 1 refl (two_inputs_read spelled) (refl, refl)
 
--- The results have that status.
-pub two_status : status two_results ≡ 1
-two_status = refl
-
--- A run of that request that doesn't end with 4 writes that report and ends with 1.
-pub two_run : IsLibrary None default_entries → InputsAreUnique → (old new : Device) (answer : ℕ) → OnlyReport two_request nothing_yet old new answer → answer ≢ 4 → Appends old.bytes new.bytes two_report × (answer ≡ 1)
-two_run spelled = ends_so two_request two_inputs two_results two_report 1 (two_inputs_read spelled) two_is_plain two_reports two_status
-
--- The same feature with the library file, where line 2 is chosen: the first scenario alone is run.
-abbrev line_request : Request
-line_request = record two_request { lines = 2 ∷ [] }
-
--- What is asked for, as it reads.
-abbrev line_inputs : Inputs
-line_inputs = record two_inputs { features = chosen_of (is_chosen [] (2 ∷ [])) (codes "two.feature") two_feature ∷ [] }
-
--- It reads so.
-line_inputs_read : IsLibrary None default_entries → AreInputs line_request line_inputs
-line_inputs_read spelled = record { rules = []; tags = refl; library = spelled; hooks = refl; features = two_is_read (is_chosen [] (2 ∷ [])) }
-
--- The results that plain maps give: the second scenario is skipped.
-abbrev line_results : Results
-line_results = two_rows statuses.Passed (row_A statuses.Passed) (row_B statuses.Skipped None)
-
--- They are those of the inputs.
-line_is_plain : plain_results (run_with line_request line_inputs) nothing_yet line_inputs.features ≡ line_results
-unfolding cases is_chosen found match_of is_utf8 chars lib.Utf8.encode act
-line_is_plain = same_from_bare (run_with line_request line_inputs) uncut line_inputs.features refl ∙ refl
-
--- Their report and their status.
+-- The scenario on line 2: the second scenario is skipped.
 abbrev line_report : List ℕ
 line_report = codes "Feature: two ... passed\n  Scenario: A ... passed\n    When the variable \"X\" is set to \"1\" ... passed\n  Scenario: B ... skipped\n    Then the variable \"X\" should be \"1\" ... skipped\n\n1 feature passed, 0 failed, 0 skipped\n1 scenario passed, 0 failed, 1 skipped\n1 step passed, 0 failed, 1 skipped, 0 undefined\n"
 
--- The results have that report.
-line_reports : report plain_style line_results ≡ line_report
-unfolding digits status_text reason_text one_line status_line step_line case_line around_line feature_line counted count_line closing_lines plain_part
-line_reports = refl
-
--- The results have that status.
-line_status : status line_results ≡ 0
-line_status = refl
-
--- A run of that request that doesn't end with 4 writes that report and ends with 0.
-pub line_run : IsLibrary None default_entries → InputsAreUnique → (old new : Device) (answer : ℕ) → OnlyReport line_request nothing_yet old new answer → answer ≢ 4 → Appends old.bytes new.bytes line_report × (answer ≡ 0)
-line_run spelled = ends_so line_request line_inputs line_results line_report 0 (line_inputs_read spelled) line_is_plain line_reports line_status
+pub line_run : IsLibrary None default_entries → Ends (two_asked (2 ∷ [])) line_report 0
+unfolding on_literals
+line_run spelled = ends_so (two_asked (2 ∷ [])) (two_read (2 ∷ [])) line_report 0 refl (two_asked_read (2 ∷ []) spelled) (refl, refl)
 
 -- A file of a comment and a blank line, which holds no feature.
 abbrev comment_bytes : List ℕ
 comment_bytes = codes "# nothing\n\n"
 
--- All lines are passed over.
-comment_reads : Reads (lines_of comment_bytes) None
-unfolding class class_of class_of_words heading_keyword heading_name step_keyword step_text tags_of cells_of parts_of unescaped closes content_of language_of type_after on_heading on_row on_block on_grid on_body on_open on_line on step run_by finish reading
-comment_reads = sound (lines_of comment_bytes) None refl
-
--- The bytes are a text.
-comment_is_text : IsText comment_bytes
-unfolding is_utf8 chars lib.Utf8.encode
-comment_is_text = (omega arith, IsUtf8-from_is_utf8 comment_bytes refl)
-
--- That file, with its name.
-abbrev comment_source : SourceValue
-comment_source = record { name = codes "comment.feature"; bytes = comment_bytes }
-
--- The first feature under another name.
-abbrev again_source : SourceValue
-again_source = record { name = codes "again.feature"; bytes = one_bytes }
-
--- What is asked for: a feature, a file without one, and a feature.
-abbrev several_request : Request
-several_request = record one_request { sources = one_source ∷ comment_source ∷ again_source ∷ [] }
-
--- What is asked for, as it reads: the file without a feature counts nowhere.
-abbrev several_inputs : Inputs
-several_inputs = record one_inputs { features = chosen_of (is_chosen [] []) (codes "one.feature") one_feature ∷ chosen_of (is_chosen [] []) (codes "again.feature") one_feature ∷ [] }
-
 -- It reads so.
+comment_reads : IsReadAs comment_bytes None
+unfolding on_literals
+comment_reads = record { text = (omega arith, IsUtf8-from_is_utf8 comment_bytes refl); reads = sound (lines_of comment_bytes) None refl; limit = tt }
+
+-- A feature, a file without one, which counts nowhere, and a feature.
+abbrev several_request : Request
+several_request = asked_for [] (named (codes "one.feature") one_bytes ∷ named (codes "comment.feature") comment_bytes ∷ named (codes "again.feature") one_bytes ∷ [])
+
+abbrev several_inputs : Inputs
+several_inputs = read_with (chosen_of (is_chosen [] []) (codes "one.feature") one_feature ∷ chosen_of (is_chosen [] []) (codes "again.feature") one_feature ∷ [])
+
 several_inputs_read : IsLibrary None default_entries → AreInputs several_request several_inputs
-several_inputs_read spelled =
-    let again = chosen_of (is_chosen [] []) (codes "again.feature") one_feature ∷ [] in
-    record {
-      rules = [];
-      tags = refl;
-      library = spelled;
-      hooks = refl;
-      features = (Some one_feature, again, one_is_text, one_reads, one_is_within_limit, (None, again, comment_is_text, comment_reads, tt, (Some one_feature, [], one_is_text, one_reads, one_is_within_limit, refl, refl), refl), refl);
-    }
+several_inputs_read =
+    let again = read_before [] [] (named (codes "again.feature") one_bytes) (Some one_feature) [] [] one_reads refl in
+    let last : List SourceValue = named (codes "again.feature") one_bytes ∷ [] in
+    let left : List ChosenValue = chosen_of (is_chosen [] []) (codes "again.feature") one_feature ∷ [] in
+    let comment = read_before [] [] (named (codes "comment.feature") comment_bytes) None last left comment_reads again in
+    inputs_read [] several_request.sources several_inputs.features (read_before [] [] (named (codes "one.feature") one_bytes) (Some one_feature) (named (codes "comment.feature") comment_bytes ∷ last) left one_reads comment)
 
--- The results that plain maps give: the features in the order of their sources.
-abbrev several_results : Results
-several_results = results_with (one_row (codes "one.feature") statuses.Passed ∷ one_row (codes "again.feature") statuses.Passed ∷ [])
-
--- They are those of the inputs.
-several_is_plain : plain_results (run_with several_request several_inputs) nothing_yet several_inputs.features ≡ several_results
-unfolding cases is_chosen found match_of is_utf8 chars lib.Utf8.encode act
-several_is_plain = refl
-
--- Their report and their status.
 abbrev several_report : List ℕ
 several_report = codes "Feature: one ... passed\n  Scenario: first ... passed\n    Given it passes ... passed\n\nFeature: one ... passed\n  Scenario: first ... passed\n    Given it passes ... passed\n\n2 features passed, 0 failed, 0 skipped\n2 scenarios passed, 0 failed, 0 skipped\n2 steps passed, 0 failed, 0 skipped, 0 undefined\n"
 
--- The results have that report.
-several_reports : report plain_style several_results ≡ several_report
-unfolding digits status_text reason_text one_line status_line step_line case_line around_line feature_line counted count_line closing_lines plain_part
-several_reports = refl
+pub several_run : IsLibrary None default_entries → Ends several_request several_report 0
+unfolding on_literals
+several_run spelled = ends_so several_request several_inputs several_report 0 refl (several_inputs_read spelled) (refl, refl)
 
--- The results have that status.
-several_status : status several_results ≡ 0
-several_status = refl
+-- A hooks file: a step that passes before each scenario, and one that no entry matches after the run.
+abbrev hooks_bytes : List ℕ
+hooks_bytes = codes "before_scenario:\n  Given it passes\nafter_all:\n  Then it dances\n"
 
--- A run of that request that doesn't end with 4 writes that report and ends with 0.
-pub several_run : IsLibrary None default_entries → InputsAreUnique → (old new : Device) (answer : ℕ) → OnlyReport several_request nothing_yet old new answer → answer ≢ 4 → Appends old.bytes new.bytes several_report × (answer ≡ 0)
-several_run spelled = ends_so several_request several_inputs several_results several_report 0 (several_inputs_read spelled) several_is_plain several_reports several_status
+abbrev hooks : List HookValue
+hooks = record { kind = BeforeScenario; tag = None; line = 1; steps = (record { keyword = codes "Given"; step_type = Given; text = codes "it passes"; block = Empty; line = 2 } ∷ []) }
+    ∷ record { kind = AfterAll; tag = None; line = 3; steps = (record { keyword = codes "Then"; step_type = Then; text = codes "it dances"; block = Empty; line = 4 } ∷ []) }
+    ∷ []
+
+hooks_read : AreHooks (Some hooks_bytes) hooks
+unfolding on_literals
+hooks_read = ((omega arith, IsUtf8-from_is_utf8 hooks_bytes refl), hooks_sound (lines_of hooks_bytes) hooks refl)
+
+-- The feature with one scenario, with these hooks: the run's own hook fails.
+abbrev hooks_request : Request
+hooks_request = record one_request { hooks = Some hooks_bytes }
+
+abbrev hooks_inputs : Inputs
+hooks_inputs = record one_inputs { hooks = hooks }
+
+abbrev hooks_report : List ℕ
+hooks_report = codes "Feature: one ... passed\n  Scenario: first ... passed\n    Given it passes ... passed\n\n(hooks and cleanups) ... failed\n1 feature passed, 0 failed, 0 skipped\n1 scenario passed, 0 failed, 0 skipped\n1 step passed, 0 failed, 0 skipped, 0 undefined\n"
+
+pub hooks_run : IsLibrary None default_entries → Ends hooks_request hooks_report 1
+unfolding on_literals
+hooks_run spelled = let one = one_inputs_read spelled in ends_so hooks_request hooks_inputs hooks_report 1 refl (record { rules = one.rules; tags = one.tags; library = spelled; hooks = hooks_read; features = one.features }) (refl, refl)
+
+-- A longer feature: a tag, a description, a background with a doc string, an outline with examples, and a rule.
+abbrev long_bytes : List ℕ
+long_bytes = codes "# A comment.\n"
+    ++ codes "@shop\n"
+    ++ codes "Feature: mixed\n"
+    ++ codes "  A description.\n"
+    ++ codes "\n"
+    ++ codes "  Background:\n"
+    ++ codes "    Given a file named \"f\" with:\n"
+    ++ codes "      \"\"\"\n"
+    ++ codes "      one\n"
+    ++ codes "      \"\"\"\n"
+    ++ codes "\n"
+    ++ codes "  Scenario Outline: outline\n"
+    ++ codes "    Then the file \"f\" should be \"<text>\"\n"
+    ++ codes "\n"
+    ++ codes "    Examples:\n"
+    ++ codes "      | text |\n"
+    ++ codes "      | one  |\n"
+    ++ codes "      | two  |\n"
+    ++ codes "\n"
+    ++ codes "  Rule: rule\n"
+    ++ codes "    Example: last\n"
+    ++ codes "      * it dances\n"
+
+abbrev long_feature : FeatureValue
+long_feature = record {
+  name = codes "mixed";
+  line = 3;
+  tags = codes "@shop" ∷ [];
+  background = Some (record { line = 6; steps = (record { keyword = codes "Given"; step_type = Given; text = codes "a file named \"f\" with:"; block = Text (codes "one"); line = 7 } ∷ []) });
+  scenarios = (record {
+    keyword = codes "Scenario Outline";
+    name = codes "outline";
+    line = 12;
+    tags = [];
+    steps = (record { keyword = codes "Then"; step_type = Then; text = codes "the file \"f\" should be \"<text>\""; block = Empty; line = 13 } ∷ []);
+    examples = (record { name = []; line = 15; tags = []; header = codes "text" ∷ []; rows = (record { line = 17; cells = codes "one" ∷ [] } ∷ record { line = 18; cells = codes "two" ∷ [] } ∷ []) } ∷ []);
+  } ∷ []);
+  rules = (record {
+    name = codes "rule";
+    line = 20;
+    tags = [];
+    background = None;
+    scenarios = (record { keyword = codes "Example"; name = codes "last"; line = 21; tags = []; steps = (record { keyword = codes "*"; step_type = Given; text = codes "it dances"; block = Empty; line = 22 } ∷ []); examples = [] } ∷ []);
+  } ∷ []);
+}
+
+-- It reads so.
+long_reads : IsReadAs long_bytes (Some long_feature)
+unfolding on_literals
+long_reads = record { text = (omega arith, IsUtf8-from_is_utf8 long_bytes refl); reads = sound (lines_of long_bytes) (Some long_feature) refl; limit = omega arith }
+
+-- A library file.
+abbrev library_bytes : List ℕ
+library_bytes = codes "given a file named \"{name}\" with: => write_file\n"
+    ++ codes "then the file \"{name}\" should be \"{text}\" => file_is\n"
+
+other_name : codes "text" ≢ codes "name"
+other_name e = let first : ◌≡◌ {A = ℕ} 116 110 = ap (λ (word : List ℕ). slice_index word 0) e in absurd (omega arith)
+
+-- What the library file says.
+abbrev write_entry : EntryValue
+write_entry = record { step_type = Some Given; pattern = Literal (codes "a file named \"") ∷ FieldPiece (codes "name") kinds.Plain ∷ Literal (codes "\" with:") ∷ []; action = actions.WriteFile }
+
+-- The entry of the second line.
+abbrev ask_entry : EntryValue
+ask_entry = record { step_type = Some Then; pattern = Literal (codes "the file \"") ∷ FieldPiece (codes "name") kinds.Plain ∷ Literal (codes "\" should be \"") ∷ FieldPiece (codes "text") kinds.Plain ∷ Literal (codes "\"") ∷ []; action = actions.FileIs }
+
+-- The first line.
+abbrev write_line : LineValue
+write_line = line_at 1 (codes "given a file named \"{name}\" with: => write_file")
+
+-- The second line.
+abbrev ask_line : LineValue
+ask_line = line_at 2 (codes "then the file \"{name}\" should be \"{text}\" => file_is")
+
+-- Neither line is ignored.
+library_lines : filter (λ line. not (is_ignored line)) (lines_of library_bytes) ≡ write_line ∷ ask_line ∷ []
+library_lines = refl
+
+-- The first line spells the first entry.
+write_spells : SpellsEntry [] write_line write_entry
+unfolding type_of sides_of last_arrow action_row
+write_spells = record {
+  sides = record { pattern = codes "a file named \"{name}\" with:"; action = codes "write_file" };
+  row = text_row (codes "write_file") actions.WriteFile;
+  is_type = refl;
+  is_cut = refl;
+  is_pattern = record { spelled = refl; names = search; distinct = (tt, tt); runs = (omega arith, (omega arith, tt)); some = omega arith };
+  is_action = refl;
+  action = refl;
+  needs = search;
+  kinds = (λ kind e. cc, (λ kind e. cc, tt));
+  unambiguous = tt;
+}
+
+-- The second line spells the second entry.
+ask_spells : SpellsEntry (write_entry ∷ []) ask_line ask_entry
+unfolding type_of sides_of last_arrow action_row
+ask_spells = record {
+  sides = record { pattern = codes "the file \"{name}\" should be \"{text}\""; action = codes "file_is" };
+  row = text_row (codes "file_is") actions.FileIs;
+  is_type = refl;
+  is_cut = refl;
+  is_pattern = record { spelled = refl; names = search; distinct = ((other_name, tt), (tt, tt)); runs = (omega arith, (omega arith, (omega arith, tt))); some = omega arith };
+  is_action = refl;
+  action = refl;
+  needs = search;
+  kinds = (λ kind e. cc, (λ kind e. cc, tt));
+  unambiguous = (λ e. let no : ⊥ = cc in absurd no, tt);
+}
+
+-- The lines of its bytes spell the two entries.
+library_reads : ReadsLibrary (lines_of library_bytes) (write_entry ∷ ask_entry ∷ [])
+library_reads = subst (λ (ls : Lines). SpellEntries [] ls (write_entry ∷ ask_entry ∷ [])) (sym library_lines) (write_spells, (ask_spells, tt))
+
+abbrev library : LibraryValue
+library = write_entry ∷ ask_entry ∷ []
+
+library_read : IsLibrary (Some library_bytes) library
+unfolding on_literals
+library_read = ((omega arith, IsUtf8-from_is_utf8 library_bytes refl), library_reads)
+
+-- The scenarios with the tag `@shop`, or without `@slow`: each row of the examples begins with what the background leaves.
+abbrev long_request : Request
+long_request = record (asked_for [] (named (codes "mixed.feature") long_bytes ∷ [])) { tags = codes "shop,~slow" ∷ []; library = Some library_bytes }
+
+abbrev tag_rule : Expression
+tag_rule = or_terms (one_factor (tagged (codes "@shop"))) (one_term (one_factor (negated (tagged (codes "@slow")))))
+
+abbrev long_inputs : Inputs
+long_inputs = record { library = library; hooks = []; features = chosen_of (is_chosen (tag_rule ∷ []) []) (codes "mixed.feature") long_feature ∷ [] }
+
+long_inputs_read : AreInputs long_request long_inputs
+long_inputs_read = record {
+  rules = tag_rule ∷ [];
+  tags = (
+    tag_rule,
+    [],
+    inl (record { first = record { negated = false; tag = codes "@shop" }; others = record { negated = true; tag = codes "@slow" } ∷ []; reads = record { old_form = refl; says = refl }; is = refl }),
+    refl,
+    refl,
+  );
+  library = library_read;
+  hooks = refl;
+  features = read_before (tag_rule ∷ []) [] (named (codes "mixed.feature") long_bytes) (Some long_feature) [] [] long_reads refl;
+}
+
+abbrev long_report : List ℕ
+long_report = codes "Feature: mixed ... failed\n"
+    ++ codes "  Scenario Outline: outline -- @1.1 ... passed\n"
+    ++ codes "    Given a file named \"f\" with: ... passed\n"
+    ++ codes "    Then the file \"f\" should be \"one\" ... passed\n"
+    ++ codes "  Scenario Outline: outline -- @1.2 ... failed\n"
+    ++ codes "    Given a file named \"f\" with: ... passed\n"
+    ++ codes "    Then the file \"f\" should be \"two\" ... failed: differs\n"
+    ++ codes "  Example: last ... failed\n"
+    ++ codes "    Given a file named \"f\" with: ... passed\n"
+    ++ codes "    * it dances ... undefined\n"
+    ++ codes "\n"
+    ++ codes "0 features passed, 1 failed, 0 skipped\n"
+    ++ codes "1 scenario passed, 2 failed, 0 skipped\n"
+    ++ codes "4 steps passed, 1 failed, 0 skipped, 1 undefined\n"
+
+pub long_run : Ends long_request long_report 1
+unfolding on_literals
+long_run = ends_so long_request long_inputs long_report 1 refl long_inputs_read (refl, refl)

@@ -23,7 +23,7 @@ use Rattle.gk_report.specs.declared.report.Format.{Format}
 use Rattle.gk_report.specs.declared.report.Format.TheVariants.{Plain, Progress, Json}
 use Rattle.gk_cli.specs.declared.arguments.Mode.{Mode}
 use Rattle.gk_cli.specs.declared.arguments.Mode.TheVariants.{Report, Explanation, Findings}
-use Rattle.gk_cli.specs.declared.arguments.Options.{Options}
+use Rattle.gk_request.specs.declared.request.Options.{Options}
 use Rattle.gk_cli.specs.declared.arguments.Words.{Words}
 use Rattle.gk_cli.specs.declared.arguments.WordsFault.{WordsFault}
 use Rattle.gk_cli.specs.declared.arguments.WordsFault.TheVariants.{Usage, Env, File, Memory}

@@ -2,8 +2,9 @@
 use Rattle.std.specs.Prelude.{ℕ, false, List}
 use Rattle.gk_world.specs.State.{Contents}
 use Rattle.gk_run.specs.OpenSection.{Run}
-use Rattle.gk_cli.specs.declared.run_fault.RunFault.{RunFault}
-use Rattle.gk_cli.specs.Inputs.{Request, Inputs, AreInputs}
+use Rattle.gk_request.specs.declared.run_fault.RunFault.{RunFault}
+use Rattle.gk_request.specs.Inputs.{Inputs, AreInputs}
+use Rattle.gk_request.specs.Request.{Request}
 use Rattle.gk_cli.specs.Writing.{Device}
 use Rattle.gk_cli.specs.ExplainedRun.{IsExplained, IsExplainedUpTo}
 

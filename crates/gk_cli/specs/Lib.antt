@@ -1,12 +1,7 @@
 -- What a whole run can return and write, in reading order. A definition whose comment names no source belongs to this project's profile, or is a term that the others use.
 pub mod OptionTable
 pub mod Arguments
-pub mod Counted
-pub mod Source
-pub mod Inputs
-pub mod RunFault
 pub mod Writing
-pub mod SuiteFiles
 pub mod Suite
 pub mod RowOrder
 pub mod GrowingReport
@@ -15,11 +10,4 @@ pub mod ToldRun
 pub mod WrittenRun
 pub mod ExplainedRun
 pub mod ExplainedSuite
-pub mod FindingLines
-pub mod LintedSources
-pub mod LintedSuite
 pub mod Modes
-pub mod AllFaults
-pub mod Hints
-pub mod FaultLine
-pub mod FaultNotes

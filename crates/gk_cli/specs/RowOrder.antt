@@ -4,7 +4,7 @@ use Rattle.std.specs.List.{AllByRecursion}
 use Rattle.gk_world.specs.State.{Contents}
 use Rattle.gk_run.specs.Results.{FeatureRow, Results}
 use Rattle.gk_report.specs.RuleGroups.{AreInFileOrder}
-use Rattle.gk_cli.specs.Inputs.{Request}
+use Rattle.gk_request.specs.Request.{Request}
 use Rattle.gk_cli.specs.Suite.{AreJudged}
 
 -- In the results of each feature, the lines of the rules and those of the scenarios are non-decreasing. (Cucumber's Gherkin reference: feature, rule)

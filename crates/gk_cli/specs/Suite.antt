@@ -7,11 +7,12 @@ use Rattle.gk_run.specs.Judged.{Judged, plain_results, has_memory}
 use Rattle.gk_report.specs.declared.report.Style.{Style}
 use Rattle.gk_report.specs.Report.{report}
 use Rattle.gk_report.specs.Summary.{status}
-use Rattle.gk_cli.specs.declared.arguments.Options.{Options}
-use Rattle.gk_cli.specs.declared.run_fault.RunFault.{RunFault}
-use Rattle.gk_cli.specs.declared.run_fault.RunFault.TheVariants.{Write, Memory}
-use Rattle.gk_cli.specs.Inputs.{Request, Inputs, request_of, AreInputs}
-use Rattle.gk_cli.specs.RunFault.{IsUnread}
+use Rattle.gk_request.specs.declared.request.Options.{Options}
+use Rattle.gk_request.specs.declared.run_fault.RunFault.{RunFault}
+use Rattle.gk_request.specs.declared.run_fault.RunFault.TheVariants.{Write, Memory}
+use Rattle.gk_request.specs.Inputs.{Inputs, AreInputs}
+use Rattle.gk_request.specs.Request.{Request, request_of}
+use Rattle.gk_request.specs.RunFault.{IsUnread}
 use Rattle.gk_cli.specs.Writing.{Device, IsStopped, IsUntouched, IsWritten}
 
 -- What stays constant during a run of these inputs.
@@ -62,10 +63,6 @@ ReportedInPart r contents old new fault = (results : Results) × AreJudged r con
 -- What each fault of a run with its report says.
 abbrev pub SaysFault : Request → Contents → Device → Device → RunFault → Type 0
 SaysFault r contents old new fault = SaysFaultBy (ReportedInPart r contents old new) r old new fault
-
--- A request reads in only one way.
-abbrev pub InputsAreUnique : Type 0
-InputsAreUnique = (r : Request) (one other : Inputs) → AreInputs r one → AreInputs r other → one ≡ other
 
 -- Proof machinery: what stays constant during a run with these options, for any files and sources.
 abbrev pub run_by : Options → Inputs → Run

@@ -16,8 +16,8 @@ use Rattle.gk_run.specs.Features.{FeatureCuts, IsFeatureResult, IsFeatureTold}
 use Rattle.gk_run.specs.Judged.{Judged, BeginsJudged}
 use Rattle.gk_report.specs.declared.summary.Summary.{Summary}
 use Rattle.gk_report.specs.Summary.{status, status_of, summary_of, CountsOneMore}
-use Rattle.gk_cli.specs.declared.run_fault.RunFault.{RunFault}
-use Rattle.gk_cli.specs.declared.run_fault.RunFault.TheVariants.{Memory}
+use Rattle.gk_request.specs.declared.run_fault.RunFault.{RunFault}
+use Rattle.gk_request.specs.declared.run_fault.RunFault.TheVariants.{Memory}
 use Rattle.gk_cli.specs.declared.told_run.Told.{Told}
 use Rattle.gk_cli.specs.GrowingReport.{results_with}
 use Rattle.gk_cli.specs.Writing.{Device, IsWritten, IsStopped}

@@ -1,10 +1,10 @@
 -- A writer, and what is written to it.
 use Rattle.std.specs.Prelude.{◌≡◌, ◌≤◌, ◌+◌, ℕ, List, [], length, Option, Result, Ok, Err}
 use Rattle.std.specs.Io.KnownBytes.{Appends}
-use Rattle.gk_cli.specs.Counted.{calls_of, failures_of, flushes_of, idle_of, inner_of, one_more, IsPrefixWritten}
-use Rattle.gk_cli.specs.declared.counted.Counted.{Counted}
-use Rattle.gk_cli.specs.declared.run_fault.RunFault.{RunFault}
-use Rattle.gk_cli.specs.declared.run_fault.RunFault.TheVariants.{Write, Memory}
+use Rattle.gk_request.specs.Counted.{calls_of, failures_of, flushes_of, idle_of, inner_of, one_more, IsPrefixWritten}
+use Rattle.gk_request.specs.declared.counted.Counted.{Counted}
+use Rattle.gk_request.specs.declared.run_fault.RunFault.{RunFault}
+use Rattle.gk_request.specs.declared.run_fault.RunFault.TheVariants.{Write, Memory}
 
 -- A writer: the bytes that it took, if they are known, and the counts of its calls, flushes, failures and idle calls.
 pub record Device : Type 0 where

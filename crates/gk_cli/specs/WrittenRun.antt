@@ -7,7 +7,7 @@ use Rattle.gk_run.specs.Chosen.{ChosenValue}
 use Rattle.gk_run.specs.Judged.{Judged}
 use Rattle.gk_report.specs.declared.report.Style.{Style}
 use Rattle.gk_report.specs.Report.{report}
-use Rattle.gk_cli.specs.declared.run_fault.RunFault.{RunFault}
+use Rattle.gk_request.specs.declared.run_fault.RunFault.{RunFault}
 use Rattle.gk_cli.specs.Writing.{Device, IsStopped}
 use Rattle.gk_cli.specs.Suite.{IsReported}
 

@@ -12,6 +12,7 @@ use clap::builder::ValueParser;
 use clap::error::ErrorKind;
 use clap::{Arg, ArgAction, ArgMatches, Command};
 use gk_report::{Format, Style};
+use gk_request::Options;
 use std::alloc::{AllocError, AllocFailed, Global};
 use thiserror::Error;
 
@@ -21,26 +22,6 @@ const EXAMPLE: &str =
 const FILES_HELP: &str = "Feature files, run in this order";
 
 const VERSION: &str = "unreleased";
-
-/// Which scenarios run, how they run, and how the report is written.
-#[derive(Debug, Drop)]
-pub struct Options {
-    /// The texts of `--tags`, in order. All of them have to hold; without any, every scenario is chosen.
-    pub tags: Vec<String>,
-    /// The numbers of `--line`, in order, each at least 1. One of them has to be a scenario's; without any, every
-    /// scenario is chosen.
-    pub lines: Vec<u32>,
-    /// Whether steps are only looked up in the library, and no step, hook or cleanup runs.
-    /// (behave's documentation: command line arguments)
-    pub dry_run: bool,
-    /// Whether the run stops at the first failure. After a scenario, a rule or a feature that failed or ran out of
-    /// memory, later scenarios are untested, and later rules and features are not begun.
-    /// (behave's documentation: command line arguments)
-    pub stop: bool,
-    /// The format of the report, and whether the report omits what was skipped.
-    /// (behave's documentation: command line arguments)
-    pub style: Style,
-}
 
 /// What is written: the report or an explanation of a run, or the findings in its files, for which nothing runs.
 #[derive(Clone, Copy, Debug, PartialEq, Eq)]
@@ -368,15 +349,6 @@ fn first_clash(matches: &ArgMatches) -> Option<&'static str>
     first_excluded(matches, mode_of(matches), &OPTIONS)
 }
 
-// Returns the option that asks for this mode, if it needs one.
-fn option_of(mode: Mode) -> Option<&'static str> {
-    match mode {
-        Mode::Report => None,
-        Mode::Explanation => Some("explain"),
-        Mode::Findings { steps } => Some(if steps { "lint" } else { "no-steps" }),
-    }
-}
-
 // Makes the error for an option that may not accompany the output of this mode, in clap's words.
 fn clash(
     alloc: Global,
@@ -386,7 +358,12 @@ fn clash(
 ) -> Result<clap::Error, AllocError>
     ensures { IfOk result (λ error. kind_of error ≡ ArgumentConflict) }
 {
-    let message = match option_of(mode) {
+    let asked_by = match mode {
+        Mode::Report => None,
+        Mode::Explanation => Some("explain"),
+        Mode::Findings { steps } => Some(if steps { "lint" } else { "no-steps" }),
+    };
+    let message = match asked_by {
         Some(by) => format!(in alloc; "the argument '--{by}' cannot be used with '--{name}'")?,
         None => format!(in alloc; "the argument '--{name}' needs '--lint'")?,
     };

@@ -7,14 +7,12 @@ ghost use Rattle.gk_run.specs.Chosen.{chosen_value, IsFormed};
 ghost use Rattle.gk_cli.specs.Writing.{device_of};
 ghost use Rattle.gk_cli.specs.ExplainedRun.{IsExplained, IsExplainedUpTo};
 
-use crate::counted::Counted;
 use crate::growing_report::write_piece;
-use crate::inputs::ReadInputs;
 use crate::reporter::Reporter;
-use crate::run_fault::RunFault;
 use crate::told_run::{RunParts, tell_run};
 use gk_explain::Explainer;
 use gk_report::{Format, Style, Summary, tail};
+use gk_request::{Counted, ReadInputs, RunFault};
 use gk_run::{FeatureResult, Status};
 use gk_world::Sandbox;
 use std::alloc::{AllocError, Global};

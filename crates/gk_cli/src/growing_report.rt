@@ -4,13 +4,12 @@ ghost use Rattle.gk_run.specs.Results.{feature_row};
 ghost use Rattle.gk_report.specs.Report as spec;
 ghost use Rattle.gk_report.specs.Report.{is_empty, part};
 ghost use Rattle.gk_cli.specs.Writing.{device_of, IsWritten, IsStopped};
-ghost use Rattle.gk_cli.specs.declared.run_fault.RunFault.TheVariants as faults;
+ghost use Rattle.gk_request.specs.declared.run_fault.RunFault.TheVariants as faults;
 
-use crate::counted::{Counted, write_whole};
 use crate::reporter::Reporter;
-use crate::run_fault::RunFault;
 use gk_gherkin::{Block, Step};
 use gk_report::{Style, Summary, head, pieces, tail};
+use gk_request::{Counted, RunFault, write_whole};
 use gk_run::{
     CaseResult, FeatureResult, Level, Mark, Observer, Outcome, RuleResult, Stage, Status,
 };

@@ -4,9 +4,8 @@ ghost use Rattle.gk_run.specs.Results.{FeatureRow, Results, feature_row};
 ghost use Rattle.gk_cli.specs.Reporter.{IsAdded, StopsAdding, ClosesWith};
 ghost use Rattle.gk_cli.specs.Writing.{device_of};
 
-use crate::counted::Counted;
-use crate::run_fault::RunFault;
 use gk_report::Summary;
+use gk_request::{Counted, RunFault};
 use gk_run::{FeatureResult, Observer, Status};
 use std::alloc::{AllocError, Global};
 use std::io::Write;

@@ -1,40 +1,26 @@
 //! A whole run of a suite, with its report, with an explanation in its place, or with the findings before any run.
 ghost use Rattle.std.specs.Prelude.{◌≡◌, map, option_map, IfOk, IfErr};
 ghost use Rattle.gk_world.specs.Sandbox.{depth, IsSame};
-ghost use Rattle.gk_cli.specs.Source.{borrowed_value, source_value};
-ghost use Rattle.gk_cli.specs.Inputs.{asked};
-ghost use Rattle.gk_cli.specs.SuiteFiles.{bytes_of, suite_value, request_of_files, hooks_name, AreLeftByRun};
-ghost use Rattle.gk_cli.specs.Modes.{AreLeft, IsWrittenAs, SaysFaultAs};
-ghost use Rattle.gk_cli.specs.Suite.{InputsAreUnique, JudgedReport, OnlyReport, Reported, ReportedInPart, SaysFault, SaysFaultBy};
+ghost use Rattle.gk_request.specs.Source.{borrowed_value, source_value};
+ghost use Rattle.gk_request.specs.Request.{asked, bytes_of, suite_value, request_of_files, library_name, hooks_name, AreLeftByRun};
+ghost use Rattle.gk_cli.specs.Modes.{lint_status, AreLeft, IsWrittenAs, Linted, LintedInPart, SaysFaultAs};
+ghost use Rattle.gk_cli.specs.Suite.{JudgedReport, OnlyReport, Reported, ReportedInPart, SaysFault, SaysFaultBy};
 ghost use Rattle.gk_cli.specs.ExplainedSuite.{Explained, ExplainedInPart};
 ghost use Rattle.gk_cli.specs.Writing.{UsesWriter, device_of};
 
-use crate::arguments::{Mode, Options};
-use crate::counted::Counted;
+use crate::arguments::Mode;
 use crate::explained_run::write_explanation;
-use crate::inputs::read_inputs;
-use crate::linted_suite::lint_suite;
-use crate::run_fault::RunFault;
-use crate::source::{BorrowedSource, FeatureSource, Source};
-use crate::suite_files::{SuiteFiles, name_of};
+use crate::growing_report::write_piece;
 use crate::written_run::write_run;
-use gk_gherkin::{hooks_reading_is_unique, reading_is_unique};
+use gk_findings::findings_text;
+use gk_request::{
+    BorrowedSource, Counted, FeatureSource, Options, RunFault, Source, SuiteFiles,
+    inputs_are_unique, name_of, read_inputs,
+};
 use gk_run::without_memory_there_is_one_list;
-use gk_select::texts_have_one_rule;
-use gk_steps::library_reading_is_unique;
 use gk_world::Sandbox;
 use std::alloc::{AllocError, Global};
 use std::io::Write;
-
-/// Shows that a request reads in only one way. No code runs here.
-pub fn inputs_are_unique()
-    ensures { InputsAreUnique }
-{
-    reading_is_unique();
-    texts_have_one_rule();
-    library_reading_is_unique();
-    hooks_reading_is_unique();
-}
 
 // Borrows each source.
 fn lent<'a>(alloc: Global, sources: &'a [Source]) -> Result<Vec<BorrowedSource<'a>>, AllocError>
@@ -125,6 +111,45 @@ fn explain_suite<S: FeatureSource, W: Write>(
             let hooks = name_of(&files.hooks);
             write_explanation(alloc, sandbox, options.stop, hooks, inputs, out)
         }
+        Err(fault) => Err(fault),
+    }
+}
+
+// Returns the status of a lint that writes this text.
+fn status_of(text: &str) -> u8
+    ensures { result ≡ lint_status text.now }
+{
+    if text.is_empty() { 0 } else { 1 }
+}
+
+// Reads the request, runs nothing, and writes the findings.
+fn lint_suite<S: FeatureSource, W: Write>(
+    alloc: Global,
+    options: &Options,
+    steps: bool,
+    files: &SuiteFiles<S>,
+    out: &mut Counted<W>,
+) -> Result<u8, RunFault>
+    ensures linted { IfOk result (Linted steps
+        (request_of_files options.now (suite_value S.value files.now))
+        (library_name (suite_value S.value files.now))
+        (hooks_name (suite_value S.value files.now))
+        (device_of W.contents out.old) (device_of W.contents out.new)) }
+    ensures fault { IfErr result (SaysFaultBy (LintedInPart steps
+        (request_of_files options.now (suite_value S.value files.now))
+        (library_name (suite_value S.value files.now))
+        (hooks_name (suite_value S.value files.now))
+        (device_of W.contents out.old) (device_of W.contents out.new))
+        (request_of_files options.now (suite_value S.value files.now))
+        (device_of W.contents out.old) (device_of W.contents out.new)) }
+    ensures used { UsesWriter result
+        (device_of W.contents out.old) (device_of W.contents out.new) }
+{
+    match findings_text(alloc, options, steps, files) {
+        Ok(text) => match write_piece(out, text.as_str()) {
+            Ok(()) => Ok(status_of(text.as_str())),
+            Err(fault) => Err(fault),
+        },
         Err(fault) => Err(fault),
     }
 }

@@ -15,12 +15,11 @@ ghost use Rattle.gk_cli.specs.Writing.{device_of};
 ghost use Rattle.gk_cli.specs.Reporter.{IsAdded, StopsAdding};
 ghost use Rattle.gk_cli.specs.ToldRun.{TellsFeature, TellsDryFeature, IsNextResult, IsDryResult, TellsNext, EndsNext, AreTold, AreToldUpTo, IsClosed, StopsClosing, IsToldRun, IsToldUpTo, stays, stays_begun};
 
-use crate::counted::Counted;
 use crate::growing_report::write_piece;
 use crate::reporter::Reporter;
-use crate::run_fault::RunFault;
 use gk_gherkin::HookFile;
 use gk_report::Summary;
+use gk_request::{Counted, RunFault};
 use gk_run::{
     Chosen, FeatureResult, NoRoom, Status, Suite, dry_feature, finished_runs_are_judged,
     unfinished_runs_are_judged,

@@ -1,17 +1,16 @@
 use crate::counted_tests::{Writer, counted};
-use gk_cli::{
-    Counted, Mode, Options, RunFault, Source, SuiteFiles, faults_after, name_at_fault, push_notes,
-    write_suite,
-};
+use gk_cli::{Mode, write_suite};
+use gk_findings::push_notes;
 use gk_gherkin::ReadFault;
 use gk_report::{Format, Style};
+use gk_request::{Counted, Options, RunFault, Source, SuiteFiles, faults_after, name_at_fault};
 use gk_world::Sandbox;
 use std::alloc::{AllocError, Global};
 use std::str;
 use std::test::Fail;
 
 // A file of this name.
-fn source(alloc: Global, name: &str, text: &str) -> Result<Source, AllocError> {
+pub fn source(alloc: Global, name: &str, text: &str) -> Result<Source, AllocError> {
     let mut bytes = Vec::new(alloc);
     bytes.extend_from_slice(text.as_bytes())?;
     Ok(Source {
@@ -21,7 +20,7 @@ fn source(alloc: Global, name: &str, text: &str) -> Result<Source, AllocError> {
 }
 
 // The files of a run of one feature.
-fn files_with(
+pub fn files_with(
     alloc: Global,
     library: Option<Source>,
     hooks: Option<Source>,
@@ -37,7 +36,7 @@ fn files_with(
 }
 
 // Each scenario is run, and the report is plain.
-fn plain(alloc: Global) -> Options {
+pub fn plain(alloc: Global) -> Options {
     Options {
         tags: Vec::new(alloc),
         lines: Vec::new(alloc),
@@ -124,15 +123,15 @@ fn suites_are_explained(rt: HostRuntime) -> Result<(), Fail> {
 
 // The library, the hooks and the feature of the guide's page on linting, and what is found in them.
 const WICK: [&str; 4] = [
-    "step the wick \"{name}\" is trimmed => write_file\nstep the wick \"{name}\" is put out => remove_file\nstep the night is over => skip_scenario\nthen the wick \"{name}\" should be gone => file_absent\n",
+    "step the wick \"{name}\" is trimmed => write_file\nstep the wick \"{name}\" is put out => remove_file\nstep the night is over => skip_scenario\nthen the wick \"{name}\" should be gone => file_absent\nstep at last {step} => at_cleanup\n",
     "before_tag @quick:\n  Given the wick \"night\" is put out\n\nafter_scenario:\n  Then the night is over\n",
-    "Feature: A wick\n  Scenario: It is trimmed\n    Given the wick \"hall\" is trimmed\n    When the wick \"hall\" is lit\n\n  Scenario Outline: It smokes <offen>\n    Given the wick \"hall\" is put out\n    Examples:\n      | often |\n",
-    "wick.hooks:1: hook for a tag that stands nowhere\nwick.hooks:5: action that isn't allowed here\nwick.feature:3: step without the text that its action needs\nwick.feature:4: undefined step\n    When the wick \"hall\" is lit\n    the nearest entry is: step the wick \"{name}\" is trimmed\nwick.feature:6: outline without rows\nwick.feature:6: placeholder that no column has\n    the nearest column is: often\n--tags @quik: stands nowhere\n--line 6: chooses no scenario\nwick.steps:4: entry that no step finds\nwick.steps: no step finds 1 of 4 entries\n1",
+    "Feature: A wick\n  Scenario: It is trimmed\n    Given the wick \"hall\" is trimmed\n    When the wick \"hall\" is lit\n    And at last the wick \"hall\" should be gone\n\n  Scenario Outline: It smokes <offen>\n    Given the wick \"hall\" is put out\n    Examples:\n      | often |\n",
+    "wick.hooks:1: hook for a tag that stands nowhere\nwick.hooks:5: action that isn't allowed here\nwick.feature:3: step without the text that its action needs\nwick.feature:4: undefined step\n    When the wick \"hall\" is lit\n    the nearest entry is: step the wick \"{name}\" is trimmed\nwick.feature:5: cleanup without step\n    And at last the wick \"hall\" should be gone\n    matches line 4 of wick.steps, which is a then entry; a cleanup needs step\nwick.feature:7: outline without rows\nwick.feature:7: placeholder that no column has\n    the nearest column is: often\n--tags @quik: stands nowhere\n--line 7: chooses no scenario\nwick.steps:4: entry that no step finds\nwick.steps: no step finds 1 of 5 entries\n1",
 ];
 
 // The same without a look-up of steps.
 const WICK_ALONE: &str =
-    "wick.hooks:1: hook for a tag that stands nowhere\nwick.feature:6: outline without rows\nwick.feature:6: placeholder that no column has\n    the nearest column is: often\n--tags @quik: stands nowhere\n--line 6: chooses no scenario\n1";
+    "wick.hooks:1: hook for a tag that stands nowhere\nwick.feature:7: outline without rows\nwick.feature:7: placeholder that no column has\n    the nearest column is: often\n--tags @quik: stands nowhere\n--line 7: chooses no scenario\n1";
 
 // What is found in files, and the status.
 fn found(
@@ -165,7 +164,7 @@ fn suites_are_linted(rt: HostRuntime) -> Result<(), Fail> {
     )?;
     let mut options = plain(rt.alloc());
     options.tags.push(String::from_str(rt.alloc(), "@quik")?)?;
-    options.lines.push(6)?;
+    options.lines.push(7)?;
     assert_eq!(rt;
         found(rt.alloc(), &options, true, &mut files)?.as_str(),
         wanted
@@ -194,7 +193,7 @@ const OIL_STEPS: &str = "step the oil is filled up => pass\nstep the oil burns =
 
 const OIL: &str = "@lamp oil\nFeature: Oil\n  Scenario: It burns\n    Given the oil burns\n";
 
-fn oil(alloc: Global) -> Result<SuiteFiles<Source>, AllocError> {
+pub fn oil(alloc: Global) -> Result<SuiteFiles<Source>, AllocError> {
     let library = source(alloc, "oil.steps", OIL_STEPS)?;
     let feature = source(alloc, "oil.feature", OIL)?;
     files_with(alloc, Some(library), None, feature)
@@ -221,7 +220,7 @@ fn first_fault(alloc: Global, files: &mut SuiteFiles<Source>) -> Result<RunFault
 // What is said of a fault: the name of its file, the fault, and what is said below it.
 fn said(alloc: Global, files: &SuiteFiles<Source>, fault: RunFault) -> Result<String, AllocError> {
     let mut notes = String::new(alloc);
-    push_notes(&mut notes, alloc, files, fault)?;
+    push_notes(&mut notes, alloc, None, files, fault)?;
     format!(in alloc; "{:?} {fault:?}\n{notes}", name_at_fault(files, fault))
 }
 

@@ -1,5 +1,5 @@
 -- The line in which two texts differ first is a line of each of them, and is shown.
-use Rattle.std.proofs.Common.{◌≡◌, ◌∙◌, ◌⊎◌, ◌<◌, ◌≤◌, ◌+◌, ◌-◌, ◌==◌, ℕ, zero, suc, Bool, true, false, cond, nat_lt, List, [], ◌∷◌, ◌++◌, length, take, drop, chars, codes, encode_utf8, encode_utf8_all, IsUtf8, refl, ap, sym, subst, inl, inr, length-take, append_assoc, ⊎_elim, arith}
+use Rattle.std.proofs.Common.{◌≡◌, ◌∙◌, ◌⊎◌, ◌<◌, ◌≤◌, ◌+◌, ◌-◌, ◌==◌, ℕ, zero, suc, Bool, true, false, cond, nat_lt, List, [], Some, ◌∷◌, ◌++◌, length, take, drop, chars, codes, encode_utf8, encode_utf8_all, IsUtf8, refl, ap, sym, subst, inl, inr, length-take, append_assoc, ⊎_elim, arith}
 use Rattle.std.specs.Prelude.{sum_by}
 use Rattle.std.proofs.lemmas.Bool.{ltb-true, ltb-false, eqb-true, and_parts, and_cases}
 use Rattle.std.proofs.lemmas.List.{take-append-drop, drop-take, drop-drop}
@@ -9,7 +9,7 @@ use Rattle.std.proofs.lemmas.List.Sums.{sum_by-cons, sum_by-append}
 use Rattle.std.proofs.lemmas.Str.{encode_ascii, encodes-chars}
 use Rattle.gk_explain.specs.declared.differences.Position.{Position}
 use Rattle.gk_explain.specs.Differences.{common_start, first_position, position_after, position_past, first_difference}
-use Rattle.gk_explain.specs.Shown.{text_lines, marked_line, marked_lines, left_out, few_lines, is_left_out, lines_round, marked_text_with}
+use Rattle.gk_explain.specs.Shown.{text_lines, cut_line, row, marked_lines, left_out, few_lines, is_left_out, lines_round, marked_text_with}
 use Rattle.gk_explain.specs.Details.{compared, difference_line}
 use Rattle.gk_explain.specs.DifferingLines.{IsLine, DifferingLinesAreShown}
 
@@ -71,22 +71,22 @@ line_at zero (line ∷ lines) below = (line, lines, refl)
 line_at (suc k) (line ∷ lines) below = line_at k lines (omega arith)
 
 -- A row of a line is among what is shown.
-abbrev Shows : List ℕ → List ℕ → List ℕ → Type 0
-Shows mark line rows = (before : List ℕ) × (after : List ℕ) × (rows ≡ before ++ (marked_line mark line ++ after))
+abbrev Shows : (List ℕ → List ℕ) → List ℕ → List ℕ → Type 0
+Shows show line rows = (before : List ℕ) × (after : List ℕ) × (rows ≡ before ++ (show line ++ after))
 
-among : (mark line : List ℕ) (k : ℕ) (lines rest : List (List ℕ)) → drop k lines ≡ line ∷ rest → Shows mark line (marked_lines mark lines)
-among mark line k lines rest begins = (
-  marked_lines mark (take k lines),
-  marked_lines mark rest,
-  ap (marked_lines mark) (sym (take-append-drop k lines) ∙ ap (λ (others : List (List ℕ)). take k lines ++ others) begins) ∙ flat_map-append (marked_line mark) (take k lines) (line ∷ rest),
+among : (show : List ℕ → List ℕ) (line : List ℕ) (k : ℕ) (lines rest : List (List ℕ)) → drop k lines ≡ line ∷ rest → Shows show line (marked_lines show lines)
+among show line k lines rest begins = (
+  marked_lines show (take k lines),
+  marked_lines show rest,
+  ap (marked_lines show) (sym (take-append-drop k lines) ∙ ap (λ (others : List (List ℕ)). take k lines ++ others) begins) ∙ flat_map-append show (take k lines) (line ∷ rest),
 )
 
-before_more : (mark line rows more : List ℕ) → Shows mark line rows → Shows mark line (rows ++ more)
-before_more mark line rows more (before, after, shown) =
-    (before, after ++ more, ap (λ (some : List ℕ). some ++ more) shown ∙ append_assoc before _ more ∙ ap (λ (others : List ℕ). before ++ others) (append_assoc (marked_line mark line) after more))
+before_more : (show : List ℕ → List ℕ) (line rows more : List ℕ) → Shows show line rows → Shows show line (rows ++ more)
+before_more show line rows more (before, after, shown) =
+    (before, after ++ more, ap (λ (some : List ℕ). some ++ more) shown ∙ append_assoc before _ more ∙ ap (λ (others : List ℕ). before ++ others) (append_assoc (show line) after more))
 
-after_more : (mark line more rows : List ℕ) → Shows mark line rows → Shows mark line (more ++ rows)
-after_more mark line more rows (before, after, shown) =
+after_more : (show : List ℕ → List ℕ) (line more rows : List ℕ) → Shows show line rows → Shows show line (more ++ rows)
+after_more show line more rows (before, after, shown) =
     (more ++ before, after, ap (λ (others : List ℕ). more ++ others) shown ∙ sym (append_assoc more before _))
 
 -- The line is within the first so many.
@@ -99,37 +99,37 @@ past first k lines rest line less begins =
     let whole : first + (k - first) ≡ k = omega arith in
     drop-drop (k - first) first lines ∙ ap (λ (n : ℕ). drop n lines) whole ∙ begins
 
-in_first : (mark line : List ℕ) (k count : ℕ) (lines rest : List (List ℕ)) → k < count → drop k lines ≡ line ∷ rest → Shows mark line (marked_lines mark (take count lines))
-in_first mark line k count lines rest less begins =
+in_first : (show : List ℕ → List ℕ) (line : List ℕ) (k count : ℕ) (lines rest : List (List ℕ)) → k < count → drop k lines ≡ line ∷ rest → Shows show line (marked_lines show (take count lines))
+in_first show line k count lines rest less begins =
     let whole : k + suc (count - k - 1) ≡ count = omega arith in
-    among mark line k (take count lines) (take (count - k - 1) rest) (subst (λ (n : ℕ). drop k (take n lines) ≡ line ∷ take (count - k - 1) rest) whole (within k (count - k - 1) lines rest line begins))
+    among show line k (take count lines) (take (count - k - 1) rest) (subst (λ (n : ℕ). drop k (take n lines) ≡ line ∷ take (count - k - 1) rest) whole (within k (count - k - 1) lines rest line begins))
 
-in_last : (mark line : List ℕ) (k first : ℕ) (lines rest : List (List ℕ)) → first ≤ k → drop k lines ≡ line ∷ rest → Shows mark line (marked_lines mark (drop first lines))
-in_last mark line k first lines rest less begins = among mark line (k - first) (drop first lines) rest (past first k lines rest line less begins)
+in_last : (show : List ℕ → List ℕ) (line : List ℕ) (k first : ℕ) (lines rest : List (List ℕ)) → first ≤ k → drop k lines ≡ line ∷ rest → Shows show line (marked_lines show (drop first lines))
+in_last show line k first lines rest less begins = among show line (k - first) (drop first lines) rest (past first k lines rest line less begins)
 
-in_round : (mark line : List ℕ) (number : ℕ) (lines rest : List (List ℕ)) → 4 ≤ number → drop (number - 1) lines ≡ line ∷ rest → Shows mark line (lines_round mark number lines)
-in_round mark line number lines rest above begins =
+in_round : (show : List ℕ → List ℕ) (line : List ℕ) (number : ℕ) (lines rest : List (List ℕ)) → 4 ≤ number → drop (number - 1) lines ≡ line ∷ rest → Shows show line (lines_round show number lines)
+in_round show line number lines rest above begins =
     let three : (number - 1) - (number - 4) ≡ 3 = omega arith in
     let here : drop 3 (drop (number - 4) lines) ≡ line ∷ rest = subst (λ (n : ℕ). drop n (drop (number - 4) lines) ≡ line ∷ rest) three (past (number - 4) (number - 1) lines rest line (omega arith) begins) in
-    after_more mark line _ _ (after_more mark line (left_out (number - 9)) _ (before_more mark line _ (left_out (length lines - (number + 7)) ++ marked_lines mark (drop (length lines - 4) lines)) (in_first mark line 3 7 (drop (number - 4) lines) rest (omega arith) here)))
+    after_more show line _ _ (after_more show line (left_out (number - 9)) _ (before_more show line _ (left_out (length lines - (number + 7)) ++ marked_lines show (drop (length lines - 4) lines)) (in_first show line 3 7 (drop (number - 4) lines) rest (omega arith) here)))
 
-few_by : (mark line : List ℕ) (number : ℕ) (lines rest : List (List ℕ)) (many : Bool) → nat_lt 20 (length lines) ≡ many → 1 ≤ number →
+few_by : (show : List ℕ → List ℕ) (line : List ℕ) (number : ℕ) (lines rest : List (List ℕ)) (many : Bool) → nat_lt 20 (length lines) ≡ many → 1 ≤ number →
     (many ≡ true → (number ≤ 10) ⊎ (length lines ≤ number + 8)) → drop (number - 1) lines ≡ line ∷ rest →
-    Shows mark line (cond many (marked_lines mark (take 10 lines) ++ (left_out (length lines - 19) ++ marked_lines mark (drop (length lines - 9) lines))) (marked_lines mark lines))
-few_by mark line number lines rest false is above sides begins = among mark line (number - 1) lines rest begins
-few_by mark line number lines rest true is above sides begins = ⊎_elim
-    (λ first. before_more mark line _ _ (in_first mark line (number - 1) 10 lines rest (omega arith) begins))
-    (λ last. after_more mark line _ _ (after_more mark line (left_out (length lines - 19)) _ (in_last mark line (number - 1) (length lines - 9) lines rest (omega arith) begins)))
+    Shows show line (cond many (marked_lines show (take 10 lines) ++ (left_out (length lines - 19) ++ marked_lines show (drop (length lines - 9) lines))) (marked_lines show lines))
+few_by show line number lines rest false is above sides begins = among show line (number - 1) lines rest begins
+few_by show line number lines rest true is above sides begins = ⊎_elim
+    (λ first. before_more show line _ _ (in_first show line (number - 1) 10 lines rest (omega arith) begins))
+    (λ last. after_more show line _ _ (after_more show line (left_out (length lines - 19)) _ (in_last show line (number - 1) (length lines - 9) lines rest (omega arith) begins)))
     (sides refl)
 
-shown_by : (mark line : List ℕ) (number : ℕ) (lines rest : List (List ℕ)) (hidden : Bool) → is_left_out number (length lines) ≡ hidden → 1 ≤ number → drop (number - 1) lines ≡ line ∷ rest →
-    Shows mark line (cond hidden (lines_round mark number lines) (few_lines mark lines))
-shown_by mark line number lines rest true is above begins =
+shown_by : (show : List ℕ → List ℕ) (line : List ℕ) (number : ℕ) (lines rest : List (List ℕ)) (hidden : Bool) → is_left_out number (length lines) ≡ hidden → 1 ≤ number → drop (number - 1) lines ≡ line ∷ rest →
+    Shows show line (cond hidden (lines_round show number lines) (few_lines show lines))
+shown_by show line number lines rest true is above begins =
     let parts = and_parts (nat_lt 20 (length lines)) _ is in
     let sides = and_parts (nat_lt 10 number) _ parts.1 in
-    in_round mark line number lines rest (omega (arith, ltb-true 10 number sides.0)) begins
-shown_by mark line number lines rest false is above begins =
-    few_by mark line number lines rest (nat_lt 20 (length lines)) refl above
+    in_round show line number lines rest (omega (arith, ltb-true 10 number sides.0)) begins
+shown_by show line number lines rest false is above begins =
+    few_by show line number lines rest (nat_lt 20 (length lines)) refl above
     (λ many. ⊎_elim
     (λ few. absurd (cc (few, many)))
     (λ outside. ⊎_elim (λ first. inl (ltb-false 10 number first)) (λ last. inr (omega (arith, ltb-false number (length lines - 8) last))) (and_cases (nat_lt 10 number) _ outside))
@@ -137,15 +137,16 @@ shown_by mark line number lines rest false is above begins =
     begins
 
 -- A line of a text is among those that are shown where it has to be.
-line_shown : (mark text : List ℕ) (number : ℕ) → 1 ≤ number → number ≤ length (text_lines text) → (line : List ℕ) × IsLine text number line × Shows mark line (marked_text_with mark number text)
+line_shown : (mark text : List ℕ) (p : Position) → 1 ≤ p.line → p.line ≤ length (text_lines text) → (line : List ℕ) × IsLine text p.line line × Shows (row mark (Some p.column)) line (marked_text_with mark p text)
 unfolding marked_text_with
-line_shown mark text number above below =
+line_shown mark text p above below =
+    let number = p.line in
     let lines = text_lines text in
     let found = line_at (number - 1) lines (omega arith) in
     let size : length (take (number - 1) lines) + 1 ≡ number = omega (arith, length-take (number - 1) lines) in (
       found.0,
       (take (number - 1) lines, found.1, sym (take-append-drop (number - 1) lines) ∙ ap (λ (others : List (List ℕ)). take (number - 1) lines ++ others) found.2, size),
-      shown_by mark found.0 number lines found.1 (is_left_out number (length lines)) refl above found.2,
+      shown_by (row mark (Some p.column)) found.0 number lines found.1 (is_left_out number (length lines)) refl above found.2,
     )
 
 -- Of both texts the line is shown.
@@ -156,9 +157,9 @@ both_shown expected found utf8 utf8' =
     let common = common_start (chars expected) (chars found) in
     let fewer = feeds_in_common (chars expected) (chars found) in
     let above : 1 ≤ p.line = omega (arith, lines_past first_position common) in
-    let first = line_shown (codes "expected") expected p.line above (has_line expected common utf8 fewer.0) in
-    let second = line_shown (codes "found   ") found p.line above (has_line found common utf8' fewer.1) in
-    let more = before_more (codes "found   ") second.0 _ (difference_line p) second.2 in (
+    let first = line_shown (codes "expected") expected p above (has_line expected common utf8 fewer.0) in
+    let second = line_shown (codes "found   ") found p above (has_line found common utf8' fewer.1) in
+    let more = before_more (row (codes "found   ") (Some p.column)) second.0 _ (difference_line p) second.2 in (
       first.0,
       second.0,
       first.1,
@@ -166,8 +167,8 @@ both_shown expected found utf8 utf8' =
       first.2.0,
       first.2.1 ++ more.0,
       more.1,
-      ap (λ (rows : List ℕ). rows ++ (marked_text_with (codes "found   ") p.line found ++ difference_line p)) first.2.2
+      ap (λ (rows : List ℕ). rows ++ (marked_text_with (codes "found   ") p found ++ difference_line p)) first.2.2
           ∙ append_assoc first.2.0 _ _
-          ∙ ap (λ (rows : List ℕ). first.2.0 ++ rows) (append_assoc (marked_line (codes "expected") first.0) first.2.1 _
-          ∙ ap (λ (rows : List ℕ). marked_line (codes "expected") first.0 ++ rows) (ap (λ (rows : List ℕ). first.2.1 ++ rows) more.2 ∙ sym (append_assoc first.2.1 more.0 _))),
+          ∙ ap (λ (rows : List ℕ). first.2.0 ++ rows) (append_assoc (cut_line (codes "expected") p.column (chars first.0)) first.2.1 _
+          ∙ ap (λ (rows : List ℕ). cut_line (codes "expected") p.column (chars first.0) ++ rows) (ap (λ (rows : List ℕ). first.2.1 ++ rows) more.2 ∙ sym (append_assoc first.2.1 more.0 _))),
     )

@@ -3,7 +3,6 @@ pub mod DifferencesLemmas
 pub mod DifferingLinesLemmas
 pub mod ExplanationLemmas
 pub mod RegistrationLemmas
-pub mod AgreementLemmas
 pub mod NearestLinesLemmas
 pub mod ExplainerLemmas
 pub mod WorkedExplanations

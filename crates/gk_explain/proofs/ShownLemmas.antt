@@ -18,14 +18,14 @@ pub shown_first : (show : ℕ → List ℕ) (text rest : List ℕ) (c : ℕ) →
 shown_first show text rest c utf8 begins = ap (flat_map show) (chars_past_char text rest c utf8 begins)
 
 -- The rows of more than twenty lines.
-pub many_lines : {A : Type 0} (f : A → List ℕ) (mark before : List ℕ) (lines first last : List A) → nat_lt 20 (length lines) ≡ true → first ≡ take 10 lines → last ≡ drop (length lines - 9) lines →
-    ((before ++ marked_lines mark (map f first)) ++ left_out (length lines - 19)) ++ marked_lines mark (map f last) ≡ before ++ few_lines mark (map f lines)
-many_lines f mark before lines first last many is_first is_last =
-    let few : few_lines mark (map f lines) ≡ marked_lines mark (take 10 (map f lines)) ++ (left_out (length lines - 19) ++ marked_lines mark (drop (length lines - 9) (map f lines))) =
+pub many_lines : {A : Type 0} (f : A → List ℕ) (show : List ℕ → List ℕ) (before : List ℕ) (lines first last : List A) → nat_lt 20 (length lines) ≡ true → first ≡ take 10 lines → last ≡ drop (length lines - 9) lines →
+    ((before ++ marked_lines show (map f first)) ++ left_out (length lines - 19)) ++ marked_lines show (map f last) ≡ before ++ few_lines show (map f lines)
+many_lines f show before lines first last many is_first is_last =
+    let few : few_lines show (map f lines) ≡ marked_lines show (take 10 (map f lines)) ++ (left_out (length lines - 19) ++ marked_lines show (drop (length lines - 9) (map f lines))) =
     cc (length-map lines f, many) in
     append_assoc _ (left_out (length lines - 19)) _ ∙ append_assoc before _ _
     ∙ ap (λ (rows : List ℕ). before ++ rows)
-    (ap₂ (λ some others. marked_lines mark some ++ (left_out (length lines - 19) ++ marked_lines mark others)) (ap (map f) is_first ∙ sym (take-map f 10 lines)) (ap (map f) is_last ∙ sym (drop-map f (length lines - 9) lines)) ∙ sym few)
+    (ap₂ (λ some others. marked_lines show some ++ (left_out (length lines - 19) ++ marked_lines show others)) (ap (map f) is_first ∙ sym (take-map f 10 lines)) (ap (map f) is_last ∙ sym (drop-map f (length lines - 9) lines)) ∙ sym few)
 
 -- A byte that isn't suspect.
 not_suspect : (b : ℕ) → is_suspect b ≡ false → (0x20 ≤ b) × ((b ≡ 0x7F → ⊥) × (b ≡ 0xC2 → ⊥))

@@ -1,5 +1,5 @@
 -- Worked explanations, by computation.
-use Rattle.std.specs.Prelude.{◌≡◌, ℕ, true, false, List, [], ◌∷◌, None, codes, refl}
+use Rattle.std.specs.Prelude.{◌≡◌, ℕ, List, [], ◌∷◌, None, codes, refl}
 use Rattle.std.specs.Fmt.{digits}
 use Rattle.std.specs.Str.{chars, is_utf8}
 use lib.Utf8
@@ -23,9 +23,11 @@ use Rattle.gk_steps.specs.declared.pattern.FieldKind.TheVariants as kinds
 use Rattle.gk_steps.specs.Pattern.{Literal, FieldPiece}
 use Rattle.gk_steps.specs.Matching.{match_of}
 use Rattle.gk_steps.specs.Finding.{EntryValue, LibraryValue, found}
-use Rattle.gk_explain.specs.Shown.{marked_line, marked_text_with, escaped}
+use Rattle.gk_explain.specs.Shown.{quoted_window, cut_line, marked_text_with, escaped}
 use Rattle.gk_explain.specs.Details.{event_details}
-use Rattle.gk_explain.specs.Nearest.{agreement, is_near}
+use Rattle.gk_lint.specs.declared.nearest_entry.EntryHint.TheVariants.{OtherType, Nearest}
+use Rattle.gk_lint.specs.Likeness.{same_letters, is_one_off, common_len, differ_at_first}
+use Rattle.gk_explain.specs.Nearest.{hint_told, before_nearest, before_other_type, after_other_type}
 use Rattle.gk_explain.specs.Tables.{refused_file}
 use Rattle.gk_explain.specs.EventLines.{line_of_step, line_of_cleanup, place_text}
 use Rattle.gk_explain.specs.Headings.{case_heading, rule_heading, feature_heading, around_text, run_heading, explanation_text}
@@ -90,7 +92,7 @@ with_cleanups s cleanup =
 -- Its cleanups have the places of the steps that registered them, the last first.
 cleanups_have_places : (s : State) (cleanup : CleanupValue) → (with_case (scenario statuses.Failed) (with_cleanups s cleanup)).ready
     ≡ codes "f:6: Scenario: s ... failed\n  h:2: before: Given later ok ... passed\n  f:7: Given later ok ... passed\n  f:8: Given later no ... failed: no such step\n  f:9: Given ok ... skipped\n  f:7: cleanup ... passed\n  h:2: cleanup ... failed: fail step\n\n"
-unfolding found match_of is_utf8 chars lib.Utf8.encode event_details digits status_text reason_text escaped status_line line_of_step line_of_cleanup place_text case_heading explanation_text
+unfolding found match_of is_utf8 same_letters is_one_off common_len differ_at_first chars lib.Utf8.encode event_details digits status_text reason_text escaped status_line line_of_step line_of_cleanup place_text case_heading explanation_text
 cleanups_have_places s cleanup = refl
 
 -- Hooks and cleanups of a rule, a feature and a run, with one event in each, of which the rule's passed.
@@ -117,38 +119,42 @@ sections_are_listed s = refl
 abbrev entry : EntryValue
 entry = record { step_type = None; pattern = Literal (codes "the mill ") ∷ FieldPiece (codes "n") kinds.Decimal ∷ Literal (codes " stops") ∷ []; action = actions.Pass }
 
--- It agrees with a text up to the first byte that differs after the field.
-agrees_past_a_field : agreement entry.pattern (codes "the mill 12 stop it") ≡ 14
-agrees_past_a_field = refl
+-- It is named as the nearest, or as one of another type.
+named_as_nearest : hint_told (entry ∷ []) (Nearest 0) ≡ codes "      the nearest entry is: step the mill {n:d} stops\n"
+unfolding before_nearest chars lib.Utf8.encode
+named_as_nearest = refl
 
--- More than the first word and a blank make it near.
-near_by_more_than_a_word : is_near entry (codes "the mine") ≡ true
-near_by_more_than_a_word = refl
-
-not_near_by_a_word : is_near entry (codes "the kiln") ≡ false
-not_near_by_a_word = refl
-
--- An entry that begins with a field: no byte of it agrees with the first word, however long that is.
-abbrev named : EntryValue
-named = record { step_type = None; pattern = FieldPiece (codes "n") kinds.Plain ∷ Literal (codes " stops") ∷ []; action = actions.Pass }
-
-near_after_a_long_word : is_near named (codes "everything st") ≡ true
-near_after_a_long_word = refl
-
-not_near_by_a_blank : is_near named (codes "everything runs") ≡ false
-not_near_by_a_blank = refl
+named_as_of_another_type : hint_told (entry ∷ []) (OtherType 0) ≡ codes "      an entry of another type matches: step the mill {n:d} stops; step would match every keyword\n"
+unfolding before_other_type after_other_type chars lib.Utf8.encode
+named_as_of_another_type = refl
 
 -- A row whose name has no byte is the first that can't be written, and the header isn't looked at.
 row_without_name : refused_file (Table ((codes "" ∷ codes "text" ∷ []) ∷ (codes "a" ∷ codes "b" ∷ []) ∷ (codes "" ∷ codes "c" ∷ []) ∷ [])) ≡ ([], codes "c")
 row_without_name = refl
 
 -- Twenty-one lines with the twelfth among those that are shown, and with the thirteenth, which is shown without it.
-line_round_the_middle : marked_text_with (codes "found   ") 12 (codes "a\nb\nc\nd\ne\nf\ng\nh\ni\nj\nk\nl\nm\nn\no\np\nq\nr\ns\nt\nu")
+line_round_the_middle : marked_text_with (codes "found   ") (record { line = 12; column = 1 }) (codes "a\nb\nc\nd\ne\nf\ng\nh\ni\nj\nk\nl\nm\nn\no\np\nq\nr\ns\nt\nu")
     ≡ codes "      found    \"a\"\n      found    \"b\"\n      found    \"c\"\n      found    \"d\"\n      found    \"e\"\n      ... 3 more lines ...\n      found    \"i\"\n      found    \"j\"\n      found    \"k\"\n      found    \"l\"\n      found    \"m\"\n      found    \"n\"\n      found    \"o\"\n      ... 2 more lines ...\n      found    \"r\"\n      found    \"s\"\n      found    \"t\"\n      found    \"u\"\n"
-unfolding marked_text_with marked_line digits is_utf8 chars lib.Utf8.encode
+unfolding marked_text_with cut_line quoted_window digits is_utf8 chars lib.Utf8.encode
 line_round_the_middle = refl
 
-line_of_the_last_nine : marked_text_with (codes "found   ") 13 (codes "a\nb\nc\nd\ne\nf\ng\nh\ni\nj\nk\nl\nm\nn\no\np\nq\nr\ns\nt\nu")
+line_of_the_last_nine : marked_text_with (codes "found   ") (record { line = 13; column = 1 }) (codes "a\nb\nc\nd\ne\nf\ng\nh\ni\nj\nk\nl\nm\nn\no\np\nq\nr\ns\nt\nu")
     ≡ codes "      found    \"a\"\n      found    \"b\"\n      found    \"c\"\n      found    \"d\"\n      found    \"e\"\n      found    \"f\"\n      found    \"g\"\n      found    \"h\"\n      found    \"i\"\n      found    \"j\"\n      ... 2 more lines ...\n      found    \"m\"\n      found    \"n\"\n      found    \"o\"\n      found    \"p\"\n      found    \"q\"\n      found    \"r\"\n      found    \"s\"\n      found    \"t\"\n      found    \"u\"\n"
-unfolding marked_text_with marked_line digits is_utf8 chars lib.Utf8.encode
+unfolding marked_text_with cut_line quoted_window digits is_utf8 chars lib.Utf8.encode
 line_of_the_last_nine = refl
+
+-- A line with sixty characters is whole, one with sixty-one that differs in the last loses its first, and a longer one is cut on both sides.
+line_of_sixty : cut_line (codes "found   ") 60 (codes "012345678901234567890123456789012345678901234567890123456789")
+    ≡ codes "      found    \"012345678901234567890123456789012345678901234567890123456789\"\n"
+unfolding cut_line quoted_window lib.Utf8.encode
+line_of_sixty = refl
+
+line_of_sixty_one : cut_line (codes "found   ") 61 (codes "012345678901234567890123456789012345678901234567890123456789a")
+    ≡ codes "      found    ...\"12345678901234567890123456789012345678901234567890123456789a\"\n"
+unfolding cut_line quoted_window lib.Utf8.encode
+line_of_sixty_one = refl
+
+line_cut_on_both_sides : cut_line (codes "found   ") 51 (codes "01234567890123456789012345678901234567890123456789a012345678901234567890123456789012345678901234567890123456789")
+    ≡ codes "      found    ...\"012345678901234567890123456789a01234567890123456789012345678\"...\n"
+unfolding cut_line quoted_window lib.Utf8.encode
+line_cut_on_both_sides = refl

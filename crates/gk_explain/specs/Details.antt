@@ -72,9 +72,9 @@ expected_number n = codes "      expected " ++ (signed_decimal n ++ line_feed)
 unfoldable pub both : List ℕ → List ℕ → List ℕ
 both expected there = expected_text expected ++ found_below there
 
--- Both texts, each with the line in which they first differ among its shown lines, and the position at which they first differ.
+-- Both texts, each with the line in which they first differ among its shown lines and with lines cut around the column at which they first differ, and that position.
 unfoldable pub compared : List ℕ → List ℕ → List ℕ
-compared expected there = let p = first_difference expected there in marked_text_with (codes "expected") p.line expected ++ (marked_text_with (codes "found   ") p.line there ++ difference_line p)
+compared expected there = let p = first_difference expected there in marked_text_with (codes "expected") p expected ++ (marked_text_with (codes "found   ") p there ++ difference_line p)
 
 -- A text that was expected in another text, and that other text.
 unfoldable pub lacking : List ℕ → List ℕ → List ℕ

@@ -1,33 +1,16 @@
--- The entry of a library that is nearest to the text of a step that no entry matches.
-use Rattle.std.specs.Prelude.{ℕ, ◌+◌, ◌-◌, Bool, cond, ◌==◌, nat_lt, List, [], ◌∷◌, ◌++◌, length, take, drop, flat_map, codes, chars, Option, Some, None}
-use Rattle.std.specs.List.{common_prefix_len, position_or_len, best_of}
+-- The entry of a library that the author of an undefined step may have meant.
+use Rattle.std.specs.Prelude.{ℕ, cond, ◌==◌, List, [], ◌++◌, flat_map, codes, chars, slice_get, Option, Some, None}
 use Rattle.gk_gherkin.specs.declared.feature.StepType.{StepType}
 use Rattle.gk_gherkin.specs.declared.feature.StepType.TheVariants as types
+use Rattle.gk_lint.specs.declared.nearest_entry.EntryHint.{EntryHint}
+use Rattle.gk_lint.specs.declared.nearest_entry.EntryHint.TheVariants.{Unlike, OtherType, Nearest}
+use Rattle.gk_lint.specs.NearestEntry.{entry_hint}
 use Rattle.gk_steps.specs.declared.pattern.FieldKind.{FieldKind}
 use Rattle.gk_steps.specs.declared.pattern.FieldKind.TheVariants.{Plain, Decimal}
 use Rattle.gk_steps.specs.Pattern.{PieceValue, Literal, FieldPiece}
 use Rattle.gk_steps.specs.Finding.{EntryValue, LibraryValue}
 use Rattle.gk_report.specs.ReportTexts.{line_feed}
 use Rattle.gk_explain.specs.Shown.{shown_char}
-
--- Whether two bytes are the same.
-abbrev pub is_same : ℕ → ℕ → Bool
-is_same a b = a == b
-
--- What a field leaves of a text, by the pieces after the field: the part from the first byte on with which the next literal begins. If no literal follows, nothing is left.
-abbrev pub past_field : List PieceValue → List ℕ → List ℕ
-past_field (Literal (b ∷ bs) ∷ ps) text = drop (position_or_len (is_same b) text) text
-past_field ps text = []
-
--- The number of bytes that the literals of a pattern have in common with a text, from the start up to the first byte that differs. A field takes what comes before the byte with which the next literal begins.
-abbrev pub agreement : List PieceValue → List ℕ → ℕ
-agreement [] text = 0
-agreement (Literal literal ∷ ps) text = let common = common_prefix_len is_same literal text in common + cond (nat_lt common (length literal)) 0 (agreement ps (drop common text))
-agreement (FieldPiece name kind ∷ ps) text = agreement ps (past_field ps text)
-
--- Whether an entry agrees longer with a text than another entry does.
-abbrev pub is_nearer : List ℕ → EntryValue → EntryValue → Bool
-is_nearer text e other = nat_lt (agreement other.pattern text) (agreement e.pattern text)
 
 -- The word for the steps that an entry is for. (behave's documentation: step implementations)
 abbrev pub type_word : Option StepType → List ℕ
@@ -62,23 +45,34 @@ pattern_shown ps = flat_map piece_shown ps
 abbrev pub entry_shown : EntryValue → List ℕ
 entry_shown e = type_word e.step_type ++ (codes " " ++ pattern_shown e.pattern)
 
--- The line that names an entry.
-unfoldable pub nearest_line : EntryValue → List ℕ
-nearest_line e = codes "      the nearest entry is: " ++ (entry_shown e ++ line_feed)
+-- The words before the nearest entry.
+unfoldable pub before_nearest : List ℕ
+before_nearest = codes "      the nearest entry is: "
 
--- The first word of a text: the part before its first space.
-abbrev pub first_word : List ℕ → List ℕ
-first_word text = take (position_or_len (is_same 32) text) text
+-- The line that names the nearest entry, if there is one.
+abbrev pub nearest_line : Option EntryValue → List ℕ
+nearest_line None = []
+nearest_line (Some e) = before_nearest ++ (entry_shown e ++ line_feed)
 
--- Whether an entry agrees with a text by at least two bytes more than with the text's first word. One of the two may be the space after that word. A field that takes the first word agrees with nothing of it.
-abbrev pub is_near : EntryValue → List ℕ → Bool
-is_near e text = nat_lt 1 (agreement e.pattern text - agreement e.pattern (first_word text))
+-- The words before an entry for steps of another type.
+unfoldable pub before_other_type : List ℕ
+before_other_type = codes "      an entry of another type matches: "
 
--- The line that names an entry, if the entry is near.
-abbrev pub told_if_near : EntryValue → List ℕ → List ℕ
-told_if_near e text = cond (is_near e text) (nearest_line e) []
+-- The words after an entry for steps of another type.
+unfoldable pub after_other_type : List ℕ
+after_other_type = codes "; step would match every keyword\n"
 
--- The line that names the entry that agrees longest with a text, if that entry is near, whatever steps it is for. Of equals it is the first.
+-- The line that names an entry for steps of another type, if there is one.
+abbrev pub other_type_line : Option EntryValue → List ℕ
+other_type_line None = []
+other_type_line (Some e) = before_other_type ++ (entry_shown e ++ after_other_type)
+
+-- The line for a hint.
+abbrev pub hint_told : LibraryValue → EntryHint → List ℕ
+hint_told library Unlike = []
+hint_told library (Nearest place) = nearest_line (slice_get library place)
+hint_told library (OtherType place) = other_type_line (slice_get library place)
+
+-- The line that names the entry that the author of an undefined step with this text may have meant: one for steps of another type that matches, and otherwise the nearest, as `--lint` finds it.
 abbrev pub nearest_told : LibraryValue → List ℕ → List ℕ
-nearest_told [] text = []
-nearest_told (e ∷ es) text = told_if_near (best_of (is_nearer text) e es) text
+nearest_told library text = hint_told library (entry_hint library text)

@@ -1,7 +1,8 @@
 -- Texts as they are shown below an event.
-use Rattle.std.specs.Prelude.{ℕ, ◌+◌, ◌-◌, Bool, false, cond, not, ◌&&◌, ◌||◌, ◌==◌, nat_lt, List, ◌++◌, length, take, drop, flat_map, codes, chars, encode_utf8}
+use Rattle.std.specs.Prelude.{ℕ, ◌+◌, ◌-◌, Bool, false, cond, not, ◌&&◌, ◌||◌, ◌==◌, nat_lt, List, [], Option, Some, None, ◌++◌, length, take, drop, flat_map, codes, chars, encode_utf8}
 use Rattle.std.specs.Fmt.{decimal, digits}
 use Rattle.std.specs.List.{slice_split}
+use Rattle.gk_explain.specs.declared.differences.Position.{Position}
 
 -- Whether a number is at least `first` and less than `end`.
 abbrev pub is_within : ℕ → ℕ → ℕ → Bool
@@ -63,36 +64,61 @@ text_lines text = slice_split (λ b. b == 10) text
 unfoldable pub marked_line : List ℕ → List ℕ → List ℕ
 marked_line mark line = codes "      " ++ (mark ++ (codes " \"" ++ (shown line ++ codes "\"\n")))
 
--- Lines of a text, each after the same mark.
-abbrev pub marked_lines : List ℕ → List (List ℕ) → List ℕ
-marked_lines mark lines = flat_map (marked_line mark) lines
+-- The number of characters that are cut from the start of a line with `count` characters: those more than thirty before a column, as long as sixty remain.
+abbrev pub cut_before : ℕ → ℕ → ℕ
+cut_before column count = cond (nat_lt (column - 31) (count - 60)) (column - 31) (count - 60)
+
+-- The characters of a line that are shown around a column: at most sixty. A line with up to sixty is shown whole.
+abbrev pub window : ℕ → List ℕ → List ℕ
+window column line = take 60 (drop (cut_before column (length line)) line)
+
+-- The mark on a side of a line on which characters are cut.
+abbrev pub cut_mark : Bool → List ℕ
+cut_mark cut = cond cut (codes "...") []
+
+-- The characters of a line around a column, between quotes. Outside the quotes is a mark on each side on which characters are cut.
+unfoldable pub quoted_window : ℕ → List ℕ → List ℕ
+quoted_window column line = let before = cut_before column (length line) in cut_mark (nat_lt 0 before) ++ (codes "\"" ++ (flat_map shown_char (window column line) ++ (codes "\"" ++ cut_mark (nat_lt before (length line - 60)))))
+
+-- A line after a mark, cut to the characters around a column.
+unfoldable pub cut_line : List ℕ → ℕ → List ℕ → List ℕ
+cut_line mark column line = codes "      " ++ (mark ++ (codes " " ++ (quoted_window column line ++ codes "\n")))
+
+-- A line of a text after a mark: whole, or cut to the characters around a column, counted from 1.
+abbrev pub row : List ℕ → Option ℕ → List ℕ → List ℕ
+row mark None line = marked_line mark line
+row mark (Some column) line = cut_line mark column (chars line)
+
+-- Lines of a text, each shown in the same way.
+abbrev pub marked_lines : (List ℕ → List ℕ) → List (List ℕ) → List ℕ
+marked_lines show lines = flat_map show lines
 
 -- The row that replaces lines that are left out.
 abbrev pub left_out : ℕ → List ℕ
 left_out count = codes "      ... " ++ (decimal count ++ codes " more lines ...\n")
 
 -- Lines in at most twenty rows. Up to twenty lines are all shown; of more, the first ten, the number of those left out, and the last nine.
-abbrev pub few_lines : List ℕ → List (List ℕ) → List ℕ
-few_lines mark lines =
-    cond (nat_lt 20 (length lines)) (marked_lines mark (take 10 lines) ++ (left_out (length lines - 19) ++ marked_lines mark (drop (length lines - 9) lines))) (marked_lines mark lines)
+abbrev pub few_lines : (List ℕ → List ℕ) → List (List ℕ) → List ℕ
+few_lines show lines =
+    cond (nat_lt 20 (length lines)) (marked_lines show (take 10 lines) ++ (left_out (length lines - 19) ++ marked_lines show (drop (length lines - 9) lines))) (marked_lines show lines)
 
 -- A text after a mark, in at most twenty rows.
 unfoldable pub marked_text : List ℕ → List ℕ → List ℕ
-marked_text mark text = few_lines mark (text_lines text)
+marked_text mark text = few_lines (row mark None) (text_lines text)
 
 -- Whether a line, counted from 1, is one of those left out of `count` lines: there are more than twenty, and it is none of the first ten or the last nine.
 abbrev pub is_left_out : ℕ → ℕ → Bool
 is_left_out line count = nat_lt 20 count && (nat_lt 10 line && nat_lt line (count - 8))
 
 -- Lines around one: the first five, this line with three on either side, and the last four, each time with the number of lines left out between.
-abbrev pub lines_round : List ℕ → ℕ → List (List ℕ) → List ℕ
-lines_round mark line lines =
-    marked_lines mark (take 5 lines) ++ (left_out (line - 9) ++ (marked_lines mark (take 7 (drop (line - 4) lines)) ++ (left_out (length lines - (line + 7)) ++ marked_lines mark (drop (length lines - 4) lines))))
+abbrev pub lines_round : (List ℕ → List ℕ) → ℕ → List (List ℕ) → List ℕ
+lines_round show line lines =
+    marked_lines show (take 5 lines) ++ (left_out (line - 9) ++ (marked_lines show (take 7 (drop (line - 4) lines)) ++ (left_out (length lines - (line + 7)) ++ marked_lines show (drop (length lines - 4) lines))))
 
 -- Lines in at most twenty rows, with one that has to be shown: if it would be left out, lines around it.
-abbrev pub few_lines_with : List ℕ → ℕ → List (List ℕ) → List ℕ
-few_lines_with mark line lines = cond (is_left_out line (length lines)) (lines_round mark line lines) (few_lines mark lines)
+abbrev pub few_lines_with : (List ℕ → List ℕ) → ℕ → List (List ℕ) → List ℕ
+few_lines_with show line lines = cond (is_left_out line (length lines)) (lines_round show line lines) (few_lines show lines)
 
--- A text after a mark, in at most twenty rows, with this line of it among those that are shown.
-unfoldable pub marked_text_with : List ℕ → ℕ → List ℕ → List ℕ
-marked_text_with mark line text = few_lines_with mark line (text_lines text)
+-- A text after a mark, in at most twenty rows, each cut to the characters around the column of a position. The line of the position is among those that are shown.
+unfoldable pub marked_text_with : List ℕ → Position → List ℕ → List ℕ
+marked_text_with mark p text = few_lines_with (row mark (Some p.column)) p.line (text_lines text)

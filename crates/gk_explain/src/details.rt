@@ -158,8 +158,8 @@ fn push_compared(
     ensures { Pushes out.old (spec.compared expected.now found.now) result out.new }
 {
     let first = first_difference(expected, found);
-    push_text_with(alloc, out, "expected", first.line, expected)?;
-    push_text_with(alloc, out, "found   ", first.line, found)?;
+    push_text_with(alloc, out, "expected", first, expected)?;
+    push_text_with(alloc, out, "found   ", first, found)?;
     push_position(out, first)
 }
 

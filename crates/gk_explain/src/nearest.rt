@@ -1,128 +1,15 @@
-//! The entry of a library that is nearest to the text of a step.
-ghost use Rattle.std.specs.Prelude.{◌≡◌, ◌<◌, ◌≤◌, false, length, nat_lt};
-ghost use Rattle.std.specs.List.{common_prefix_len, position_or_len, best_of};
+//! The entry of a library that the author of an undefined step may have meant.
+ghost use Rattle.std.specs.Prelude.{◌≡◌, option_map};
 ghost use Rattle.gk_steps.specs.Pattern.{piece_value, pieces_said};
-ghost use Rattle.gk_steps.specs.Finding.{entry_value, entries_said, library_value};
+ghost use Rattle.gk_steps.specs.Finding.{entry_value, library_value};
 ghost use Rattle.gk_report.specs.ReportTexts.{Pushes};
 ghost use Rattle.gk_explain.specs.Nearest as spec;
 
 use crate::shown::push_char;
 use gk_gherkin::StepType;
+use gk_lint::{EntryHint, entry_hint};
 use gk_steps::{Entry, FieldKind, Library, Piece};
-use std::alloc::AllocError;
-
-// Returns the number of bytes that two texts have in common at the start.
-fn common_len(literal: &[u8], text: &[u8]) -> usize
-    ensures value { result ≡ common_prefix_len spec.is_same literal.now text.now }
-    ensures literal { result ≤ length literal.now }
-    ensures text { result ≤ length text.now }
-{
-    let mut len = 0;
-    while len < literal.len() && len < text.len() && literal[len] == text[len] {
-        len += 1;
-    }
-    len
-}
-
-// Returns the number of bytes before the first one that equals `byte`, or of the whole text if there is none.
-fn len_before(byte: u8, text: &[u8]) -> usize
-    ensures value { result ≡ position_or_len (spec.is_same byte) text.now }
-    ensures within { result ≤ length text.now }
-{
-    for (i, other) in text.iter().enumerate() {
-        if *other == byte {
-            return i;
-        }
-    }
-    text.len()
-}
-
-// Returns what a field leaves of a text, by the pieces after the field.
-fn past_field<'a>(later: &[Piece], text: &'a [u8]) -> &'a [u8]
-    ensures value { result.now ≡ spec.past_field (pieces_said later.now) text.now }
-    ensures within { length result.now ≤ length text.now }
-{
-    if let Some(Piece::Literal(literal)) = later.first()
-        && let Some(byte) = literal.as_bytes().first()
-    {
-        return &text[len_before(*byte, text)..];
-    }
-    &text[text.len()..]
-}
-
-// Returns the number of bytes that the literals of a pattern have in common with a text.
-fn agreement(pattern: &[Piece], text: &[u8]) -> usize
-    ensures value { result ≡ spec.agreement (pieces_said pattern.now) text.now }
-    ensures within { result ≤ length text.now }
-{
-    let mut pieces = pattern;
-    let mut rest = text;
-    let mut agreed = 0;
-    'pieces: while let Some((piece, later)) = pieces.split_first() {
-        match piece {
-            Piece::Literal(literal) => {
-                let common = common_len(literal.as_bytes(), rest);
-                agreed += common;
-                if common < literal.len() {
-                    return agreed;
-                }
-                rest = &rest[common..];
-            }
-            Piece::Field { .. } => rest = past_field(later, rest),
-        }
-        pieces = later;
-    }
-    agreed
-}
-
-// Returns whether a literal may have more bytes than `most` in common with a text, or has no more in all. If not, it
-// ends the comparison.
-fn goes_on(literal: &[u8], text: &[u8], most: usize) -> bool
-    ensures ends { result ≡ false → common_prefix_len spec.is_same literal.now text.now ≤ most }
-    ensures longer { result ≡ false → most < length literal.now }
-{
-    literal.len() <= most || (most < text.len() && literal[most] == text[most])
-}
-
-// Returns whether a pattern may agree with a text by more bytes than `most`. It compares one byte at most.
-fn may_agree_more(pattern: &[Piece], text: &[u8], most: usize) -> bool
-    ensures { result ≡ false → spec.agreement (pieces_said pattern.now) text.now ≤ most }
-{
-    match pattern.first() {
-        Some(Piece::Literal(literal)) => goes_on(literal.as_bytes(), text, most),
-        _ => true,
-    }
-}
-
-// Returns the number of bytes that the literals of a pattern have in common with a text, if it is more than `most`.
-fn more_agreement(pattern: &[Piece], text: &[u8], most: usize) -> usize
-    ensures more { nat_lt most result
-        ≡ nat_lt most (spec.agreement (pieces_said pattern.now) text.now) }
-    ensures value { most < result → result ≡ spec.agreement (pieces_said pattern.now) text.now }
-{
-    if may_agree_more(pattern, text, most) {
-        agreement(pattern, text)
-    } else {
-        most
-    }
-}
-
-// Returns the entry that agrees longest with a text, and the first of equals.
-fn nearest<'a>(first: &'a Entry, others: &'a [Entry], text: &[u8]) -> &'a Entry
-    ensures { entry_value result.now
-        ≡ best_of (spec.is_nearer text.now) (entry_value first.now) (entries_said others.now) }
-{
-    let mut best = first;
-    let mut most = agreement(&first.pattern.pieces, text);
-    for entry in others {
-        let agreed = more_agreement(&entry.pattern.pieces, text, most);
-        if agreed > most {
-            best = entry;
-            most = agreed;
-        }
-    }
-    best
-}
+use std::alloc::{AllocError, Global};
 
 /// Returns the word for the steps that an entry is for. Doesn't allocate.
 pub fn type_word(step_type: Option<StepType>) -> &'static str
@@ -199,47 +86,81 @@ pub fn push_entry(out: &mut String, entry: &Entry) -> Result<(), AllocError>
     push_pattern(out, &entry.pattern.pieces)
 }
 
-// Appends the line that names an entry.
-fn push_entry_line(out: &mut String, entry: &Entry) -> Result<(), AllocError>
-    ensures { Pushes out.old (spec.nearest_line (entry_value entry.now)) result out.new }
+#[tactic(auto, unfolding(crate::specs::Nearest::before_nearest))]
+fn before_nearest() -> &'static str
+    ensures { result.now ≡ spec.before_nearest }
 {
-    out.push_str("      the nearest entry is: ")?;
-    push_entry(out, entry)?;
-    out.push_str("\n")?;
-    Ok(())
+    "      the nearest entry is: "
 }
 
-// Returns the first word of a text: the part before its first space.
-fn first_word(text: &[u8]) -> &[u8]
-    ensures { result.now ≡ spec.first_word text.now }
+#[tactic(auto, unfolding(crate::specs::Nearest::before_other_type))]
+fn before_other_type() -> &'static str
+    ensures { result.now ≡ spec.before_other_type }
 {
-    &text[..len_before(b' ', text)]
+    "      an entry of another type matches: "
 }
 
-// Returns whether an entry agrees with a text by at least two bytes more than with the text's first word.
-fn is_near(entry: &Entry, text: &[u8]) -> bool
-    ensures { result ≡ spec.is_near (entry_value entry.now) text.now }
+#[tactic(auto, unfolding(crate::specs::Nearest::after_other_type))]
+fn after_other_type() -> &'static str
+    ensures { result.now ≡ spec.after_other_type }
 {
-    let pieces = &entry.pattern.pieces;
-    let word = agreement(pieces, first_word(text));
-    agreement(pieces, text).saturating_sub(word) > 1
+    "; step would match every keyword\n"
 }
 
-/// Appends the line that names the entry nearest to the text of a step: the one that agrees longest with it,
-/// and the first of equals. Nothing is appended unless it agrees with the text by at least two bytes more than
-/// with the text's first word. An error comes only if a growth was refused; a part of the line may have been
+// Appends the line that names the nearest entry, if there is one.
+fn push_nearest_line(out: &mut String, entry: Option<&Entry>) -> Result<(), AllocError>
+    ensures { Pushes out.old
+        (spec.nearest_line (option_map (λ e. entry_value e.now) entry.entry)) result out.new }
+{
+    match entry {
+        Some(entry) => {
+            out.push_str(before_nearest())?;
+            push_entry(out, entry)?;
+            out.push_str("\n")
+        }
+        None => Ok(()),
+    }
+}
+
+// Appends the line that names an entry for steps of another type, if there is one.
+fn push_other_type_line(out: &mut String, entry: Option<&Entry>) -> Result<(), AllocError>
+    ensures { Pushes out.old
+        (spec.other_type_line (option_map (λ e. entry_value e.now) entry.entry)) result out.new }
+{
+    match entry {
+        Some(entry) => {
+            out.push_str(before_other_type())?;
+            push_entry(out, entry)?;
+            out.push_str(after_other_type())
+        }
+        None => Ok(()),
+    }
+}
+
+// Appends the line for a hint.
+fn push_hint(out: &mut String, library: &Library, hint: EntryHint) -> Result<(), AllocError>
+    ensures { Pushes out.old (spec.hint_told (library_value library.now) hint) result out.new }
+{
+    match hint {
+        EntryHint::Unlike => Ok(()),
+        EntryHint::Nearest(place) => push_nearest_line(out, library.entries.get(place)),
+        EntryHint::OtherType(place) => push_other_type_line(out, library.entries.get(place)),
+    }
+}
+
+/// Appends the line that names the entry that the author of an undefined step with this text may have meant, as
+/// `gk_lint::entry_hint` finds it: an entry for steps of another type that matches, and otherwise the nearest. Nothing
+/// is appended if there is neither. An error comes only if a growth was refused; a part of the line may have been
 /// appended then.
-pub fn push_nearest(out: &mut String, library: &Library, text: &str) -> Result<(), AllocError>
+pub fn push_nearest(
+    out: &mut String,
+    alloc: Global,
+    library: &Library,
+    text: &str,
+) -> Result<(), AllocError>
     ensures { Pushes out.old (spec.nearest_told (library_value library.now) text.now)
         result out.new }
 {
-    let Some((first, others)) = library.entries.split_first() else {
-        return Ok(());
-    };
-    let entry = nearest(first, others, text.as_bytes());
-    if is_near(entry, text.as_bytes()) {
-        push_entry_line(out, entry)
-    } else {
-        Ok(())
-    }
+    let hint = entry_hint(alloc, library, text)?;
+    push_hint(out, library, hint)
 }

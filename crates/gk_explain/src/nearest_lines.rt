@@ -77,7 +77,7 @@ impl<'a> NearestLines<'a> {
             return out.push_str(line);
         }
         let mut line = String::new(alloc);
-        push_nearest(&mut line, self.library(), text)?;
+        push_nearest(&mut line, alloc, self.library(), text)?;
         out.push_str(line.as_str())?;
         self.keep(alloc, text, line)
     }

@@ -1,9 +1,10 @@
 //! Texts as they are shown below an event.
-ghost use Rattle.std.specs.Prelude.{◌≡◌, ◌<◌, ◌+◌, length, map, IfOk};
+ghost use Rattle.std.specs.Prelude.{◌≡◌, ◌<◌, ◌+◌, chars, flat_map, length, map, IfOk};
 ghost use Rattle.std.specs.List.{list_any};
 ghost use Rattle.gk_report.specs.ReportTexts.{Pushes};
 ghost use Rattle.gk_explain.specs.Shown as spec;
 
+use crate::differences::Position;
 use std::alloc::{AllocError, Global};
 
 fn is_within(first: u32, end: u32, code: u32) -> bool
@@ -177,13 +178,115 @@ fn push_line(out: &mut String, mark: &str, line: &str) -> Result<(), AllocError>
     out.push_str("\"\n")
 }
 
-// Appends lines of a text, each after the same mark.
-fn push_lines(out: &mut String, mark: &str, lines: &[&str]) -> Result<(), AllocError>
-    ensures { Pushes out.old
-        (spec.marked_lines mark.now (map (λ line. line.now) lines.now)) result out.new }
+// Returns the number of characters that are cut from the start of a line with `count` characters.
+fn cut_before(column: usize, count: usize) -> usize
+    ensures { result ≡ spec.cut_before column count }
+{
+    let before = column.saturating_sub(31);
+    let most = count.saturating_sub(60);
+    if before < most { before } else { most }
+}
+
+// Returns the characters of a line that are shown around a column.
+fn window(column: usize, line: &[char]) -> &[char]
+    ensures { result.now ≡ spec.window column line.now }
+{
+    let (_, rest) = line.split_at(cut_before(column, line.len()));
+    if rest.len() > 60 {
+        let (kept, _) = rest.split_at(60);
+        kept
+    } else {
+        rest
+    }
+}
+
+// Appends characters as they are shown between quotes.
+fn push_chars(out: &mut String, line: &[char]) -> Result<(), AllocError>
+    ensures { Pushes out.old (flat_map spec.shown_char line.now) result out.new }
+{
+    for c in line {
+        push_char(out, *c)?;
+    }
+    Ok(())
+}
+
+// Appends the mark of a side on which characters are cut.
+fn push_cut_mark(out: &mut String, cut: bool) -> Result<(), AllocError>
+    ensures { Pushes out.old (spec.cut_mark cut) result out.new }
+{
+    if cut { out.push_str("...") } else { Ok(()) }
+}
+
+// Returns the characters of a text.
+fn chars_of(alloc: Global, text: &str) -> Result<Vec<char>, AllocError>
+    ensures { IfOk result (λ all. all.items ≡ chars text.now) }
+{
+    text.chars().collect(alloc)
+}
+
+// Appends the characters of a line around a column, between quotes, with a mark on each side that is cut.
+#[tactic(auto, unfolding(crate::specs::Shown::quoted_window))]
+fn push_window(out: &mut String, column: usize, line: &[char]) -> Result<(), AllocError>
+    ensures { Pushes out.old (spec.quoted_window column line.now) result out.new }
+{
+    let before = cut_before(column, line.len());
+    let most = line.len().saturating_sub(60);
+    push_cut_mark(out, 0 < before)?;
+    out.push_str("\"")?;
+    push_chars(out, window(column, line))?;
+    out.push_str("\"")?;
+    push_cut_mark(out, before < most)
+}
+
+// Appends a line after a mark, cut to the characters around a column.
+#[tactic(auto, unfolding(crate::specs::Shown::cut_line))]
+fn push_cut_line(
+    out: &mut String,
+    mark: &str,
+    column: usize,
+    line: &[char],
+) -> Result<(), AllocError>
+    ensures { Pushes out.old (spec.cut_line mark.now column line.now) result out.new }
+{
+    out.push_str("      ")?;
+    out.push_str(mark)?;
+    out.push_str(" ")?;
+    push_window(out, column, line)?;
+    out.push_str("\n")
+}
+
+// Appends a line of a text after a mark, whole or cut to the characters around a column.
+fn push_row(
+    alloc: Global,
+    out: &mut String,
+    mark: &str,
+    around: Option<usize>,
+    line: &str,
+) -> Result<(), AllocError>
+    ensures { Pushes out.old (spec.row mark.now around line.now) result out.new }
+{
+    match around {
+        None => push_line(out, mark, line),
+        Some(column) => {
+            let line = chars_of(alloc, line)?;
+            push_cut_line(out, mark, column, &line)
+        }
+    }
+}
+
+// Appends lines of a text, each shown in the same way.
+fn push_lines(
+    alloc: Global,
+    out: &mut String,
+    mark: &str,
+    around: Option<usize>,
+    lines: &[&str],
+) -> Result<(), AllocError>
+    ensures { Pushes out.old (spec.marked_lines (spec.row mark.now around)
+        (map (λ line. line.now) lines.now)) result out.new }
 {
     for line in lines {
-        push_line(out, mark, line)?;
+        push_row(alloc, out, mark, around, line)?;
     }
     Ok(())
 }
@@ -197,19 +300,25 @@ fn push_left_out(out: &mut String, count: usize) -> Result<(), AllocError>
 }
 
 // Appends lines of a text in at most twenty rows.
-fn push_few_lines(out: &mut String, mark: &str, lines: &[&str]) -> Result<(), AllocError>
-    ensures { Pushes out.old
-        (spec.few_lines mark.now (map (λ line. line.now) lines.now)) result out.new }
+fn push_few_lines(
+    alloc: Global,
+    out: &mut String,
+    mark: &str,
+    around: Option<usize>,
+    lines: &[&str],
+) -> Result<(), AllocError>
+    ensures { Pushes out.old (spec.few_lines (spec.row mark.now around)
+        (map (λ line. line.now) lines.now)) result out.new }
 {
     let count = lines.len();
     if count <= 20 {
-        return push_lines(out, mark, lines);
+        return push_lines(alloc, out, mark, around, lines);
     }
     let (first, _) = lines.split_at(10);
     let (_, last) = lines.split_at(count - 9);
-    push_lines(out, mark, first)?;
+    push_lines(alloc, out, mark, around, first)?;
     push_left_out(out, count - 19)?;
-    push_lines(out, mark, last)
+    push_lines(alloc, out, mark, around, last)
 }
 
 // Returns whether a line, counted from 1, is one of those left out of `count` lines.
@@ -221,42 +330,49 @@ fn is_left_out(line: usize, count: usize) -> bool
 
 // Appends lines of a text around one that would be left out, with three on either side of it.
 fn push_lines_round(
+    alloc: Global,
     out: &mut String,
     mark: &str,
+    around: Option<usize>,
     line: usize,
     lines: &[&str],
 ) -> Result<(), AllocError>
     requires above { 10 < line }
     requires below { line + 8 < length lines.now }
     ensures { Pushes out.old
-        (spec.lines_round mark.now line (map (λ line. line.now) lines.now)) result out.new }
+        (spec.lines_round (spec.row mark.now around) line (map (λ line. line.now) lines.now))
+        result out.new }
 {
     let count = lines.len();
     let (first, _) = lines.split_at(5);
     let (_, rest) = lines.split_at(line - 4);
     let (round, _) = rest.split_at(7);
     let (_, last) = lines.split_at(count - 4);
-    push_lines(out, mark, first)?;
+    push_lines(alloc, out, mark, around, first)?;
     push_left_out(out, line - 9)?;
-    push_lines(out, mark, round)?;
+    push_lines(alloc, out, mark, around, round)?;
     push_left_out(out, count - (line + 7))?;
-    push_lines(out, mark, last)
+    push_lines(alloc, out, mark, around, last)
 }
 
 // Appends lines of a text in at most twenty rows, with this line among those that are shown.
 fn push_few_lines_with(
+    alloc: Global,
     out: &mut String,
     mark: &str,
+    around: Option<usize>,
     line: usize,
     lines: &[&str],
 ) -> Result<(), AllocError>
     ensures { Pushes out.old
-        (spec.few_lines_with mark.now line (map (λ line. line.now) lines.now)) result out.new }
+        (spec.few_lines_with (spec.row mark.now around) line
+        (map (λ line. line.now) lines.now))
+        result out.new }
 {
     if is_left_out(line, lines.len()) {
-        push_lines_round(out, mark, line, lines)
+        push_lines_round(alloc, out, mark, around, line, lines)
     } else {
-        push_few_lines(out, mark, lines)
+        push_few_lines(alloc, out, mark, around, lines)
     }
 }
 
@@ -268,22 +384,24 @@ pub fn push_text(alloc: Global, out: &mut String, mark: &str, text: &str) -> Res
     ensures { Pushes out.old (spec.marked_text mark.now text.now) result out.new }
 {
     let lines = lines_of(alloc, text)?;
-    push_few_lines(out, mark, &lines)
+    push_few_lines(alloc, out, mark, None, &lines)
 }
 
-/// Appends the lines of a text as `push_text` does, with this line, counted from 1, among those that are shown.
-/// If it would be left out, the rows show the first five lines, this line with three on either side, and the
-/// last four. An error comes only if a growth was refused; some of the rows may have been appended then.
+/// Appends the lines of a text as `push_text` does, with the line of a position among those that are shown. If it
+/// would be left out, the rows show the first five lines, this line with three on either side, and the last four.
+/// Of a line with more than sixty characters, sixty around the column of the position are shown; `...` outside the
+/// quotes marks each side that is cut. An error comes only if a growth was refused; some of the rows may have been
+/// appended then.
 #[tactic(auto, unfolding(crate::specs::Shown::marked_text_with))]
 pub fn push_text_with(
     alloc: Global,
     out: &mut String,
     mark: &str,
-    line: usize,
+    at: Position,
     text: &str,
 ) -> Result<(), AllocError>
-    ensures { Pushes out.old (spec.marked_text_with mark.now line text.now) result out.new }
+    ensures { Pushes out.old (spec.marked_text_with mark.now at text.now) result out.new }
 {
     let lines = lines_of(alloc, text)?;
-    push_few_lines_with(out, mark, line, &lines)
+    push_few_lines_with(alloc, out, mark, Some(at.column), at.line, &lines)
 }

@@ -1,19 +1,22 @@
 -- Hints for the steps of lists that follow each other.
 use Rattle.std.proofs.Common.{◌≡◌, List, [], ◌∷◌, ◌++◌, Option, Some, None, refl, ap, sym, ◌∙◌}
-use Rattle.gk_gherkin.specs.Feature.{StepValue, ExamplesValue}
-use Rattle.gk_steps.specs.Finding.{LibraryValue}
+use Rattle.std.specs.Option.{option_or}
+use Rattle.gk_gherkin.specs.Feature.{StepValue}
 use Rattle.gk_lint.specs.declared.nearest_entry.EntryHint.{EntryHint}
-use Rattle.gk_lint.specs.StepHints.{or_hint, hint_of_step, first_hint, hint_in_examples}
-use Rattle.gk_lint.specs.WrittenSteps.{in_rows, in_examples}
+use Rattle.gk_lint.specs.StepHints.{first_hint}
 
-or_hint-assoc : (a b c : Option EntryHint) → or_hint (or_hint a b) c ≡ or_hint a (or_hint b c)
-or_hint-assoc None b c = refl
-or_hint-assoc (Some hint) b c = refl
+pub no_other_hint : (a : Option EntryHint) → option_or a None ≡ a
+no_other_hint None = refl
+no_other_hint (Some hint) = refl
 
-first_hint_append : (library : LibraryValue) (a b : List StepValue) → first_hint library (a ++ b) ≡ or_hint (first_hint library a) (first_hint library b)
-first_hint_append library [] b = refl
-first_hint_append library (s ∷ ss) b = ap (or_hint (hint_of_step library s)) (first_hint_append library ss b) ∙ sym (or_hint-assoc (hint_of_step library s) (first_hint library ss) (first_hint library b))
+first_of_both : (hint_of : StepValue → Option EntryHint) (before : Option EntryHint) (a b : List StepValue) → first_hint hint_of before (a ++ b) ≡ first_hint hint_of (first_hint hint_of before a) b
+first_of_both hint_of before [] b = refl
+first_of_both hint_of before (s ∷ ss) b = first_of_both hint_of (option_or before (hint_of s)) ss b
 
-pub part_by_part : (library : LibraryValue) (step : StepValue) (es : List ExamplesValue) → hint_in_examples library step es ≡ first_hint library (in_examples step es)
-part_by_part library step [] = refl
-part_by_part library step (e ∷ es) = ap (or_hint (first_hint library (in_rows step e.header e.rows))) (part_by_part library step es) ∙ sym (first_hint_append library (in_rows step e.header e.rows) (in_examples step es))
+-- The hint after some steps, if it is known after these steps and the later ones.
+pub next_hints : (hint_of : StepValue → Option EntryHint) (before new end : Option EntryHint) (all these later : List StepValue) → all ≡ these ++ later → new ≡ first_hint hint_of before these → first_hint hint_of before all ≡ end → first_hint hint_of new later ≡ end
+next_hints hint_of before new end all these later split is so_far = ap (λ (h : Option EntryHint). first_hint hint_of h later) is ∙ sym (first_of_both hint_of before these later) ∙ ap (first_hint hint_of before) (sym split) ∙ so_far
+
+-- The same for one step.
+pub next_hint : (hint_of : StepValue → Option EntryHint) (before new end : Option EntryHint) (all : List StepValue) (this : StepValue) (later : List StepValue) → all ≡ this ∷ later → new ≡ option_or before (hint_of this) → first_hint hint_of before all ≡ end → first_hint hint_of new later ≡ end
+next_hint hint_of before new end all this later = next_hints hint_of before new end all (this ∷ []) later

@@ -5,12 +5,10 @@ pub mod ExchangedLetters
 pub mod OneLetterOff
 pub mod LineOrder
 pub mod NamedAgain
-pub mod IdleHooks
 pub mod RunSteps
 pub mod FirstHints
 pub mod RisingNumbers
 pub mod EntryLinesLoop
-pub mod MisspeltGroups
 pub mod MisspeltLoop
 pub mod LineKinds
 pub mod OneLine

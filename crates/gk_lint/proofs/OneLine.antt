@@ -1,21 +1,14 @@
 -- Whether lines are one line with a carriage return, as a loop over them finds it.
-use Rattle.std.proofs.Common.{◌≡◌, ◌||◌, ◌&&◌, ◌==◌, ℕ, suc, ◌+◌, ◌<◌, Bool, true, false, List, [], ◌∷◌, length, drop, get_or, refl, sym, ap, ◌∙◌, arith}
+use Rattle.std.proofs.Common.{◌≡◌, ◌||◌, ◌&&◌, ◌==◌, ℕ, suc, ◌+◌, ◌<◌, Bool, false, List, [], ◌∷◌, length, drop, get_or, refl, sym, ap, ◌∙◌, arith}
+use Rattle.std.proofs.Math.Bool.{or-false, or_assoc}
 use Rattle.std.proofs.lemmas.List.{drop_all}
 use Rattle.std.proofs.lemmas.Bool.Decides.{nat_tests}
 use Rattle.gk_gherkin.specs.Lines.{Lines, numbered_from}
 use Rattle.gk_lint.specs.LineEnds.{has_cr, have_cr, is_one_with_cr}
 use Rattle.gk_lint.proofs.EntryLinesLoop.{next}
 
-or_assoc : (a b c : Bool) → (a || (b || c)) ≡ ((a || b) || c)
-or_assoc true b c = refl
-or_assoc false b c = refl
-
-or_false : (a : Bool) → (a || false) ≡ a
-or_false true = refl
-or_false false = refl
-
 pub one_line : (all : List (List ℕ)) (i n : ℕ) (text : List ℕ) → i < length all → text ≡ get_or all i text → (before : Bool) → (before || have_cr (numbered_from n (drop i all))) ≡ ((before || has_cr text) || have_cr (numbered_from (n + 1) (drop (i + 1) all)))
-one_line all i n text within is before = ap (λ (ls : Lines). before || have_cr ls) (next all i n text within is) ∙ or_assoc before (has_cr text) (have_cr (numbered_from (n + 1) (drop (i + 1) all)))
+one_line all i n text within is before = ap (λ (ls : Lines). before || have_cr ls) (next all i n text within is) ∙ sym (or_assoc before (has_cr text) (have_cr (numbered_from (n + 1) (drop (i + 1) all))))
 
 length_numbered : (n : ℕ) (texts : List (List ℕ)) → length (numbered_from n texts) ≡ length texts
 length_numbered n [] = refl
@@ -28,6 +21,6 @@ one_more m n e = grind (arith, nat_tests)
 pub whole : (all : List (List ℕ)) (i n : ℕ) (found : Bool) → n ≡ 1 + i → i ≡ length all → (found || have_cr (numbered_from n (drop i all))) ≡ have_cr (numbered_from 1 all) → ((n == 2) && found) ≡ is_one_with_cr (numbered_from 1 all)
 whole all i n found counted over so_far =
     let none : have_cr (numbered_from n (drop i all)) ≡ false = ap (λ (ls : List (List ℕ)). have_cr (numbered_from n ls)) (drop_all i all (omega (arith, over))) in
-    let has : found ≡ have_cr (numbered_from 1 all) = sym (or_false found) ∙ ap (λ (b : Bool). found || b) (sym none) ∙ so_far in
+    let has : found ≡ have_cr (numbered_from 1 all) = sym (or-false found) ∙ ap (λ (b : Bool). found || b) (sym none) ∙ so_far in
     let is_one : (n == 2) ≡ (length (numbered_from 1 all) == 1) = one_more i n counted ∙ ap (λ (k : ℕ). k == 1) (over ∙ sym (length_numbered 1 all)) in
     ap (λ (b : Bool). b && found) is_one ∙ ap (λ (b : Bool). (length (numbered_from 1 all) == 1) && b) has

@@ -11,7 +11,7 @@ use Rattle.gk_steps.specs.declared.action.Action.TheVariants.{FileIs, WriteFiles
 use Rattle.gk_lint.specs.declared.findings.FindingKind.TheVariants.{NameTwice, OfStep, UnusedEntry, HookOfNoTag}
 use Rattle.gk_lint.specs.declared.step_faults.StepFault.TheVariants.{NotAllowed, NoText, NoTable, BadTable, IgnoredText, IgnoredTable}
 use Rattle.gk_lint.specs.Findings.{at_line, named_once}
-use Rattle.gk_lint.specs.StepFaults.{other_faults}
+use Rattle.gk_lint.specs.StepFaults.{step_faults}
 use Rattle.gk_lint.specs.declared.step_sites.StepSite.TheVariants.{Cleanup}
 use Rattle.gk_lint.specs.StepSites.{site_of_hook}
 use Rattle.gk_lint.specs.Lookups.{site_faults}
@@ -24,7 +24,7 @@ use Rattle.gk_lint.specs.ScenarioLines.{without_scenario}
 use Rattle.gk_lint.specs.NamedTags.{nowhere}
 
 -- However many rows have a fault, it is named once.
-once : named_once other_faults 3 (NoText ∷ NotAllowed ∷ NoText ∷ []) ≡ at_line 3 (OfStep NotAllowed) ∷ at_line 3 (OfStep NoText) ∷ []
+once : named_once step_faults 3 (NoText ∷ NotAllowed ∷ NoText ∷ []) ≡ at_line 3 (OfStep NotAllowed) ∷ at_line 3 (OfStep NoText) ∷ []
 once = refl
 
 -- A check of a file with no text, with a doc string, with both, and with a table; and a check that works with no text.

@@ -11,6 +11,7 @@ pub mod TextSets
 pub mod ScenarioNames
 pub mod Placeholders
 pub mod UnexpectedLines
+pub mod LibraryCauses
 pub mod LineEnds
 pub mod FeatureFile
 pub mod Blocks

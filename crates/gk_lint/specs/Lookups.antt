@@ -6,7 +6,7 @@ use Rattle.gk_steps.specs.declared.action.Action.TheVariants as actions
 use Rattle.gk_steps.specs.Finding.{LibraryValue, FoundValue, found, found_any, action_of, text_field}
 use Rattle.gk_lint.specs.Blocks.{block_faults, fault_if}
 use Rattle.gk_lint.specs.declared.step_faults.StepFault.{StepFault}
-use Rattle.gk_lint.specs.declared.step_faults.StepFault.TheVariants.{Undefined, CleanupWithoutStep, NotAllowed}
+use Rattle.gk_lint.specs.declared.step_faults.StepFault.TheVariants.{NotAllowed}
 use Rattle.gk_lint.specs.declared.step_sites.StepSite.{StepSite}
 use Rattle.gk_lint.specs.declared.step_sites.StepSite.TheVariants.{Cleanup}
 use Rattle.gk_lint.specs.StepSites.{may_stand}
@@ -25,7 +25,7 @@ site_faults action site = fault_if (not (may_stand action site)) NotAllowed
 
 -- The faults of a cleanup, by what its text finds among the entries of type `step`. It is carried out with the block of the step that registered it. (behave's documentation: cleanups)
 abbrev pub cleanup_faults : LibraryValue → Option FoundValue → BlockValue → List StepFault
-cleanup_faults library None block = CleanupWithoutStep ∷ []
+cleanup_faults library None block = []
 cleanup_faults library (Some f) block = site_faults (action_of library f) Cleanup ++ block_faults (action_of library f) (has_text library f) block
 
 -- The faults of a step whose entry has this action. `at_cleanup` passes the block to the cleanup.
@@ -35,10 +35,10 @@ action_faults action library f block = block_faults action (has_text library f) 
 
 -- The faults of a step that is carried out at a site, by what its text finds.
 abbrev pub found_faults : LibraryValue → StepSite → Option FoundValue → BlockValue → List StepFault
-found_faults library site None block = Undefined ∷ []
+found_faults library site None block = []
 found_faults library site (Some f) block = site_faults (action_of library f) site ++ action_faults (action_of library f) library f block
 
--- The faults of a step as it is run at a site: it finds no entry, it registers a cleanup that finds none, an action isn't allowed at its site, or the block is not what the action works with. (behave's documentation: step implementations, cleanups, skipping scenarios)
+-- The faults of a step as it is run at a site: an action isn't allowed at its site, or the block is not what the action works with. (behave's documentation: step implementations, cleanups, skipping scenarios)
 unfoldable pub faults_of : LibraryValue → StepSite → StepValue → List StepFault
 faults_of library site step = found_faults library site (found library step.step_type step.text) step.block
 

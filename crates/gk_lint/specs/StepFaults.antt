@@ -1,13 +1,11 @@
--- Faults of a step, in the order in which they are named.
+-- Faults of a step that finds an entry, in the order in which they are named.
 use Rattle.std.specs.Prelude.{codes, ℕ, Bool, ◌==◌, List, [], ◌∷◌}
 use Rattle.std.specs.List.{list_any}
 use Rattle.gk_lint.specs.declared.step_faults.StepFault.{StepFault}
-use Rattle.gk_lint.specs.declared.step_faults.StepFault.TheVariants.{Undefined, CleanupWithoutStep, NotAllowed, NoText, NoTable, BadTable, IgnoredText, IgnoredTable}
+use Rattle.gk_lint.specs.declared.step_faults.StepFault.TheVariants.{NotAllowed, NoText, NoTable, BadTable, IgnoredText, IgnoredTable}
 
 -- The text of a fault.
 abbrev pub fault_text : StepFault → List ℕ
-fault_text Undefined = codes "undefined step"
-fault_text CleanupWithoutStep = codes "cleanup without step"
 fault_text NotAllowed = codes "action that isn't allowed here"
 fault_text NoText = codes "step without the text that its action needs"
 fault_text NoTable = codes "step without the table that its action needs"
@@ -15,20 +13,18 @@ fault_text BadTable = codes "table that isn't one of name and text"
 fault_text IgnoredText = codes "doc string that is ignored"
 fault_text IgnoredTable = codes "table that is ignored"
 
--- The faults that a step can have, apart from `Undefined`.
-abbrev pub other_faults : List StepFault
-other_faults = CleanupWithoutStep ∷ NotAllowed ∷ NoText ∷ NoTable ∷ BadTable ∷ IgnoredText ∷ IgnoredTable ∷ []
+-- The faults that a step can have.
+abbrev pub step_faults : List StepFault
+step_faults = NotAllowed ∷ NoText ∷ NoTable ∷ BadTable ∷ IgnoredText ∷ IgnoredTable ∷ []
 
 -- The position of a fault among all faults, counted from 0.
 abbrev pub number_of_fault : StepFault → ℕ
-number_of_fault Undefined = 0
-number_of_fault CleanupWithoutStep = 1
-number_of_fault NotAllowed = 2
-number_of_fault NoText = 3
-number_of_fault NoTable = 4
-number_of_fault BadTable = 5
-number_of_fault IgnoredText = 6
-number_of_fault IgnoredTable = 7
+number_of_fault NotAllowed = 0
+number_of_fault NoText = 1
+number_of_fault NoTable = 2
+number_of_fault BadTable = 3
+number_of_fault IgnoredText = 4
+number_of_fault IgnoredTable = 5
 
 -- Whether two faults are the same.
 abbrev pub is_same_fault : StepFault → StepFault → Bool

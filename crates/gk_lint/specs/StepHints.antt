@@ -1,36 +1,38 @@
--- Hints for undefined steps, as they are run.
-use Rattle.std.specs.Prelude.{ℕ, List, [], ◌∷◌, map, Option, Some, None, unwrap_or}
-use Rattle.gk_gherkin.specs.Feature.{StepValue, RowValue, ExamplesValue}
-use Rattle.gk_select.specs.Filling.{filled, filled_step}
-use Rattle.gk_steps.specs.Finding.{LibraryValue, FoundValue, found}
+-- Hints for undefined steps and for cleanups without a step.
+use Rattle.std.specs.Prelude.{ℕ, List, [], ◌∷◌, Option, Some, None}
+use Rattle.std.specs.Option.{option_or}
+use Rattle.gk_gherkin.specs.Feature.{StepValue}
+use Rattle.gk_steps.specs.declared.action.Action.{Action}
+use Rattle.gk_steps.specs.declared.action.Action.TheVariants as actions
+use Rattle.gk_steps.specs.Finding.{LibraryValue, FoundValue, found, found_any, action_of}
 use Rattle.gk_lint.specs.declared.nearest_entry.EntryHint.{EntryHint}
-use Rattle.gk_lint.specs.declared.nearest_entry.EntryHint.TheVariants.{Unlike}
+use Rattle.gk_lint.specs.Lookups.{cleanup_text}
 use Rattle.gk_lint.specs.NearestEntry.{entry_hint}
 
--- The hint for a step with this text, if it finds no entry.
+-- The hint for a text, if it finds no entry.
 abbrev pub hint_unless_found : LibraryValue → List ℕ → Option FoundValue → Option EntryHint
 hint_unless_found library text None = Some (entry_hint library text)
 hint_unless_found library text (Some f) = None
 
 -- The hint for a step as it is run, if it is undefined.
-unfoldable pub hint_of_step : LibraryValue → StepValue → Option EntryHint
-hint_of_step library step = hint_unless_found library step.text (found library step.step_type step.text)
+unfoldable pub step_hint : LibraryValue → StepValue → Option EntryHint
+step_hint library step = hint_unless_found library step.text (found library step.step_type step.text)
 
--- A hint if there is one, and otherwise another.
-abbrev pub or_hint : Option EntryHint → Option EntryHint → Option EntryHint
-or_hint (Some hint) other = Some hint
-or_hint None other = other
+-- The hint for the cleanup that an action registers, if its text finds no entry of type `step`. (behave's documentation: cleanups)
+abbrev pub registered_hint : Action → LibraryValue → FoundValue → Option EntryHint
+registered_hint actions.AtCleanup library f = hint_unless_found library (cleanup_text library f) (found_any library (cleanup_text library f))
+registered_hint action library f = None
 
--- The hint for the first of some steps that is undefined.
-abbrev pub first_hint : LibraryValue → List StepValue → Option EntryHint
-first_hint library [] = None
-first_hint library (step ∷ steps) = or_hint (hint_of_step library step) (first_hint library steps)
+-- The same for the action of the entry that was found.
+abbrev pub found_hint : LibraryValue → Option FoundValue → Option EntryHint
+found_hint library None = None
+found_hint library (Some f) = registered_hint (action_of library f) library f
 
--- Proof machinery: the same for a step filled from each row of some Examples, one after the other.
-abbrev pub hint_in_examples : LibraryValue → StepValue → List ExamplesValue → Option EntryHint
-hint_in_examples library step [] = None
-hint_in_examples library step (e ∷ es) = or_hint (first_hint library (map (λ (r : RowValue). filled_step (filled e.header r.cells) step) e.rows)) (hint_in_examples library step es)
+-- The hint for the cleanup that a step registers as it is run, if its text finds no entry of type `step`.
+unfoldable pub cleanup_hint : LibraryValue → StepValue → Option EntryHint
+cleanup_hint library step = found_hint library (found library step.step_type step.text)
 
--- The hint for steps of which one is undefined.
-abbrev pub hint_in : LibraryValue → List StepValue → EntryHint
-hint_in library steps = unwrap_or (first_hint library steps) Unlike
+-- The first hint of these: one that may be known before, and those for some steps.
+abbrev pub first_hint : (StepValue → Option EntryHint) → Option EntryHint → List StepValue → Option EntryHint
+first_hint hint_of before [] = before
+first_hint hint_of before (step ∷ steps) = first_hint hint_of (option_or before (hint_of step)) steps

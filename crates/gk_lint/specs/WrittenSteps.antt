@@ -1,6 +1,6 @@
 -- Steps of a feature and of a hooks file, as they are written and as they are run.
 use Rattle.std.specs.List.{list_any}
-use Rattle.std.specs.Prelude.{◌≡◌, ℕ, Bool, ◌||◌, List, [], ◌∷◌, ◌++◌, map, flat_map, Option, if◌then◌else◌}
+use Rattle.std.specs.Prelude.{◌≡◌, ℕ, Bool, ◌||◌, List, [], ◌∷◌, ◌++◌, map, flat_map, Option, None, if◌then◌else◌}
 use Rattle.gk_gherkin.specs.Feature.{StepValue, RowValue, ExamplesValue, BackgroundValue, ScenarioValue, RuleValue, FeatureValue}
 use Rattle.gk_gherkin.specs.Hooks.{HookValue}
 use Rattle.gk_select.specs.Case.{CaseValue}
@@ -10,15 +10,15 @@ use Rattle.gk_select.specs.Inherited.{background_steps}
 use Rattle.gk_select.specs.Outline.{is_outline}
 use Rattle.gk_steps.specs.Finding.{LibraryValue}
 use Rattle.gk_lint.specs.declared.findings.Finding.{Finding}
-use Rattle.gk_lint.specs.StepFaults.{has_fault, other_faults}
-use Rattle.gk_lint.specs.declared.findings.FindingKind.TheVariants.{UndefinedStep}
-use Rattle.gk_lint.specs.declared.step_faults.StepFault.TheVariants.{Undefined}
+use Rattle.gk_lint.specs.StepFaults.{step_faults}
+use Rattle.gk_lint.specs.declared.findings.FindingKind.TheVariants.{UndefinedStep, CleanupWithoutStep}
+use Rattle.gk_lint.specs.declared.lookups.Lookups.{Lookups}
 use Rattle.gk_lint.specs.declared.step_sites.StepSite.{StepSite}
 use Rattle.gk_lint.specs.declared.step_sites.StepSite.TheVariants as sites
 use Rattle.gk_lint.specs.StepSites.{site_of_hook}
-use Rattle.gk_lint.specs.Findings.{found_if, named_once}
+use Rattle.gk_lint.specs.Findings.{hinted, named_once}
 use Rattle.gk_lint.specs.Lookups.{faults_in, positions_in}
-use Rattle.gk_lint.specs.StepHints.{hint_in}
+use Rattle.gk_lint.specs.StepHints.{step_hint, cleanup_hint, first_hint}
 
 -- A step as it is written: its line, its site, and the steps that it is run as.
 pub record WrittenStep : Type 0 where
@@ -86,13 +86,24 @@ of_hook h = map (as_written (site_of_hook h.kind)) h.steps
 abbrev pub of_hooks : List HookValue → List WrittenStep
 of_hooks hooks = flat_map of_hook hooks
 
--- The finding that at least one of these steps is undefined, which are run at a site and written at a line, with the hint for the first that is.
+-- Proof machinery: these steps were looked up at a site, after others. `new` has their faults, the positions of the entries that they find, and the first hints.
+pub record AreLookedUp (library : LibraryValue) (site : StepSite) (steps : List StepValue) (old new : Lookups) : Type 0 where
+  pub faults : new.faults.items ≡ old.faults.items ++ faults_in library site steps
+  pub used : new.used.items ≡ old.used.items ++ positions_in library steps
+  pub undefined : new.undefined ≡ first_hint (step_hint library) old.undefined steps
+  pub cleanup : new.cleanup ≡ first_hint (cleanup_hint library) old.cleanup steps
+
+-- The finding that at least one of the steps that a written step is run as is undefined, with the hint for the first.
 abbrev pub undefined_at : LibraryValue → WrittenStep → List Finding
-undefined_at library written = found_if (has_fault (faults_in library written.site written.runs) Undefined) written.line (UndefinedStep (hint_in library written.runs))
+undefined_at library written = hinted written.line (λ hint. UndefinedStep hint) (first_hint (step_hint library) None written.runs)
+
+-- The finding that at least one of them registers a cleanup without a step, with the hint for the first.
+abbrev pub cleanup_at : LibraryValue → WrittenStep → List Finding
+cleanup_at library written = hinted written.line (λ hint. CleanupWithoutStep hint) (first_hint (cleanup_hint library) None written.runs)
 
 -- The findings of a written step: each fault of at least one of the steps that it is run as.
 abbrev pub at_step : LibraryValue → WrittenStep → List Finding
-at_step library written = undefined_at library written ++ named_once other_faults written.line (faults_in library written.site written.runs)
+at_step library written = undefined_at library written ++ (cleanup_at library written ++ named_once step_faults written.line (faults_in library written.site written.runs))
 
 -- The findings of written steps, one step after the other.
 abbrev pub found_in : LibraryValue → List WrittenStep → List Finding

@@ -1,13 +1,12 @@
 //! Findings of a feature file.
-ghost use Rattle.std.specs.Prelude.{◌≡◌, ◌≤◌, ◌⊎◌, length, option_map, IfOk, IfErr};
+ghost use Rattle.std.specs.Prelude.{◌≡◌, ◌≤◌, length, option_map, IfOk, IfErr};
 ghost use Rattle.std.specs.Str.Lines.{lines};
 ghost use Rattle.gk_gherkin.specs.Lines.{numbered_from};
 ghost use Rattle.gk_gherkin.specs.Feature.{feature_value};
-ghost use Rattle.gk_gherkin.specs.ReadFault.{FaultSays, FeatureFault};
 ghost use Rattle.gk_gherkin.specs.declared.read_fault.ReadFault.TheVariants.{Memory};
 ghost use Rattle.gk_lint.specs.Findings.{AreInOrder};
 ghost use Rattle.gk_lint.specs.FeatureFile as spec;
-ghost use Rattle.gk_lint.specs.FeatureFile.{AreOfFile};
+ghost use Rattle.gk_lint.specs.FeatureFile.{AreOfFile, IsFeatureFile, LintFault};
 
 use crate::findings::{Finding, in_order};
 use crate::line_ends::add_cr_alone;
@@ -45,15 +44,19 @@ pub fn lint_feature(
 /// Returns the findings of a feature file with these bytes, in the order of lines. Three kinds concern the whole file:
 /// its lines end with CR alone, it has no feature, or the feature has no scenarios. The others are scenarios without
 /// steps, outlines without rows, scenarios with the name of an earlier one, placeholders that no column has, description
-/// lines that begin like a keyword, and steps outside of scenarios.
+/// lines that begin like a keyword, and steps outside of scenarios. Prose is left out: lines of these last two kinds that
+/// are directly above a description line that begins like no keyword, and a single one that is directly below such a
+/// line, unless a step is directly below it.
 ///
 /// If the file is invalid, the error is the fault that `read_feature` returns for it. `Memory` comes only if a growth
 /// was refused.
 pub fn lint_feature_file(alloc: Global, bytes: &[u8]) -> Result<Vec<Finding>, ReadFault>
     // Returns all findings, and no others.
     ensures found { IfOk result (λ findings. AreOfFile bytes.now findings.items) }
-    // The error is refused memory or a fault of these bytes.
-    ensures fault { IfErr result (λ e. (e ≡ Memory) ⊎ FaultSays FeatureFault e bytes.now) }
+    // The findings of what reads are returned, unless memory runs out.
+    ensures only { IsFeatureFile bytes.now → IfErr result (λ e. e ≡ Memory) }
+    // Which fault is returned.
+    ensures fault { IfErr result (λ e. LintFault e bytes.now) }
 {
     let feature = read_feature(alloc, bytes)?;
     let text = text_of(bytes)?;

@@ -36,7 +36,10 @@ pub enum FindingKind {
     /// The step finds no entry of the library as it is run; in an outline, in at least one row. Its author may have meant
     /// this entry. (behave's documentation: undefined steps)
     UndefinedStep(EntryHint),
-    /// The step has the fault as it is run, which isn't `Undefined`; in an outline, in at least one row.
+    /// The step registers a cleanup whose text finds no entry of type `step`; in an outline, in at least one row. Its
+    /// author may have meant this entry. (behave's documentation: cleanups)
+    CleanupWithoutStep(EntryHint),
+    /// The step has the fault as it is run; in an outline, in at least one row.
     OfStep(StepFault),
     /// No step and no cleanup finds the entry of the library.
     UnusedEntry,
@@ -73,9 +76,8 @@ impl FindingKind {
             FindingKind::NoColumn { .. } => {
                 String::from_str(alloc, "placeholder that no column has")
             }
-            FindingKind::UndefinedStep(_) => {
-                String::from_str(alloc, StepFault::Undefined.text())
-            }
+            FindingKind::UndefinedStep(_) => String::from_str(alloc, "undefined step"),
+            FindingKind::CleanupWithoutStep(_) => String::from_str(alloc, "cleanup without step"),
             FindingKind::OfStep(fault) => String::from_str(alloc, fault.text()),
             FindingKind::HookOfNoTag => {
                 String::from_str(alloc, "hook for a tag that stands nowhere")

@@ -1,22 +1,31 @@
-//! Faults of a step as it is run, and the entries of the library that it finds.
-ghost use Rattle.std.specs.Prelude.{◌≡◌, [], ◌++◌, OnOk};
+//! Faults of a step as it is run, the entries of the library that it finds, and hints if it finds none.
+ghost use Rattle.std.specs.Prelude.{◌≡◌, [], ◌++◌, Some, None, OnOk};
+ghost use Rattle.std.specs.Option.{option_or};
 ghost use Rattle.gk_gherkin.specs.Feature.{step_value, block_value};
 ghost use Rattle.gk_steps.specs.Finding.{library_value, found_value, found_any, action_of};
+ghost use Rattle.gk_lint.specs.NearestEntry as nearest;
+ghost use Rattle.gk_lint.specs.StepHints as hints;
 ghost use Rattle.gk_lint.specs.Lookups as spec;
 
 use crate::blocks::{add_block_faults, add_if};
+use crate::nearest_entry::{EntryHint, entry_hint};
 use crate::step_faults::StepFault;
 use crate::step_sites::{StepSite, may_stand};
 use gk_gherkin::{Block, Step};
 use gk_steps::{Action, Found, Library};
 use std::alloc::{AllocError, Global};
 
-/// The results of steps that were looked up: their faults, and the positions in the library of the entries that they
-/// found.
+/// The results of steps that were looked up.
 #[derive(Debug, Drop)]
 pub struct Lookups {
+    /// The faults of the steps.
     pub faults: Vec<StepFault>,
+    /// The positions in the library of the entries that the steps found.
     pub used: Vec<usize>,
+    /// The hint for the first step that is undefined.
+    pub undefined: Option<EntryHint>,
+    /// The hint for the first cleanup whose text finds no entry of type `step`.
+    pub cleanup: Option<EntryHint>,
 }
 
 // Returns the text of the step that `at_cleanup` registers.
@@ -45,19 +54,40 @@ fn add_site_faults(
     add_if(faults, fails, StepFault::NotAllowed)
 }
 
+// Sets the hint for a text that finds no entry, unless an earlier text has one.
+fn set_hint(
+    hint: &mut Option<EntryHint>,
+    alloc: Global,
+    library: &Library,
+    text: &str,
+) -> Result<(), AllocError>
+    ensures { OnOk result (hint.new
+        ≡ option_or hint.old (Some (nearest.entry_hint (library_value library.now) text.now))) }
+{
+    if hint.is_none() {
+        *hint = Some(entry_hint(alloc, library, text)?);
+    }
+    Ok(())
+}
+
 impl Lookups {
     /// Returns empty results. Doesn't allocate.
     pub fn new(alloc: Global) -> Lookups
         ensures faults { result.faults.items ≡ [] }
         ensures used { result.used.items ≡ [] }
+        ensures undefined { result.undefined ≡ None }
+        ensures cleanup { result.cleanup ≡ None }
     {
         Lookups {
             faults: Vec::new(alloc),
             used: Vec::new(alloc),
+            undefined: None,
+            cleanup: None,
         }
     }
 
     // Looks up the text of a cleanup. It is carried out with the block of the step that registers it.
+    #[tactic(auto, using(crate::proofs::FirstHints::no_other_hint))]
     fn add_cleanup(
         &mut self,
         alloc: Global,
@@ -70,6 +100,10 @@ impl Lookups {
             ++ spec.cleanup_faults l (found_any l text.now) (block_value block.now)) }
         ensures used { OnOk result (self.new.used.items ≡ self.old.used.items
             ++ spec.position_of (found_any (library_value library.now) text.now)) }
+        ensures undefined { self.new.undefined ≡ self.old.undefined }
+        ensures cleanup { let l = library_value library.now in
+            OnOk result (self.new.cleanup ≡ option_or self.old.cleanup
+            (hints.hint_unless_found l text.now (found_any l text.now))) }
     {
         match library.find_any(alloc, text)? {
             Some(found) => {
@@ -79,14 +113,12 @@ impl Lookups {
                 let has_text = has_text(library, &found);
                 add_block_faults(&mut self.faults, action, has_text, block)
             }
-            None => {
-                self.faults.push(StepFault::CleanupWithoutStep)?;
-                Ok(())
-            }
+            None => set_hint(&mut self.cleanup, alloc, library, text),
         }
     }
 
-    // Adds the faults of the block, by the entry that was found, or those of the cleanup that it registers.
+    // Adds the faults of the block, by the entry that was found, or the results of the cleanup that it registers.
+    #[tactic(auto, using(crate::proofs::FirstHints::no_other_hint))]
     fn add_found(
         &mut self,
         alloc: Global,
@@ -100,6 +132,10 @@ impl Lookups {
         ensures used { let l = library_value library.now in let f = found_value found.now in
             OnOk result (self.new.used.items
             ≡ self.old.used.items ++ spec.cleanup_positions (action_of l f) l f) }
+        ensures undefined { self.new.undefined ≡ self.old.undefined }
+        ensures cleanup { let l = library_value library.now in let f = found_value found.now in
+            OnOk result (self.new.cleanup
+            ≡ option_or self.old.cleanup (hints.registered_hint (action_of l f) l f)) }
     {
         let action = library.action(found);
         match action {
@@ -115,7 +151,7 @@ impl Lookups {
 
     /// Looks up a step as it is run at a site. An error comes only if a growth was refused; some of the results may
     /// have been added then.
-    #[tactic(auto, unfolding(crate::specs::Lookups::faults_of, crate::specs::Lookups::positions_of))]
+    #[tactic(auto, unfolding(crate::specs::Lookups::faults_of, crate::specs::Lookups::positions_of, crate::specs::StepHints::step_hint, crate::specs::StepHints::cleanup_hint), using(crate::proofs::FirstHints::no_other_hint))]
     pub fn add(
         &mut self,
         alloc: Global,
@@ -127,6 +163,10 @@ impl Lookups {
             ++ spec.faults_of (library_value library.now) site (step_value step.now)) }
         ensures used { OnOk result (self.new.used.items ≡ self.old.used.items
             ++ spec.positions_of (library_value library.now) (step_value step.now)) }
+        ensures undefined { OnOk result (self.new.undefined ≡ option_or self.old.undefined
+            (hints.step_hint (library_value library.now) (step_value step.now))) }
+        ensures cleanup { OnOk result (self.new.cleanup ≡ option_or self.old.cleanup
+            (hints.cleanup_hint (library_value library.now) (step_value step.now))) }
     {
         match library.find(alloc, step.step_type, step.text.as_str())? {
             Some(found) => {
@@ -134,10 +174,7 @@ impl Lookups {
                 add_site_faults(&mut self.faults, library.action(&found), site)?;
                 self.add_found(alloc, library, &found, &step.block)
             }
-            None => {
-                self.faults.push(StepFault::Undefined)?;
-                Ok(())
-            }
+            None => set_hint(&mut self.undefined, alloc, library, step.text.as_str()),
         }
     }
 }

@@ -5,7 +5,6 @@ ghost use Rattle.std.specs.Str.Lines.{lines};
 ghost use Rattle.gk_gherkin.specs.Lines.{borrowed_value, numbered_from};
 ghost use Rattle.gk_lint.specs.Likeness.{like};
 ghost use Rattle.gk_lint.specs.Misspelt as spec;
-ghost use Rattle.gk_lint.specs.LineContext.{line_kind};
 ghost use Rattle.gk_lint.specs.Misspelt.{IsAbove};
 ghost use Rattle.gk_lint.specs.declared.line_context.LineContext.TheVariants.{Elsewhere};
 

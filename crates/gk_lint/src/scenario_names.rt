@@ -1,5 +1,5 @@
 //! Scenarios of one feature that have the same name.
-ghost use Rattle.std.specs.Prelude.{◌≡◌, ◌∷◌, [], ◌++◌, false, List, map, option_map, OnOk, IfOk};
+ghost use Rattle.std.specs.Prelude.{◌≡◌, ◌∷◌, ◌++◌, false, List, map, option_map, OnOk, IfOk};
 ghost use Rattle.gk_gherkin.specs.Feature.{ScenarioValue, scenario_value, rule_value, feature_value};
 ghost use Rattle.gk_lint.specs.TextSets.{in_set};
 ghost use Rattle.gk_lint.specs.ScenarioNames as spec;

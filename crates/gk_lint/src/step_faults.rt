@@ -1,15 +1,10 @@
-//! Faults of a step, in the order in which they are named.
+//! Faults of a step that finds an entry, in the order in which they are named.
 ghost use Rattle.std.specs.Prelude.{◌≡◌};
 ghost use Rattle.gk_lint.specs.StepFaults as spec;
 
-/// A fault of a step.
+/// A fault of a step that finds an entry.
 #[derive(Clone, Copy, Debug, PartialEq, Eq)]
 pub enum StepFault {
-    /// The step finds no entry of the library. (behave's documentation: undefined steps)
-    Undefined,
-    /// The step registers a cleanup whose text finds no entry of type `step`. (behave's documentation:
-    /// cleanups)
-    CleanupWithoutStep,
     /// The action of the step, or of the cleanup that it registers, always fails at its site: a cleanup registers
     /// another one or skips the scenario, or a hook that isn't before a scenario or a tag skips it. (behave's
     /// documentation: cleanups, skipping scenarios)
@@ -26,10 +21,6 @@ pub enum StepFault {
     /// The table is ignored: the action works with none.
     IgnoredTable,
 }
-
-const UNDEFINED: &str = "undefined step";
-
-const CLEANUP_WITHOUT_STEP: &str = "cleanup without step";
 
 const NOT_ALLOWED: &str = "action that isn't allowed here";
 
@@ -49,8 +40,6 @@ impl StepFault {
         ensures { result.now ≡ spec.fault_text self }
     {
         match self {
-            StepFault::Undefined => UNDEFINED,
-            StepFault::CleanupWithoutStep => CLEANUP_WITHOUT_STEP,
             StepFault::NotAllowed => NOT_ALLOWED,
             StepFault::NoText => NO_TEXT,
             StepFault::NoTable => NO_TABLE,
@@ -61,9 +50,8 @@ impl StepFault {
     }
 }
 
-/// The faults that a step can have, apart from `Undefined`.
-pub const OTHER_FAULTS: [StepFault; 7] = [
-    StepFault::CleanupWithoutStep,
+/// The faults that a step can have.
+pub const STEP_FAULTS: [StepFault; 6] = [
     StepFault::NotAllowed,
     StepFault::NoText,
     StepFault::NoTable,

@@ -1,25 +1,28 @@
 //! Findings of the steps of a feature and of a hooks file.
-ghost use Rattle.std.specs.Prelude.{◌≡◌, [], ◌∷◌, ◌++◌, map, option_map, OnOk, IfOk};
+ghost use Rattle.std.specs.Prelude.{◌≡◌, [], ◌++◌, map, option_map, length, OnOk, IfOk};
+ghost use Rattle.std.specs.Option.{option_or};
 ghost use Rattle.std.specs.List.{AllByRecursion};
 ghost use Rattle.gk_gherkin.specs.Feature.{step_value, examples_value, background_value};
 ghost use Rattle.gk_gherkin.specs.Feature.{scenario_value, rule_value, feature_value};
 ghost use Rattle.gk_gherkin.specs.Hooks.{hook_value, hooks_value};
+ghost use Rattle.gk_select.specs.Copies.{filled_by};
+ghost use Rattle.gk_select.specs.Filling.{filled_step};
 ghost use Rattle.gk_select.specs.Outline.{AllFit};
 ghost use Rattle.gk_select.specs.Expansion.{RowsFit, IsExpandable};
 ghost use Rattle.gk_steps.specs.Finding.{library_value};
-ghost use Rattle.gk_lint.specs.Findings.{AreInOrder, found_if, named_once};
-ghost use Rattle.gk_lint.specs.StepFaults.{other_faults};
-ghost use Rattle.gk_lint.specs.StepHints.{hint_in};
-ghost use Rattle.gk_lint.specs.declared.findings.FindingKind.TheVariants.{UndefinedStep};
-ghost use Rattle.gk_lint.specs.Lookups.{faults_in, positions_in};
+ghost use Rattle.gk_lint.specs.Findings.{AreInOrder, hinted, named_once};
+ghost use Rattle.gk_lint.specs.StepFaults.{step_faults};
+ghost use Rattle.gk_lint.specs.StepHints.{step_hint, cleanup_hint};
+ghost use Rattle.gk_lint.specs.declared.findings.FindingKind.TheVariants as kinds;
+ghost use Rattle.gk_lint.specs.Lookups.{faults_of, positions_of, positions_in};
 ghost use Rattle.gk_lint.specs.declared.step_sites.StepSite.TheVariants as sites;
 ghost use Rattle.gk_lint.specs.WrittenSteps as spec;
-ghost use Rattle.gk_lint.specs.WrittenSteps.{found_in, used_in};
+ghost use Rattle.gk_lint.specs.WrittenSteps.{AreLookedUp, found_in, used_in};
 
 use crate::findings::{Finding, FindingKind, add_once, in_order};
 use crate::lookups::Lookups;
-use crate::step_faults::{OTHER_FAULTS, StepFault, has_fault};
-use crate::step_hints::{hint_as_written, hint_in_scenario};
+use crate::nearest_entry::EntryHint;
+use crate::step_faults::STEP_FAULTS;
 use crate::step_sites::{StepSite, site_of_hook};
 use gk_gherkin::{Background, Examples, Feature, Hook, HookFile, Rule, Scenario, Step};
 use gk_select::{fill_step, is_outline};
@@ -34,6 +37,33 @@ pub struct StepFindings {
     pub used: Vec<usize>,
 }
 
+// Looks up a step filled from a row.
+fn look_up_row(
+    lookups: &mut Lookups,
+    alloc: Global,
+    library: &Library,
+    step: &Step,
+    header: &[String],
+    cells: &[String],
+) -> Result<(), AllocError>
+    requires { length cells.now ≡ length header.now }
+    ensures faults { OnOk result (lookups.new.faults.items ≡ lookups.old.faults.items
+        ++ faults_of (library_value library.now) sites.Scenario
+        (filled_step (filled_by header.now cells.now) (step_value step.now))) }
+    ensures used { OnOk result (lookups.new.used.items ≡ lookups.old.used.items
+        ++ positions_of (library_value library.now)
+        (filled_step (filled_by header.now cells.now) (step_value step.now))) }
+    ensures undefined { OnOk result (lookups.new.undefined ≡ option_or lookups.old.undefined
+        (step_hint (library_value library.now)
+        (filled_step (filled_by header.now cells.now) (step_value step.now)))) }
+    ensures cleanup { OnOk result (lookups.new.cleanup ≡ option_or lookups.old.cleanup
+        (cleanup_hint (library_value library.now)
+        (filled_step (filled_by header.now cells.now) (step_value step.now)))) }
+{
+    let filled = fill_step(alloc, step, header, cells)?;
+    lookups.add(alloc, library, StepSite::Scenario, &filled)
+}
+
 // Looks up a step filled from each row of Examples.
 fn look_up_rows(
     lookups: &mut Lookups,
@@ -43,18 +73,12 @@ fn look_up_rows(
     part: &Examples,
 ) -> Result<(), AllocError>
     requires { AllFit (examples_value part.now) }
-    ensures faults { let e = examples_value part.now in
-        OnOk result (lookups.new.faults.items ≡ lookups.old.faults.items
-        ++ faults_in (library_value library.now) sites.Scenario
-        (spec.in_rows (step_value step.now) e.header e.rows)) }
-    ensures used { let e = examples_value part.now in
-        OnOk result (lookups.new.used.items ≡ lookups.old.used.items
-        ++ positions_in (library_value library.now)
-        (spec.in_rows (step_value step.now) e.header e.rows)) }
+    ensures { let e = examples_value part.now in OnOk result (AreLookedUp
+        (library_value library.now) sites.Scenario
+        (spec.in_rows (step_value step.now) e.header e.rows) lookups.old lookups.new) }
 {
     for row in &part.rows {
-        let filled = fill_step(alloc, step, &part.header, &row.cells)?;
-        lookups.add(alloc, library, StepSite::Scenario, &filled)?;
+        look_up_row(lookups, alloc, library, step, &part.header, &row.cells)?;
     }
     Ok(())
 }
@@ -68,12 +92,9 @@ fn look_up_examples(
     parts: &[Examples],
 ) -> Result<(), AllocError>
     requires { AllByRecursion AllFit (map examples_value parts.now) }
-    ensures faults { OnOk result (lookups.new.faults.items ≡ lookups.old.faults.items
-        ++ faults_in (library_value library.now) sites.Scenario
-        (spec.in_examples (step_value step.now) (map examples_value parts.now))) }
-    ensures used { OnOk result (lookups.new.used.items ≡ lookups.old.used.items
-        ++ positions_in (library_value library.now)
-        (spec.in_examples (step_value step.now) (map examples_value parts.now))) }
+    ensures { OnOk result (AreLookedUp (library_value library.now) sites.Scenario
+        (spec.in_examples (step_value step.now) (map examples_value parts.now))
+        lookups.old lookups.new) }
 {
     for part in parts {
         look_up_rows(lookups, alloc, library, step, part)?;
@@ -90,12 +111,9 @@ fn look_up_runs(
     step: &Step,
 ) -> Result<(), AllocError>
     requires { AllByRecursion AllFit (scenario_value scenario.now).examples }
-    ensures faults { OnOk result (lookups.new.faults.items ≡ lookups.old.faults.items
-        ++ faults_in (library_value library.now) sites.Scenario
-        (spec.runs_in (scenario_value scenario.now) (step_value step.now))) }
-    ensures used { OnOk result (lookups.new.used.items ≡ lookups.old.used.items
-        ++ positions_in (library_value library.now)
-        (spec.runs_in (scenario_value scenario.now) (step_value step.now))) }
+    ensures { OnOk result (AreLookedUp (library_value library.now) sites.Scenario
+        (spec.runs_in (scenario_value scenario.now) (step_value step.now))
+        lookups.old lookups.new) }
 {
     if is_outline(scenario) {
         look_up_examples(lookups, alloc, library, step, &scenario.examples)
@@ -104,40 +122,56 @@ fn look_up_runs(
     }
 }
 
-// Adds the results of one written step, apart from `Undefined`.
-fn add_lookups(found: &mut StepFindings, line: u32, lookups: Lookups) -> Result<(), AllocError>
-    ensures found { OnOk result (found.new.findings.items
-        ≡ found.old.findings.items ++ named_once other_faults line lookups.faults.items) }
-    ensures used { OnOk result (found.new.used.items
-        ≡ found.old.used.items ++ lookups.used.items) }
-{
-    let mut lookups = lookups;
-    add_once(&mut found.findings, &OTHER_FAULTS, line, &lookups.faults)?;
-    found.used.append(&mut lookups.used)
-}
-
-// Adds the finding of a step of a scenario, if it is undefined.
+// Adds the finding that a step at a line is undefined, if there is a hint.
 fn add_undefined(
     findings: &mut Vec<Finding>,
-    alloc: Global,
-    library: &Library,
-    scenario: &Scenario,
-    step: &Step,
-    is_undefined: bool,
+    line: u32,
+    hint: Option<EntryHint>,
 ) -> Result<(), AllocError>
-    requires { AllByRecursion AllFit (scenario_value scenario.now).examples }
     ensures { OnOk result (findings.new.items ≡ findings.old.items
-        ++ found_if is_undefined step.now.line (UndefinedStep (hint_in (library_value library.now)
-        (spec.runs_in (scenario_value scenario.now) (step_value step.now))))) }
+        ++ hinted line (λ h. kinds.UndefinedStep h) hint) }
 {
-    if is_undefined {
-        let hint = hint_in_scenario(alloc, library, scenario, step)?;
+    if let Some(hint) = hint {
         findings.push(Finding {
-            line: step.line,
+            line,
             kind: FindingKind::UndefinedStep(hint),
         })?;
     }
     Ok(())
+}
+
+// Adds the finding that a step at a line registers a cleanup without a step, if there is a hint.
+fn add_cleanup(
+    findings: &mut Vec<Finding>,
+    line: u32,
+    hint: Option<EntryHint>,
+) -> Result<(), AllocError>
+    ensures { OnOk result (findings.new.items ≡ findings.old.items
+        ++ hinted line (λ h. kinds.CleanupWithoutStep h) hint) }
+{
+    if let Some(hint) = hint {
+        findings.push(Finding {
+            line,
+            kind: FindingKind::CleanupWithoutStep(hint),
+        })?;
+    }
+    Ok(())
+}
+
+// Adds the results of one written step.
+fn add_lookups(found: &mut StepFindings, line: u32, lookups: Lookups) -> Result<(), AllocError>
+    ensures found { OnOk result (found.new.findings.items ≡ found.old.findings.items
+        ++ (hinted line (λ h. kinds.UndefinedStep h) lookups.undefined
+        ++ (hinted line (λ h. kinds.CleanupWithoutStep h) lookups.cleanup
+        ++ named_once step_faults line lookups.faults.items))) }
+    ensures used { OnOk result (found.new.used.items
+        ≡ found.old.used.items ++ lookups.used.items) }
+{
+    let mut lookups = lookups;
+    add_undefined(&mut found.findings, line, lookups.undefined)?;
+    add_cleanup(&mut found.findings, line, lookups.cleanup)?;
+    add_once(&mut found.findings, &STEP_FAULTS, line, &lookups.faults)?;
+    found.used.append(&mut lookups.used)
 }
 
 // Adds the results of a step of a scenario.
@@ -158,15 +192,6 @@ fn add_scenario_step(
 {
     let mut lookups = Lookups::new(alloc);
     look_up_runs(&mut lookups, alloc, library, scenario, step)?;
-    let is_undefined = has_fault(&lookups.faults, StepFault::Undefined);
-    add_undefined(
-        &mut found.findings,
-        alloc,
-        library,
-        scenario,
-        step,
-        is_undefined,
-    )?;
     add_lookups(found, step.line, lookups)
 }
 
@@ -208,28 +233,6 @@ fn add_scenarios(
     Ok(())
 }
 
-// Adds the finding of a step that is run as it is written, if it is undefined.
-fn add_undefined_as_written(
-    findings: &mut Vec<Finding>,
-    alloc: Global,
-    library: &Library,
-    step: &Step,
-    is_undefined: bool,
-) -> Result<(), AllocError>
-    ensures { OnOk result (findings.new.items ≡ findings.old.items
-        ++ found_if is_undefined step.now.line (UndefinedStep
-        (hint_in (library_value library.now) (step_value step.now ∷ [])))) }
-{
-    if is_undefined {
-        let hint = hint_as_written(alloc, library, step)?;
-        findings.push(Finding {
-            line: step.line,
-            kind: FindingKind::UndefinedStep(hint),
-        })?;
-    }
-    Ok(())
-}
-
 // Adds the results of a step that is run at a site as it is written.
 fn add_plain_step(
     found: &mut StepFindings,
@@ -247,8 +250,6 @@ fn add_plain_step(
 {
     let mut lookups = Lookups::new(alloc);
     lookups.add(alloc, library, site, step)?;
-    let is_undefined = has_fault(&lookups.faults, StepFault::Undefined);
-    add_undefined_as_written(&mut found.findings, alloc, library, step, is_undefined)?;
     add_lookups(found, step.line, lookups)
 }
 

@@ -1,15 +1,13 @@
 -- How the program ends.
-use Rattle.std.proofs.Common.{◌≡◌, inr, refl, ℕ, List, Bool, true, false, Option, Result, Ok, Err}
+use Rattle.std.proofs.Common.{◌≡◌, inr, refl, ℕ, List, Result, Ok, Err}
 use Rattle.std.specs.Prelude.{IfErr, IfOk, OnOk, String, string_bytes}
 use Rattle.std.specs.declared.alloc.Global.{Global}
-use Rattle.std.specs.Io.KnownBytes.{Appends}
 use Rattle.clap.specs.Words.{Text}
-use Rattle.gk_cli.specs.Counted.{one_more}
+use Rattle.gk_request.specs.Counted.{one_more}
 use Rattle.gk_cli.specs.Writing.{Device}
 use Rattle.gk_cli.specs.declared.arguments.Words.{Words}
 use Rattle.gk_program.specs.Asked.{SaysGiven}
-use Rattle.gk_program.specs.Ended.{IsTold, SaysDone}
-use Rattle.gk_program.specs.Fault.{text_of}
+use Rattle.gk_program.specs.Ended.{SaysDone}
 use Rattle.gk_program.specs.Files.{Reading}
 use Rattle.gk_program.specs.Program.{IsDoneFor, IsFaultFor, IsRun, IsShown, IsTextFault, SaysCalls, SaysCallsOfRun, SaysProgram}
 use Rattle.gk_program.specs.declared.asked.ArgumentsFault.{ArgumentsFault}

@@ -1,12 +1,12 @@
 -- Reading names one after the other.
-use Rattle.std.proofs.Common.{◌≡◌, inl, inr, subst, ◌∙◌, ◌++◌, ap, sym, refl, arith, suc, ℕ, List, [], ◌∷◌, length, map, append_assoc, Option, Some, None, Result, Ok, Err}
+use Rattle.std.proofs.Common.{◌≡◌, inl, inr, subst, ◌∙◌, ◌++◌, ap, sym, refl, arith, suc, ℕ, List, [], ◌∷◌, map, append_assoc, Option, Some, None, Result, Ok, Err}
 use Rattle.std.specs.Prelude.{IfErr, IfSome, IsErrAnd, IsSomeAnd, String, option_map, string_bytes}
 use Rattle.std.specs.declared.alloc.Global.{Global}
 use Rattle.std.specs.List.{Any}
 use Rattle.std.proofs.lemmas.List.{map-append, map_push}
-use Rattle.gk_cli.specs.Source.{SourceValue, source_value}
-use Rattle.gk_cli.specs.declared.source.Source.{Source}
-use Rattle.gk_cli.specs.declared.source.SourceFault.{SourceFault}
+use Rattle.gk_request.specs.Source.{SourceValue, source_value}
+use Rattle.gk_request.specs.declared.source.Source.{Source}
+use Rattle.gk_request.specs.declared.source.SourceFault.{SourceFault}
 use Rattle.gk_program.specs.Files.{AreRead, IsNotRead, StopsHere, StopsReading, name_of, one_of}
 use Rattle.gk_program.specs.declared.fault.Fault.{Fault}
 use Rattle.gk_program.specs.declared.fault.Fault.TheVariants.{Memory}
@@ -27,10 +27,6 @@ one_source_more f g xs more x left y rest all grown step same before =
     ∙ ap (λ n. map f xs ++ n ∷ map g rest) same
     ∙ ap (λ l. map f xs ++ map g l) (sym step)
     ∙ before
-
-pub nothing_in : {X : Type 0} (xs : List X) → length xs ≡ 0 → xs ≡ []
-nothing_in [] e = refl
-nothing_in (x ∷ xs) e = absurd (omega arith)
 
 -- what holds of the error that a `?` passes on
 pub passed_on : {T E : Type 0} {Q P : E → Type 0} (r : Result T E) → IsErrAnd r Q → ((e : E) → Q e → P e) → IfErr r P

@@ -1,6 +1,6 @@
 -- A run whose output is flushed, the program's faults for those of the run, help, and variables one after another.
-use Rattle.std.proofs.Common.{◌≡◌, ◌≢◌, ◌∙◌, ◌+◌, ◌-◌, ◌^◌, ◌<◌, ◌≤◌, ◌++◌, ap, sym, subst, refl, inl, inr, arith, suc, zero, ℕ, Bool, List, [], ◌∷◌, length, map, take, drop, get_or, Option, Some, None, Result, Ok, Err, add-one}
-use Rattle.std.specs.Prelude.{◌⊎◌, IfErr, IfOk, IsSome, IsSomeAnd, String, is_some, option_map, slice_get, string_bytes}
+use Rattle.std.proofs.Common.{◌≡◌, ◌∙◌, ◌+◌, ◌-◌, ◌^◌, ◌<◌, ◌≤◌, ◌++◌, ap, sym, subst, refl, inl, inr, arith, suc, zero, ℕ, Bool, List, [], ◌∷◌, length, map, take, drop, get_or, Option, Some, None, Result, Ok, Err, add-one}
+use Rattle.std.specs.Prelude.{IfErr, IfOk, IsSome, IsSomeAnd, String, is_some, option_map, slice_get, string_bytes}
 use Rattle.std.specs.declared.alloc.Global.{Global}
 use Rattle.std.specs.List.{All, Any}
 use Rattle.std.specs.Io.KnownBytes.{Appends, Keeps}
@@ -14,32 +14,27 @@ use Rattle.gk_world.specs.Sandbox.{SandboxValue, new_sandbox, with_env}
 use Rattle.gk_world.specs.declared.refusals.WorldFault.{WorldFault}
 use Rattle.gk_world.specs.declared.refusals.WorldFault.TheVariants as world
 use Rattle.gk_cli.specs.Arguments.{PairValue, pair_value}
-use Rattle.gk_cli.specs.Counted.{one_more}
-use Rattle.gk_cli.specs.Inputs.{Request}
-use Rattle.gk_cli.specs.Source.{SourceValue, source_value, names_of}
-use Rattle.gk_cli.specs.declared.source.Source.{Source}
+use Rattle.gk_request.specs.Counted.{one_more}
+use Rattle.gk_request.specs.Request.{Request, FilesValue, HaveSameNames, request_of_files, suite_value}
+use Rattle.gk_request.specs.Source.{SourceValue, source_value, names_of}
+use Rattle.gk_request.specs.declared.source.Source.{Source}
+use Rattle.gk_request.specs.declared.source.SourceFault.TheVariants as reading
 use Rattle.gk_cli.specs.Writing.{Device, IsUntouched, StopsBy}
-use Rattle.gk_cli.specs.SuiteFiles.{FilesValue, HaveSameNames, request_of_files, suite_value}
 use Rattle.gk_cli.specs.Modes.{AreLeft, IsStoppedAs, SaysFaultAs}
-use Rattle.gk_cli.specs.FaultNotes.{name_at_fault}
-use Rattle.gk_cli.specs.declared.suite_files.SuiteFiles.{SuiteFiles}
+use Rattle.gk_request.specs.FaultLine.{name_at_fault}
+use Rattle.gk_request.specs.declared.request.SuiteFiles.{SuiteFiles}
 use Rattle.gk_cli.specs.declared.arguments.Mode.{Mode}
 use Rattle.gk_cli.specs.declared.arguments.Mode.TheVariants.{Report, Explanation, Findings}
 use Rattle.gk_cli.specs.declared.arguments.Words.{Words}
-use Rattle.gk_cli.specs.declared.run_fault.RunFault.{RunFault}
-use Rattle.gk_cli.specs.declared.run_fault.RunFault.TheVariants as run
-use Rattle.gk_program.specs.Files.{AreRead, IsFaultOfFiles, IsFileFault, Reading, StopsReading, files_in_order, name_of}
-use Rattle.gk_program.specs.Program.{AreGiven, AreTaken, IsFaultAs, IsFaultOfGiven, IsFaultOfRun, IsFaultOfVariable, IsFlushedRun, IsGiven, IsRefused, IsRun, IsShown, IsTextFault, SaysCalls, SaysCallsOfRun, IsRunFrom, SaysProgram, SaysRunFrom, SaysSuite, SaysVariables, contents_given, variables_given, with_variables}
+use Rattle.gk_request.specs.declared.run_fault.RunFault.{RunFault}
+use Rattle.gk_request.specs.declared.run_fault.RunFault.TheVariants as run
+use Rattle.gk_program.specs.Files.{AreRead, IsFaultOfFiles, IsFileFault, Reading, StopsHere, StopsReading, files_in_order, name_of}
+use Rattle.gk_program.specs.Program.{AreGiven, AreTaken, IsFaultAs, IsFaultOfGiven, IsFaultOfRun, IsFaultOfVariable, IsFlushedRun, IsGiven, IsRefused, IsRun, SaysCallsOfRun, IsRunFrom, SaysProgram, SaysRunFrom, SaysSuite, SaysVariables, contents_given, variables_given, with_variables, hinted, is_lint}
 use Rattle.gk_program.specs.Asked.{files_to_put, names_given}
 use Rattle.gk_program.specs.WorldFiles.{ArePut, StopsPutting}
 use Rattle.gk_program.specs.FaultListing.{IsListedAs}
 use Rattle.gk_program.specs.declared.fault.Fault.{Fault}
 use Rattle.gk_program.specs.declared.fault.Fault.TheVariants.{NotUtf8, Usage, Env, File, NotText, TextTooLong, CannotRead, TooLong, OfRun, Unread, Write, Memory}
-
--- what holds of a result, by what is known of it
-pub if_err_by : {T E : Type 0} {P Q : E → Type 0} (r : Result T E) → ((e : E) → P e → Q e) → IfErr r P → IfErr r Q
-if_err_by (Ok x) f h = h
-if_err_by (Err e) f h = f e h
 
 -- a device that isn't called
 pub untouched : (d : Device) → IsUntouched d d
@@ -87,10 +82,10 @@ named_as_before old new (run.Select input f) (OfRun name g) same is = (is.0, is.
 named_as_before old new (run.Select input f) _ same is = absurd is
 
 -- so the program's fault is that of the files before
-pub fault_as_before : (mode : Mode) (result : Result ℕ RunFault) (old new : FilesValue) (by : RunFault) (fault : Fault) → AreLeft mode result old new → IsFaultAs mode new by fault → IsFaultAs mode old by fault
-fault_as_before Report result old new by fault left is = named_as_before old new by fault left.names is
-fault_as_before Explanation result old new by fault left is = named_as_before old new by fault left.names is
-fault_as_before (Findings steps) result old new by fault left is = subst (λ (files : FilesValue). IsFaultAs (Findings steps) files by fault) left is
+pub fault_as_before : (mode : Mode) (tags : List (List ℕ)) (result : Result ℕ RunFault) (old new : FilesValue) (by : RunFault) (fault : Fault) → AreLeft mode result old new → IsFaultAs mode tags new by fault → IsFaultAs mode tags old by fault
+fault_as_before Report tags result old new by fault left is = named_as_before old new by fault left.names is
+fault_as_before Explanation tags result old new by fault left is = named_as_before old new by fault left.names is
+fault_as_before (Findings steps) tags result old new by fault left is = subst (λ (files : FilesValue). IsFaultAs (Findings steps) tags files by fault) left is
 
 -- why a run was stopped
 stopped_by : (mode : Mode) (files : FilesValue) (r : Request) (c : Contents) (old new : Device) (by : RunFault) → IsStoppedAs mode files r c old new by → StopsBy old new by
@@ -120,31 +115,22 @@ calls_of_run mode r c old new files (run.Hooks f) _ room is says = absurd is
 calls_of_run mode r c old new files (run.Select input f) (OfRun name g) room is says = says.1
 calls_of_run mode r c old new files (run.Select input f) _ room is says = absurd is
 
--- with `--lint`, all files that don't read are listed
-pub as_listed : (steps : Bool) (files : FilesValue) (by : RunFault) (fault : Fault) → by ≢ run.Write → by ≢ run.Memory → IsListedAs files by fault → IsFaultAs (Findings steps) files by fault
-as_listed steps files run.Write fault write memory is = absurd (write refl)
-as_listed steps files run.Memory fault write memory is = absurd (memory refl)
-as_listed steps files (run.Read input f) fault write memory is = is
-as_listed steps files (run.Library f) fault write memory is = is
-as_listed steps files (run.Hooks f) fault write memory is = is
-as_listed steps files (run.Select input f) fault write memory is = is
-
-listed_calls : (files : FilesValue) (by : RunFault) (old new : Device) (fault : Fault) → IsListedAs files by fault → IsUntouched old new → SaysCallsOfRun old new fault
-listed_calls files by old new (Unread status place lines) is nothing = nothing
-listed_calls files by old new Memory is nothing = inl nothing
-listed_calls files by old new _ is nothing = absurd is
+listed_calls : (tags : List (List ℕ)) (files : FilesValue) (by : RunFault) (old new : Device) (fault : Fault) → IsListedAs tags files by fault → IsUntouched old new → SaysCallsOfRun old new fault
+listed_calls tags files by old new (Unread status place lines) is nothing = nothing
+listed_calls tags files by old new Memory is nothing = inl nothing
+listed_calls tags files by old new _ is nothing = absurd is
 
 -- the same, by what is written of the run
 pub calls_as : (mode : Mode) (r : Request) (c : Contents) (old new : Device) (files : FilesValue) (by : RunFault) (fault : Fault)
-    → old.failures < 2 ^ 64 - 1 → IsFaultAs mode files by fault → SaysFaultAs mode files r c old new by → SaysCallsOfRun old new fault
+    → old.failures < 2 ^ 64 - 1 → IsFaultAs mode r.tags files by fault → SaysFaultAs mode files r c old new by → SaysCallsOfRun old new fault
 calls_as Report r c old new files by fault room is says = calls_of_run Report r c old new files by fault room is says
 calls_as Explanation r c old new files by fault room is says = calls_of_run Explanation r c old new files by fault room is says
 calls_as (Findings steps) r c old new files run.Write fault room is says = calls_of_run (Findings steps) r c old new files run.Write fault room is says
 calls_as (Findings steps) r c old new files run.Memory fault room is says = calls_of_run (Findings steps) r c old new files run.Memory fault room is says
-calls_as (Findings steps) r c old new files (run.Read input f) fault room is says = listed_calls files (run.Read input f) old new fault is says.1
-calls_as (Findings steps) r c old new files (run.Library f) fault room is says = listed_calls files (run.Library f) old new fault is says.1
-calls_as (Findings steps) r c old new files (run.Hooks f) fault room is says = listed_calls files (run.Hooks f) old new fault is says.1
-calls_as (Findings steps) r c old new files (run.Select input f) fault room is says = listed_calls files (run.Select input f) old new fault is says.1
+calls_as (Findings steps) r c old new files (run.Read input f) fault room is says = listed_calls r.tags files (run.Read input f) old new fault is says.1
+calls_as (Findings steps) r c old new files (run.Library f) fault room is says = listed_calls r.tags files (run.Library f) old new fault is says.1
+calls_as (Findings steps) r c old new files (run.Hooks f) fault room is says = listed_calls r.tags files (run.Hooks f) old new fault is says.1
+calls_as (Findings steps) r c old new files (run.Select input f) fault room is says = listed_calls r.tags files (run.Select input f) old new fault is says.1
 
 -- ---- what is shown
 
@@ -154,29 +140,6 @@ kept None b c xs wrote same = tt
 kept (Some x) None c xs wrote same = absurd wrote
 kept (Some x) (Some y) None xs wrote same = absurd same
 kept (Some x) (Some y) (Some z) xs wrote same = same ∙ wrote
-
--- a text that is shown was appended, by no more calls than it has bytes, each of which moved at least one
-pub shown_whole : (text : List ℕ) (old new : Device) (status : ℕ) → IsShown text old new status
-    → Appends old.bytes new.bytes text × (new.calls ≤ old.calls + length text) × (new.idle ≡ old.idle)
-shown_whole text old new status is = (
-  kept old.bytes is.written.bytes new.bytes text is.is.written is.flushed.written,
-  subst (λ n. n ≤ old.calls + length text) (sym is.flushed.calls) is.is.calls,
-  is.flushed.idle ∙ is.is.busy,
-)
-
--- a text that is not shown has one of two faults
-pub fault_of_text : (text : List ℕ) (old new : Device) (fault : Fault) → IsTextFault text old new fault → (fault ≡ Write) ⊎ (fault ≡ Memory)
-fault_of_text text old new Write says = inl refl
-fault_of_text text old new Memory says = inr refl
-fault_of_text text old new _ says = absurd says
-
--- and standard output failed, and moved a byte in each call but one at most, or it was not called
-pub calls_of_text : (text : List ℕ) (old new : Device) (fault : Fault) → old.failures < 2 ^ 64 - 1 → IsTextFault text old new fault → SaysCalls old new fault
-calls_of_text text old new Write room (inl stopped) = (fewer old.failures new.failures room stopped.why.0, (let idle = stopped.why.1 in omega arith))
-calls_of_text text old new Write room (inr unflushed) =
-    (fewer old.failures new.failures room unflushed.failed, (let idle = unflushed.flushed.idle ∙ unflushed.is.busy in omega arith))
-calls_of_text text old new Memory room says = says
-calls_of_text text old new _ room says = absurd says
 
 -- ---- variables
 
@@ -224,9 +187,26 @@ calls_of_variables d variables old new _ says = absurd says
 
 -- ---- a fault of a file
 
+-- a hint changes nothing of why reading stops
+still_stops_here : {S : Type 0} (r : Reading S) (a b : S) (left : List (List ℕ)) (name : String Global) (one other : Bool) → StopsHere r a left b (CannotRead name one) → StopsHere r a left b (CannotRead name other)
+still_stops_here r a b [] name one other stops = let no : ⊥ = cc in absurd no
+still_stops_here r a b (n ∷ left) name one other (inl (reading.Device, read, named)) = inl (reading.Device, read, named)
+still_stops_here r a b (n ∷ left) name one other (inl (by, read, named)) = absurd named
+still_stops_here r a b (n ∷ left) name one other (inr stops) = let no : ⊥ = cc in absurd no
+
+still_stops : {S : Type 0} (r : Reading S) (names : List (List ℕ)) (a b : S) (name : String Global) (one other : Bool) → StopsReading r a names b (CannotRead name one) → StopsReading r a names b (CannotRead name other)
+still_stops r names a b name one other stops = record {
+  files = stops.files;
+  left = stops.left;
+  between = stops.between;
+  order = stops.order;
+  read = stops.read;
+  stops = still_stops_here r stops.between b stops.left name one other stops.stops;
+}
+
 from_files : {S : Type 0} (r : Reading S) (w : Words) (c : Contents) (a b : S) (d : Device) (fault : Fault) → StopsReading r a (names_given w) b fault
-    → Any (λ name. IsFileFault (string_bytes name) fault) w.files.items → SaysRunFrom r w c a b d d fault
-from_files r w c a b d (CannotRead other) stops h = record { given = inr (inr h); stops = stops }
+    → Any (λ name. IsFileFault (string_bytes name) fault) w.files.items → SaysRunFrom r w c a b d d (hinted w.mode fault)
+from_files r w c a b d (CannotRead other hint) stops h = (record { given = inr (inr h); stops = still_stops r (names_given w) a b other hint (is_lint w.mode) stops }, refl)
 from_files r w c a b d (TooLong other) stops h = record { given = inr (inr h); stops = stops }
 from_files r w c a b d Memory stops h = inl (untouched d, stops)
 from_files r w c a b d _ stops h = absurd h.4
@@ -237,27 +217,27 @@ no_file (Some n) says = says
 
 -- a fault of the library file or of the hooks file
 from_named : {S : Type 0} (r : Reading S) (w : Words) (c : Contents) (a b : S) (d : Device) (name : Option (String Global)) (fault : Fault) → ((file : List ℕ) → IsSomeAnd name (λ n. file ≡ string_bytes n) → IsGiven w file)
-    → StopsReading r a (names_given w) b fault → IsSomeAnd name (λ n. IsFileFault (string_bytes n) fault) → SaysRunFrom r w c a b d d fault
-from_named r w c a b d name (CannotRead other) given stops says = record { given = given (string_bytes other) says; stops = stops }
+    → StopsReading r a (names_given w) b fault → IsSomeAnd name (λ n. IsFileFault (string_bytes n) fault) → SaysRunFrom r w c a b d d (hinted w.mode fault)
+from_named r w c a b d name (CannotRead other hint) given stops says = (record { given = given (string_bytes other) says; stops = still_stops r (names_given w) a b other hint (is_lint w.mode) stops }, refl)
 from_named r w c a b d name (TooLong other) given stops says = record { given = given (string_bytes other) says; stops = stops }
 from_named r w c a b d name Memory given stops says = inl (untouched d, stops)
 from_named r w c a b d name _ given stops says = absurd (no_file name says)
 
 -- a fault of one of the files
 pub from_run_files : {S : Type 0} (r : Reading S) (w : Words) (c : Contents) (a b : S) (d : Device) (fault : Fault) → StopsReading r a (names_given w) b fault
-    → IsFaultOfFiles w.library w.hooks w.files.items fault → SaysRunFrom r w c a b d d fault
+    → IsFaultOfFiles w.library w.hooks w.files.items fault → SaysRunFrom r w c a b d d (hinted w.mode fault)
 from_run_files r w c a b d fault stops (inl h) = from_named r w c a b d w.library fault (λ file is. inl is) stops h
 from_run_files r w c a b d fault stops (inr (inl h)) = from_named r w c a b d w.hooks fault (λ file is. inr (inl is)) stops h
 from_run_files r w c a b d fault stops (inr (inr h)) = from_files r w c a b d fault stops h
 
 -- then standard output is not called
-pub calls_of_files : (library hooks : Option (String Global)) (names : List (String Global)) (d : Device) (fault : Fault) → IsFaultOfFiles library hooks names fault → SaysCallsOfRun d d fault
-calls_of_files library hooks names d (CannotRead other) h = untouched d
-calls_of_files library hooks names d (TooLong other) h = untouched d
-calls_of_files library hooks names d Memory h = inl (untouched d)
-calls_of_files library hooks names d _ (inl h) = absurd (no_file library h)
-calls_of_files library hooks names d _ (inr (inl h)) = absurd (no_file hooks h)
-calls_of_files library hooks names d _ (inr (inr h)) = absurd h.4
+pub calls_of_files : (library hooks : Option (String Global)) (names : List (String Global)) (d : Device) (fault : Fault) → IsFaultOfFiles library hooks names fault → (mode : Mode) → SaysCallsOfRun d d (hinted mode fault)
+calls_of_files library hooks names d (CannotRead other hint) h mode = untouched d
+calls_of_files library hooks names d (TooLong other) h mode = untouched d
+calls_of_files library hooks names d Memory h mode = inl (untouched d)
+calls_of_files library hooks names d _ (inl h) mode = absurd (no_file library h)
+calls_of_files library hooks names d _ (inr (inl h)) mode = absurd (no_file hooks h)
+calls_of_files library hooks names d _ (inr (inr h)) mode = absurd h.4
 
 -- ---- a fault of the run of the files
 
@@ -268,7 +248,7 @@ IsSuiteFault Env = ⊥
 IsSuiteFault File = ⊥
 IsSuiteFault (NotText name) = ⊥
 IsSuiteFault (TextTooLong name) = ⊥
-IsSuiteFault (CannotRead name) = ⊥
+IsSuiteFault (CannotRead name hint) = ⊥
 IsSuiteFault (TooLong name) = ⊥
 IsSuiteFault _ = Unit {0}
 
@@ -284,23 +264,23 @@ suite_fault files (run.Hooks f) _ is = absurd is
 suite_fault files (run.Select input f) (OfRun name g) is = tt
 suite_fault files (run.Select input f) _ is = absurd is
 
-listed_fault : (files : FilesValue) (by : RunFault) (fault : Fault) → IsListedAs files by fault → IsSuiteFault fault
-listed_fault files by (Unread status place lines) is = tt
-listed_fault files by Memory is = tt
-listed_fault files by _ is = absurd is
+listed_fault : (tags : List (List ℕ)) (files : FilesValue) (by : RunFault) (fault : Fault) → IsListedAs tags files by fault → IsSuiteFault fault
+listed_fault tags files by (Unread status place lines) is = tt
+listed_fault tags files by Memory is = tt
+listed_fault tags files by _ is = absurd is
 
-fault_as : (mode : Mode) (files : FilesValue) (by : RunFault) (fault : Fault) → IsFaultAs mode files by fault → IsSuiteFault fault
-fault_as Report files by fault is = suite_fault files by fault is
-fault_as Explanation files by fault is = suite_fault files by fault is
-fault_as (Findings steps) files run.Write fault is = suite_fault files run.Write fault is
-fault_as (Findings steps) files run.Memory fault is = suite_fault files run.Memory fault is
-fault_as (Findings steps) files (run.Read input f) fault is = listed_fault files (run.Read input f) fault is
-fault_as (Findings steps) files (run.Library f) fault is = listed_fault files (run.Library f) fault is
-fault_as (Findings steps) files (run.Hooks f) fault is = listed_fault files (run.Hooks f) fault is
-fault_as (Findings steps) files (run.Select input f) fault is = listed_fault files (run.Select input f) fault is
+fault_as : (mode : Mode) (tags : List (List ℕ)) (files : FilesValue) (by : RunFault) (fault : Fault) → IsFaultAs mode tags files by fault → IsSuiteFault fault
+fault_as Report tags files by fault is = suite_fault files by fault is
+fault_as Explanation tags files by fault is = suite_fault files by fault is
+fault_as (Findings steps) tags files run.Write fault is = suite_fault files run.Write fault is
+fault_as (Findings steps) tags files run.Memory fault is = suite_fault files run.Memory fault is
+fault_as (Findings steps) tags files (run.Read input f) fault is = listed_fault tags files (run.Read input f) fault is
+fault_as (Findings steps) tags files (run.Library f) fault is = listed_fault tags files (run.Library f) fault is
+fault_as (Findings steps) tags files (run.Hooks f) fault is = listed_fault tags files (run.Hooks f) fault is
+fault_as (Findings steps) tags files (run.Select input f) fault is = listed_fault tags files (run.Select input f) fault is
 
 suite_named : (mode : Mode) (files : FilesValue) (r : Request) (c : Contents) (old new : Device) (fault : Fault) → SaysSuite mode files r c old new fault → IsSuiteFault fault
-suite_named mode files r c old new fault (inl says) = fault_as mode files says.0 fault says.1
+suite_named mode files r c old new fault (inl says) = fault_as mode r.tags files says.0 fault says.1
 suite_named mode files r c old new fault (inr unflushed) = subst IsSuiteFault (sym unflushed.named) tt
 
 of_given : {S : Type 0} (r : Reading S) (w : Words) (c : Contents) (a b : S) (old new : Device) (fault : Fault) → IsSuiteFault fault → IsFaultOfGiven r w c a b old new fault → SaysRunFrom r w c a b old new fault
@@ -371,7 +351,7 @@ stops_from r w a b d files fault same taken stops = inr (inl record {
 -- then standard output is not called
 pub calls_of_putting : {S : Type 0} (r : Reading S) (given : List PairValue) (a b : S) (d : Device) (fault : Fault) → StopsPutting r given a b fault → SaysCallsOfRun d d fault
 calls_of_putting r given a b d File stops = untouched d
-calls_of_putting r given a b d (CannotRead name) stops = untouched d
+calls_of_putting r given a b d (CannotRead name hint) stops = untouched d
 calls_of_putting r given a b d (NotText name) stops = untouched d
 calls_of_putting r given a b d (TextTooLong name) stops = untouched d
 calls_of_putting r given a b d Memory stops = inl (untouched d)

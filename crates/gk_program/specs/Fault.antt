@@ -1,9 +1,8 @@
 -- The text, the status and the place of each fault, as one table.
-use Rattle.std.specs.Prelude.{ℕ, List, ◌++◌, Option, Some, None, codes, option_map, string_bytes}
-use Rattle.gk_cli.specs.FaultLine.{fault_line}
-use Rattle.gk_cli.specs.FaultNotes.{line_at_fault}
-use Rattle.gk_cli.specs.RunFault.{status_of_fault}
-use Rattle.gk_cli.specs.declared.run_fault.RunFault.{RunFault}
+use Rattle.std.specs.Prelude.{ℕ, true, false, List, ◌++◌, Option, Some, None, codes, option_map, string_bytes}
+use Rattle.gk_request.specs.FaultLine.{fault_line, line_at_fault}
+use Rattle.gk_request.specs.RunFault.{status_of_fault}
+use Rattle.gk_request.specs.declared.run_fault.RunFault.{RunFault}
 use Rattle.gk_program.specs.FaultPlace.{nowhere, place_at}
 use Rattle.gk_program.specs.declared.fault.Fault.{Fault}
 use Rattle.gk_program.specs.declared.fault.Fault.TheVariants.{NotUtf8, Usage, Env, File, NotText, TextTooLong, CannotRead, TooLong, OfRun, Unread, Write, Memory}
@@ -22,7 +21,7 @@ said_line name fault = codes "gherkin_run: " ++ (fault_line name fault ++ codes 
 abbrev pub says : List ℕ → ℕ → FaultRow
 says line status = record { text = codes "gherkin_run: " ++ line; status = status }
 
--- The table of faults. A mistake that clap finds has clap's own text. Invalid files have all their lines. A fault of a run has the line of the run's fault, with the name of the file that has the fault.
+-- The table of faults. A mistake that clap finds has clap's own text. Invalid files have all their lines. With `--lint`, a file that can't be read has a hint. A fault of a run has the line of the run's fault, with the name of the file that has the fault.
 abbrev pub row_of : Fault → FaultRow
 row_of NotUtf8 = says (codes "not UTF-8\n") 2
 row_of (Usage text) = record { text = string_bytes text; status = 2 }
@@ -30,7 +29,8 @@ row_of Env = says (codes "bad --env\n") 2
 row_of File = says (codes "bad --file\n") 2
 row_of (NotText f) = says (string_bytes f ++ codes ": not UTF-8\n") 3
 row_of (TextTooLong f) = says (string_bytes f ++ codes ": longer than 1048576 bytes\n") 3
-row_of (CannotRead f) = says (string_bytes f ++ codes ": cannot read\n") 3
+row_of (CannotRead f false) = says (string_bytes f ++ codes ": cannot read\n") 3
+row_of (CannotRead f true) = says (string_bytes f ++ codes ": cannot read\n    check its name and permissions; for a folder, name its files, as in features/*.feature; for FILE:12, write --line 12 FILE\n") 3
 row_of (TooLong f) = says (string_bytes f ++ codes ": longer than 16777216 bytes\n") 3
 row_of (OfRun name fault) = record { text = said_line (option_map string_bytes name) fault; status = status_of_fault fault }
 row_of (Unread status place lines) = record { text = string_bytes lines; status = status }
@@ -45,7 +45,7 @@ text_of fault = (row_of fault).text
 abbrev pub place_of : Fault → FaultPlace
 place_of (NotText f) = place_at (Some (string_bytes f)) None
 place_of (TextTooLong f) = place_at (Some (string_bytes f)) None
-place_of (CannotRead f) = place_at (Some (string_bytes f)) None
+place_of (CannotRead f hinted) = place_at (Some (string_bytes f)) None
 place_of (TooLong f) = place_at (Some (string_bytes f)) None
 place_of (OfRun name fault) = place_at (option_map string_bytes name) (line_at_fault fault)
 place_of (Unread status place lines) = place

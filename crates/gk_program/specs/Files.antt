@@ -2,11 +2,11 @@
 use Rattle.std.specs.Prelude.{◌≡◌, ◌⊎◌, ◌++◌, List, [], ◌∷◌, ℕ, map, Option, Some, None, Result, Ok, Err, String, Vec, option_map, string_bytes, IsSomeAnd}
 use Rattle.std.specs.List.{Any}
 use Rattle.std.specs.declared.alloc.Global.{Global}
-use Rattle.gk_cli.specs.Source.{SourceValue}
-use Rattle.gk_cli.specs.SuiteFiles.{FilesValue}
-use Rattle.gk_cli.specs.declared.source.Source.{Source}
-use Rattle.gk_cli.specs.declared.source.SourceFault.{SourceFault}
-use Rattle.gk_cli.specs.declared.source.SourceFault.TheVariants as reading
+use Rattle.gk_request.specs.Source.{SourceValue}
+use Rattle.gk_request.specs.Request.{FilesValue}
+use Rattle.gk_request.specs.declared.source.Source.{Source}
+use Rattle.gk_request.specs.declared.source.SourceFault.{SourceFault}
+use Rattle.gk_request.specs.declared.source.SourceFault.TheVariants as reading
 use Rattle.gk_program.specs.declared.fault.Fault.{Fault}
 use Rattle.gk_program.specs.declared.fault.Fault.TheVariants.{CannotRead, TooLong, Memory}
 
@@ -16,7 +16,7 @@ name_of source = string_bytes source.name
 
 -- A fault of reading that names this file, or out of memory.
 abbrev pub IsFileFault : List ℕ → Fault → Type 0
-IsFileFault name (CannotRead other) = string_bytes other ≡ name
+IsFileFault name (CannotRead other hinted) = string_bytes other ≡ name
 IsFileFault name (TooLong other) = string_bytes other ≡ name
 IsFileFault name Memory = Unit {0}
 IsFileFault name _ = ⊥
@@ -35,7 +35,7 @@ bytes_or_fault (Err fault) = Err fault
 
 -- The program's fault for a file of this name that couldn't be read, for this reason.
 abbrev pub IsFaultOfReading : List ℕ → SourceFault → Fault → Type 0
-IsFaultOfReading name reading.Device (CannotRead other) = string_bytes other ≡ name
+IsFaultOfReading name reading.Device (CannotRead other hinted) = string_bytes other ≡ name
 IsFaultOfReading name reading.TooLong (TooLong other) = string_bytes other ≡ name
 IsFaultOfReading name reading.Memory Memory = Unit {0}
 IsFaultOfReading name by fault = ⊥

@@ -1,5 +1,5 @@
 -- What the program returns and writes.
-use Rattle.std.specs.Prelude.{◌≡◌, ◌⊎◌, ◌<◌, ◌≤◌, ◌+◌, ℕ, List, [], ◌∷◌, map, None, Result, Ok, Err, IsSome, IsSomeAnd, option_map, string_bytes}
+use Rattle.std.specs.Prelude.{◌≡◌, ◌⊎◌, ◌<◌, ◌≤◌, ◌+◌, ℕ, Bool, true, false, List, [], ◌∷◌, map, None, Result, Ok, Err, IsSome, IsSomeAnd, option_map, string_bytes}
 use Rattle.std.specs.Io.KnownBytes.{Keeps}
 use Rattle.std.specs.List.{All, Any}
 use Rattle.clap.specs.Words.{Text}
@@ -9,17 +9,16 @@ use Rattle.gk_world.specs.Sandbox.{SandboxValue, with_env}
 use Rattle.gk_world.specs.declared.refusals.WorldFault.{WorldFault}
 use Rattle.gk_world.specs.declared.refusals.WorldFault.TheVariants as world
 use Rattle.gk_cli.specs.Arguments.{PairValue, pair_value}
-use Rattle.gk_cli.specs.Counted.{one_more}
-use Rattle.gk_cli.specs.Inputs.{Request}
-use Rattle.gk_cli.specs.Writing.{Device, IsUntouched, IsStopped, IsWritten, StopsBy}
+use Rattle.gk_request.specs.Counted.{one_more}
+use Rattle.gk_request.specs.Request.{Request, FilesValue, request_of_files}
+use Rattle.gk_cli.specs.Writing.{Device, IsUntouched, IsStopped, IsWritten}
 use Rattle.gk_cli.specs.Modes.{IsStoppedAs, IsWrittenAs, SaysFaultAs}
-use Rattle.gk_cli.specs.FaultNotes.{name_at_fault}
-use Rattle.gk_cli.specs.SuiteFiles.{FilesValue, request_of_files}
+use Rattle.gk_request.specs.FaultLine.{name_at_fault}
 use Rattle.gk_cli.specs.declared.arguments.Mode.{Mode}
 use Rattle.gk_cli.specs.declared.arguments.Mode.TheVariants.{Findings}
 use Rattle.gk_cli.specs.declared.arguments.Words.{Words}
-use Rattle.gk_cli.specs.declared.run_fault.RunFault.{RunFault}
-use Rattle.gk_cli.specs.declared.run_fault.RunFault.TheVariants as run
+use Rattle.gk_request.specs.declared.run_fault.RunFault.{RunFault}
+use Rattle.gk_request.specs.declared.run_fault.RunFault.TheVariants as run
 use Rattle.gk_program.specs.Asked.{SaysGiven, files_to_put, names_given}
 use Rattle.gk_program.specs.FaultListing.{IsListedAs}
 use Rattle.gk_program.specs.Files.{AreRead, Reading, StopsReading, files_in_order}
@@ -105,11 +104,11 @@ IsFaultOfRun files by (OfRun name same) = (same ≡ by) × (option_map string_by
 IsFaultOfRun files by other = ⊥
 
 -- The program's fault for a fault of the run, by the mode. With `--lint`, all invalid files are listed.
-abbrev pub IsFaultAs : Mode → FilesValue → RunFault → Fault → Type 0
-IsFaultAs (Findings steps) files run.Write fault = IsFaultOfRun files run.Write fault
-IsFaultAs (Findings steps) files run.Memory fault = IsFaultOfRun files run.Memory fault
-IsFaultAs (Findings steps) files by fault = IsListedAs files by fault
-IsFaultAs mode files by fault = IsFaultOfRun files by fault
+abbrev pub IsFaultAs : Mode → List (List ℕ) → FilesValue → RunFault → Fault → Type 0
+IsFaultAs (Findings steps) tags files run.Write fault = IsFaultOfRun files run.Write fault
+IsFaultAs (Findings steps) tags files run.Memory fault = IsFaultOfRun files run.Memory fault
+IsFaultAs (Findings steps) tags files by fault = IsListedAs tags files by fault
+IsFaultAs mode tags files by fault = IsFaultOfRun files by fault
 
 -- The output of a run was written and flushed, and its status is returned.
 pub record IsFlushedRun (mode : Mode) (files : FilesValue) (request : Request) (contents : Contents) (old new : Device) (status : ℕ) : Type 0 where
@@ -129,7 +128,7 @@ pub record FailsToFlush (mode : Mode) (files : FilesValue) (request : Request) (
 -- A fault after the files are read: that of the run, or of the flush.
 abbrev pub SaysSuite : Mode → FilesValue → Request → Contents → Device → Device → Fault → Type 0
 SaysSuite mode files request contents old new fault =
-    ((by : RunFault) × IsFaultAs mode files by fault × SaysFaultAs mode files request contents old new by)
+    ((by : RunFault) × IsFaultAs mode request.tags files by fault × SaysFaultAs mode files request contents old new by)
     ⊎ FailsToFlush mode files request contents old new fault
 
 -- The sources have the names of the given files, in order. There is a library file if and only if one was given, and it has the given name; the same holds for the hooks file.
@@ -177,7 +176,17 @@ pub record IsFaultOfName {S : Type 0} (reads : Reading S) (w : Words) (before af
   pub given : IsGiven w name
   pub stops : StopsReading reads before (names_given w) after fault
 
--- What each fault of a run from these contents says. A file that can't be read is the first such file. If memory was refused, nothing was written and reading stopped, or all files were read and the fault is the run's.
+-- Nothing runs in this mode.
+abbrev pub is_lint : Mode → Bool
+is_lint (Findings steps) = true
+is_lint mode = false
+
+-- A fault of reading files, in this mode: with `--lint`, a file that can't be read has a hint.
+abbrev pub hinted : Mode → Fault → Fault
+hinted mode (CannotRead name hint) = CannotRead name (is_lint mode)
+hinted mode fault = fault
+
+-- What each fault of a run from these contents says. A file that can't be read is the first such file; with `--lint`, it has a hint. If memory was refused, nothing was written and reading stopped, or all files were read and the fault is the run's.
 abbrev pub SaysRunFrom : {S : Type 0} → Reading S → Words → Contents → S → S → Device → Device → Fault → Type 0
 SaysRunFrom reads w contents before after old new NotUtf8 = ⊥
 SaysRunFrom reads w contents before after old new (Usage text) = ⊥
@@ -185,7 +194,7 @@ SaysRunFrom reads w contents before after old new Env = ⊥
 SaysRunFrom reads w contents before after old new File = ⊥
 SaysRunFrom reads w contents before after old new (NotText name) = ⊥
 SaysRunFrom reads w contents before after old new (TextTooLong name) = ⊥
-SaysRunFrom reads w contents before after old new (CannotRead name) = IsFaultOfName reads w before after (string_bytes name) (CannotRead name)
+SaysRunFrom reads w contents before after old new (CannotRead name hint) = IsFaultOfName reads w before after (string_bytes name) (CannotRead name hint) × (hint ≡ is_lint w.mode)
 SaysRunFrom reads w contents before after old new (TooLong name) = IsFaultOfName reads w before after (string_bytes name) (TooLong name)
 SaysRunFrom reads w contents before after old new Memory = (IsUntouched old new × StopsReading reads before (names_given w) after Memory) ⊎ IsFaultOfGiven reads w contents before after old new Memory
 SaysRunFrom reads w contents before after old new fault = IsFaultOfGiven reads w contents before after old new fault

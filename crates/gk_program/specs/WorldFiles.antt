@@ -5,9 +5,9 @@ use Rattle.gk_world.specs.State.{Contents}
 use Rattle.gk_world.specs.Refusals.{is_bad_name, is_too_long, put_refusal}
 use Rattle.gk_world.specs.Sandbox.{SandboxValue, with_file}
 use Rattle.gk_cli.specs.Arguments.{PairValue}
-use Rattle.gk_cli.specs.Source.{SourceValue}
-use Rattle.gk_cli.specs.declared.source.SourceFault.{SourceFault}
-use Rattle.gk_cli.specs.declared.source.SourceFault.TheVariants as reading
+use Rattle.gk_request.specs.Source.{SourceValue}
+use Rattle.gk_request.specs.declared.source.SourceFault.{SourceFault}
+use Rattle.gk_request.specs.declared.source.SourceFault.TheVariants as reading
 use Rattle.gk_program.specs.Files.{AreRead, Reading}
 use Rattle.gk_program.specs.declared.fault.Fault.{Fault}
 use Rattle.gk_program.specs.declared.fault.Fault.TheVariants.{File, CannotRead, NotText, TextTooLong, Memory}
@@ -44,7 +44,7 @@ pub record ArePut {S : Type 0} (reads : Reading S) (given : List PairValue) (bef
 
 -- Why a file with a good name isn't put: its path can't be read, its bytes aren't UTF-8 or are too many, or memory was refused.
 abbrev pub IsFaultOfFile : {S : Type 0} → Reading S → S → PairValue → S → Fault → Type 0
-IsFaultOfFile reads before given after (CannotRead path) = (string_bytes path ≡ given.text) × reads before given.text (Err reading.Device) after
+IsFaultOfFile reads before given after (CannotRead path hinted) = (string_bytes path ≡ given.text) × reads before given.text (Err reading.Device) after
 IsFaultOfFile reads before given after (NotText path) = (string_bytes path ≡ given.text) × ((bytes : List ℕ) × reads before given.text (Ok bytes) after × (IsUtf8 bytes → ⊥))
 IsFaultOfFile reads before given after (TextTooLong path) =
     (string_bytes path ≡ given.text)
@@ -77,7 +77,7 @@ pub record IsPut {S : Type 0} (reads : Reading S) (given : PairValue) (before af
 
 -- The fault of a path that can't be read.
 abbrev pub IsFaultOfPath : List ℕ → SourceFault → Fault → Type 0
-IsFaultOfPath path reading.Device (CannotRead name) = string_bytes name ≡ path
+IsFaultOfPath path reading.Device (CannotRead name hinted) = string_bytes name ≡ path
 IsFaultOfPath path reading.TooLong (TextTooLong name) = string_bytes name ≡ path
 IsFaultOfPath path reading.Memory Memory = Unit {0}
 IsFaultOfPath path by fault = ⊥

@@ -4,7 +4,7 @@ ghost use Rattle.std.specs.Prelude.{◌≡◌, Some, option_map, string_bytes};
 ghost use Rattle.gk_program.specs.Fault.{place_of, row_of, text_of};
 
 use crate::fault_place::{FaultPlace, NOWHERE, place_in, place_of_run};
-use gk_cli::{NamedFault, RunFault};
+use gk_request::{NamedFault, RunFault};
 use std::alloc::{AllocError, AllocFailed};
 use std::fmt;
 
@@ -29,9 +29,10 @@ pub enum Fault {
     TextTooLong {
         name: String,
     },
-    /// The file can't be opened or read.
+    /// The file can't be opened or read. With `--lint`, a hint is below the line.
     CannotRead {
         name: String,
+        hinted: bool,
     },
     /// The file is longer than a source may be.
     TooLong {
@@ -81,7 +82,7 @@ impl Fault {
         match self {
             Fault::NotText { name }
             | Fault::TextTooLong { name }
-            | Fault::CannotRead { name }
+            | Fault::CannotRead { name, .. }
             | Fault::TooLong { name } => place_in(name.as_str()),
             Fault::OfRun { name, fault } => place_of_run(borrowed_name(name), *fault),
             Fault::Unread { place, .. } => *place,
@@ -139,7 +140,16 @@ impl fmt::Display for Fault {
             Fault::TextTooLong { name } => {
                 write!(f, "gherkin_run: {name}: longer than 1048576 bytes\n")
             }
-            Fault::CannotRead { name } => write!(f, "gherkin_run: {name}: cannot read\n"),
+            Fault::CannotRead {
+                name,
+                hinted: false,
+            } => write!(f, "gherkin_run: {name}: cannot read\n"),
+            Fault::CannotRead { name, hinted: true } => {
+                write!(
+                    f,
+                    "gherkin_run: {name}: cannot read\n    check its name and permissions; for a folder, name its files, as in features/*.feature; for FILE:12, write --line 12 FILE\n"
+                )
+            }
             Fault::TooLong { name } => {
                 write!(f, "gherkin_run: {name}: longer than 16777216 bytes\n")
             }

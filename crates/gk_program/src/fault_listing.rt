@@ -1,34 +1,42 @@
 //! The output of `--lint` for all invalid files of a run.
-ghost use Rattle.std.specs.Prelude.{◌≡◌, ◌++◌, IfOk, OnOk, string_bytes};
-ghost use Rattle.gk_cli.specs.Source.{source_value};
-ghost use Rattle.gk_cli.specs.SuiteFiles.{suite_value};
+ghost use Rattle.std.specs.Prelude.{◌≡◌, ◌++◌, option_map, IfOk, OnOk, string_bytes};
+ghost use Rattle.gk_request.specs.Source.{source_value};
+ghost use Rattle.gk_request.specs.Request.{suite_value};
 ghost use Rattle.gk_program.specs.FaultListing as spec;
-ghost use Rattle.gk_program.specs.FaultListing.{IsListedAs, IsListing};
+ghost use Rattle.gk_program.specs.FaultListing.{IsListedAs, IsListing, IsTextAt};
+ghost use Rattle.gk_gherkin.specs.Feature.{texts};
 
 use crate::fault::Fault;
 use crate::fault_place::place_of_run;
-use gk_cli::{NamedFault, RunFault, Source, SuiteFiles, faults_after, name_at_fault, push_notes};
+use gk_findings::push_notes;
+use gk_request::{
+    NamedFault, RunFault, Source, SuiteFiles, faults_after, first_bad_tags, name_at_fault,
+};
+use gk_select::SelectFault;
 use std::alloc::{AllocError, Global};
 
-// Appends the output for a fault: the line that a run prints for it, and the notes below that line.
+// Appends the output for a fault, which is that of a text of tags, if one is given: the line that a run prints for it, and
+// the notes below that line.
 fn push_block(
     out: &mut String,
     alloc: Global,
+    tags: Option<&str>,
     files: &SuiteFiles<Source>,
     fault: RunFault,
 ) -> Result<(), AllocError>
-    ensures { OnOk result (string_bytes out.new
-        ≡ string_bytes out.old ++ spec.block (suite_value source_value files.now) fault) }
+    ensures { OnOk result (string_bytes out.new ≡ string_bytes out.old
+        ++ spec.block (option_map (λ text. text.now) tags.entry)
+        (suite_value source_value files.now) fault) }
 {
     let named = NamedFault {
         name: name_at_fault(files, fault),
         fault,
     };
     write!(out, "gherkin_run: {named}\n")?;
-    push_notes(out, alloc, files, fault)
+    push_notes(out, alloc, tags, files, fault)
 }
 
-// Appends the output for faults, one after the other.
+// Appends the output for faults of files, one after the other.
 fn push_blocks(
     out: &mut String,
     alloc: Global,
@@ -39,29 +47,54 @@ fn push_blocks(
         ≡ string_bytes out.old ++ spec.blocks (suite_value source_value files.now) faults.now) }
 {
     for fault in faults {
-        push_block(out, alloc, files, *fault)?;
+        push_block(out, alloc, None, files, *fault)?;
     }
     Ok(())
 }
 
-// Returns the output if a run of these files has this fault.
-fn listing(alloc: Global, files: &SuiteFiles<Source>, first: RunFault) -> Result<String, AllocError>
+// Returns the text of tags that a fault is about.
+fn text_at(alloc: Global, tags: &[String], fault: RunFault) -> Result<Option<&str>, AllocError>
     ensures { IfOk result (λ text.
-        IsListing (suite_value source_value files.now) first (string_bytes text)) }
+        IsTextAt (texts tags.now) fault (option_map (λ text. text.now) text)) }
 {
+    match fault {
+        RunFault::Select {
+            input: None,
+            fault: SelectFault::BadTagText,
+        } => first_bad_tags(alloc, tags),
+        _ => Ok(None),
+    }
+}
+
+// Returns the output if a run of these files, with these texts of tags, has this fault.
+fn listing(
+    alloc: Global,
+    tags: &[String],
+    files: &SuiteFiles<Source>,
+    first: RunFault,
+) -> Result<String, AllocError>
+    ensures { IfOk result (λ text. IsListing (texts tags.now)
+        (suite_value source_value files.now) first (string_bytes text)) }
+{
+    let bad = text_at(alloc, tags, first)?;
     let later = faults_after(alloc, files, first)?;
     let mut text = String::new(alloc);
-    push_block(&mut text, alloc, files, first)?;
+    push_block(&mut text, alloc, bad, files, first)?;
     push_blocks(&mut text, alloc, files, later.as_slice())?;
     Ok(text)
 }
 
-/// Returns the program's fault if a run of these files has this fault and `--lint` is given. Its output has all faults
-/// of the files, from this one on. `Memory` comes only if a growth was refused.
-pub fn fault_listed(alloc: Global, files: &SuiteFiles<Source>, first: RunFault) -> Fault
-    ensures { IsListedAs (suite_value source_value files.now) first result }
+/// Returns the program's fault if a run of these files, with these texts of tags, has this fault and `--lint` is given. Its
+/// output has all faults of the files, from this one on. `Memory` comes only if a growth was refused.
+pub fn fault_listed(
+    alloc: Global,
+    tags: &[String],
+    files: &SuiteFiles<Source>,
+    first: RunFault,
+) -> Fault
+    ensures { IsListedAs (texts tags.now) (suite_value source_value files.now) first result }
 {
-    match listing(alloc, files, first) {
+    match listing(alloc, tags, files, first) {
         Ok(lines) => Fault::Unread {
             status: first.status(),
             place: place_of_run(name_at_fault(files, first), first),

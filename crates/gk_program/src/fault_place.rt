@@ -1,9 +1,9 @@
 //! The place of a fault: its file and its line, as numbers.
 ghost use Rattle.std.specs.Prelude.{◌≡◌, Some, None, option_map};
-ghost use Rattle.gk_cli.specs.FaultNotes.{line_at_fault};
+ghost use Rattle.gk_request.specs.FaultLine.{line_at_fault};
 ghost use Rattle.gk_program.specs.FaultPlace.{line_number, place_at};
 
-use gk_cli::RunFault;
+use gk_request::{RunFault, line_at_fault};
 
 /// The place of a fault. In the fault's text, the name of its file stands behind `gherkin_run: `.
 #[derive(Clone, Copy, Debug, PartialEq, Eq)]
@@ -40,17 +40,6 @@ fn number_of(line: Option<u32>) -> u32
     }
 }
 
-// Returns the line that a fault of a run names, or 0 for none.
-fn line_of(fault: RunFault) -> u32
-    ensures { result ≡ line_number (line_at_fault fault) }
-{
-    match fault {
-        RunFault::Read { fault, .. } | RunFault::Hooks(fault) => number_of(fault.line()),
-        RunFault::Library(fault) => number_of(fault.line()),
-        RunFault::Select { .. } | RunFault::Write | RunFault::Memory => 0,
-    }
-}
-
 /// Returns the place of a fault of a run in a file of this name, if a file has it.
 pub fn place_of_run(name: Option<&str>, fault: RunFault) -> FaultPlace
     ensures { result ≡ place_at (option_map (λ name. name.now) name.entry) (line_at_fault fault) }
@@ -58,7 +47,7 @@ pub fn place_of_run(name: Option<&str>, fault: RunFault) -> FaultPlace
     match name {
         Some(name) => FaultPlace {
             name_length: name.len(),
-            line: line_of(fault),
+            line: number_of(line_at_fault(fault)),
         },
         None => NOWHERE,
     }

@@ -2,12 +2,12 @@
 ghost use Rattle.std.specs.Prelude.{◌≡◌, ◌≤◌, map, IfOk, IfErr, IfSome, Ok, option_map, string_bytes, vec_len};
 ghost use Rattle.std.specs.List.{Any};
 ghost use Rattle.gk_program.specs.Files.{AreRead, IsFaultOfFiles, IsFaultOfReading, IsFileFault, IsNotRead, StopsReading, files_in_order, name_of, names_in_order, one_of};
-ghost use Rattle.gk_cli.specs.Source.{source_value};
-ghost use Rattle.gk_cli.specs.SuiteFiles.{suite_value};
+ghost use Rattle.gk_request.specs.Source.{source_value};
+ghost use Rattle.gk_request.specs.Request.{suite_value};
 
 use crate::fault::Fault;
-use gk_cli::{Source, SourceFault, SuiteFiles};
 use gk_gherkin::LIMIT;
+use gk_request::{Source, SourceFault, SuiteFiles};
 use std::alloc::Global;
 
 /// A system that files are read from. What is proved over a `System` holds for each one: in which order it is asked for
@@ -15,7 +15,7 @@ use std::alloc::Global;
 /// systems.
 pub trait System {
     ghost use Rattle.std.specs.Prelude.{◌≤◌, ℕ, List, Result, IfOk, vec_len};
-    ghost use Rattle.gk_cli.specs.declared.source.SourceFault.{SourceFault};
+    ghost use Rattle.gk_request.specs.declared.source.SourceFault.{SourceFault};
     ghost use Rattle.gk_program.specs.Files.{bytes_or_fault};
 
     /// In the first state, reading the file of this name returns this result, and leaves the second state.
@@ -31,7 +31,10 @@ fn fault_of_reading(name: String, fault: SourceFault) -> Fault
     ensures { IsFaultOfReading (string_bytes name) fault result }
 {
     match fault {
-        SourceFault::Device => Fault::CannotRead { name },
+        SourceFault::Device => Fault::CannotRead {
+            name,
+            hinted: false,
+        },
         SourceFault::TooLong => Fault::TooLong { name },
         SourceFault::Memory => Fault::Memory,
     }

@@ -1,15 +1,17 @@
 //! What the program does, from its arguments to its output.
 ghost use Rattle.std.specs.Prelude.{◌≡◌, map, IfOk, IfErr, OnOk, Some, option_map, slice_get, string_bytes};
+ghost use Rattle.gk_gherkin.specs.Feature.{texts};
 ghost use Rattle.gk_world.specs.Sandbox.{depth, new_sandbox};
 ghost use Rattle.gk_cli.specs.Arguments.{pair_value};
-ghost use Rattle.gk_cli.specs.Counted.{FailuresCanRise, flushes_of, failures_of, one_more};
+ghost use Rattle.gk_request.specs.Counted.{FailuresCanRise, flushes_of, failures_of, one_more};
 ghost use Rattle.gk_cli.specs.Writing.{device_of};
-ghost use Rattle.gk_cli.specs.Source.{source_value};
-ghost use Rattle.gk_cli.specs.SuiteFiles.{suite_value, request_of_files};
-ghost use Rattle.gk_cli.specs.FaultNotes.{name_at_fault};
+ghost use Rattle.gk_request.specs.Source.{source_value};
+ghost use Rattle.gk_request.specs.Request.{suite_value, request_of_files};
+ghost use Rattle.gk_request.specs.FaultLine.{name_at_fault};
 ghost use Rattle.gk_program.specs.Asked.{given_value};
 ghost use Rattle.gk_program.specs.Ended.{IsEnded};
 ghost use Rattle.gk_program.specs.Fault.{said_line, text_of};
+ghost use Rattle.gk_program.specs.Program as spec;
 ghost use Rattle.gk_program.specs.Program.{IsTextFault, IsFaultOfVariable, SaysVariables, IsFaultOfRun, IsFaultAs, IsFlushedRun, SaysSuite, SaysCalls, SaysCallsOfRun, SaysProgram, SaysRunFrom, IsRun, IsRunFrom, IsShown, IsDoneFor, IsFaultFor};
 
 use crate::asked::{ArgumentsFault, Asked, asked_with};
@@ -18,9 +20,8 @@ use crate::fault::Fault;
 use crate::fault_listing::fault_listed;
 use crate::files::{System, read_run_files};
 use crate::world_files::put_files;
-use gk_cli::{
-    Counted, Mode, Options, RunFault, Source, SuiteFiles, Words, write_suite, write_whole,
-};
+use gk_cli::{Mode, Words, write_suite};
+use gk_request::{Counted, Options, RunFault, Source, SuiteFiles, write_whole};
 use gk_world::{Sandbox, WorldFault};
 use std::alloc::Global;
 use std::io::Write;
@@ -130,8 +131,14 @@ fn fault_of_run(fault: RunFault, files: SuiteFiles<Source>) -> Fault
 }
 
 // Returns the program's fault for a fault of the run, by the mode. With `--lint`, all invalid files are listed.
-fn fault_as(alloc: Global, mode: Mode, fault: RunFault, files: SuiteFiles<Source>) -> Fault
-    ensures { IsFaultAs mode (suite_value source_value files) fault result }
+fn fault_as(
+    alloc: Global,
+    mode: Mode,
+    tags: &[String],
+    fault: RunFault,
+    files: SuiteFiles<Source>,
+) -> Fault
+    ensures { IsFaultAs mode (texts tags.now) (suite_value source_value files) fault result }
 {
     match mode {
         Mode::Report => fault_of_run(fault, files),
@@ -139,7 +146,7 @@ fn fault_as(alloc: Global, mode: Mode, fault: RunFault, files: SuiteFiles<Source
         Mode::Findings { .. } => match fault {
             RunFault::Write => Fault::Write,
             RunFault::Memory => Fault::Memory,
-            _ => fault_listed(alloc, &files, fault),
+            _ => fault_listed(alloc, tags, &files, fault),
         },
     }
 }
@@ -179,7 +186,27 @@ fn run_sources<W: Write>(
             Ok(()) => Ok(status),
             Err(_) => Err(Fault::Write),
         },
-        Err(fault) => Err(fault_as(alloc, mode, fault, files)),
+        Err(fault) => Err(fault_as(alloc, mode, options.tags.as_slice(), fault, files)),
+    }
+}
+
+// Returns whether nothing runs in this mode.
+fn is_lint(mode: Mode) -> bool
+    ensures { result ≡ spec.is_lint mode }
+{
+    matches!(mode, Mode::Findings { .. })
+}
+
+// Returns this fault of reading files. With `--lint`, it has a hint.
+fn hinted(mode: Mode, fault: Fault) -> Fault
+    ensures { result ≡ spec.hinted mode fault }
+{
+    match fault {
+        Fault::CannotRead { name, .. } => Fault::CannotRead {
+            name,
+            hinted: is_lint(mode),
+        },
+        other => other,
     }
 }
 
@@ -202,8 +229,10 @@ fn run_files<S: System, W: Write>(
     ensures calls { IfErr result
         (SaysCallsOfRun (device_of W.contents out.old) (device_of W.contents out.new)) }
 {
-    let files = read_run_files(alloc, system, words.library, words.hooks, words.files)?;
-    run_sources(alloc, sandbox, &words.options, words.mode, files, out)
+    match read_run_files(alloc, system, words.library, words.hooks, words.files) {
+        Ok(files) => run_sources(alloc, sandbox, &words.options, words.mode, files, out),
+        Err(fault) => Err(hinted(words.mode, fault)),
+    }
 }
 
 // Does what `run_words` does, in a new sandbox.

@@ -7,7 +7,7 @@ ghost use Rattle.gk_program.specs.WorldFiles.{ArePut, IsFaultOfPath, IsNotPut, I
 
 use crate::fault::Fault;
 use crate::files::System;
-use gk_cli::SourceFault;
+use gk_request::SourceFault;
 use gk_world::{Sandbox, WorldFault, is_bad_name};
 use std::alloc::Global;
 use std::str;
@@ -16,7 +16,10 @@ fn fault_of_path(path: String, fault: SourceFault) -> Fault
     ensures { IsFaultOfPath (string_bytes path) fault result }
 {
     match fault {
-        SourceFault::Device => Fault::CannotRead { name: path },
+        SourceFault::Device => Fault::CannotRead {
+            name: path,
+            hinted: false,
+        },
         SourceFault::TooLong => Fault::TextTooLong { name: path },
         SourceFault::Memory => Fault::Memory,
     }

@@ -1,10 +1,10 @@
 -- No value of the report has a float, and what writing one value after another gives.
-use Rattle.std.proofs.Common.{◌≡◌, ℕ, Bool, true, false, ◌||◌, cond, not, List, [], ◌∷◌, ◌++◌, length, map, Option, Some, None, codes, refl, ap, sym, ◌∙◌, subst, suc, append_assoc}
+use Rattle.std.proofs.Common.{◌≡◌, ℕ, Bool, true, false, ◌||◌, not, List, [], ◌∷◌, ◌++◌, length, map, Option, Some, None, codes, refl, ap, sym, ◌∙◌, subst, suc, append_assoc}
 use Rattle.std.specs.Fmt.{decimal}
 use Rattle.serde.specs.Event.{Log, Logs, map_begins, map_ends}
-use Rattle.serde_json.specs.Data.{Data, string, object, Items, Members, no_members, member}
+use Rattle.serde_json.specs.Data.{Data, string, object, Members, no_members, member}
 use Rattle.serde_json.specs.View.{items_of}
-use Rattle.serde_json.specs.Events.{items_len, members_len, SendsValue, SendsItems, SendsMembers}
+use Rattle.serde_json.specs.Events.{items_len, members_len, SendsValue, SendsMembers}
 use Rattle.serde_json.specs.Written.{has_float, items_have_float, members_have_float, compact_text, items_text}
 use Rattle.serde_json.proofs.OnLiterals.{serde_json_on_literals}
 use Rattle.gk_run.specs.declared.results.Reason.{Reason}
@@ -13,7 +13,7 @@ use Rattle.gk_run.specs.Results.{StepRow, CaseRow, RuleRow, FeatureRow}
 use Rattle.gk_report.specs.declared.summary.Counts.{Counts}
 use Rattle.gk_report.specs.declared.summary.Summary.{Summary}
 use Rattle.gk_report.specs.Summary.{status_by}
-use Rattle.gk_report.specs.ReportTexts.{is_hidden, printed_cases}
+use Rattle.gk_report.specs.ReportTexts.{printed_cases}
 use Rattle.gk_report.specs.JsonReport.{number_data, status_data, array_data, reason_and, step_data, case_data, rule_data, rules_data, rules_and, feature_object, counts_data, step_counts_data, summary_data, comma_unless, joined, objects_text, rules_member, object_start, object_end, AddsMembers, undefined_and, counts_data_of, step_members, count_members, tail_of, json_tail}
 
 none_of_both : (a b : Bool) → a ≡ false → b ≡ false → (a || b) ≡ false
@@ -134,12 +134,6 @@ summary_sent s old first one two three end begun features scenarios steps e =
     let second = member (codes "scenarios") (counts_data s.scenarios) last in
     (first, begun, features second end (scenarios last end (steps no_members end e)))
 
--- One step more of those that are left.
-pub steps_on : (all : Items) (old mid new : Log) (left more : List StepRow) (s : StepRow) → left ≡ s ∷ more → SendsValue (step_data s) mid new →
-    ((end : Log) → SendsItems (items_of (map step_data left)) mid end → SendsItems all old end) →
-    (end : Log) → SendsItems (items_of (map step_data more)) new end → SendsItems all old end
-steps_on all old mid new left more s is sent inv end rest = inv end (subst (λ ss. SendsItems (items_of (map step_data ss)) mid end) (sym is) (new, sent, rest))
-
 -- What stands after the features, by the texts of its values.
 pub tail_from : (around : Status) (s : Summary) (text run counts : List ℕ) (number : ℕ) → text ≡ tail_of run number counts →
     run ≡ compact_text (status_data around) → number ≡ status_by s around → counts ≡ compact_text (summary_data s) → text ≡ json_tail around (status_by s around) s
@@ -201,13 +195,3 @@ object_parts no_skipped first f =
     let ds = map case_data (printed_cases no_skipped f.cases) in
     ap (λ xs. comma_unless first ++ xs) (nested_by no_skipped f f.rules ∙ ap (nested f (rules_member f.rules)) (joined_items true ds))
     ∙ regrouped (comma_unless first) (compact_text (status_data f.around)) (decimal f.line) (compact_text (string f.name)) (rules_member f.rules) (joined true ds) (compact_text (string f.source)) (compact_text (status_data f.status))
-
-objects_by : (hidden first : Bool) (c : CaseRow) (cs : List CaseRow) →
-    joined first (map case_data (cond (not hidden) (c ∷ cs) cs)) ≡ cond hidden (joined first (map case_data cs)) (comma_unless first ++ compact_text (case_data c) ++ joined false (map case_data cs))
-objects_by true first c cs = refl
-objects_by false first c cs = refl
-
--- The objects of one scenario and of the others.
-pub objects_next : (no_skipped first : Bool) (c : CaseRow) (cs : List CaseRow) →
-    objects_text no_skipped first (c ∷ cs) ≡ cond (is_hidden no_skipped c.status) (objects_text no_skipped first cs) ((comma_unless first ++ compact_text (case_data c)) ++ objects_text no_skipped false cs)
-objects_next no_skipped first c cs = objects_by (is_hidden no_skipped c.status) first c (printed_cases no_skipped cs)

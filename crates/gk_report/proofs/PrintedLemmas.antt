@@ -1,14 +1,9 @@
 -- What a loop over the printed scenarios has left.
-use Rattle.std.proofs.Common.{◌≡◌, ℕ, ◌+◌, ◌<◌, ◌≤◌, Bool, true, false, cond, not, List, [], ◌∷◌, ◌++◌, length, get_or, drop, map, flat_map, refl, ap, sym, ◌∙◌}
-use Rattle.std.proofs.lemmas.List.{at_drop_all, at_drop_more}
+use Rattle.std.proofs.Common.{◌≡◌, ℕ, ◌≤◌, Bool, true, false, cond, not, List, [], ◌∷◌, ◌++◌, length, drop, map, flat_map, refl}
+use Rattle.std.proofs.lemmas.List.{at_drop_all}
 use Rattle.gk_run.specs.Results.{CaseRow}
 use Rattle.gk_report.specs.ReportTexts.{is_hidden, printed_cases}
 use Rattle.gk_report.specs.PlainReport.{case_lines}
-use Rattle.gk_report.specs.ProgressReport.{status_mark, case_marks}
-
--- The next of a list at a place.
-pub left_next : {X Y : Type 0} (f : X → Y) (xs : List X) (i : ℕ) (x : X) → i < length xs → x ≡ get_or xs i x → map f (drop i xs) ≡ f x ∷ map f (drop (i + 1) xs)
-left_next f xs i x lt is = at_drop_more (map f) xs i x lt ∙ ap (λ y. f y ∷ map f (drop (i + 1) xs)) (sym is)
 
 -- Nothing is left past the end.
 pub left_none : {X Y : Type 0} (f : X → Y) (xs : List X) (i : ℕ) → length xs ≤ i → map f (drop i xs) ≡ []
@@ -22,12 +17,3 @@ lines_by false c cs = refl
 pub lines_next : (no_skipped : Bool) (c : CaseRow) (cs : List CaseRow) →
     flat_map case_lines (printed_cases no_skipped (c ∷ cs)) ≡ cond (is_hidden no_skipped c.status) [] (case_lines c) ++ flat_map case_lines (printed_cases no_skipped cs)
 lines_next no_skipped c cs = lines_by (is_hidden no_skipped c.status) c (printed_cases no_skipped cs)
-
-marks_by : (hidden : Bool) (c : CaseRow) (cs : List CaseRow) → map (λ (x : CaseRow). status_mark x.status) (cond (not hidden) (c ∷ cs) cs) ≡ cond hidden [] (status_mark c.status ∷ []) ++ map (λ (x : CaseRow). status_mark x.status) cs
-marks_by true c cs = refl
-marks_by false c cs = refl
-
--- The characters of one scenario and of the others.
-pub marks_next : (no_skipped : Bool) (c : CaseRow) (cs : List CaseRow) →
-    case_marks no_skipped (c ∷ cs) ≡ cond (is_hidden no_skipped c.status) [] (status_mark c.status ∷ []) ++ case_marks no_skipped cs
-marks_next no_skipped c cs = marks_by (is_hidden no_skipped c.status) c (printed_cases no_skipped cs)

@@ -1,10 +1,8 @@
 -- The scenarios of rules, one after another.
-use Rattle.std.proofs.Common.{◌≡◌, ℕ, suc, ◌+◌, Bool, true, false, cond, not, List, [], ◌∷◌, ◌++◌, length, drop, map, flat_map, Option, Some, codes, refl, ap, sym, ◌∙◌, append_assoc, arith}
+use Rattle.std.proofs.Common.{◌≡◌, ℕ, suc, ◌+◌, Bool, false, cond, not, List, [], ◌∷◌, ◌++◌, drop, flat_map, Option, codes, ap, sym, ◌∙◌, append_assoc, arith}
 use Rattle.std.specs.Fmt.{decimal}
-use Rattle.std.proofs.lemmas.List.{take-append-drop}
 use Rattle.std.proofs.lemmas.List.Sums.{take_while-cons}
-use Rattle.gk_run.specs.declared.results.CaseResult.{CaseResult}
-use Rattle.gk_run.specs.Results.{CaseRow, RuleRow, case_row, is_passed}
+use Rattle.gk_run.specs.Results.{CaseRow, RuleRow, is_passed}
 use Rattle.gk_report.specs.ReportTexts.{status_text, line_feed, is_hidden}
 use Rattle.gk_report.specs.RuleGroups.{begins_above, count_before, cases_before, cases_behind, rule_groups}
 use Rattle.gk_report.specs.PlainReport.{status_line, case_lines, printed_lines, rule_line, line_of, group_lines, lines_in}
@@ -35,32 +33,6 @@ lines_in_next no_skipped rule rules c cs e =
     ap (λ xs. printed_lines no_skipped (cases_before rules (c ∷ cs)) ++ others xs) (behind_next rules c cs e)
     ∙ ap (λ xs. xs ++ others (cases_behind rules cs)) (lines_before_next no_skipped rules c cs e)
     ∙ append_assoc (cond (is_hidden no_skipped c.status) [] (case_lines c)) (printed_lines no_skipped (cases_before rules cs)) (others (cases_behind rules cs))
-
--- No scenario stands in front of the first rule where the first one is in it.
-pub before_stops : (rules : List RuleRow) (c : CaseRow) (cs : List CaseRow) → begins_above rules c.line ≡ true → cases_before rules (c ∷ cs) ≡ []
-before_stops rules c cs e = take_while-cons (λ (x : CaseRow). not (begins_above rules x.line)) c cs ∙ ap (λ b. cond (not b) (c ∷ cases_before rules cs) []) e
-
-behind_all : (rules : List RuleRow) (cs : List CaseRow) → cases_before rules cs ≡ [] → cases_behind rules cs ≡ cs
-behind_all rules cs none = ap (λ xs. xs ++ cases_behind rules cs) (sym none) ∙ take-append-drop (count_before rules cs) cs
-
--- Where no scenario is left in front of the next rule, the line of the rule before is next.
-pub lines_in_rule : (no_skipped : Bool) (rule : Option RuleRow) (r : RuleRow) (rules : List RuleRow) (cs : List CaseRow) → cases_before (r ∷ rules) cs ≡ [] →
-    lines_in no_skipped rule (r ∷ rules) cs ≡ line_of rule ++ lines_in no_skipped (Some r) rules cs
-lines_in_rule no_skipped rule r rules cs none =
-    let groups = λ (xs : List CaseRow). line_of rule ++ flat_map (group_lines no_skipped) (rule_groups (r ∷ rules) xs) in
-    let others = flat_map (group_lines no_skipped) (rule_groups rules (cases_behind rules cs)) in
-    ap (λ xs. printed_lines no_skipped xs ++ groups (cases_behind (r ∷ rules) cs)) none
-    ∙ ap groups (behind_all (r ∷ rules) cs none)
-    ∙ ap (λ xs. line_of rule ++ xs) (append_assoc (printed_lines no_skipped (cases_before rules cs)) (rule_line r) others)
-
--- At the end the line of the last rule is left.
-pub lines_in_last : (no_skipped : Bool) (rule : Option RuleRow) (cs : List CaseRow) → cases_before [] cs ≡ [] → lines_in no_skipped rule [] cs ≡ line_of rule ++ []
-lines_in_last no_skipped rule cs none = ap (λ xs. printed_lines no_skipped xs ++ (line_of rule ++ [])) none
-
--- Where no scenario is left, none stands in front of the next rule.
-pub before_end : (rules : List RuleRow) (cases : List CaseResult) → length cases ≡ 0 → cases_before rules (map case_row cases) ≡ []
-before_end rules [] e = refl
-before_end rules (c ∷ cases) e = absurd (omega arith)
 
 -- The line of a rule's hooks and cleanups, piece by piece.
 line_written : (old front number back dots verdict feed : List ℕ) →

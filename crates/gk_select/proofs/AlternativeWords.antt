@@ -1,5 +1,5 @@
 -- What a text of alternatives says, piece after piece, and the words of it.
-use Rattle.std.proofs.Common.{◌≡◌, ◌≢◌, ◌⊎◌, ◌<◌, ◌==◌, ℕ, zero, suc, Bool, true, false, not, ◌||◌, if◌then◌else◌, List, [], ◌∷◌, ◌++◌, length, map, take, get_or, Option, Some, None, IsSome, option_map, Err, refl, sym, ap, subst, ◌∙◌, arith, append_assoc, append-nil, inl, inr}
+use Rattle.std.proofs.Common.{◌≡◌, ◌≢◌, ◌⊎◌, ◌<◌, ◌==◌, ℕ, zero, suc, Bool, true, false, not, ◌||◌, if◌then◌else◌, List, [], ◌∷◌, ◌++◌, length, map, take, get_or, Option, Some, None, IsSome, is_some, option_map, Err, refl, sym, ap, subst, ◌∙◌, arith, append_assoc, append-nil, inl, inr}
 use Rattle.std.proofs.lemmas.Bool.{cond-false}
 use Rattle.std.proofs.lemmas.Bool.Decides.{nat_tests}
 use Rattle.std.proofs.lemmas.List.{length-map, map-append}
@@ -22,6 +22,10 @@ no_tilde (b ∷ bs) n = let other : b ≢ 126 = λ (e : b ≡ 126). n bs (ap (λ
 
 pub plain_alternative : (text : List ℕ) → ((rest : List ℕ) → text ≢ 126 ∷ rest) → alternative text ≡ option_map (λ (tag : List ℕ). record { negated = false; tag = tag }) (tag_named text)
 plain_alternative text n = cond-false (begins text (126 ∷ [])) _ _ (no_tilde text n)
+
+pub same_some : {X Y : Type 0} (f : X → Y) (o : Option X) → is_some (option_map f o) ≡ is_some o
+same_some f None = refl
+same_some f (Some x) = refl
 
 -- A fault is handed on.
 pub handed_on : {X Y V W : Type 0} (v : X → V) (w : Y → W) (f : V → W) (e : SelectFault) (o : Option V) (p : Option W) → p ≡ option_map f o → AnswersOrLacksMemory v (Err e) o → AnswersOrLacksMemory w (Err e) p

@@ -11,6 +11,7 @@ pub mod TagShows
 pub mod TagNames
 pub mod TagTextWords
 pub mod TagReading
+pub mod TagStopLemmas
 pub mod ReadableRows
 pub mod CaseCounts
 pub mod CaseRules

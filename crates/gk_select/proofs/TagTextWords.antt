@@ -125,7 +125,7 @@ pub record Turn (rest bytes again word : List ℕ) (n : ℕ) (blank : Bool) : Ty
   pub cut : words_of_text bytes ≡ (if is_blank (get_or bytes 0 0) then [] else take n bytes ∷ []) ++ words_of_text (drop n bytes)
   pub tested : blank ≡ is_blank (get_or again 0 0)
 
-turned : (rest bytes again word : List ℕ) (n : ℕ) (blank : Bool) → Turn rest bytes again word n blank → words_of_text rest ≡ (if blank then [] else take n rest ∷ []) ++ words_of_text (drop n rest)
+pub turned : (rest bytes again word : List ℕ) (n : ℕ) (blank : Bool) → Turn rest bytes again word n blank → words_of_text rest ≡ (if blank then [] else take n rest ∷ []) ++ words_of_text (drop n rest)
 turned rest bytes again word n blank t =
     subst (λ (bs : List ℕ). words_of_text bs ≡ (if is_blank (get_or bs 0 0) then [] else take n bs ∷ []) ++ words_of_text (drop n bs)) t.bytes_are t.cut
     ∙ ap (λ (x : Bool). (if x then [] else take n rest ∷ []) ++ words_of_text (drop n rest)) (sym (t.tested ∙ ap (λ (bs : List ℕ). is_blank (get_or bs 0 0)) t.again_are))

@@ -14,6 +14,7 @@ pub mod TagGrammar
 pub mod TagValues
 pub mod Alternatives
 pub mod TagRules
+pub mod TagStops
 pub mod Choice
 pub mod SelectFault
 -- Proof machinery: what the words of an expression build, read from the last to the first, and how deep it is.

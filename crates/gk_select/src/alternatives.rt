@@ -1,5 +1,5 @@
 //! The old form of a rule of tags: alternatives separated by commas.
-ghost use Rattle.std.specs.Prelude.{◌≡◌, ◌⊎◌, ℕ, List, [], ◌∷◌, Err, false, IsSome, IfOk, IfErr, map, slice_index_or};
+ghost use Rattle.std.specs.Prelude.{◌≡◌, ◌⊎◌, ℕ, List, [], ◌∷◌, Err, false, IsSome, is_some, IfOk, IfErr, map, slice_index_or};
 ghost use Rattle.std.specs.List.{list_any};
 ghost use Rattle.std.specs.String.{string_bytes};
 ghost use Rattle.gk_select.specs.declared.select_fault.SelectFault.TheVariants.{BadTagText, Memory};
@@ -36,6 +36,27 @@ fn tag_named(alloc: Global, text: &str) -> Result<String, SelectFault>
     let mut tag = String::from_str(alloc, "@")?;
     tag.push_str(text)?;
     Ok(tag)
+}
+
+// Returns whether a text names a tag.
+fn names_tag(text: &str) -> bool
+    ensures { result ≡ is_some (spec.tag_named text.now) }
+{
+    if begins(text, "@") {
+        text.len() >= 2
+    } else {
+        !(text.is_empty() || begins(text, "~") || begins(text, "-"))
+    }
+}
+
+/// Returns whether a text is an alternative.
+pub fn is_alternative(text: &str) -> bool
+    ensures { result ≡ is_some (spec.alternative text.now) }
+{
+    match text.strip_prefix('~') {
+        Some(name) => names_tag(name),
+        None => names_tag(text),
+    }
 }
 
 fn read_alternative(alloc: Global, text: &str) -> Result<Alternative, SelectFault>

@@ -28,6 +28,7 @@ mod tag_values;
 // Alternatives, and texts of either form.
 mod alternatives;
 mod tag_rules;
+mod tag_stops;
 
 // The choice of cases.
 mod choice;
@@ -49,4 +50,5 @@ pub use laws::{
 pub use outline::is_outline;
 pub use select_fault::SelectFault;
 pub use tag_rules::read_tags;
+pub use tag_stops::{TagStop, Wanted, tag_stop};
 pub use tag_values::TagRule;

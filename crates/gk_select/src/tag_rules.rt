@@ -15,7 +15,8 @@ use crate::tag_values::TagRule;
 use crate::tag_words::{is_of_new_form, words_of};
 use std::alloc::Global;
 
-fn has_new_form(text: &str) -> bool
+/// Returns whether a text is an expression: it has a space, a tab or a parenthesis.
+pub fn has_new_form(text: &str) -> bool
     ensures { result ≡ list_any spec.is_of_new_form text.now }
 {
     text.as_bytes().iter().any(|byte| is_of_new_form(*byte))

@@ -45,7 +45,8 @@ fn has_left_out(word: &str) -> bool
         .any(|byte| *byte == b',' || *byte == b'\\')
 }
 
-fn is_tag_word(word: &str) -> bool
+/// Returns whether a word is a tag of an expression: `@` and at least one byte, none of them a comma or a backslash.
+pub fn is_tag_word(word: &str) -> bool
     ensures { result ≡ (is_tag word.now && not (list_any spec.is_left_out word.now)) }
 {
     begins(word, "@") && 2 <= word.len() && !has_left_out(word)
@@ -90,8 +91,8 @@ fn first_cut(text: &[u8]) -> usize
     text.len()
 }
 
-// Returns the end of the word at the front of a text, or of the space or tab there.
-fn word_end(text: &[u8]) -> usize
+/// Returns the end of the word at the front of a text, or of the space or tab there.
+pub fn word_end(text: &[u8]) -> usize
     requires { 0 < length text.now }
     ensures within { result ≤ length text.now }
     ensures some { 0 < result }

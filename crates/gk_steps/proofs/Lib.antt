@@ -10,6 +10,7 @@ mod LiteralEndLemmas
 mod FindingLemmas
 mod FilledCellsLemmas
 mod SpellingLemmas
+mod PatternReadingLemmas
 mod ActionLemmas
 mod LineLemmas
 mod LibraryLineLemmas

@@ -14,6 +14,7 @@ pub mod Library
 pub mod EntryIndex
 -- Proof machinery: definitions for the steps of reading, matching and finding.
 pub mod Spelling
+pub mod PatternReading
 pub mod LibraryLine
 pub mod CharBoundaries
 pub mod Advances

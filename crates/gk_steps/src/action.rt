@@ -1,7 +1,7 @@
 //! The built-in actions.
 ghost use Rattle.std.specs.Prelude.{◌≡◌, find, map, option_copied, option_map};
 ghost use Rattle.std.specs.Str.{bytes_eq};
-ghost use Rattle.gk_steps.specs.Action.{action_row, action_row_value, row_among};
+ghost use Rattle.gk_steps.specs.Action.{action_row, action_row_value, action_table, row_among};
 
 /// The action of a step that finds an entry. The guide describes what each action does to the sandbox.
 #[derive(Clone, Copy, Debug, PartialEq, Eq)]
@@ -35,10 +35,14 @@ pub enum Action {
 /// A row of the table of actions: a name, its action, the fields of a pattern that it needs, and all fields that it
 /// uses.
 #[derive(Clone, Copy, Debug)]
-pub(crate) struct ActionRow {
+pub struct ActionRow {
+    /// The name, as a library writes it.
     pub name: &'static str,
+    /// The action.
     pub action: Action,
+    /// The names of the fields that a pattern must have.
     pub needs: &'static [&'static str],
+    /// The names of all fields that have an effect.
     pub uses: &'static [&'static str],
 }
 
@@ -54,7 +58,7 @@ macro_rules! row {
     };
 }
 
-/// The table of actions.
+// The table of actions.
 static ACTIONS: [ActionRow; 24] = [
     row!("write_file", WriteFile, ["name"], ["name", "text"]),
     row!("append_file", AppendFile, ["name"], ["name", "text"]),
@@ -102,9 +106,16 @@ fn row_in(rows: &[ActionRow], name: &str) -> Option<ActionRow>
     first_named(rows, name).copied()
 }
 
-/// Returns the row of this name, or `None` if no action has it.
-pub(crate) fn row_named(name: &str) -> Option<ActionRow>
+/// Returns the row of the action of this name, or `None` if no action has it.
+pub fn row_named(name: &str) -> Option<ActionRow>
     ensures { option_map action_row_value result ≡ action_row name.now }
 {
     row_in(&ACTIONS, name)
+}
+
+/// Returns the table of actions.
+pub fn action_rows() -> &'static [ActionRow]
+    ensures { map action_row_value result.now ≡ action_table }
+{
+    &ACTIONS
 }

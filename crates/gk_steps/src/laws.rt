@@ -6,10 +6,16 @@ ghost use Rattle.gk_steps.specs.LibraryFault.{LibraryFaultIsUnique};
 ghost use Rattle.gk_steps.specs.LibraryFile.{LibraryReadingIsUnique, ReadsLibrary};
 ghost use Rattle.gk_steps.specs.Matching.{MatchesAreDetermined};
 ghost use Rattle.gk_steps.specs.Pattern.{SpellingIsUnique};
+ghost use Rattle.gk_steps.specs.PatternReading.{SpellingIsComputed};
 
 /// States that a text spells at most one pattern.
 pub fn spelling_is_unique()
     ensures { SpellingIsUnique }
+{}
+
+/// States that the definitions compute the pieces that a text spells.
+pub fn spelling_is_computed()
+    ensures { SpellingIsComputed }
 {}
 
 /// States that a pattern has at most one preferred match of a text, and that the definitions compute what it finds.

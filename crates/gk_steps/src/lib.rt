@@ -25,18 +25,18 @@ mod spelling;
 mod table_rows;
 mod used_fields;
 
-pub use action::Action;
+pub use action::{Action, ActionRow, action_rows, row_named};
 pub use decimal::number_of;
 pub use default_file::{DEFAULT_TEXT, default_library};
 pub use finding::Found;
 pub use laws::{
     default_text_reads_as_its_entries, finding_is_determined, library_fault_is_unique,
-    library_reading_is_unique, matches_are_determined, spelling_is_unique,
+    library_reading_is_unique, matches_are_determined, spelling_is_computed, spelling_is_unique,
 };
 pub use library::{Entry, Library};
 pub use library_fault::LibraryFault;
 pub use library_file::read_library;
-pub use library_line::is_ignored;
+pub use library_line::{EntryText, entry_text, has_right_kind, is_ignored};
 pub use pattern::{Field, FieldKind, Pattern, PatternFault, Piece};
-pub use spelling::read_pattern;
+pub use spelling::{field_kind, read_pattern};
 pub use used_fields::{FoundUse, UsedFields};

@@ -75,17 +75,22 @@ fn last_arrow<'a>(text: &'a str) -> Option<(&'a str, &'a str)>
     None
 }
 
-// The type of a line's entry, and the trimmed sides of the line's arrow.
+/// The type of a line's entry, and the trimmed sides of the line's last arrow.
 #[derive(Clone, Copy, Debug)]
-struct EntryText<'a> {
-    step_type: Option<StepType>,
-    pattern: &'a str,
-    action: &'a str,
+pub struct EntryText<'a> {
+    /// The type, or `None` for steps of every type.
+    pub step_type: Option<StepType>,
+    /// The text of the pattern.
+    pub pattern: &'a str,
+    /// The name of the action.
+    pub action: &'a str,
 }
 
-// Returns the type of a line's entry, and the trimmed sides of the line's arrow.
+/// Returns the type of a line's entry, and the trimmed sides of the line's last arrow. A line that has no type, or no
+/// arrow after it, is a fault. Doesn't look at the pattern or the action, and doesn't allocate.
+/// (behave's documentation: step implementations)
 #[tactic(auto, unfolding(crate::specs::LibraryFile::type_of, crate::specs::LibraryFile::sides_of))]
-fn entry_text<'a>(line: &BorrowedLine<'a>) -> Result<EntryText<'a>, LibraryFault>
+pub fn entry_text<'a>(line: &BorrowedLine<'a>) -> Result<EntryText<'a>, LibraryFault>
     ensures said { IfOk result (λ said.
         IsEntryText (borrowed_value line.now) said.step_type said.pattern.now said.action.now) }
     ensures fault { IfErr result (λ f. EntryTextFaultSays f (borrowed_value line.now)) }
@@ -164,8 +169,9 @@ fn kind_of_field(name: &str) -> FieldKind
     }
 }
 
-// Returns whether the field of this name, if there is one, is of the kind that the name requires.
-fn has_right_kind(pieces: &[Piece], name: &str) -> bool
+/// Returns whether the field of this name, if there is one, is of the kind that the name requires: a number for `n`,
+/// and a text for any other name.
+pub fn has_right_kind(pieces: &[Piece], name: &str) -> bool
     ensures { result ≡ machinery.has_right_kind (pieces_said pieces.now) name.now }
 {
     is_none_or_kind(pieces, name, kind_of_field(name))

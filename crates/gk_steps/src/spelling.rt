@@ -224,7 +224,7 @@ fn read_pieces(alloc: Global, text: &str) -> Result<Vec<Piece>, PatternFault>
 }
 
 /// Returns the kind of the field of this name, or `None` if the pieces have no such field.
-pub(crate) fn field_kind(pieces: &[Piece], name: &str) -> Option<FieldKind>
+pub fn field_kind(pieces: &[Piece], name: &str) -> Option<FieldKind>
     ensures { result ≡ spec.field_kind (pieces_said pieces.now) name.now }
 {
     for piece in pieces {

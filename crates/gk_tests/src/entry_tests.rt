@@ -1,6 +1,7 @@
 use gk_gherkin::{StepType, borrowed_line};
 use gk_steps::{
-    Action, Entry, Library, LibraryFault, PatternFault, is_ignored, number_of, read_pattern,
+    Action, Entry, FieldKind, Library, LibraryFault, PatternFault, action_rows, entry_text,
+    field_kind, has_right_kind, is_ignored, number_of, read_pattern, row_named,
 };
 use std::alloc::Global;
 use std::test::Fail;
@@ -10,6 +11,43 @@ fn lines_are_ignored(rt: HostRuntime) {
     assert!(rt; is_ignored(&borrowed_line(1, "")) && is_ignored(&borrowed_line(2, " \t")));
     assert!(rt; is_ignored(&borrowed_line(3, "# given")) && is_ignored(&borrowed_line(4, "\t#")));
     assert!(rt; !is_ignored(&borrowed_line(5, "given a => pass # b")));
+}
+
+#[test]
+fn lines_are_divided(rt: HostRuntime) -> Result<(), LibraryFault> {
+    let text = entry_text(&borrowed_line(1, " given\ta => b =>  Pass "))?;
+    assert_eq!(rt; text.step_type, Some(StepType::Given));
+    assert_eq!(rt; text.pattern, "a => b");
+    assert_eq!(rt; text.action, "Pass");
+    let fault = entry_text(&borrowed_line(2, "step a")).err();
+    assert_eq!(rt; fault, Some(LibraryFault::BadPattern { line: 2 }));
+    Ok(())
+}
+
+#[test]
+fn actions_have_rows(rt: HostRuntime) {
+    assert_eq!(rt; action_rows().len(), 24);
+    assert!(rt; row_named("Pass").is_none());
+    let mut found = false;
+    if let Some(row) = row_named("set_number") {
+        found = row.action == Action::SetNumber && row.needs.len() == 2 && row.uses.len() == 2;
+    }
+    assert!(rt; found);
+}
+
+#[test]
+fn fields_have_kinds(rt: HostRuntime) -> Result<(), PatternFault> {
+    let pattern = read_pattern(rt.alloc(), "{name:d} is {n}")?;
+    assert_eq!(rt;
+        field_kind(&pattern.pieces, "name"),
+        Some(FieldKind::Decimal)
+    );
+    assert_eq!(rt; field_kind(&pattern.pieces, "n"), Some(FieldKind::Plain));
+    assert_eq!(rt; field_kind(&pattern.pieces, "to"), None);
+    assert!(rt; !has_right_kind(&pattern.pieces, "name"));
+    assert!(rt; !has_right_kind(&pattern.pieces, "n"));
+    assert!(rt; has_right_kind(&pattern.pieces, "to"));
+    Ok(())
 }
 
 #[test]

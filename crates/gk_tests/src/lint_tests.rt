@@ -1,9 +1,10 @@
 use crate::run_tests::feature_of;
 use gk_gherkin::{Feature, ReadFault, read_feature, read_hooks, text_of};
 use gk_lint::{
-    Cause, EntryHint, Finding, FindingKind, Keyword, StepFault, StepFindings, cause_at, column_at,
-    entry_hint, entry_lines, in_order, lines_without_scenario, lint_feature, lint_feature_file,
-    lint_hook_tags, lint_hooks, lint_library, lint_steps, scenarios_of, tags_that_stand_nowhere,
+    Cause, EntryHint, Finding, FindingKind, Keyword, LibraryCause, StepFault, StepFindings,
+    cause_at, column_at, entry_hint, entry_lines, in_order, library_cause, lines_without_scenario,
+    lint_feature, lint_feature_file, lint_hook_tags, lint_hooks, lint_library, lint_steps,
+    scenarios_of, tags_that_stand_nowhere,
 };
 use gk_select::read_tags;
 use gk_steps::{LibraryFault, read_library};
@@ -84,6 +85,59 @@ fn causes_are_named(rt: HostRuntime) -> Result<(), AllocError> {
     Ok(())
 }
 
+// Libraries with faults, and what to do about each.
+const FAULTY: [(&str, &str); 7] = [
+    (
+        "step the {name} is {m:d} => set_number",
+        "set_number needs {name} and {n:d}; missing: {n:d}",
+    ),
+    (
+        "step the {{name}} is lit => file_exists",
+        "file_exists needs {name}; missing: {name}",
+    ),
+    (
+        "step the {name} is {n} => set_number",
+        "write {n:d}: n is a number in set_number",
+    ),
+    (
+        "step the {name:d} is lit => file_exists",
+        "write {name}: name is a text in file_exists",
+    ),
+    (
+        "step a lamp => wirte_file",
+        "the nearest action is write_file; docs/guide/library_files.md lists all",
+    ),
+    ("step a lamp => shine", "none"),
+    (
+        "# lamps\ngiven a {x} => pass\nstep a {x} => pass\n\nstep a lamp => fail",
+        "line 3 matches it, too: put the special entry first, or make it differ",
+    ),
+];
+
+// Shows what to do about the fault of a library.
+fn shown_cause(alloc: Global, text: &str, fault: LibraryFault) -> Result<String, AllocError> {
+    let mut lines = Vec::new(alloc);
+    for line in text.lines() {
+        lines.push(line)?;
+    }
+    match library_cause(alloc, &lines, fault)? {
+        Some(cause) => LibraryCause::text(cause, alloc),
+        None => String::from_str(alloc, "none"),
+    }
+}
+
+#[test]
+fn causes_of_libraries_are_named(rt: HostRuntime) -> Result<(), AllocError> {
+    for (text, wanted) in FAULTY {
+        let fault = read_library(rt.alloc(), text.as_bytes()).err();
+        assert!(rt; fault.is_some());
+        if let Some(fault) = fault {
+            assert_eq!(rt; shown_cause(rt.alloc(), text, fault)?.as_str(), wanted);
+        }
+    }
+    Ok(())
+}
+
 // A library of two entries.
 const LIBRARY: &str = "# lamps\nthen the lamp is red => pass\nstep the lamp is lit => pass\n";
 
@@ -144,9 +198,7 @@ fn keywords_are_spelt(rt: HostRuntime) {
 }
 
 // What is wrong with steps, and how each is called.
-const STEP_FAULTS: [(StepFault, &str); 8] = [
-    (StepFault::Undefined, "undefined step"),
-    (StepFault::CleanupWithoutStep, "cleanup without step"),
+const STEP_FAULTS: [(StepFault, &str); 6] = [
     (StepFault::NotAllowed, "action that isn't allowed here"),
     (
         StepFault::NoText,
@@ -203,13 +255,13 @@ fn findings_are_put_in_order(rt: HostRuntime) -> Result<(), AllocError> {
 
 // The suite of the guide's page on linting: its library, its hooks and its feature.
 const WICK_STEPS: &str =
-    "step the wick \"{name}\" is trimmed => write_file\nstep the wick \"{name}\" is put out => remove_file\nstep the night is over => skip_scenario\nthen the wick \"{name}\" should be gone => file_absent\n";
+    "step the wick \"{name}\" is trimmed => write_file\nstep the wick \"{name}\" is put out => remove_file\nstep the night is over => skip_scenario\nthen the wick \"{name}\" should be gone => file_absent\nstep at last {step} => at_cleanup\n";
 
 const WICK_HOOKS: &str =
     "before_tag @quick:\n  Given the wick \"night\" is put out\n\nafter_scenario:\n  Then the night is over\n";
 
 const WICK: &str =
-    "Feature: A wick\n  Scenario: It is trimmed\n    Given the wick \"hall\" is trimmed\n    When the wick \"hall\" is lit\n\n  Scenario Outline: It smokes <often>\n    Given the wick \"hall\" is put out\n";
+    "Feature: A wick\n  Scenario: It is trimmed\n    Given the wick \"hall\" is trimmed\n    When the wick \"hall\" is lit\n    And at last the wick \"hall\" should be gone\n\n  Scenario Outline: It smokes <often>\n    Given the wick \"hall\" is put out\n";
 
 // Shows what was found of steps, and the entries that they use.
 fn shown_steps(alloc: Global, found: &StepFindings) -> Result<String, AllocError> {
@@ -224,7 +276,7 @@ fn steps_are_linted(rt: HostRuntime) -> Result<(), Fail> {
     let found = lint_steps(rt.alloc(), &library, &feature)?;
     assert_eq!(rt;
         shown_steps(rt.alloc(), &found)?.as_str(),
-        "3: step without the text that its action needs\n4: undefined step\n[0]"
+        "3: step without the text that its action needs\n4: undefined step\n5: cleanup without step\n[0, 4]"
     );
     let hooks = read_hooks(rt.alloc(), WICK_HOOKS.as_bytes())?;
     let found = lint_hooks(rt.alloc(), &library, &hooks)?;

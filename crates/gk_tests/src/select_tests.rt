@@ -1,5 +1,7 @@
 use gk_gherkin::read_feature;
-use gk_select::{TagRule, expand, has_room, into_cases, read_features_are_expandable, read_tags};
+use gk_select::{
+    TagRule, expand, has_room, into_cases, read_features_are_expandable, read_tags, tag_stop,
+};
 use std::alloc::{AllocError, Global};
 use std::test::Fail;
 
@@ -80,6 +82,32 @@ fn rules_of_tags_are_read(rt: HostRuntime) -> Result<(), AllocError> {
     for (text, wanted) in RULES {
         let rule = read_tags(rt.alloc(), text);
         let shown = format!(in rt.alloc(); "{rule:?}")?;
+        assert_eq!(rt; shown.as_str(), wanted);
+    }
+    Ok(())
+}
+
+// Texts, and where each stops spelling a rule.
+const STOPS: [(&str, &str); 6] = [
+    ("@a and not (@b or @c)", "None"),
+    (
+        "@a and and @b",
+        "Some(TagStop { at: Some(\"and\"), wanted: Operand })",
+    ),
+    ("not ", "Some(TagStop { at: None, wanted: Operand })"),
+    ("@a)", "Some(TagStop { at: Some(\")\"), wanted: Operator })"),
+    ("(@a or @b", "Some(TagStop { at: None, wanted: Close })"),
+    (
+        "~@a,-b",
+        "Some(TagStop { at: Some(\"-b\"), wanted: Alternative })",
+    ),
+];
+
+#[test]
+fn texts_stop_at_their_first_bad_word(rt: HostRuntime) -> Result<(), AllocError> {
+    for (text, wanted) in STOPS {
+        let stop = tag_stop(text);
+        let shown = format!(in rt.alloc(); "{stop:?}")?;
         assert_eq!(rt; shown.as_str(), wanted);
     }
     Ok(())

@@ -2,7 +2,7 @@ use Rattle.gk_run.specs.OpenSection.{run_of}
 use Rattle.std.proofs.Common.{map}
 use Rattle.gk_run.specs.Chosen.{chosen_value}
 use Rattle.gk_cli.specs.Writing.{device_of}
-use Rattle.gk_cli.proofs.ResultLemmas.{if_ok, if_err}
+use Rattle.gk_request.proofs.ResultLemmas.{if_ok, if_err}
 use Rattle.gk_cli.proofs.ExplainedSuiteLemmas.{told_up_to}
 use Rattle.gk_cli.proofs.explained_run.write_explanation.Goals as goal
 

@@ -4,7 +4,7 @@ use Rattle.gk_report.specs.Report.{part}
 use Rattle.gk_report.specs.PartPieces.{rest, IsPiece}
 use Rattle.gk_cli.specs.Writing.{device_of, IsStopped}
 use Rattle.gk_cli.proofs.GrowingReportLemmas.{none_written, piece_refused, piece_stopped, piece_written}
-use Rattle.gk_cli.proofs.ResultLemmas.{passed_on}
+use Rattle.gk_request.proofs.ResultLemmas.{passed_on}
 use Rattle.gk_cli.proofs.growing_report.write_part.Goals as goal
 
 pub loop-piece-init : goal.loop-piece-init

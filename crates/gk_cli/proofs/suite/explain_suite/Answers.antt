@@ -1,11 +1,11 @@
 use Rattle.std.proofs.Common.{◌≡◌, ◌∙◌, ap}
 use Rattle.gk_cli.specs.ExplainedSuite.{ExplainedInPart}
-use Rattle.gk_cli.specs.Inputs.{inputs_value}
-use Rattle.gk_cli.specs.SuiteFiles.{name_of, suite_value, request_of_files, hooks_name}
+use Rattle.gk_request.specs.Inputs.{inputs_value}
+use Rattle.gk_request.specs.Request.{name_of, suite_value, request_of_files, hooks_name}
 use Rattle.gk_cli.specs.Writing.{device_of}
 use Rattle.gk_cli.proofs.ExplainedSuiteLemmas.{unflushed_so, why_stopped}
 use Rattle.gk_cli.proofs.GrowingReportLemmas.{untouched}
-use Rattle.gk_cli.proofs.ResultLemmas.{if_ok, if_err, ok_known}
+use Rattle.gk_request.proofs.ResultLemmas.{if_ok, if_err, ok_known}
 use Rattle.gk_cli.proofs.SuiteLemmas.{cut_says, unread_says, used_by_run}
 use Rattle.gk_cli.proofs.suite.explain_suite.Goals as goal
 

@@ -1,10 +1,10 @@
-use Rattle.gk_cli.specs.Inputs.{inputs_value}
+use Rattle.gk_request.specs.Inputs.{inputs_value}
 use Rattle.gk_cli.specs.Suite.{ReportedInPart}
-use Rattle.gk_cli.specs.SuiteFiles.{suite_value, request_of_files}
+use Rattle.gk_request.specs.Request.{suite_value, request_of_files}
 use Rattle.gk_cli.specs.Writing.{device_of}
 use Rattle.gk_cli.proofs.SuiteLemmas.{cut_says, reported_in_part, unread_says, used_by_run, whole_is_judged, whole_is_only}
 use Rattle.gk_cli.proofs.GrowingReportLemmas.{untouched}
-use Rattle.gk_cli.proofs.ResultLemmas.{if_ok, if_err, ok_known}
+use Rattle.gk_request.proofs.ResultLemmas.{if_ok, if_err, ok_known}
 use Rattle.gk_cli.proofs.suite.report_suite.Goals as goal
 
 pub returns-in-Ok-clause-judged : goal.returns-in-Ok-clause-judged

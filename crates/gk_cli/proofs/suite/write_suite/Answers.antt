@@ -1,9 +1,9 @@
 use Rattle.std.proofs.Common.{refl}
 use Rattle.gk_cli.specs.declared.arguments.Mode.TheVariants.{Report, Explanation, Findings}
-use Rattle.gk_cli.specs.SuiteFiles.{request_of_files, suite_value}
+use Rattle.gk_request.specs.Request.{request_of_files, suite_value}
 use Rattle.gk_cli.specs.Writing.{device_of}
 use Rattle.gk_cli.proofs.ModesLemmas.{fault_in_mode, in_mode, left_in_mode}
-use Rattle.gk_cli.proofs.ResultLemmas.{if_ok_both}
+use Rattle.gk_request.proofs.ResultLemmas.{if_ok_both}
 use Rattle.gk_cli.proofs.suite.write_suite.Goals as goal
 
 pub returns-in-Report-clause-written : goal.returns-in-Report-clause-written

@@ -2,7 +2,7 @@ use Rattle.std.proofs.Common.{List, inl, inr, refl, subst, sym}
 use Rattle.gk_run.specs.Results.{FeatureRow}
 use Rattle.gk_cli.specs.Writing.{device_of, IsStopped}
 use Rattle.gk_cli.specs.GrowingReport.{results_with}
-use Rattle.gk_cli.proofs.ResultLemmas.{passed_on}
+use Rattle.gk_request.proofs.ResultLemmas.{passed_on}
 use Rattle.gk_cli.proofs.told_run.close.Goals as goal
 
 pub returns-in_err-text-clause-err : goal.returns-in_err-text-clause-err

@@ -6,7 +6,7 @@ use Rattle.gk_run.specs.Chosen.{ChosenValue, chosen_value, IsFormed}
 use Rattle.gk_run.specs.DryRun.{AreDryFeatures}
 use Rattle.gk_cli.specs.Writing.{device_of}
 use Rattle.gk_cli.specs.ToldRun.{TellsDryFeature, IsDryResult, AreToldUpTo, stays_begun}
-use Rattle.gk_cli.proofs.ResultLemmas.{passed_on}
+use Rattle.gk_request.proofs.ResultLemmas.{passed_on}
 use Rattle.gk_cli.proofs.SuiteLemmas.{nothing_in}
 use Rattle.gk_cli.proofs.ToldRunLemmas.{DryRowsSoFar, dry_rows_first, dry_rows_next, dry_rows_last, TellingDryRun, telling_first, telling_next, telling_last, telling_stopped}
 use Rattle.gk_cli.proofs.told_run.tell_dry_features.Goals as goal

@@ -4,7 +4,7 @@ use Rattle.gk_run.specs.Chosen.{chosen_value}
 use Rattle.gk_run.specs.Results.{feature_row}
 use Rattle.gk_cli.specs.Writing.{device_of}
 use Rattle.gk_cli.specs.ToldRun.{TellsDryFeature, IsDryResult}
-use Rattle.gk_cli.proofs.ResultLemmas.{on_both, if_err}
+use Rattle.gk_request.proofs.ResultLemmas.{on_both, if_err}
 use Rattle.gk_cli.proofs.ToldRunLemmas.{next_stopped}
 use Rattle.gk_cli.proofs.told_run.tell_dry_next.Goals as goal
 

@@ -9,7 +9,7 @@ use Rattle.gk_run.specs.Features.{IsFeatureResult}
 use Rattle.gk_run.specs.OpenRun.{AreFeatures, SuiteValue, opens_features}
 use Rattle.gk_cli.specs.Writing.{device_of}
 use Rattle.gk_cli.specs.ToldRun.{TellsFeature, TellsNext, EndsNext, IsNextResult, AreToldUpTo, stays}
-use Rattle.gk_cli.proofs.ResultLemmas.{passed_on}
+use Rattle.gk_request.proofs.ResultLemmas.{passed_on}
 use Rattle.gk_cli.proofs.SuiteLemmas.{nothing_in, and_left, kept_through, same_through}
 use Rattle.gk_cli.proofs.ToldRunLemmas.{RowsSoFar, rows_first, rows_next, rows_last, TellingRun, telling_first, telling_next, telling_last, telling_stopped}
 use Rattle.gk_cli.proofs.told_run.tell_features.Goals as goal

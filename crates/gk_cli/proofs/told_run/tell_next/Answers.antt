@@ -7,7 +7,7 @@ use Rattle.gk_run.specs.Results.{feature_row}
 use Rattle.gk_run.specs.OpenSection.{run_of}
 use Rattle.gk_cli.specs.Writing.{device_of}
 use Rattle.gk_cli.specs.ToldRun.{TellsFeature}
-use Rattle.gk_cli.proofs.ResultLemmas.{on_both, if_err}
+use Rattle.gk_request.proofs.ResultLemmas.{on_both, if_err}
 use Rattle.gk_cli.proofs.ToldRunLemmas.{next_stopped}
 use Rattle.gk_cli.proofs.told_run.tell_next.Goals as goal
 

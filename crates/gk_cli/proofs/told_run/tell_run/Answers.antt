@@ -7,7 +7,7 @@ use Rattle.gk_run.specs.OpenRun.{AreFeatures, IsFinishTold, SuiteValue, opens_fe
 use Rattle.gk_cli.specs.declared.told_run.Told.{Told}
 use Rattle.gk_cli.specs.Writing.{device_of}
 use Rattle.gk_cli.specs.ToldRun.{TellsFeature, TellsFeatures, AreTold, AreToldUpTo, stays}
-use Rattle.gk_cli.proofs.ResultLemmas.{if_ok, if_err}
+use Rattle.gk_request.proofs.ResultLemmas.{if_ok, if_err}
 use Rattle.gk_cli.proofs.ToldRunLemmas.{run_told, whole_told, whole_stopped, part_told}
 use Rattle.gk_cli.proofs.told_run.tell_run.Goals as goal
 

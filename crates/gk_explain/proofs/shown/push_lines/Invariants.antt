@@ -1,6 +1,6 @@
 use Rattle.std.proofs.Common.{◌≡◌, ◌++◌, drop, map, string_bytes}
-use Rattle.gk_explain.specs.Shown.{marked_lines}
+use Rattle.gk_explain.specs.Shown.{marked_lines, row}
 use Rattle.gk_explain.proofs.shown.push_lines.Given as goal
 
 abbrev pub invariant-loop-line : goal.invariant-loop-line
-invariant-loop-line l = string_bytes l.out ++ marked_lines l.mark (map (λ line. line.now) (drop l.line-index l.lines)) ≡ string_bytes l.initial.out ++ marked_lines l.mark (map (λ line. line.now) l.lines)
+invariant-loop-line l = string_bytes l.out ++ marked_lines (row l.mark l.around) (map (λ line. line.now) (drop l.line-index l.lines)) ≡ string_bytes l.initial.out ++ marked_lines (row l.mark l.around) (map (λ line. line.now) l.lines)

@@ -6,7 +6,6 @@ use Rattle.std.specs.Str.Lines.{lines}
 use Rattle.gk_gherkin.specs.Lines.{LineValue, line_at}
 use Rattle.gk_lint.specs.LineContext.{after}
 use Rattle.gk_lint.specs.Misspelt.{wording}
-use Rattle.gk_lint.specs.declared.misspelt.WordedLine.{WordedLine}
 use Rattle.gk_lint.proofs.MisspeltLoop.{one_line, no_line}
 use Rattle.gk_lint.proofs.misspelt.worded.Goals as goal
 

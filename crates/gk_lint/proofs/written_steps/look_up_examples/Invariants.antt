@@ -5,6 +5,7 @@ use Rattle.gk_select.specs.Outline.{AllFit}
 use Rattle.gk_steps.specs.Finding.{library_value}
 use Rattle.gk_lint.specs.declared.step_sites.StepSite.TheVariants as sites
 use Rattle.gk_lint.specs.Lookups.{faults_in, positions_in}
+use Rattle.gk_lint.specs.StepHints.{step_hint, cleanup_hint, first_hint}
 use Rattle.gk_lint.specs.WrittenSteps.{in_examples}
 use Rattle.gk_lint.proofs.written_steps.look_up_examples.Given as goal
 
@@ -13,4 +14,6 @@ invariant-loop-part l = record {
   fit : AllByRecursion AllFit (map examples_value (drop l.part-index l.parts));
   found : l.lookups.faults.items ++ faults_in (library_value l.library) sites.Scenario (in_examples (step_value l.step) (map examples_value (drop l.part-index l.parts))) ≡ l.fn.lookups.faults.items ++ faults_in (library_value l.library) sites.Scenario (in_examples (step_value l.step) (map examples_value l.parts));
   used : l.lookups.used.items ++ positions_in (library_value l.library) (in_examples (step_value l.step) (map examples_value (drop l.part-index l.parts))) ≡ l.fn.lookups.used.items ++ positions_in (library_value l.library) (in_examples (step_value l.step) (map examples_value l.parts));
+  undefined : first_hint (step_hint (library_value l.library)) l.lookups.undefined (in_examples (step_value l.step) (map examples_value (drop l.part-index l.parts))) ≡ first_hint (step_hint (library_value l.library)) l.fn.lookups.undefined (in_examples (step_value l.step) (map examples_value l.parts));
+  cleanup : first_hint (cleanup_hint (library_value l.library)) l.lookups.cleanup (in_examples (step_value l.step) (map examples_value (drop l.part-index l.parts))) ≡ first_hint (cleanup_hint (library_value l.library)) l.fn.lookups.cleanup (in_examples (step_value l.step) (map examples_value l.parts));
 }

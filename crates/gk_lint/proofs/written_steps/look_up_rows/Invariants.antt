@@ -5,6 +5,7 @@ use Rattle.gk_select.specs.Outline.{FitsHeader}
 use Rattle.gk_steps.specs.Finding.{library_value}
 use Rattle.gk_lint.specs.declared.step_sites.StepSite.TheVariants as sites
 use Rattle.gk_lint.specs.Lookups.{faults_in, positions_in}
+use Rattle.gk_lint.specs.StepHints.{step_hint, cleanup_hint, first_hint}
 use Rattle.gk_lint.specs.WrittenSteps.{in_rows}
 use Rattle.gk_lint.proofs.written_steps.look_up_rows.Given as goal
 
@@ -13,4 +14,6 @@ invariant-loop-row l = record {
   fit : AllByRecursion (FitsHeader (examples_value l.part)) (map row_value (drop l.row-index l.part.rows.items));
   found : l.lookups.faults.items ++ faults_in (library_value l.library) sites.Scenario (in_rows (step_value l.step) (examples_value l.part).header (map row_value (drop l.row-index l.part.rows.items))) ≡ l.fn.lookups.faults.items ++ faults_in (library_value l.library) sites.Scenario (in_rows (step_value l.step) (examples_value l.part).header (examples_value l.part).rows);
   used : l.lookups.used.items ++ positions_in (library_value l.library) (in_rows (step_value l.step) (examples_value l.part).header (map row_value (drop l.row-index l.part.rows.items))) ≡ l.fn.lookups.used.items ++ positions_in (library_value l.library) (in_rows (step_value l.step) (examples_value l.part).header (examples_value l.part).rows);
+  undefined : first_hint (step_hint (library_value l.library)) l.lookups.undefined (in_rows (step_value l.step) (examples_value l.part).header (map row_value (drop l.row-index l.part.rows.items))) ≡ first_hint (step_hint (library_value l.library)) l.fn.lookups.undefined (in_rows (step_value l.step) (examples_value l.part).header (examples_value l.part).rows);
+  cleanup : first_hint (cleanup_hint (library_value l.library)) l.lookups.cleanup (in_rows (step_value l.step) (examples_value l.part).header (map row_value (drop l.row-index l.part.rows.items))) ≡ first_hint (cleanup_hint (library_value l.library)) l.fn.lookups.cleanup (in_rows (step_value l.step) (examples_value l.part).header (examples_value l.part).rows);
 }

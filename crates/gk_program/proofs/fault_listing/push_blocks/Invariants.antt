@@ -1,6 +1,6 @@
 use Rattle.std.proofs.Common.{◌≡◌, ◌++◌, drop, string_bytes}
-use Rattle.gk_cli.specs.Source.{source_value}
-use Rattle.gk_cli.specs.SuiteFiles.{suite_value}
+use Rattle.gk_request.specs.Source.{source_value}
+use Rattle.gk_request.specs.Request.{suite_value}
 use Rattle.gk_program.specs.FaultListing.{blocks}
 use Rattle.gk_program.proofs.fault_listing.push_blocks.Given as goal
 

@@ -1,6 +1,6 @@
 use Rattle.std.proofs.Common.{inl, inr, map, option_map, subst, sym}
 use Rattle.std.specs.Prelude.{string_bytes}
-use Rattle.gk_cli.specs.Source.{source_value}
+use Rattle.gk_request.specs.Source.{source_value}
 use Rattle.gk_program.specs.Files.{IsFaultOfFiles, IsFileFault, StopsReading, names_in_order, one_of}
 use Rattle.gk_program.proofs.FilesLemmas.{err_is_not_ok, named_file, one_named, passed_on, reads_both, stops_later, stops_sooner}
 use Rattle.gk_program.proofs.files.read_run_files.Goals as goal

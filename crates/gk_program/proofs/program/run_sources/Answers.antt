@@ -1,8 +1,9 @@
 use Rattle.std.proofs.Common.{◌∙◌, ap, inl, inr, refl}
-use Rattle.gk_cli.specs.Counted.{one_more}
+use Rattle.gk_gherkin.specs.Feature.{texts}
+use Rattle.gk_request.specs.Counted.{one_more}
 use Rattle.gk_cli.specs.Writing.{device_of}
-use Rattle.gk_cli.specs.Source.{source_value}
-use Rattle.gk_cli.specs.SuiteFiles.{suite_value}
+use Rattle.gk_request.specs.Source.{source_value}
+use Rattle.gk_request.specs.Request.{suite_value}
 use Rattle.gk_program.proofs.ProgramLemmas.{calls_as, fault_as_before}
 use Rattle.gk_program.proofs.program.run_sources.Goals as goal
 
@@ -25,9 +26,11 @@ returns-in-Ok-clause-fault g c = inr record {
 
 pub returns-clause-fault : goal.returns-clause-fault
 returns-clause-fault g c =
-    inl (c.in-Err.fault, fault_as_before c.args.mode c.write_suite.result (suite_value source_value c.args.files) (suite_value source_value c.write_suite.new.files) c.in-Err.fault c.fault_as.result c.write_suite.ensures.left c.fault_as.ensures, c.in-Err.ensures.fault)
+    let named = rw c.as_slice.ensures.value at c.fault_as.ensures in
+    inl (c.in-Err.fault, fault_as_before c.args.mode (texts c.args.options.now.tags.items) c.write_suite.result (suite_value source_value c.args.files) (suite_value source_value c.write_suite.new.files) c.in-Err.fault c.fault_as.result c.write_suite.ensures.left named, c.in-Err.ensures.fault)
 
 pub returns-clause-calls : goal.returns-clause-calls
 returns-clause-calls g c =
-    let fault = fault_as_before c.args.mode c.write_suite.result (suite_value source_value c.args.files) (suite_value source_value c.write_suite.new.files) c.in-Err.fault c.fault_as.result c.write_suite.ensures.left c.fault_as.ensures in
+    let named = rw c.as_slice.ensures.value at c.fault_as.ensures in
+    let fault = fault_as_before c.args.mode (texts c.args.options.now.tags.items) c.write_suite.result (suite_value source_value c.args.files) (suite_value source_value c.write_suite.new.files) c.in-Err.fault c.fault_as.result c.write_suite.ensures.left named in
     calls_as c.args.mode _ _ _ _ (suite_value source_value c.args.files) c.in-Err.fault c.fault_as.result c.requires.room fault c.in-Err.ensures.fault

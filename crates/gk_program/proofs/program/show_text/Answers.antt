@@ -1,5 +1,5 @@
 use Rattle.std.proofs.Common.{◌∙◌, ap, inr, refl, rules}
-use Rattle.gk_cli.specs.Counted.{one_more}
+use Rattle.gk_request.specs.Counted.{one_more}
 use Rattle.gk_cli.specs.Writing.{device_of}
 use Rattle.gk_program.proofs.program.show_text.Goals as goal
 

@@ -3,7 +3,7 @@ use Rattle.gk_run.specs.Results.{feature_row}
 use Rattle.gk_report.specs.Report.{is_empty, part}
 use Rattle.gk_cli.specs.declared.growing_report.GrowingReport.{GrowingReport}
 use Rattle.gk_cli.specs.Writing.{device_of, IsStopped}
-use Rattle.gk_cli.proofs.ResultLemmas.{passed_on}
+use Rattle.gk_request.proofs.ResultLemmas.{passed_on}
 use Rattle.gk_cli.proofs.growing_report.GrowingReportReporter.feature_ended.Goals as goal
 
 pub returns-in_err-self-clause-err : goal.returns-in_err-self-clause-err

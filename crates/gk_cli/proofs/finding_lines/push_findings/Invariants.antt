@@ -1,6 +1,0 @@
-use Rattle.std.proofs.Common.{◌≡◌, ◌++◌, drop, string_bytes}
-use Rattle.gk_cli.specs.FindingLines.{finding_lines}
-use Rattle.gk_cli.proofs.finding_lines.push_findings.Given as goal
-
-abbrev pub invariant-loop-finding : goal.invariant-loop-finding
-invariant-loop-finding l = string_bytes l.out ++ finding_lines l.name (drop l.finding-index l.findings) ≡ string_bytes l.initial.out ++ finding_lines l.name l.findings

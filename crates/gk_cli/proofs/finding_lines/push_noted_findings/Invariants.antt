@@ -1,6 +1,0 @@
-use Rattle.std.proofs.Common.{◌≡◌, ◌++◌, drop, string_bytes}
-use Rattle.gk_cli.specs.FindingLines.{noted_library_value, noted_file_value, noted_lines}
-use Rattle.gk_cli.proofs.finding_lines.push_noted_findings.Given as goal
-
-abbrev pub invariant-loop-finding : goal.invariant-loop-finding
-invariant-loop-finding l = string_bytes l.out ++ noted_lines (noted_library_value l.library) (noted_file_value l.file) (drop l.finding-index l.findings) ≡ string_bytes l.initial.out ++ noted_lines (noted_library_value l.library) (noted_file_value l.file) l.findings

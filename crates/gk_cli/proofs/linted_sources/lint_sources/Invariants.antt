@@ -1,8 +1,0 @@
-use Rattle.std.proofs.Common.{map, take}
-use Rattle.gk_cli.specs.FindingLines.{noted_library_value}
-use Rattle.gk_cli.specs.LintedSources.{IsLintOf}
-use Rattle.gk_cli.proofs.linted_sources.lint_sources.Given as goal
-
--- what was found is that of the sources so far
-abbrev pub invariant-loop-input : goal.invariant-loop-input
-invariant-loop-input g l = IsLintOf (noted_library_value l.library) (take l.input (map g.S.FeatureSource.value l.sources)) l.so_far

@@ -1,5 +1,0 @@
-use Rattle.gk_cli.proofs.InputsLemmas.{unique}
-use Rattle.gk_cli.proofs.suite.inputs_are_unique.Goals as goal
-
-pub returns : goal.returns
-returns c = unique c.reading_is_unique.ensures c.texts_have_one_rule.ensures c.library_reading_is_unique.ensures c.hooks_reading_is_unique.ensures

@@ -1,0 +1,180 @@
+use crate::whole_suite_tests::{files_with, oil, plain, source};
+use gk_findings::{findings_text, push_notes};
+use gk_gherkin::ReadFault;
+use gk_request::{
+    Options, ReadInputs, RunFault, Source, SuiteFiles, bytes_of, file_at_fault, first_bad_tags,
+    line_at_fault, name_of, read_before, read_feature_at, read_inputs,
+};
+use gk_select::SelectFault;
+use std::alloc::{AllocError, Global};
+use std::test::Fail;
+
+const HOOKS: &str = "before_all:\n  Given it passes\nafter_tag @bell:\n  Then it fails\n";
+
+const BELLS: &str =
+    "@bell\nFeature: Bells\n  Scenario: It rings\n  Rule: At night\n    Scenario Outline: It is still\n      Given it passes\n      Examples:\n        | hour |\n        | one  |\n        | two  |\n";
+
+fn bells(alloc: Global) -> Result<SuiteFiles<Source>, AllocError> {
+    let hooks = source(alloc, "bells.hooks", HOOKS)?;
+    let feature = source(alloc, "bells.feature", BELLS)?;
+    files_with(alloc, None, Some(hooks), feature)
+}
+
+// The scenarios with a tag, on two lines.
+fn tagged(alloc: Global) -> Result<Options, AllocError> {
+    let mut options = plain(alloc);
+    options.tags.push(String::from_str(alloc, "@bell")?)?;
+    options.lines.push(3)?;
+    options.lines.push(10)?;
+    Ok(options)
+}
+
+// What was read of one feature: the numbers of entries and of hooks, the feature's file, its name, its rules and its
+// choice.
+fn shown(alloc: Global, read: &ReadInputs) -> Result<String, Fail> {
+    let [feature] = read.features.as_slice() else {
+        return Err("not one feature".into());
+    };
+    Ok(format!(in alloc;
+        "{} {}; {} {} {:?} {:?}",
+        read.library.entries.len(),
+        read.hooks.hooks.len(),
+        feature.source,
+        feature.name,
+        feature.rules,
+        feature.selected
+    )?)
+}
+
+fn inputs(
+    alloc: Global,
+    options: &Options,
+    files: &mut SuiteFiles<Source>,
+) -> Result<String, Fail> {
+    let read = read_inputs(alloc, options, files)?;
+    shown(alloc, &read)
+}
+
+#[test]
+fn requests_are_read(rt: HostRuntime) -> Result<(), Fail> {
+    let options = tagged(rt.alloc())?;
+    let mut files = bells(rt.alloc())?;
+    assert_eq!(rt;
+        inputs(rt.alloc(), &options, &mut files)?.as_str(),
+        "28 2; bells.feature Bells [RuleHead { line: 4, tags: [] }] [true, false, true]"
+    );
+    let left = format!(in rt.alloc(); "{:?}", files.sources)?;
+    assert_eq!(rt;
+        left.as_str(),
+        "[Source { name: \"bells.feature\", bytes: [] }]"
+    );
+    Ok(())
+}
+
+#[test]
+fn requests_are_read_without_their_sources(rt: HostRuntime) -> Result<(), Fail> {
+    let options = tagged(rt.alloc())?;
+    let library = "step the bell rings => pass\n";
+    let before = read_before(
+        rt.alloc(),
+        &options,
+        Some(library.as_bytes()),
+        Some(HOOKS.as_bytes()),
+    )?;
+    assert_eq!(rt; before.library.entries.len(), 1);
+    assert_eq!(rt; before.hooks.hooks.len(), 2);
+    assert_eq!(rt; before.rules.len(), 1);
+    Ok(())
+}
+
+// The name of the feature of a source at a place, or its fault.
+fn feature_name(alloc: Global, place: usize, text: &str) -> Result<String, AllocError> {
+    let read = read_feature_at(alloc, place, text.as_bytes());
+    format!(in alloc;
+        "{:?}",
+        read.map(|feature| feature.map(|feature| feature.name))
+    )
+}
+
+#[test]
+fn features_are_read(rt: HostRuntime) -> Result<(), AllocError> {
+    assert_eq!(rt;
+        feature_name(rt.alloc(), 0, BELLS)?.as_str(),
+        "Ok(Some(\"Bells\"))"
+    );
+    assert_eq!(rt;
+        feature_name(rt.alloc(), 0, "# None\n")?.as_str(),
+        "Ok(None)"
+    );
+    assert_eq!(rt;
+        feature_name(rt.alloc(), 3, "@bell rings\n")?.as_str(),
+        "Err(Read { input: 3, fault: BadTag { line: 1 } })"
+    );
+    Ok(())
+}
+
+// The name and the number of bytes of the file of a fault, and the line that the fault names.
+fn place(alloc: Global, files: &SuiteFiles<Source>, fault: RunFault) -> Result<String, AllocError> {
+    let file = file_at_fault(files, fault);
+    let named = file.map(|file| (file.name.as_str(), file.bytes.len()));
+    format!(in alloc; "{named:?} {:?}", line_at_fault(fault))
+}
+
+#[test]
+fn faults_have_places(rt: HostRuntime) -> Result<(), Fail> {
+    let files = bells(rt.alloc())?;
+    let hooks = RunFault::Hooks(ReadFault::BadHook { line: 3 });
+    assert_eq!(rt;
+        place(rt.alloc(), &files, hooks)?.as_str(),
+        "Some((\"bells.hooks\", 63)) Some(3)"
+    );
+    assert_eq!(rt;
+        place(rt.alloc(), &files, RunFault::Memory)?.as_str(),
+        "None None"
+    );
+    assert_eq!(rt; name_of(&files.hooks), "bells.hooks");
+    assert_eq!(rt; name_of(&files.library), "");
+    assert_eq!(rt; bytes_of(&files.hooks), Some(HOOKS.as_bytes()));
+    assert_eq!(rt; bytes_of(&files.library), None);
+    Ok(())
+}
+
+const FOUND: &str = "bells.feature:3: scenario without steps\n";
+
+#[test]
+fn findings_are_listed(rt: HostRuntime) -> Result<(), Fail> {
+    let files = bells(rt.alloc())?;
+    let options = tagged(rt.alloc())?;
+    let text = findings_text(rt.alloc(), &options, true, &files)?;
+    assert_eq!(rt; text.as_str(), FOUND);
+    let oil = oil(rt.alloc())?;
+    let text = format!(in rt.alloc(); "{:?}", findings_text(rt.alloc(), &options, true, &oil))?;
+    assert_eq!(rt; text.as_str(), "Err(Library(UnknownAction { line: 2 }))");
+    Ok(())
+}
+
+#[test]
+fn first_bad_text_of_tags_is_found(rt: HostRuntime) -> Result<(), Fail> {
+    let mut options = tagged(rt.alloc())?;
+    let none = first_bad_tags(rt.alloc(), options.tags.as_slice())?;
+    assert_eq!(rt; none, None);
+    options.tags.push(String::from_str(rt.alloc(), "@bell and")?)?;
+    options.tags.push(String::from_str(rt.alloc(), "-")?)?;
+    let found = first_bad_tags(rt.alloc(), options.tags.as_slice())?;
+    assert_eq!(rt; found, Some("@bell and"));
+    Ok(())
+}
+
+#[test]
+fn bad_text_of_tags_has_notes(rt: HostRuntime) -> Result<(), Fail> {
+    let files = bells(rt.alloc())?;
+    let fault = RunFault::Select {
+        input: None,
+        fault: SelectFault::BadTagText,
+    };
+    let mut notes = String::new(rt.alloc());
+    push_notes(&mut notes, rt.alloc(), Some("@bell and"), &files, fault)?;
+    let wanted = "    @bell and\n    it breaks at its end, where \"not\", \"(\" or a tag such as @a has to stand\n";
+    assert_eq!(rt; notes.as_str(), wanted);
+    Ok(())
+}

@@ -1,0 +1,2 @@
+pub mod LintedSourcesLemmas
+pub mod LintedSuiteLemmas

@@ -1,0 +1,6 @@
+use Rattle.std.proofs.Common.{◌≡◌, ◌++◌, drop, string_bytes}
+use Rattle.gk_findings.specs.FindingLines.{finding_lines}
+use Rattle.gk_findings.proofs.finding_lines.push_findings.Given as goal
+
+abbrev pub invariant-loop-finding : goal.invariant-loop-finding
+invariant-loop-finding l = string_bytes l.out ++ finding_lines l.name (drop l.finding-index l.findings) ≡ string_bytes l.initial.out ++ finding_lines l.name l.findings

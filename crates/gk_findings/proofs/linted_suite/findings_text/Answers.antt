@@ -1,0 +1,43 @@
+use Rattle.std.proofs.Common.{map, ap, sym, ◌∙◌, subst}
+use Rattle.gk_gherkin.specs.Hooks.{hooks_value}
+use Rattle.gk_select.specs.Choice.{is_chosen}
+use Rattle.gk_select.specs.TagRules.{tag_rule_value}
+use Rattle.gk_steps.specs.Finding.{library_value}
+use Rattle.gk_findings.specs.FindingLines.{NotedLibraryValue, noted_library_value}
+use Rattle.gk_request.specs.Inputs.{IsLibrary}
+use Rattle.gk_request.specs.Request.{bytes_of, library_name, suite_value, request_of_files}
+use Rattle.gk_findings.specs.LintedSuite.{noted_library, read_of}
+use Rattle.gk_request.proofs.InputsLemmas.{sources_unread}
+use Rattle.gk_findings.proofs.linted_suite.findings_text.Goals as goal
+
+pub returns-in-Ok-lint_sources-clause-linted : goal.returns-in-Ok-lint_sources-clause-linted
+returns-in-Ok-lint_sources-clause-linted g c =
+    let read = rw (c.bytes_of-library.ensures, c.bytes_of-hooks.ensures) at c.in-Ok.ensures.read in
+    let lint = rw (c.as_slice.ensures.value) at c.in-Ok-lint_sources.ensures.linted in
+    let files = suite_value g.S.FeatureSource.value c.args.files.now in
+    let entries = ap (λ (noted : NotedLibraryValue). noted.entries) c.in_ok-noted.ensures in
+    record {
+      tags = read.tags;
+      read = read_of (noted_library_value c.in_ok-noted.noted) c.in-Ok.before c.in-Ok-lint_sources.so_far;
+      library = subst (λ e. IsLibrary (bytes_of files.library) e) (sym entries) read.library;
+      noted = c.in_ok-noted.ensures ∙ ap (λ e. noted_library c.args.steps (library_name files) (bytes_of files.library) e) (sym entries);
+      hooks = read.hooks;
+      readings = lint.readings;
+      features = lint.features;
+      sources = lint.linted;
+      whole = c.in_ok-whole_text-in-Ok-lint_sources.ensures;
+    }
+
+pub returns-in-Err-clause-fault : goal.returns-in-Err-clause-fault
+returns-in-Err-clause-fault g c =
+    let unread = rw (c.bytes_of-library.ensures, c.bytes_of-hooks.ensures) at c.in-Err.ensures.fault (map g.S.FeatureSource.value c.args.files.now.sources.items) in
+    unread
+
+pub returns-clause-fault : goal.returns-clause-fault
+returns-clause-fault g c =
+    let request = request_of_files c.args.options.now (suite_value g.S.FeatureSource.value c.args.files.now) in
+    let rules = map tag_rule_value c.in-Ok.before.rules.items in
+    let read = rw (c.bytes_of-library.ensures, c.bytes_of-hooks.ensures) at c.in-Ok.ensures.read in
+    let says = rw (c.as_slice.ensures.value) at c.in-Err-lint_sources.ensures.fault in
+    sources_unread request rules (library_value c.in-Ok.before.library) (hooks_value c.in-Ok.before.hooks) c.in-Err-lint_sources.fault read.tags read.library read.hooks
+    (says (is_chosen rules request.lines))

@@ -1,0 +1,413 @@
+//! The output lines of findings, and the notes below them.
+ghost use Rattle.std.specs.Prelude.{◌≡◌, ◌-◌, map, option_map, slice_get, IfOk};
+ghost use Rattle.std.specs.Str.Lines.{lines};
+ghost use Rattle.gk_steps.specs.Finding.{entry_value};
+ghost use Rattle.gk_report.specs.ReportTexts.{Pushes};
+ghost use Rattle.gk_findings.specs.FindingLines as spec;
+
+use crate::fault_notes::{push_note, push_shown_note};
+use gk_explain::{push_entry, push_place, push_shown, type_word};
+use gk_gherkin::Scenario;
+use gk_gherkin::text::trim;
+use gk_lint::{EntryHint, Finding, FindingKind, column_at};
+use gk_steps::{Entry, Library};
+use std::alloc::{AllocError, Global};
+
+/// A library as notes name it.
+#[derive(Drop)]
+pub struct NotedLibrary<'a> {
+    pub library: &'a Library,
+    /// Whether steps are looked up in it.
+    pub steps: bool,
+    /// The name of its file.
+    pub name: &'a str,
+    /// The lines of the file that are entries.
+    pub lines: Vec<u32>,
+}
+
+/// A file as notes below its findings quote it.
+#[derive(Drop)]
+pub struct NotedFile<'a> {
+    pub name: &'a str,
+    pub lines: Vec<&'a str>,
+    pub scenarios: Vec<&'a Scenario>,
+}
+
+/// Returns the lines of a text. Fails only if memory can't be allocated.
+pub fn text_lines(alloc: Global, text: &str) -> Result<Vec<&str>, AllocError>
+    ensures { IfOk result (λ found. map (λ line. line.now) found.items ≡ lines text.now) }
+{
+    text.lines().collect(alloc)
+}
+
+// Pushes the line of a finding in a file of this name.
+fn push_finding(
+    out: &mut String,
+    alloc: Global,
+    name: &str,
+    finding: &Finding,
+) -> Result<(), AllocError>
+    ensures { Pushes out.old (spec.finding_line name.now finding.now) result out.new }
+{
+    push_place(out, name, finding.line)?;
+    let text = finding.kind.text(alloc)?;
+    out.push_str(text.as_str())?;
+    out.push_str("\n")
+}
+
+#[tactic(auto, unfolding(crate::specs::FindingLines::before_column))]
+fn before_column() -> &'static str
+    ensures { result.now ≡ spec.before_column }
+{
+    "the nearest column is: "
+}
+
+#[tactic(auto, unfolding(crate::specs::FindingLines::before_entry))]
+fn before_entry() -> &'static str
+    ensures { result.now ≡ spec.before_entry }
+{
+    "the nearest entry is: "
+}
+
+#[tactic(auto, unfolding(crate::specs::FindingLines::before_type))]
+fn before_type() -> &'static str
+    ensures { result.now ≡ spec.before_type }
+{
+    ", which is a "
+}
+
+#[tactic(auto, unfolding(crate::specs::FindingLines::after_step_type))]
+fn after_step_type() -> &'static str
+    ensures { result.now ≡ spec.after_step_type }
+{
+    " entry; step would match every keyword"
+}
+
+#[tactic(auto, unfolding(crate::specs::FindingLines::after_cleanup_type))]
+fn after_cleanup_type() -> &'static str
+    ensures { result.now ≡ spec.after_cleanup_type }
+{
+    " entry; a cleanup needs step"
+}
+
+// Pushes the note that names a column, if it is known.
+fn push_column_note(out: &mut String, alloc: Global, column: Option<&str>) -> Result<(), AllocError>
+    ensures { Pushes out.old
+        (spec.column_note (option_map (λ text. text.now) column.entry)) result out.new }
+{
+    match column {
+        Some(column) => {
+            let mut text = String::from_str(alloc, before_column())?;
+            push_shown(&mut text, column)?;
+            push_note(out, text.as_str())
+        }
+        None => Ok(()),
+    }
+}
+
+// Pushes the note that quotes a line, if it is known.
+fn push_line_note(out: &mut String, line: Option<&str>) -> Result<(), AllocError>
+    ensures { Pushes out.old (spec.line_note (option_map (λ text. text.now) line.entry))
+        result out.new }
+{
+    match line {
+        Some(text) => push_shown_note(out, trim(text)),
+        None => Ok(()),
+    }
+}
+
+// Pushes the note that names the nearest entry, if it is known.
+fn push_nearest_note(
+    out: &mut String,
+    alloc: Global,
+    entry: Option<&Entry>,
+) -> Result<(), AllocError>
+    ensures { Pushes out.old
+        (spec.nearest_note (option_map (λ e. entry_value e.now) entry.entry)) result out.new }
+{
+    match entry {
+        Some(entry) => {
+            let mut text = String::from_str(alloc, before_entry())?;
+            push_entry(&mut text, entry)?;
+            push_note(out, text.as_str())
+        }
+        None => Ok(()),
+    }
+}
+
+#[tactic(auto, unfolding(crate::specs::FindingLines::matches_line))]
+fn push_matches_line(out: &mut String, line: u32) -> Result<(), AllocError>
+    ensures { Pushes out.old (spec.matches_line line) result out.new }
+{
+    write!(out, "matches line {line} of ")?;
+    Ok(())
+}
+
+// Pushes a line of a file of this name, as a part of a sentence.
+fn push_line_in_file(out: &mut String, name: &str, line: u32) -> Result<(), AllocError>
+    ensures { Pushes out.old (spec.line_in_file name.now line) result out.new }
+{
+    push_matches_line(out, line)?;
+    push_shown(out, name)
+}
+
+// Pushes the words for an entry for steps of another type, with these words after its type.
+fn push_other_type(out: &mut String, after: &str, entry: &Entry) -> Result<(), AllocError>
+    ensures { Pushes out.old (spec.other_type after.now (entry_value entry.now)) result out.new }
+{
+    out.push_str(before_type())?;
+    out.push_str(type_word(entry.step_type))?;
+    out.push_str(after)
+}
+
+// Pushes the note that an entry matches but is for other steps.
+fn push_other_type_note(
+    out: &mut String,
+    alloc: Global,
+    after: &str,
+    name: &str,
+    entry: &Entry,
+    line: u32,
+) -> Result<(), AllocError>
+    ensures { Pushes out.old
+        (spec.other_type_note after.now name.now (entry_value entry.now) line) result out.new }
+{
+    let mut text = String::new(alloc);
+    push_line_in_file(&mut text, name, line)?;
+    push_other_type(&mut text, after, entry)?;
+    push_note(out, text.as_str())
+}
+
+// Does the same, if both the entry and its line are known.
+fn push_other_type_if(
+    out: &mut String,
+    alloc: Global,
+    after: &str,
+    name: &str,
+    entry: Option<&Entry>,
+    line: Option<u32>,
+) -> Result<(), AllocError>
+    ensures { Pushes out.old (spec.other_type_if after.now name.now
+        (option_map (λ e. entry_value e.now) entry.entry) line) result out.new }
+{
+    match entry {
+        Some(entry) => match line {
+            Some(line) => push_other_type_note(out, alloc, after, name, entry, line),
+            None => Ok(()),
+        },
+        None => Ok(()),
+    }
+}
+
+// Pushes the note on the entry that the author of a step may have meant.
+fn push_hint_note(
+    out: &mut String,
+    alloc: Global,
+    after: &str,
+    library: &NotedLibrary<'_>,
+    hint: EntryHint,
+) -> Result<(), AllocError>
+    ensures { Pushes out.old
+        (spec.hint_note after.now (spec.noted_library_value library.now) hint) result out.new }
+{
+    match hint {
+        EntryHint::Unlike => Ok(()),
+        EntryHint::Nearest(position) => {
+            push_nearest_note(out, alloc, library.library.entries.get(position))
+        }
+        EntryHint::OtherType(position) => {
+            let entry = library.library.entries.get(position);
+            let line = library.lines.get(position).copied();
+            push_other_type_if(out, alloc, after, library.name, entry, line)
+        }
+    }
+}
+
+/// Returns the place of a line, counted from 0.
+pub fn place_of(line: u32) -> usize
+    ensures { result ≡ line - 1 }
+{
+    line.saturating_sub(1) as usize
+}
+
+// Returns the line with a number, counted from 1.
+fn line_at<'a>(lines: &[&'a str], line: u32) -> Option<&'a str>
+    ensures { option_map (λ text. text.now) result
+        ≡ slice_get (map (λ text. text.now) lines.now) (line - 1) }
+{
+    lines.get(place_of(line)).copied()
+}
+
+// Pushes the notes below a step at a line, if its text or that of its cleanup finds nothing.
+fn push_hinted_notes(
+    out: &mut String,
+    alloc: Global,
+    after: &str,
+    library: &NotedLibrary<'_>,
+    lines: &[&str],
+    line: u32,
+    hint: EntryHint,
+) -> Result<(), AllocError>
+    ensures { Pushes out.old (spec.hinted_notes after.now (spec.noted_library_value library.now)
+        (map (λ text. text.now) lines.now) line hint) result out.new }
+{
+    push_line_note(out, line_at(lines, line))?;
+    push_hint_note(out, alloc, after, library, hint)
+}
+
+// Pushes the notes below a finding of this kind at a line of a file.
+fn push_kind_notes(
+    out: &mut String,
+    alloc: Global,
+    library: &NotedLibrary<'_>,
+    file: &NotedFile<'_>,
+    line: u32,
+    kind: FindingKind,
+) -> Result<(), AllocError>
+    ensures { Pushes out.old (spec.kind_notes (spec.noted_library_value library.now)
+        (spec.noted_file_value file.now) line kind) result out.new }
+{
+    match kind {
+        FindingKind::NoColumn { scenario, column } => {
+            let column = column_at(alloc, &file.scenarios, scenario, column)?;
+            push_column_note(out, alloc, column)
+        }
+        FindingKind::UndefinedStep(hint) => {
+            push_hinted_notes(
+                out,
+                alloc,
+                after_step_type(),
+                library,
+                &file.lines,
+                line,
+                hint,
+            )
+        }
+        FindingKind::CleanupWithoutStep(hint) => {
+            push_hinted_notes(
+                out,
+                alloc,
+                after_cleanup_type(),
+                library,
+                &file.lines,
+                line,
+                hint,
+            )
+        }
+        _ => Ok(()),
+    }
+}
+
+// Pushes the line of a finding and its notes.
+fn push_noted(
+    out: &mut String,
+    alloc: Global,
+    library: &NotedLibrary<'_>,
+    file: &NotedFile<'_>,
+    finding: &Finding,
+) -> Result<(), AllocError>
+    ensures { Pushes out.old (spec.noted (spec.noted_library_value library.now)
+        (spec.noted_file_value file.now) finding.now) result out.new }
+{
+    push_finding(out, alloc, file.name, finding)?;
+    push_kind_notes(out, alloc, library, file, finding.line, finding.kind)
+}
+
+/// Pushes the lines of findings in a file, one after the other, each with its notes. Fails only if memory can't be
+/// allocated; a part of the lines may have been pushed then.
+pub fn push_noted_findings(
+    out: &mut String,
+    alloc: Global,
+    library: &NotedLibrary<'_>,
+    file: &NotedFile<'_>,
+    findings: &[Finding],
+) -> Result<(), AllocError>
+    ensures { Pushes out.old (spec.noted_lines (spec.noted_library_value library.now)
+        (spec.noted_file_value file.now) findings.now) result out.new }
+{
+    for finding in findings {
+        push_noted(out, alloc, library, file, finding)?;
+    }
+    Ok(())
+}
+
+/// Pushes the lines of findings in a file of this name, one after the other, without notes. Fails only if memory can't
+/// be allocated; a part of the lines may have been pushed then.
+pub fn push_findings(
+    out: &mut String,
+    alloc: Global,
+    name: &str,
+    findings: &[Finding],
+) -> Result<(), AllocError>
+    ensures { Pushes out.old (spec.finding_lines name.now findings.now) result out.new }
+{
+    for finding in findings {
+        push_finding(out, alloc, name, finding)?;
+    }
+    Ok(())
+}
+
+// Pushes the number of unused entries beside that of all.
+#[tactic(auto, unfolding(crate::specs::FindingLines::unused_of_all))]
+fn push_unused_of_all(out: &mut String, unused: usize, entries: usize) -> Result<(), AllocError>
+    ensures { Pushes out.old (spec.unused_of_all unused entries) result out.new }
+{
+    write!(out, ": no step finds {unused} of {entries} entries\n")?;
+    Ok(())
+}
+
+/// Pushes the line that counts the unused entries of a library file of this name, if there are any. Fails only if memory
+/// can't be allocated; a part of the line may have been pushed then.
+pub fn push_count_line(
+    out: &mut String,
+    name: &str,
+    unused: usize,
+    entries: usize,
+) -> Result<(), AllocError>
+    ensures { Pushes out.old (spec.count_line name.now unused entries) result out.new }
+{
+    if unused == 0 {
+        return Ok(());
+    }
+    push_shown(out, name)?;
+    push_unused_of_all(out, unused, entries)
+}
+
+// Pushes the line for a tag of `--tags` that occurs nowhere.
+fn push_tag_line(out: &mut String, tag: &str) -> Result<(), AllocError>
+    ensures { Pushes out.old (spec.tag_line tag.now) result out.new }
+{
+    out.push_str("--tags ")?;
+    push_shown(out, tag)?;
+    out.push_str(": stands nowhere\n")
+}
+
+/// Pushes a line for each of some tags of `--tags` that occur nowhere. Fails only if memory can't be allocated; a part
+/// of the lines may have been pushed then.
+pub fn push_tag_lines(out: &mut String, tags: &[&str]) -> Result<(), AllocError>
+    ensures { Pushes out.old (spec.tag_lines (map (λ t. t.now) tags.now)) result out.new }
+{
+    for tag in tags {
+        push_tag_line(out, *tag)?;
+    }
+    Ok(())
+}
+
+// Pushes the line for a `--line` that chooses nothing.
+fn push_idle_line(out: &mut String, line: u32) -> Result<(), AllocError>
+    ensures { Pushes out.old (spec.idle_line line) result out.new }
+{
+    write!(out, "--line {line}: chooses no scenario\n")?;
+    Ok(())
+}
+
+/// Pushes a line for each of some numbers of `--line` that choose nothing. Fails only if memory can't be allocated; a
+/// part of the lines may have been pushed then.
+pub fn push_idle_lines(out: &mut String, lines: &[u32]) -> Result<(), AllocError>
+    ensures { Pushes out.old (spec.idle_lines lines.now) result out.new }
+{
+    for line in lines {
+        push_idle_line(out, *line)?;
+    }
+    Ok(())
+}

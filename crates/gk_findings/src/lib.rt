@@ -1,0 +1,13 @@
+//! The text of `--lint`: the findings in a whole request, before any run, and the notes below the faults of files that don't
+//! read.
+#![tactic(auto)]
+
+mod fault_notes;
+mod finding_lines;
+mod hints;
+mod linted_sources;
+mod linted_suite;
+mod tag_hints;
+
+pub use fault_notes::push_notes;
+pub use linted_suite::findings_text;

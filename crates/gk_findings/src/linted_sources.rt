@@ -1,0 +1,226 @@
+//! The findings of sources, which are read one after another.
+ghost use Rattle.std.specs.Prelude.{◌≡◌, ◌≤◌, ◌++◌, [], map, length, option_map, option_to_list, IfOk, IfErr, OnOk};
+ghost use Rattle.std.specs.Str.Lines.{lines};
+ghost use Rattle.gk_gherkin.specs.Lines.{IsText, without_mark, numbered_from};
+ghost use Rattle.gk_gherkin.specs.Feature.{feature_value, scenario_value};
+ghost use Rattle.gk_lint.specs.Findings.{AreInOrder};
+ghost use Rattle.gk_report.specs.ReportTexts.{Pushes};
+ghost use Rattle.gk_findings.specs.FindingLines as of_notes;
+ghost use Rattle.gk_findings.specs.FindingLines.{noted_library_value, noted_lines};
+ghost use Rattle.gk_request.specs.Inputs.{IsReadAs};
+ghost use Rattle.gk_request.specs.RunFault.{SaysSourceAt};
+ghost use Rattle.gk_findings.specs.LintedSources as spec;
+ghost use Rattle.gk_findings.specs.LintedSources.{IsLintOf, IsLintedOnto, SaysOfSources, used_by};
+
+use crate::finding_lines::{NotedFile, NotedLibrary, push_noted_findings, text_lines};
+use gk_gherkin::{Feature, LIMIT, Scenario, text_of};
+use gk_lint::{Finding, StepFindings, in_order, lint_feature, lint_steps, scenarios_of};
+use gk_request::{FeatureSource, RunFault, read_feature_at};
+use gk_select::read_features_are_expandable;
+use std::alloc::{AllocError, Global};
+
+/// The results for the sources so far: the text of their findings, the places of the entries that their steps use, and
+/// the features.
+#[derive(Drop)]
+pub struct LintSoFar {
+    pub text: String,
+    pub used: Vec<usize>,
+    pub features: Vec<Feature>,
+}
+
+/// Returns the text in these bytes, without the byte-order mark that it may begin with. It doesn't allocate.
+pub fn known_text(bytes: &[u8]) -> &str
+    requires { IsText bytes.now }
+    ensures text { result.now ≡ without_mark bytes.now }
+    ensures within { length result.now ≤ LIMIT }
+{
+    match text_of(bytes) {
+        Ok(text) => text,
+        Err(_) => "",
+    }
+}
+
+/// Returns the findings of no step.
+pub fn no_steps(alloc: Global) -> StepFindings
+    ensures found { result.findings.items ≡ [] }
+    ensures used { result.used.items ≡ [] }
+{
+    StepFindings {
+        findings: Vec::new(alloc),
+        used: Vec::new(alloc),
+    }
+}
+
+// Returns the findings of the steps of a feature, if there is one and steps are looked up.
+fn step_findings(
+    alloc: Global,
+    library: &NotedLibrary<'_>,
+    feature: &Option<Feature>,
+) -> Result<StepFindings, AllocError>
+    requires { spec.AreExpandable (option_map feature_value feature.now) }
+    ensures found { IfOk result (λ r. AreInOrder (spec.step_findings
+        (noted_library_value library.now) (option_map feature_value feature.now))
+        r.findings.items) }
+    ensures used { IfOk result (λ r. r.used.items ≡ used_by (noted_library_value library.now)
+        (option_to_list (option_map feature_value feature.now))) }
+{
+    match feature {
+        Some(feature) => {
+            if library.steps {
+                lint_steps(alloc, library.library, feature)
+            } else {
+                Ok(no_steps(alloc))
+            }
+        }
+        None => Ok(no_steps(alloc)),
+    }
+}
+
+/// Merges the findings of steps with other findings of their file, in the order of lines. Fails only if memory can't be
+/// allocated.
+pub fn with_findings(
+    findings: Vec<Finding>,
+    of_steps: StepFindings,
+) -> Result<StepFindings, AllocError>
+    ensures found { IfOk result (λ r. AreInOrder
+        (findings.items ++ of_steps.findings.items) r.findings.items) }
+    ensures used { IfOk result (λ r. r.used.items ≡ of_steps.used.items) }
+{
+    let mut findings = findings;
+    let mut of_steps = of_steps;
+    findings.append(&mut of_steps.findings)?;
+    Ok(StepFindings {
+        findings: in_order(findings)?,
+        used: of_steps.used,
+    })
+}
+
+// Returns the findings of a file with this text and this feature, or none, in the order of lines.
+fn all_findings(
+    alloc: Global,
+    library: &NotedLibrary<'_>,
+    feature: &Option<Feature>,
+    text: &str,
+) -> Result<StepFindings, AllocError>
+    requires expandable { spec.AreExpandable (option_map feature_value feature.now) }
+    requires within { length text.now ≤ LIMIT }
+    ensures found { IfOk result (λ r. AreInOrder (spec.source_findings
+        (noted_library_value library.now) (option_map feature_value feature.now)
+        (numbered_from 1 (lines text.now))) r.findings.items) }
+    ensures used { IfOk result (λ r. r.used.items ≡ used_by (noted_library_value library.now)
+        (option_to_list (option_map feature_value feature.now))) }
+{
+    let findings = lint_feature(alloc, feature, text)?;
+    let of_steps = step_findings(alloc, library, feature)?;
+    with_findings(findings, of_steps)
+}
+
+// Returns the scenarios of a feature, if there is one.
+fn scenarios_in(alloc: Global, feature: &Option<Feature>) -> Result<Vec<&Scenario>, AllocError>
+    ensures { IfOk result (λ all. map (λ s. scenario_value s.now) all.items
+        ≡ of_notes.scenarios_in (option_map feature_value feature.now)) }
+{
+    match feature {
+        Some(feature) => scenarios_of(alloc, feature),
+        None => Ok(Vec::new(alloc)),
+    }
+}
+
+// Pushes the findings of a source with this name, this text and this feature, or none.
+fn push_source_findings(
+    out: &mut String,
+    alloc: Global,
+    library: &NotedLibrary<'_>,
+    name: &str,
+    text: &str,
+    feature: &Option<Feature>,
+    findings: &[Finding],
+) -> Result<(), AllocError>
+    ensures { Pushes out.old (noted_lines (noted_library_value library.now) (record {
+      name = name.now;
+      lines = lines text.now;
+      scenarios = of_notes.scenarios_in (option_map feature_value feature.now);
+    }) findings.now) result out.new }
+{
+    let file = NotedFile {
+        name,
+        lines: text_lines(alloc, text)?,
+        scenarios: scenarios_in(alloc, feature)?,
+    };
+    push_noted_findings(out, alloc, library, &file, findings)
+}
+
+// Adds the findings of a source that reads as this feature, or as none.
+fn add_source<S: FeatureSource>(
+    so_far: &mut LintSoFar,
+    alloc: Global,
+    library: &NotedLibrary<'_>,
+    source: &S,
+    feature: Option<Feature>,
+) -> Result<(), AllocError>
+    requires { IsReadAs (S.value source.now).bytes (option_map feature_value feature) }
+    ensures { OnOk result (IsLintedOnto (noted_library_value library.now)
+        (S.value source.now) so_far.old so_far.new) }
+{
+    // No code runs here: the law says that what was read can be expanded.
+    read_features_are_expandable();
+    let text = known_text(source.bytes());
+    let mut found = all_findings(alloc, library, &feature, text)?;
+    push_source_findings(
+        &mut so_far.text,
+        alloc,
+        library,
+        source.name(),
+        text,
+        &feature,
+        found.findings.as_slice(),
+    )?;
+    so_far.used.append(&mut found.used)?;
+    if let Some(feature) = feature {
+        so_far.features.push(feature)?;
+    }
+    Ok(())
+}
+
+// Reads the source at a place and adds its findings.
+fn lint_source<S: FeatureSource>(
+    alloc: Global,
+    library: &NotedLibrary<'_>,
+    input: usize,
+    source: &S,
+    so_far: &mut LintSoFar,
+) -> Result<(), RunFault>
+    ensures ok { OnOk result (IsLintedOnto (noted_library_value library.now)
+        (S.value source.now) so_far.old so_far.new) }
+    ensures fault { IfErr result (λ e. SaysSourceAt input (S.value source.now).bytes e) }
+{
+    match read_feature_at(alloc, input, source.bytes()) {
+        Ok(feature) => Ok(add_source(so_far, alloc, library, source, feature)?),
+        Err(fault) => Err(fault),
+    }
+}
+
+/// Reads the sources one after another and collects their findings: those of the file, and those of the steps, if they
+/// are looked up in the library. An error names the first source that doesn't read, as that of a run does; `Memory` comes
+/// only if memory can't be allocated.
+pub fn lint_sources<S: FeatureSource>(
+    alloc: Global,
+    library: &NotedLibrary<'_>,
+    sources: &[S],
+) -> Result<LintSoFar, RunFault>
+    ensures linted { IfOk result (λ l. IsLintOf (noted_library_value library.now)
+        (map S.value sources.now) l) }
+    ensures fault { IfErr result (λ e. SaysOfSources (map S.value sources.now) e) }
+{
+    let mut so_far = LintSoFar {
+        text: String::new(alloc),
+        used: Vec::new(alloc),
+        features: Vec::new(alloc),
+    };
+    for (input, source) in sources.iter().enumerate() {
+        if let Err(fault) = lint_source(alloc, library, input, source, &mut so_far) {
+            return Err(fault);
+        }
+    }
+    Ok(so_far)
+}

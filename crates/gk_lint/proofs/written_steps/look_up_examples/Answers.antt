@@ -1,0 +1,27 @@
+use native.Mathlib.Omega.{arith}
+use Rattle.std.proofs.Common.{◌≡◌, ◌+◌, ◌∷◌, drop, map, List, ap}
+use Rattle.std.proofs.lemmas.Grind.{common_steps}
+use Rattle.gk_gherkin.specs.declared.feature.Examples.{Examples}
+use Rattle.gk_gherkin.specs.Feature.{step_value, examples_value}
+use Rattle.gk_steps.specs.Finding.{library_value}
+use Rattle.gk_lint.specs.StepHints.{step_hint, cleanup_hint}
+use Rattle.gk_lint.specs.WrittenSteps.{in_rows, in_examples}
+use Rattle.gk_lint.proofs.FirstHints.{next_hints}
+use Rattle.gk_lint.proofs.written_steps.look_up_examples.Goals as goal
+
+pub loop-part-preserved : goal.loop-part-preserved
+loop-part-preserved c =
+    let i = c.loop-part.part-index in
+    let parts = c.args.parts.now in
+    let split : drop i parts ≡ c.part-item.result ∷ drop (i + 1) parts = grind (arith, common_steps) in
+    let e = examples_value c.part-item.result in
+    let these = in_rows (step_value c.args.step.now) e.header e.rows in
+    let later = in_examples (step_value c.args.step.now) (map examples_value (drop (i + 1) parts)) in
+    let steps = ap (λ (es : List Examples). in_examples (step_value c.args.step.now) (map examples_value es)) split in
+    record {
+      fit = grind (arith, common_steps);
+      found = grind (arith, common_steps);
+      used = grind (arith, common_steps);
+      undefined = next_hints (step_hint (library_value c.args.library.now)) _ _ _ _ these later steps c.in_ok-look_up_rows.ensures.undefined c.loop-part.invariant.undefined;
+      cleanup = next_hints (cleanup_hint (library_value c.args.library.now)) _ _ _ _ these later steps c.in_ok-look_up_rows.ensures.cleanup c.loop-part.invariant.cleanup;
+    }

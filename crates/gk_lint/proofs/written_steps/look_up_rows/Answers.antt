@@ -1,0 +1,24 @@
+use native.Mathlib.Omega.{arith}
+use Rattle.std.proofs.Common.{◌≡◌, ◌+◌, ◌∷◌, drop, map, List, ap}
+use Rattle.std.proofs.lemmas.Grind.{common_steps}
+use Rattle.gk_gherkin.specs.declared.feature.Row.{Row}
+use Rattle.gk_gherkin.specs.Feature.{step_value, row_value, examples_value}
+use Rattle.gk_steps.specs.Finding.{library_value}
+use Rattle.gk_lint.specs.StepHints.{step_hint, cleanup_hint}
+use Rattle.gk_lint.specs.WrittenSteps.{in_rows}
+use Rattle.gk_lint.proofs.FirstHints.{next_hint}
+use Rattle.gk_lint.proofs.written_steps.look_up_rows.Goals as goal
+
+pub loop-row-preserved : goal.loop-row-preserved
+loop-row-preserved c =
+    let i = c.loop-row.row-index in
+    let rows = c.args.part.now.rows.items in
+    let split : drop i rows ≡ c.row-item.result ∷ drop (i + 1) rows = grind (arith, common_steps) in
+    let steps = ap (λ (rs : List Row). in_rows (step_value c.args.step.now) (examples_value c.args.part.now).header (map row_value rs)) split in
+    record {
+      fit = grind (arith, common_steps);
+      found = grind (arith, common_steps);
+      used = grind (arith, common_steps);
+      undefined = next_hint (step_hint (library_value c.args.library.now)) _ _ _ _ _ _ steps (grind (arith, common_steps)) c.loop-row.invariant.undefined;
+      cleanup = next_hint (cleanup_hint (library_value c.args.library.now)) _ _ _ _ _ _ steps (grind (arith, common_steps)) c.loop-row.invariant.cleanup;
+    }

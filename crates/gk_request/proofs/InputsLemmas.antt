@@ -1,0 +1,257 @@
+-- Inputs, one after another, and that they are determined.
+use Rattle.std.proofs.Common.{◌≡◌, ◌⊎◌, inl, inr, ℕ, suc, zero, ◌+◌, ◌<◌, Bool, List, [], ◌∷◌, ◌++◌, map, take, drop, length, get_or, Option, Some, None, Result, Ok, Err, refl, ap, sym, subst, ◌∙◌, arith, add-one, append_assoc}
+use Rattle.std.proofs.lemmas.Grind.{common_steps}
+use Rattle.std.specs.Prelude.{option_map, slice_get, OnOk}
+use Rattle.std.specs.List.{AllByRecursion}
+use Rattle.gk_gherkin.specs.declared.read_fault.ReadFault.{ReadFault}
+use Rattle.gk_gherkin.specs.declared.read_fault.ReadFault.TheVariants as read_faults
+use Rattle.gk_gherkin.specs.Lines.{lines_of, IsText}
+use Rattle.gk_gherkin.specs.declared.feature.Feature.{Feature}
+use Rattle.gk_gherkin.specs.Feature.{FeatureValue, feature_value}
+use Rattle.gk_gherkin.specs.Grammar.{Reads, HasOneReading}
+use Rattle.gk_gherkin.specs.Hooks.{HookValue}
+use Rattle.gk_gherkin.specs.HooksGrammar.{HaveOneHooksReading}
+use Rattle.gk_gherkin.specs.ReadFault.{FaultSays, HooksFault}
+use Rattle.gk_select.specs.declared.case.Case.{Case}
+use Rattle.gk_select.specs.declared.select_fault.SelectFault.{SelectFault}
+use Rattle.gk_select.specs.declared.select_fault.SelectFault.TheVariants as select_faults
+use Rattle.gk_select.specs.Case.{CaseValue, case_value}
+use Rattle.gk_select.specs.TagGrammar.{Expression}
+use Rattle.gk_select.specs.TagRules.{ReadsTags}
+use Rattle.gk_select.specs.Choice.{is_chosen}
+use Rattle.gk_steps.specs.declared.library_fault.LibraryFault.{LibraryFault}
+use Rattle.gk_steps.specs.declared.library_fault.LibraryFault.TheVariants as library_faults
+use Rattle.gk_steps.specs.Finding.{LibraryValue}
+use Rattle.gk_steps.specs.DefaultFile.{default_text}
+use Rattle.gk_steps.specs.LibraryFile.{LibraryReadingIsUnique}
+use Rattle.gk_steps.specs.LibraryFault.{LibraryFaultSays}
+use Rattle.gk_run.specs.declared.chosen.Chosen.{Chosen}
+use Rattle.gk_run.specs.Chosen.{HeadValue, MemberValue, ChosenValue, chosen_value, members_of, IsFormed}
+use Rattle.gk_request.specs.Source.{SourceValue}
+use Rattle.gk_request.specs.Inputs.{Inputs, InputsAreUnique, IsFirstBadText, AreRules, IsLibrary, AreHooks, member_by, chosen_of, with_reading, IsWithinLimit, AreRead, HasFault, IsReading, IsReadOnto}
+use Rattle.gk_request.specs.Request.{Request}
+use Rattle.gk_request.specs.declared.run_fault.RunFault.{RunFault}
+use Rattle.gk_request.specs.declared.run_fault.RunFault.TheVariants.{Read, Library, Hooks, Select, Write, Memory}
+use Rattle.gk_request.specs.RunFault.{IsUnread, SaysTags, SaysLibrary, SaysHooks, SaysSourceAt, SaysSources, SaysTooMany, read_fault_at, select_fault_at, tags_fault, library_fault, hooks_fault, SaysExpansion}
+
+-- The element at a place, as a loop has it.
+pub at_place : {A B : Type 0} (f : A → B) (xs : List A) (i : ℕ) (x : A) → i < length xs → x ≡ get_or xs i x → slice_get (map f xs) i ≡ Some (f x)
+at_place f [] i x less is = absurd (omega arith)
+at_place f (y ∷ ys) zero x less is = ap (λ z. Some (f z)) (sym is)
+at_place f (y ∷ ys) (suc i) x less is = at_place f ys i x (omega arith) is
+
+pub same_some : {A : Type 0} (x y : A) → ◌≡◌ {A = Option A} (Some x) (Some y) → x ≡ y
+same_some x y e = cc
+
+-- One element more of a list.
+pub take_one : {A : Type 0} (xs : List A) (i : ℕ) (x : A) → slice_get xs i ≡ Some x → take (i + 1) xs ≡ take i xs ++ x ∷ []
+take_one xs i x is = ap (λ n. take n xs) (add-one i) ∙ go xs i x is where
+  go : {A : Type 0} (xs : List A) (i : ℕ) (x : A) → slice_get xs i ≡ Some x → take (suc i) xs ≡ take i xs ++ x ∷ []
+  go [] i x is = let no : ⊥ = cc in absurd no
+  go (y ∷ ys) zero x is = ap (λ z. z ∷ []) (same_some y x is)
+  go (y ∷ ys) (suc i) x is = ap (λ t. y ∷ t) (go ys i x is)
+
+-- A list, split at a place.
+pub split_at : {A : Type 0} (xs : List A) (i : ℕ) (x : A) → slice_get xs i ≡ Some x → xs ≡ take i xs ++ x ∷ drop (suc i) xs
+split_at [] i x is = let no : ⊥ = cc in absurd no
+split_at (y ∷ ys) zero x is = ap (λ z. z ∷ ys) (same_some y x is)
+split_at (y ∷ ys) (suc i) x is = ap (λ t. y ∷ t) (split_at ys i x is)
+
+-- The cases of a feature, each with whether it is chosen.
+pub members_chosen : (chooses : CaseValue → Bool) (cs : List Case) → members_of cs (map (λ (c : Case). chooses (case_value c)) cs) ≡ map (member_by chooses) (map case_value cs)
+members_chosen chooses [] = refl
+members_chosen chooses (c ∷ cs) = ap (λ ms. member_by chooses (case_value c) ∷ ms) (members_chosen chooses cs)
+
+-- A feature, by its source and its members.
+pub chosen_again : {source source' name name' : List ℕ} {line : ℕ} {tags tags' : List (List ℕ)} {rules rules' : List HeadValue} {members members' : List MemberValue} → source ≡ source' → name ≡ name' → tags ≡ tags' → rules ≡ rules' → members ≡ members' →
+    let one : ChosenValue = record { source = source; name = name; line = line; tags = tags; rules = rules; members = members } in
+    let other : ChosenValue = record { source = source'; name = name'; line = line; tags = tags'; rules = rules'; members = members' } in
+    one ≡ other
+chosen_again a b c d e = cc
+
+-- The rules of cases, by what the cases say.
+pub rules_said : (cs : List Case) → map (λ (c : CaseValue). c.rule) (map case_value cs) ≡ map (λ (c : Case). c.rule) cs
+rules_said [] = refl
+rules_said (c ∷ cs) = ap (λ rs. c.rule ∷ rs) (rules_said cs)
+
+-- One value more.
+pub one_value : {X Y : Type 0} (f : X → Y) (done more : List Y) (y : Y) (xs : List X) (i : ℕ) (d : X) → i < length xs → more ≡ done ++ y ∷ [] → y ≡ f (get_or xs i d)
+    → (all : List Y) → done ++ map f (drop i xs) ≡ all → more ++ map f (drop (i + 1) xs) ≡ all
+one_value f done more y xs i d lt grown same all before =
+    let split : drop i xs ≡ get_or xs i d ∷ drop (i + 1) xs = grind (arith, common_steps) in
+    let rest = map f (drop (i + 1) xs) in
+    ap (λ l. l ++ rest) grown ∙ append_assoc done (y ∷ []) rest ∙ ap (λ x. done ++ x ∷ rest) same ∙ ap (λ l. done ++ map f l) (sym split) ∙ before
+
+-- One element more, of which it holds.
+pub all_push : {X : Type 0} (P : X → Type 0) (xs : List X) (x : X) → AllByRecursion P xs → P x → AllByRecursion P (xs ++ x ∷ [])
+all_push P [] x all h = (h, tt)
+all_push P (y ∷ ys) x all h = (all.0, all_push P ys x all.1 h)
+
+-- One text of tags more.
+pub rules_one : (ts : List (List ℕ)) (rs : List Expression) (t : List ℕ) (r : Expression) → AreRules ts rs → ReadsTags t r → AreRules (ts ++ t ∷ []) (rs ++ r ∷ [])
+rules_one [] rs t r none reads = (r, [], reads, refl, ap (λ x. x ++ r ∷ []) none)
+rules_one (x ∷ ts) rs t r h reads = (h.0, h.1 ++ r ∷ [], h.2, rules_one ts h.1 t r h.3 reads, ap (λ x. x ++ r ∷ []) h.4)
+
+with_more : (chooses : CaseValue → Bool) (name : List ℕ) (reading : Option FeatureValue) (others more : List ChosenValue) →
+    with_reading chooses name reading others ++ more ≡ with_reading chooses name reading (others ++ more)
+with_more chooses name None others more = refl
+with_more chooses name (Some f) others more = refl
+
+-- One source more.
+pub read_one : (chooses : CaseValue → Bool) (ss : List SourceValue) (fs : List ChosenValue) (s : SourceValue) (reading : Option FeatureValue) →
+    AreRead chooses ss fs → IsText s.bytes → Reads (lines_of s.bytes) reading → IsWithinLimit reading → AreRead chooses (ss ++ s ∷ []) (fs ++ with_reading chooses s.name reading [])
+read_one chooses [] fs s reading none text reads within = (reading, [], text, reads, within, refl, ap (λ x. x ++ with_reading chooses s.name reading []) none)
+read_one chooses (x ∷ ss) fs s reading h text reads within = (
+  h.0,
+  h.1 ++ with_reading chooses s.name reading [],
+  h.2,
+  h.3,
+  h.4,
+  read_one chooses ss h.1 s reading h.5 text reads within,
+  ap (λ x. x ++ with_reading chooses s.name reading []) h.6 ∙ with_more chooses x.name h.0 h.1 (with_reading chooses s.name reading []),
+)
+
+-- The fault of a feature's cases, named as it is.
+pub too_many_at : (input : ℕ) (f : FeatureValue) (fault : SelectFault) → SaysExpansion f fault → SaysTooMany input f (select_fault_at input fault)
+too_many_at input f select_faults.TooMany h = (refl, h)
+too_many_at input f select_faults.BadTagText h = absurd h
+too_many_at input f select_faults.Memory h = tt
+
+-- It is that of the source that the feature is read of.
+pub too_many_of : (input : ℕ) (bytes : List ℕ) (f : FeatureValue) (fault : RunFault) → IsReading bytes (Some f) → SaysTooMany input f fault → SaysSourceAt input bytes fault
+too_many_of input bytes f (Select (Some i) select_faults.TooMany) reading h = (h.0, (f, reading.text, reading.reads, h.1))
+too_many_of input bytes f (Select (Some i) select_faults.BadTagText) reading h = h
+too_many_of input bytes f (Select (Some i) select_faults.Memory) reading h = h
+too_many_of input bytes f (Select None fault) reading h = h
+too_many_of input bytes f (Read i fault) reading h = absurd h
+too_many_of input bytes f (Library fault) reading h = h
+too_many_of input bytes f (Hooks fault) reading h = h
+too_many_of input bytes f Write reading h = h
+too_many_of input bytes f Memory reading h = tt
+
+-- What bytes that are known read as.
+pub reading_of : (known bytes : List ℕ) (found : Option Feature) (feature : Feature) → known ≡ bytes → found ≡ Some feature → IsReading known (option_map feature_value found) → IsReading bytes (Some (feature_value feature))
+reading_of known bytes found feature same is reading =
+    subst (λ b. IsReading b (Some (feature_value feature))) same (subst (λ o. IsReading known (option_map feature_value o)) is reading)
+
+-- A source whose feature was added reads, and its feature stands after the others.
+pub added_onto : (chooses : CaseValue → Bool) (source : SourceValue) (f : FeatureValue) (old new : List Chosen) (r : Result (Unit {0}) RunFault) →
+    IsReading source.bytes (Some f) → OnOk r (map chosen_value new ≡ map chosen_value old ++ chosen_of chooses source.name f ∷ []) →
+    OnOk r (AllByRecursion IsFormed old → AllByRecursion IsFormed new) → OnOk r (IsWithinLimit (Some f)) → OnOk r (IsReadOnto chooses source old new)
+added_onto chooses source f old new (Ok u) reading added formed limit =
+    record { reading = Some f; text = reading.text; reads = reading.reads; limit = limit; added = added; formed = formed }
+added_onto chooses source f old new (Err e) reading added formed limit = tt
+
+-- The first source that doesn't read is named, or memory was refused.
+pub first_unread : (chooses : CaseValue → Bool) (sources : List SourceValue) (features : List ChosenValue) (input : ℕ) (source : SourceValue) (fault : RunFault) →
+    AreRead chooses (take input sources) features → slice_get sources input ≡ Some source → SaysSourceAt input source.bytes fault → SaysSources chooses sources fault
+first_unread chooses sources features input source (Read i fault) read place h =
+    subst (λ n. SaysSources chooses sources (Read n fault)) (sym h.0) (record { before = features; read = read; source = source; place = place; unread = h.1 }, h.2)
+first_unread chooses sources features input source (Select (Some i) select_faults.TooMany) read place h =
+    subst (λ n. SaysSources chooses sources (Select (Some n) select_faults.TooMany)) (sym h.0) (record { before = features; read = read; source = source; place = place; unread = h.1 })
+first_unread chooses sources features input source (Select (Some i) select_faults.BadTagText) read place h = h
+first_unread chooses sources features input source (Select (Some i) select_faults.Memory) read place h = h
+first_unread chooses sources features input source (Select None fault) read place h = h
+first_unread chooses sources features input source (Library fault) read place h = h
+first_unread chooses sources features input source (Hooks fault) read place h = h
+first_unread chooses sources features input source Write read place h = h
+first_unread chooses sources features input source Memory read place h = tt
+
+pub first_bad : (tags : List (List ℕ)) (i : ℕ) (text : List ℕ) (rules : List Expression) → slice_get tags i ≡ Some text → AreRules (take i tags) rules → ((rule : Expression) → ReadsTags text rule → ⊥) → IsFirstBadText tags text
+first_bad tags i text rules place read bad = record { before = take i tags; after = drop (suc i) tags; whole = split_at tags i text place; rules = rules; read = read; bad = bad }
+
+pub is_bad : {P : Type 0} (fault : SelectFault) → fault ≡ select_faults.BadTagText → (fault ≡ select_faults.Memory) ⊎ ((fault ≡ select_faults.BadTagText) × P) → P
+is_bad fault bad (inl memory) = let no : ⊥ = cc (bad, memory) in absurd no
+is_bad fault bad (inr says) = says.1
+
+pub one_rule_more : (tags : List (List ℕ)) (i : ℕ) (text : List ℕ) (rules : List Expression) (rule : Expression) → slice_get tags i ≡ Some text → AreRules (take i tags) rules → ReadsTags text rule
+    → (more : List Expression) × AreRules (take (i + 1) tags) more
+one_rule_more tags i text rules rule place read reads = (rules ++ rule ∷ [], subst (λ ts. AreRules ts (rules ++ rule ∷ [])) (sym (take_one tags i text place)) (rules_one (take i tags) rules text rule read reads))
+
+-- The first text that spells no rule is there, or memory was refused.
+pub says_tags : (tags : List (List ℕ)) (i : ℕ) (text : List ℕ) (rules : List Expression) (fault : SelectFault) → slice_get tags i ≡ Some text → AreRules (take i tags) rules →
+    (fault ≡ select_faults.Memory) ⊎ ((fault ≡ select_faults.BadTagText) × ((rule : Expression) → ReadsTags text rule → ⊥)) → SaysTags tags fault
+says_tags tags i text rules fault place read (inl memory) = subst (SaysTags tags) (sym memory) tt
+says_tags tags i text rules fault place read (inr bad) =
+    subst (SaysTags tags) (sym bad.0) (text, first_bad tags i text rules place read bad.1)
+
+-- The fault of the texts of tags.
+pub tags_unread : (r : Request) (fault : SelectFault) → SaysTags r.tags fault → IsUnread r (tags_fault fault)
+tags_unread r select_faults.TooMany h = h
+tags_unread r select_faults.BadTagText h = h
+tags_unread r select_faults.Memory h = tt
+
+-- The same, after the texts of tags.
+pub library_unread : (r : Request) (rules : List Expression) (fault : LibraryFault) → AreRules r.tags rules → SaysLibrary r.library fault → IsUnread r (library_fault fault)
+library_unread r rules library_faults.Memory tags h = tt
+library_unread r rules library_faults.TooLong tags h = record { rules = rules; tags = tags; bytes = h.0; given = h.1; says = h.2; named = λ e. cc }
+library_unread r rules (library_faults.NotUtf8 n) tags h = record { rules = rules; tags = tags; bytes = h.0; given = h.1; says = h.2; named = λ e. cc }
+library_unread r rules (library_faults.BadType n) tags h = record { rules = rules; tags = tags; bytes = h.0; given = h.1; says = h.2; named = λ e. cc }
+library_unread r rules (library_faults.BadPattern n) tags h = record { rules = rules; tags = tags; bytes = h.0; given = h.1; says = h.2; named = λ e. cc }
+library_unread r rules (library_faults.UnknownAction n) tags h = record { rules = rules; tags = tags; bytes = h.0; given = h.1; says = h.2; named = λ e. cc }
+library_unread r rules (library_faults.MissingField n) tags h = record { rules = rules; tags = tags; bytes = h.0; given = h.1; says = h.2; named = λ e. cc }
+library_unread r rules (library_faults.FieldKind n) tags h = record { rules = rules; tags = tags; bytes = h.0; given = h.1; says = h.2; named = λ e. cc }
+library_unread r rules (library_faults.Ambiguous n) tags h = record { rules = rules; tags = tags; bytes = h.0; given = h.1; says = h.2; named = λ e. cc }
+
+-- The same, after the texts of tags and the library.
+pub hooks_unread : (r : Request) (rules : List Expression) (entries : LibraryValue) (fault : ReadFault) →
+    AreRules r.tags rules → IsLibrary r.library entries → SaysHooks r.hooks fault → IsUnread r (hooks_fault fault)
+hooks_unread r rules entries read_faults.Memory tags library h = tt
+hooks_unread r rules entries read_faults.TooLong tags library h = record { rules = rules; tags = tags; entries = entries; library = library; bytes = h.0; given = h.1; says = h.2; named = λ e. cc }
+hooks_unread r rules entries (read_faults.NotUtf8 n) tags library h = record { rules = rules; tags = tags; entries = entries; library = library; bytes = h.0; given = h.1; says = h.2; named = λ e. cc }
+hooks_unread r rules entries (read_faults.Unexpected n) tags library h = record { rules = rules; tags = tags; entries = entries; library = library; bytes = h.0; given = h.1; says = h.2; named = λ e. cc }
+hooks_unread r rules entries (read_faults.BadTag n) tags library h = record { rules = rules; tags = tags; entries = entries; library = library; bytes = h.0; given = h.1; says = h.2; named = λ e. cc }
+hooks_unread r rules entries (read_faults.CellCount n) tags library h = record { rules = rules; tags = tags; entries = entries; library = library; bytes = h.0; given = h.1; says = h.2; named = λ e. cc }
+hooks_unread r rules entries (read_faults.UnclosedText n) tags library h = record { rules = rules; tags = tags; entries = entries; library = library; bytes = h.0; given = h.1; says = h.2; named = λ e. cc }
+hooks_unread r rules entries (read_faults.TagsAtEnd n) tags library h = record { rules = rules; tags = tags; entries = entries; library = library; bytes = h.0; given = h.1; says = h.2; named = λ e. cc }
+hooks_unread r rules entries (read_faults.Language n) tags library h = record { rules = rules; tags = tags; entries = entries; library = library; bytes = h.0; given = h.1; says = h.2; named = λ e. cc }
+hooks_unread r rules entries (read_faults.BadRow n) tags library h = record { rules = rules; tags = tags; entries = entries; library = library; bytes = h.0; given = h.1; says = h.2; named = λ e. cc }
+hooks_unread r rules entries (read_faults.BadHook n) tags library h = record { rules = rules; tags = tags; entries = entries; library = library; bytes = h.0; given = h.1; says = h.2; named = λ e. cc }
+
+-- The fault of a source, after the texts of tags, the library and the hooks.
+pub sources_unread : (r : Request) (rules : List Expression) (entries : LibraryValue) (hooks : List HookValue) (fault : RunFault) →
+    AreRules r.tags rules → IsLibrary r.library entries → AreHooks r.hooks hooks → SaysSources (is_chosen rules r.lines) r.sources fault → IsUnread r fault
+sources_unread r rules entries hooks (Read i fault) tags library around h = (record { rules = rules; tags = tags; entries = entries; library = library; hooks = hooks; around = around; first = h.0 }, h.1)
+sources_unread r rules entries hooks (Select (Some i) select_faults.TooMany) tags library around h = record { rules = rules; tags = tags; entries = entries; library = library; hooks = hooks; around = around; first = h }
+sources_unread r rules entries hooks (Select (Some i) select_faults.BadTagText) tags library around h = h
+sources_unread r rules entries hooks (Select (Some i) select_faults.Memory) tags library around h = h
+sources_unread r rules entries hooks (Select None select_faults.TooMany) tags library around h = h
+sources_unread r rules entries hooks (Select None select_faults.BadTagText) tags library around h = absurd h
+sources_unread r rules entries hooks (Select None select_faults.Memory) tags library around h = h
+sources_unread r rules entries hooks (Library fault) tags library around h = absurd h
+sources_unread r rules entries hooks (Hooks fault) tags library around h = absurd h
+sources_unread r rules entries hooks Write tags library around h = h
+sources_unread r rules entries hooks Memory tags library around h = tt
+
+abbrev pub OneRule : Type 0
+OneRule = (text : List ℕ) (a b : Expression) → ReadsTags text a → ReadsTags text b → a ≡ b
+
+same_rules : OneRule → (ts : List (List ℕ)) (rs qs : List Expression) → AreRules ts rs → AreRules ts qs → rs ≡ qs
+same_rules one [] rs qs a b = a ∙ sym b
+same_rules one (t ∷ ts) rs qs (rule, others, reads, rest, is) (rule', others', reads', rest', is') =
+    is ∙ ap (λ r. r ∷ others) (one t rule rule' reads reads') ∙ ap (λ x. rule' ∷ x) (same_rules one ts others others' rest rest') ∙ sym is'
+
+same_features : HasOneReading → (chooses : CaseValue → Bool) (ss : List SourceValue) (fs gs : List ChosenValue) → AreRead chooses ss fs → AreRead chooses ss gs → fs ≡ gs
+same_features one chooses [] fs gs f g = f ∙ sym g
+same_features one chooses (s ∷ ss) fs gs (reading, others, text, reads, within, rest, is) (reading', others', text', reads', within', rest', is') =
+    is ∙ ap (λ r. with_reading chooses s.name r others) (one (lines_of s.bytes) reading reading' reads reads')
+    ∙ ap (with_reading chooses s.name reading') (same_features one chooses ss others others' rest rest') ∙ sym is'
+
+same_library : LibraryReadingIsUnique → (file : Option (List ℕ)) (a b : LibraryValue) → IsLibrary file a → IsLibrary file b → a ≡ b
+same_library one None a b h g = one (lines_of default_text) a b h g
+same_library one (Some bytes) a b h g = one (lines_of bytes) a b h.1 g.1
+
+same_hooks : HaveOneHooksReading → (file : Option (List ℕ)) (a b : List HookValue) → AreHooks file a → AreHooks file b → a ≡ b
+same_hooks one None a b h g = h ∙ sym g
+same_hooks one (Some bytes) a b h g = one (lines_of bytes) a b h.1 g.1
+
+alike : {l l' : LibraryValue} {hs hs' : List HookValue} {fs fs' : List ChosenValue} → l ≡ l' → hs ≡ hs' → fs ≡ fs' →
+    let one : Inputs = record { library = l; hooks = hs; features = fs } in let other : Inputs = record { library = l'; hooks = hs'; features = fs' } in one ≡ other
+alike a b c = cc
+
+-- What is asked for reads in one way only.
+pub unique : HasOneReading → OneRule → LibraryReadingIsUnique → HaveOneHooksReading → InputsAreUnique
+unique reading rule library hooks r one other a b =
+    let same = same_rules rule r.tags a.rules b.rules a.tags b.tags in
+    alike (same_library library r.library one.library other.library a.library b.library) (same_hooks hooks r.hooks one.hooks other.hooks a.hooks b.hooks)
+    (same_features reading (is_chosen a.rules r.lines) r.sources one.features other.features a.features (subst (λ rules. AreRead (is_chosen rules r.lines) r.sources other.features) (sym same) b.features))

@@ -1,0 +1,30 @@
+use Rattle.gk_select.specs.declared.select_fault.SelectFault.TheVariants.{BadTagText, Memory}
+use Rattle.std.proofs.Common.{◌≡◌, ◌⊎◌, ◌∷◌, [], ◌++◌, map, take, ap, sym, subst, ◌∙◌}
+use Rattle.std.specs.String.{string_bytes}
+use Rattle.std.proofs.lemmas.List.{map_push}
+use Rattle.gk_gherkin.specs.Feature.{texts}
+use Rattle.gk_select.specs.TagGrammar.{Expression}
+use Rattle.gk_select.specs.TagRules.{ReadsTags, tag_rule_value}
+use Rattle.gk_request.specs.Inputs.{AreRules}
+use Rattle.gk_request.proofs.InputsLemmas.{at_place, take_one, rules_one, says_tags}
+use Rattle.gk_request.proofs.inputs.read_rules.Goals as goal
+
+pub returns-in-Err : goal.returns-in-Err
+returns-in-Err c =
+    let tags = texts c.args.tags.now in
+    let place = at_place string_bytes c.args.tags.now c.loop-text.text-index c.text-item.result c.loop-text-test.true c.text-item.is in
+    record {
+      rules = tt;
+      fault = says_tags tags c.loop-text.text-index (string_bytes c.text-item.result) (map tag_rule_value c.loop-text.rules.items) c.in-Err.fault place c.loop-text.invariant
+          (subst (λ b. (c.in-Err.fault ≡ Memory) ⊎ ((c.in-Err.fault ≡ BadTagText) × ((rule : Expression) → ReadsTags b rule → ⊥))) c.as_str.ensures.value c.in-Err.ensures.fault);
+    }
+
+pub loop-text-preserved : goal.loop-text-preserved
+loop-text-preserved c =
+    let tags = texts c.args.tags.now in
+    let text = string_bytes c.text-item.result in
+    let place = at_place string_bytes c.args.tags.now c.loop-text.text-index c.text-item.result c.loop-text-test.true c.text-item.is in
+    let reads = subst (λ b. ReadsTags b (tag_rule_value c.in-Ok.rule)) c.as_str.ensures.value c.in-Ok.ensures.found in
+    subst (λ ts. AreRules ts (map tag_rule_value c.push.new.self.items)) (sym (take_one tags c.loop-text.text-index text place))
+    (subst (AreRules (take c.loop-text.text-index tags ++ text ∷ [])) (sym (ap (map tag_rule_value) c.in_ok-push.ensures.items ∙ map_push tag_rule_value c.loop-text.rules.items c.in-Ok.rule))
+    (rules_one (take c.loop-text.text-index tags) (map tag_rule_value c.loop-text.rules.items) text (tag_rule_value c.in-Ok.rule) c.loop-text.invariant reads))

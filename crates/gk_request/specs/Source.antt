@@ -1,0 +1,49 @@
+-- Sources, and reading a whole source.
+use Rattle.std.specs.Prelude.{◌≡◌, ◌≤◌, ◌++◌, ℕ, List, [], length, map, take, drop, Option, Some, None, Result, Ok, Err, IsSomeAnd, string_bytes}
+use Rattle.std.specs.Io.KnownBytes.{Consumes}
+use Rattle.gk_request.specs.Counted.{one_more}
+use Rattle.gk_request.specs.declared.source.BorrowedSource.{BorrowedSource}
+use Rattle.gk_request.specs.declared.source.Source.{Source}
+use Rattle.gk_request.specs.declared.source.SourceFault.{SourceFault}
+use Rattle.gk_request.specs.declared.source.SourceFault.TheVariants.{Device, TooLong, Memory}
+
+-- A source: its name and its bytes.
+pub record SourceValue : Type 0 where
+  pub name : List ℕ
+  pub bytes : List ℕ
+
+-- The value of a `Source`.
+abbrev pub source_value : Source → SourceValue
+source_value s = record { name = string_bytes s.name; bytes = s.bytes.items }
+
+-- The value of a `BorrowedSource`.
+abbrev pub borrowed_value : BorrowedSource → SourceValue
+borrowed_value s = record { name = s.name.now; bytes = s.bytes.now }
+
+-- The names of sources, in order.
+abbrev pub names_of : List SourceValue → List (List ℕ)
+names_of sources = map (λ (s : SourceValue). s.name) sources
+
+-- A source that dropped its bytes: it has its name, and no bytes.
+abbrev pub without_bytes : SourceValue → SourceValue
+without_bytes s = record { name = s.name; bytes = [] }
+
+-- The first of some sources dropped their bytes, and the others are unchanged.
+abbrev pub GaveUpInTurn : List SourceValue → List SourceValue → Type 0
+GaveUpInTurn old new = (count : ℕ) × (new ≡ map without_bytes (take count old) ++ drop count old)
+
+-- The reader had this many bytes and gave exactly these, if its bytes are known.
+abbrev pub StopsAfter : ℕ → Option (List ℕ) → Option (List ℕ) → Type 0
+StopsAfter n None rest = Unit {0}
+StopsAfter n (Some bytes) rest = (n ≤ length bytes) × IsSomeAnd rest (λ left. left ≡ drop n bytes)
+
+-- The reader gave at most this many bytes.
+abbrev pub GivesAtMost : ℕ → Option (List ℕ) → Option (List ℕ) → Type 0
+GivesAtMost n old new = (bytes : List ℕ) × (length bytes ≤ n) × Consumes old new bytes
+
+-- The count of idle calls after a source was read, or couldn't be read whole. The call that finds the end and the one that fails move no byte, and each other call moves at least one.
+abbrev pub idle_after : {T : Type 0} → Result T SourceFault → ℕ → ℕ
+idle_after (Ok bytes) n = one_more n
+idle_after (Err Device) n = one_more n
+idle_after (Err TooLong) n = n
+idle_after (Err Memory) n = n

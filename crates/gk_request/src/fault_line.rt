@@ -1,0 +1,103 @@
+//! The place of a fault of a run, and its line.
+ghost use Rattle.std.specs.Prelude.{◌≡◌, option_map, Some};
+ghost use Rattle.std.specs.Fmt.{DisplaysOnOk};
+ghost use Rattle.gk_request.specs.FaultLine as spec;
+ghost use Rattle.gk_request.specs.FaultLine.{fault_line, placed};
+ghost use Rattle.gk_request.specs.Request.{suite_value};
+
+use crate::request::SuiteFiles;
+use crate::run_fault::RunFault;
+use crate::source::FeatureSource;
+use std::fmt;
+
+/// Returns the file that a fault of a run is in, if it is in one. It doesn't allocate.
+pub fn file_at_fault<'a, S: FeatureSource>(
+    files: &'a SuiteFiles<S>,
+    fault: RunFault,
+) -> Option<&'a S>
+    ensures { option_map (λ file. S.value file.now) result
+        ≡ spec.file_at_fault (suite_value S.value files.now) fault }
+{
+    match fault {
+        RunFault::Read { input, .. } => files.sources.get(input),
+        RunFault::Library(_) => files.library.as_ref(),
+        RunFault::Hooks(_) => files.hooks.as_ref(),
+        RunFault::Select { input, .. } => match input {
+            Some(input) => files.sources.get(input),
+            None => None,
+        },
+        RunFault::Write | RunFault::Memory => None,
+    }
+}
+
+/// Returns the name of the file that a fault of a run is in, if it is in one. It doesn't allocate.
+pub fn name_at_fault<'a, S: FeatureSource>(
+    files: &'a SuiteFiles<S>,
+    fault: RunFault,
+) -> Option<&'a str>
+    ensures { option_map (λ name. name.now) result
+        ≡ spec.name_at_fault (suite_value S.value files.now) fault }
+{
+    match file_at_fault(files, fault) {
+        Some(file) => Some(file.name()),
+        None => None,
+    }
+}
+
+/// Returns the line that a fault of a run names, if it names one. It doesn't allocate.
+pub fn line_at_fault(fault: RunFault) -> Option<u32>
+    ensures { result ≡ spec.line_at_fault fault }
+{
+    match fault {
+        RunFault::Read { fault, .. } | RunFault::Hooks(fault) => fault.line(),
+        RunFault::Library(fault) => fault.line(),
+        RunFault::Select { .. } | RunFault::Write | RunFault::Memory => None,
+    }
+}
+
+/// A fault of a run, displayed as one line without its line feed. The file appears with its name instead of its number.
+#[derive(Clone, Copy, Debug)]
+pub struct NamedFault<'a> {
+    /// The name of the file that the fault is in, if it is in one.
+    pub name: Option<&'a str>,
+    pub fault: RunFault,
+}
+
+// Writes the fault of a file: its name and the line, if they are known, and the text.
+fn write_placed<W: fmt::Write, T: fmt::Display>(
+    f: &mut fmt::Formatter<W>,
+    name: Option<&str>,
+    line: Option<u32>,
+    text: &T,
+) -> fmt::Result
+    ensures { DisplaysOnOk W.write_str_gives f.old result
+        (option_map (λ text. placed (option_map (λ name. name.now) name.entry) line text)
+        (T.output text.now)) f.new }
+{
+    match name {
+        Some(name) => match line {
+            Some(line) => write!(f, "{name}:{line}: {text}"),
+            None => write!(f, "{name}: {text}"),
+        },
+        None => write!(f, "{text}"),
+    }
+}
+
+impl fmt::Display for NamedFault<'_> {
+    ghost output = { λ it. Some (fault_line (option_map (λ name. name.now) it.name) it.fault) };
+
+    fn fmt<W: fmt::Write>(&self, f: &mut fmt::Formatter<W>) -> fmt::Result {
+        match &self.fault {
+            RunFault::Read { fault, .. } => write_placed(f, self.name, fault.line(), fault),
+            RunFault::Library(fault) => write_placed(f, self.name, fault.line(), &fault.text()),
+            RunFault::Hooks(fault) => write_placed(f, self.name, fault.line(), fault),
+            RunFault::Select {
+                input: Some(_),
+                fault: _,
+            } => write_placed(f, self.name, None, &"more than 1000000 steps"),
+            RunFault::Select { .. } => f.write_str("bad tag expression"),
+            RunFault::Write => f.write_str("cannot write"),
+            RunFault::Memory => f.write_str("out of memory"),
+        }
+    }
+}

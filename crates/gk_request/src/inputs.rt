@@ -1,0 +1,456 @@
+//! Reading a request: the rules of tags, the step library, the hooks, and the features with their cases and the choice
+//! among them.
+ghost use Rattle.std.specs.Prelude.{◌≡◌, ◌++◌, ◌∷◌, [], map, option_map, string_bytes, IfOk, IfErr, OnOk, Some};
+ghost use Rattle.std.specs.List.{AllByRecursion};
+ghost use Rattle.gk_gherkin.specs.Feature.{feature_value, rule_value, texts};
+ghost use Rattle.gk_gherkin.specs.Hooks.{hooks_value};
+ghost use Rattle.gk_select.specs.Case.{case_value};
+ghost use Rattle.gk_select.specs.Choice.{chosen_by, is_chosen};
+ghost use Rattle.gk_select.specs.Expansion.{IsExpandable};
+ghost use Rattle.gk_select.specs.TagRules.{tag_rule_value};
+ghost use Rattle.gk_steps.specs.Finding.{library_value};
+ghost use Rattle.gk_run.specs.Chosen.{chosen_value, head_value, IsFormed};
+ghost use Rattle.gk_request.specs.Source.{names_of, without_bytes, GaveUpInTurn};
+ghost use Rattle.gk_request.specs.Request.{suite_value, request_of_files, HaveSameNames, AreGivenUp, AreGivenUpInTurn, asked_of};
+ghost use Rattle.gk_request.specs.Inputs as spec;
+ghost use Rattle.gk_request.specs.Inputs.{InputsAreUnique, IsBadText, IsReadAs, AreRules, IsLibrary, AreHooks, AreRead, AreInputs, IsReading, IsReadBefore, IsReadOnto, inputs_value};
+ghost use Rattle.gk_request.specs.RunFault as faults;
+ghost use Rattle.gk_request.specs.RunFault.{IsUnread, IsUnreadBefore, SaysTags, SaysLibrary, SaysHooks, SaysExpansion, SaysSourceAt, SaysSources, SaysTooMany};
+
+use crate::request::{Options, SuiteFiles, bytes_of};
+use crate::run_fault::RunFault;
+use crate::source::FeatureSource;
+use gk_gherkin::{
+    Feature, HookFile, ReadFault, Rule, hooks_reading_is_unique, read_feature, read_hooks,
+    reading_is_unique,
+};
+use gk_run::{Chosen, RuleHead};
+use gk_select::{
+    Case, Choice, SelectFault, TagRule, cases_fall_into_rules, copied_texts, has_room, into_cases,
+    read_features_are_expandable, read_tags, texts_have_one_rule,
+};
+use gk_steps::{Library, LibraryFault, default_library, library_reading_is_unique, read_library};
+use std::alloc::{AllocError, Global};
+
+/// The inputs of a run, as they were read.
+#[derive(Debug, Drop)]
+pub struct ReadInputs {
+    pub library: Library,
+    pub hooks: HookFile,
+    pub features: Vec<Chosen>,
+}
+
+fn read_rules(alloc: Global, tags: &[String]) -> Result<Vec<TagRule>, SelectFault>
+    ensures rules { IfOk result (λ rules.
+        AreRules (texts tags.now) (map tag_rule_value rules.items)) }
+    ensures fault { IfErr result (λ e. SaysTags (texts tags.now) e) }
+{
+    let mut rules = Vec::new(alloc);
+    for text in tags {
+        let rule = match read_tags(alloc, text.as_str()) {
+            Ok(rule) => rule,
+            Err(fault) => return Err(fault),
+        };
+        rules.push(rule)?;
+    }
+    Ok(rules)
+}
+
+/// Returns the first of some texts of tags that spells no rule, if there is one. Fails only if memory can't be allocated.
+/// (behave's documentation: tag expressions)
+pub fn first_bad_tags(alloc: Global, tags: &[String]) -> Result<Option<&str>, AllocError>
+    ensures { IfOk result (λ found.
+        IsBadText (texts tags.now) (option_map (λ text. text.now) found)) }
+{
+    for text in tags {
+        match read_tags(alloc, text.as_str()) {
+            Ok(_rule) => {}
+            Err(SelectFault::BadTagText) => return Ok(Some(text.as_str())),
+            Err(_) => return Err(AllocError),
+        }
+    }
+    Ok(None)
+}
+
+fn tags_fault(fault: SelectFault) -> RunFault
+    ensures { result ≡ faults.tags_fault fault }
+{
+    match fault {
+        SelectFault::Memory => RunFault::Memory,
+        _ => RunFault::Select { input: None, fault },
+    }
+}
+
+/// Reads the library file, or the default library if none is given. An error says why the file doesn't read.
+pub fn read_step_library(alloc: Global, library: Option<&[u8]>) -> Result<Library, LibraryFault>
+    ensures read { IfOk result (λ l.
+        IsLibrary (option_map (λ bytes. bytes.now) library.entry) (library_value l)) }
+    ensures fault { IfErr result (λ e.
+        SaysLibrary (option_map (λ bytes. bytes.now) library.entry) e) }
+{
+    match library {
+        Some(bytes) => read_library(alloc, bytes),
+        None => Ok(default_library(alloc)?),
+    }
+}
+
+/// Returns the fault of a run for a fault of its library. It doesn't allocate.
+pub fn library_fault(fault: LibraryFault) -> RunFault
+    ensures { result ≡ faults.library_fault fault }
+{
+    match fault {
+        LibraryFault::Memory => RunFault::Memory,
+        _ => RunFault::Library(fault),
+    }
+}
+
+/// Reads the hooks file; without it, there are no hooks. An error says why the file doesn't read.
+pub fn read_hook_file(alloc: Global, hooks: Option<&[u8]>) -> Result<HookFile, ReadFault>
+    ensures read { IfOk result (λ file.
+        AreHooks (option_map (λ bytes. bytes.now) hooks.entry) (hooks_value file)) }
+    ensures fault { IfErr result (λ e. SaysHooks (option_map (λ bytes. bytes.now) hooks.entry) e) }
+{
+    match hooks {
+        Some(bytes) => read_hooks(alloc, bytes),
+        None => Ok(HookFile {
+            hooks: Vec::new(alloc),
+        }),
+    }
+}
+
+/// Returns the fault of a run for a fault of its hooks. It doesn't allocate.
+pub fn hooks_fault(fault: ReadFault) -> RunFault
+    ensures { result ≡ faults.hooks_fault fault }
+{
+    match fault {
+        ReadFault::Memory => RunFault::Memory,
+        _ => RunFault::Hooks(fault),
+    }
+}
+
+// Makes the choice by these rules and lines.
+fn choice_by(alloc: Global, rules: Vec<TagRule>, lines: &[u32]) -> Result<Choice, AllocError>
+    ensures { IfOk result (λ choice. chosen_by choice
+        ≡ is_chosen (map tag_rule_value rules.items) lines.now) }
+{
+    let lines = Vec::from_slice(alloc, lines)?;
+    Ok(Choice::new(rules, lines))
+}
+
+// Returns for each case whether it is chosen.
+fn selections(alloc: Global, choice: &Choice, cases: &[Case]) -> Result<Vec<bool>, AllocError>
+    ensures { IfOk result (λ selected. selected.items
+        ≡ map (λ c. chosen_by choice.now (case_value c)) cases.now) }
+{
+    let mut selected = Vec::new(alloc);
+    for case in cases {
+        selected.push(choice.chooses(case))?;
+    }
+    Ok(selected)
+}
+
+// Copies the headings of rules.
+fn heads_of(alloc: Global, rules: &[Rule]) -> Result<Vec<RuleHead>, AllocError>
+    ensures { IfOk result (λ heads. map head_value heads.items
+        ≡ map spec.head_of (map rule_value rules.now)) }
+{
+    let mut heads = Vec::new(alloc);
+    for rule in rules {
+        heads.push(RuleHead {
+            line: rule.line,
+            tags: copied_texts(alloc, rule.tags.as_slice())?,
+        })?;
+    }
+    Ok(heads)
+}
+
+// Copies of parts of a source and of its feature.
+#[derive(Drop)]
+struct Copies {
+    source: String,
+    name: String,
+    tags: Vec<String>,
+    rules: Vec<RuleHead>,
+}
+
+fn copies_of(alloc: Global, source: &str, feature: &Feature) -> Result<Copies, AllocError>
+    ensures source { IfOk result (λ copies. string_bytes copies.source ≡ source.now) }
+    ensures name { IfOk result (λ copies. string_bytes copies.name
+        ≡ string_bytes feature.now.name) }
+    ensures tags { IfOk result (λ copies. texts copies.tags.items
+        ≡ texts feature.now.tags.items) }
+    ensures rules { IfOk result (λ copies. map head_value copies.rules.items
+        ≡ map spec.head_of (map rule_value feature.now.rules.items)) }
+{
+    Ok(Copies {
+        source: String::from_str(alloc, source)?,
+        name: String::from_str(alloc, feature.name.as_str())?,
+        tags: copied_texts(alloc, feature.tags.as_slice())?,
+        rules: heads_of(alloc, feature.rules.as_slice())?,
+    })
+}
+
+fn chosen_of(
+    alloc: Global,
+    choice: &Choice,
+    source: &str,
+    feature: Feature,
+) -> Result<Chosen, SelectFault>
+    requires { IsExpandable (feature_value feature) }
+    ensures chosen { IfOk result (λ c. chosen_value c
+        ≡ spec.chosen_of (chosen_by choice.now) source.now (feature_value feature)) }
+    ensures formed { IfOk result (λ c. IsFormed c) }
+    ensures fault { IfErr result (λ e. SaysExpansion (feature_value feature) e) }
+    ensures limit { OnOk result (spec.IsWithinLimit (Some (feature_value feature))) }
+{
+    let copies = copies_of(alloc, source, &feature)?;
+    let line = feature.line;
+    let cases = into_cases(alloc, feature)?;
+    let selected = selections(alloc, choice, cases.as_slice())?;
+    // No code runs here: the law says that a feature's cases fall into its rules.
+    cases_fall_into_rules();
+    let Copies {
+        source,
+        name,
+        tags,
+        rules,
+    } = copies;
+    Ok(Chosen {
+        source,
+        name,
+        line,
+        tags,
+        rules,
+        cases,
+        selected,
+    })
+}
+
+// Returns the fault of the source at a place for a fault of its file. It doesn't allocate.
+fn read_fault_at(input: usize, fault: ReadFault) -> RunFault
+    ensures { result ≡ faults.read_fault_at input fault }
+{
+    match fault {
+        ReadFault::Memory => RunFault::Memory,
+        _ => RunFault::Read { input, fault },
+    }
+}
+
+// Returns the fault of the source at a place for a fault of its cases. It doesn't allocate.
+fn select_fault_at(input: usize, fault: SelectFault) -> RunFault
+    ensures { result ≡ faults.select_fault_at input fault }
+{
+    match fault {
+        SelectFault::Memory => RunFault::Memory,
+        _ => RunFault::Select {
+            input: Some(input),
+            fault,
+        },
+    }
+}
+
+// Reads the feature, if there is one, from the bytes of the source at a place. An error says why they don't read.
+fn feature_at(alloc: Global, input: usize, bytes: &[u8]) -> Result<Option<Feature>, RunFault>
+    ensures read { IfOk result (λ feature. IsReading bytes.now (option_map feature_value feature)) }
+    ensures fault { IfErr result (λ e. SaysSourceAt input bytes.now e) }
+{
+    // No code runs here: the law says that what was read can be expanded.
+    read_features_are_expandable();
+    match read_feature(alloc, bytes) {
+        Ok(feature) => Ok(feature),
+        Err(fault) => Err(read_fault_at(input, fault)),
+    }
+}
+
+// Checks that the cases of a feature have no more steps than the limit, without building them.
+fn check_limit(feature: &Feature) -> Result<(), SelectFault>
+    ensures limit { OnOk result (spec.IsWithinLimit (Some (feature_value feature.now))) }
+    ensures fault { IfErr result (λ e. SaysExpansion (feature_value feature.now) e) }
+{
+    if has_room(feature) {
+        Ok(())
+    } else {
+        Err(SelectFault::TooMany)
+    }
+}
+
+/// Reads the feature, if there is one, from the bytes of the source at a place, and counts the steps of its cases without
+/// building them. An error says why they don't read; `Memory` comes only if memory can't be allocated.
+pub fn read_feature_at(
+    alloc: Global,
+    input: usize,
+    bytes: &[u8],
+) -> Result<Option<Feature>, RunFault>
+    ensures read { IfOk result (λ feature.
+        IsReadAs bytes.now (option_map feature_value feature)) }
+    ensures fault { IfErr result (λ e. SaysSourceAt input bytes.now e) }
+{
+    match feature_at(alloc, input, bytes) {
+        Ok(Some(feature)) => match check_limit(&feature) {
+            Ok(()) => Ok(Some(feature)),
+            Err(fault) => Err(select_fault_at(input, fault)),
+        },
+        Ok(None) => Ok(None),
+        Err(fault) => Err(fault),
+    }
+}
+
+// Adds the feature of the source with this place and name after those of other sources.
+fn add_feature(
+    alloc: Global,
+    choice: &Choice,
+    input: usize,
+    name: &str,
+    feature: Feature,
+    features: &mut Vec<Chosen>,
+) -> Result<(), RunFault>
+    requires { IsExpandable (feature_value feature) }
+    ensures added { OnOk result (map chosen_value features.new.items
+        ≡ map chosen_value features.old.items ++ spec.chosen_of
+        (chosen_by choice.now) name.now (feature_value feature) ∷ []) }
+    ensures formed { OnOk result (AllByRecursion IsFormed features.old.items
+        → AllByRecursion IsFormed features.new.items) }
+    ensures limit { OnOk result (spec.IsWithinLimit (Some (feature_value feature))) }
+    ensures fault { IfErr result (λ e. SaysTooMany input (feature_value feature) e) }
+{
+    let chosen = match chosen_of(alloc, choice, name, feature) {
+        Ok(chosen) => chosen,
+        Err(fault) => return Err(select_fault_at(input, fault)),
+    };
+    features.push(chosen)?;
+    Ok(())
+}
+
+// Reads the source at a place, and adds its feature, if it has one, after those of other sources. The source drops its
+// bytes before the cases of its feature are listed.
+fn read_onto<S: FeatureSource>(
+    alloc: Global,
+    choice: &Choice,
+    input: usize,
+    source: &mut S,
+    features: &mut Vec<Chosen>,
+) -> Result<(), RunFault>
+    ensures given_up { S.value source.new ≡ without_bytes (S.value source.old) }
+    ensures ok { OnOk result (IsReadOnto (chosen_by choice.now) (S.value source.old)
+        features.old.items features.new.items) }
+    ensures fault { IfErr result (λ e. SaysSourceAt input (S.value source.old).bytes e) }
+{
+    let read = feature_at(alloc, input, source.bytes());
+    source.give_up(alloc);
+    let name = source.name();
+    match read {
+        Ok(Some(feature)) => add_feature(alloc, choice, input, name, feature, features),
+        Ok(None) => Ok(()),
+        Err(fault) => Err(fault),
+    }
+}
+
+// Reads sources. Each drops its bytes before the next one is read.
+fn read_sources<S: FeatureSource>(
+    alloc: Global,
+    choice: &Choice,
+    sources: &mut [S],
+) -> Result<Vec<Chosen>, RunFault>
+    ensures read { IfOk result (λ features. AreRead (chosen_by choice.now)
+        (map S.value sources.old) (map chosen_value features.items)) }
+    ensures formed { IfOk result (λ features. AllByRecursion IsFormed features.items) }
+    ensures fault { IfErr result (λ e. SaysSources (chosen_by choice.now)
+        (map S.value sources.old) e) }
+    ensures names { names_of (map S.value sources.new) ≡ names_of (map S.value sources.old) }
+    ensures in_turn { GaveUpInTurn (map S.value sources.old) (map S.value sources.new) }
+    ensures given_up { OnOk result (map S.value sources.new
+        ≡ map without_bytes (map S.value sources.old)) }
+{
+    let mut features = Vec::new(alloc);
+    for (input, source) in sources.iter_mut().enumerate() {
+        if let Err(fault) = read_onto(alloc, choice, input, source, &mut features) {
+            return Err(fault);
+        }
+    }
+    Ok(features)
+}
+
+/// The inputs that are read before the sources.
+#[derive(Drop)]
+pub struct ReadBefore {
+    pub rules: Vec<TagRule>,
+    pub library: Library,
+    pub hooks: HookFile,
+}
+
+/// Reads the request without its sources: first the texts of tags, then the library, then the hooks. An error names the
+/// first that doesn't read.
+pub fn read_before(
+    alloc: Global,
+    options: &Options,
+    library: Option<&[u8]>,
+    hooks: Option<&[u8]>,
+) -> Result<ReadBefore, RunFault>
+    ensures read { IfOk result (λ before. IsReadBefore
+        (asked_of options.now library.entry hooks.entry []) before) }
+    ensures fault { IfErr result (λ e. IsUnreadBefore
+        options.now library.entry hooks.entry e) }
+{
+    let rules = match read_rules(alloc, options.tags.as_slice()) {
+        Ok(rules) => rules,
+        Err(fault) => return Err(tags_fault(fault)),
+    };
+    let library = match read_step_library(alloc, library) {
+        Ok(library) => library,
+        Err(fault) => return Err(library_fault(fault)),
+    };
+    let hooks = match read_hook_file(alloc, hooks) {
+        Ok(hooks) => hooks,
+        Err(fault) => return Err(hooks_fault(fault)),
+    };
+    Ok(ReadBefore {
+        rules,
+        library,
+        hooks,
+    })
+}
+
+/// Reads the request: first the texts of tags, then the library, then the hooks, then each source. An error names the
+/// first that doesn't read. Each source drops its bytes before the next one is read, and the names stay.
+pub fn read_inputs<S: FeatureSource>(
+    alloc: Global,
+    options: &Options,
+    files: &mut SuiteFiles<S>,
+) -> Result<ReadInputs, RunFault>
+    ensures names { HaveSameNames (suite_value S.value files.old) (suite_value S.value files.new) }
+    ensures in_turn { AreGivenUpInTurn
+        (suite_value S.value files.old) (suite_value S.value files.new) }
+    ensures given_up { OnOk result (AreGivenUp
+        (suite_value S.value files.old) (suite_value S.value files.new)) }
+    ensures read { IfOk result (λ inputs. AreInputs
+        (request_of_files options.now (suite_value S.value files.old)) (inputs_value inputs)) }
+    ensures formed { IfOk result (λ inputs. AllByRecursion IsFormed inputs.features.items) }
+    ensures fault { IfErr result (λ e. IsUnread
+        (request_of_files options.now (suite_value S.value files.old)) e) }
+{
+    let library = bytes_of(&files.library);
+    let hooks = bytes_of(&files.hooks);
+    let before = match read_before(alloc, options, library, hooks) {
+        Ok(before) => before,
+        Err(fault) => return Err(fault),
+    };
+    let choice = choice_by(alloc, before.rules, options.lines.as_slice())?;
+    match read_sources(alloc, &choice, files.sources.as_mut_slice()) {
+        Ok(features) => Ok(ReadInputs {
+            library: before.library,
+            hooks: before.hooks,
+            features,
+        }),
+        Err(fault) => Err(fault),
+    }
+}
+
+/// Shows that a request reads in only one way. No code runs here.
+pub fn inputs_are_unique()
+    ensures { InputsAreUnique }
+{
+    reading_is_unique();
+    texts_have_one_rule();
+    library_reading_is_unique();
+    hooks_reading_is_unique();
+}

@@ -1,0 +1,137 @@
+//! The sources of a run, and reading a whole source.
+ghost use Rattle.std.specs.Prelude.{◌≡◌, ◌≢◌, ◌≤◌, ◌+◌, [], Some, IfOk, IfSome, IsErrOf, vec_len};
+ghost use Rattle.gk_gherkin.specs.Lines.{limit};
+ghost use Rattle.gk_request.specs.Counted.{inner_of, calls_of, idle_of, HasNotFailed, HasFailedOnce};
+ghost use Rattle.gk_request.specs.Source.{SourceValue, StopsAfter, GivesAtMost, borrowed_value, idle_after, source_value, without_bytes};
+
+use crate::counted::Counted;
+use gk_gherkin::LIMIT;
+use std::alloc::Global;
+use std::io::Read;
+use thiserror::Error;
+
+/// A source: its name and its bytes.
+#[derive(Debug, Drop)]
+pub struct Source {
+    pub name: String,
+    pub bytes: Vec<u8>,
+}
+
+/// A source that the caller holds: its name and its bytes.
+#[derive(Clone, Copy, Debug)]
+pub struct BorrowedSource<'a> {
+    pub name: &'a str,
+    pub bytes: &'a [u8],
+}
+
+/// A feature file of a run: its name, and its bytes until its feature is read.
+pub trait FeatureSource {
+    /// The name and the bytes.
+    ghost value: { Self → SourceValue };
+
+    /// Returns the name.
+    fn name(&self) -> &str
+        ensures { result.now ≡ (value self.now).name };
+
+    /// Returns the bytes.
+    fn bytes(&self) -> &[u8]
+        ensures { result.now ≡ (value self.now).bytes };
+
+    /// Drops the bytes. The name stays.
+    fn give_up(&mut self, alloc: Global)
+        ensures { value self.new ≡ without_bytes (value self.old) };
+}
+
+/// Dropping the bytes releases their memory.
+impl FeatureSource for Source {
+    ghost value = { source_value };
+
+    fn name(&self) -> &str {
+        self.name.as_str()
+    }
+
+    fn bytes(&self) -> &[u8] {
+        self.bytes.as_slice()
+    }
+
+    fn give_up(&mut self, alloc: Global) {
+        self.bytes = Vec::new(alloc);
+    }
+}
+
+/// The caller keeps the bytes.
+impl FeatureSource for BorrowedSource<'_> {
+    ghost value = { borrowed_value };
+
+    fn name(&self) -> &str {
+        self.name
+    }
+
+    fn bytes(&self) -> &[u8] {
+        self.bytes
+    }
+
+    fn give_up(&mut self, _alloc: Global) {
+        self.bytes = &[];
+    }
+}
+
+/// Why a source couldn't be read whole.
+#[derive(Clone, Copy, Debug, PartialEq, Eq, Error)]
+pub enum SourceFault {
+    /// The reader failed in this call.
+    #[error("cannot read")]
+    Device,
+    /// The reader has more bytes than `gk_gherkin::LIMIT`.
+    #[error("longer than 16777216 bytes")]
+    TooLong,
+    /// Memory couldn't be allocated.
+    #[error("out of memory")]
+    Memory,
+}
+
+/// The largest number of bytes that one call asks the reader for.
+const PIECE: usize = 16_384;
+
+/// Reads all bytes of a reader. Each call but the last gives at least one byte. The reader is never asked for a byte
+/// after number `gk_gherkin::LIMIT` + 1, so a reader without an end gives `TooLong`. A reader that failed isn't called
+/// again. A count of the reader that has reached `u64::MAX` stays there.
+pub fn read_source<R: Read>(alloc: Global, reader: &mut Counted<R>) -> Result<Vec<u8>, SourceFault>
+    ensures whole { IfOk result (λ v.
+        IfSome (R.remaining (inner_of reader.old)) (λ xs. v.items ≡ xs)) }
+    ensures within { IfOk result (λ v. vec_len v ≤ limit) }
+    ensures quiet { IfOk result (λ v. HasNotFailed reader.old reader.new) }
+    // `TooLong`: the reader gave one byte more than the limit, and never failed.
+    ensures long { IsErrOf result SourceFault.TooLong →
+        StopsAfter (limit + 1)
+        (R.remaining (inner_of reader.old)) (R.remaining (inner_of reader.new)) }
+    ensures long_quiet { IsErrOf result SourceFault.TooLong → HasNotFailed reader.old reader.new }
+    // `Device` comes from one failure, and only from that.
+    ensures device { IsErrOf result SourceFault.Device → HasFailedOnce reader.old reader.new }
+    // `Memory` never comes if the reader has no byte.
+    ensures spare { IsErrOf result SourceFault.Memory → HasNotFailed reader.old reader.new }
+    ensures free { IsErrOf result SourceFault.Memory → R.remaining (inner_of reader.old) ≢ Some [] }
+    // Whatever is returned, each call but the last gives a byte. If the reader's bytes are known, it gives none after
+    // number LIMIT + 1; for other readers `given` says nothing.
+    ensures idle { idle_of reader.new ≡ idle_after result (idle_of reader.old) }
+    ensures given { GivesAtMost (limit + 1)
+        (R.remaining (inner_of reader.old)) (R.remaining (inner_of reader.new)) }
+    ensures calls { IfOk result (λ v. calls_of reader.new ≤ calls_of reader.old + vec_len v + 1) }
+    ensures bounded { calls_of reader.new ≤ calls_of reader.old + (limit + 1) }
+{
+    let mut bytes = Vec::new(alloc);
+    let mut piece = [0u8; PIECE];
+    while bytes.len() <= LIMIT {
+        let room = (LIMIT + 1 - bytes.len()).min(PIECE);
+        match reader.read(&mut piece[..room]) {
+            Ok(0) => return Ok(bytes),
+            Ok(n) => {
+                if bytes.extend_from_slice(&piece[..n]).is_err() {
+                    return Err(SourceFault::Memory);
+                }
+            }
+            Err(_) => return Err(SourceFault::Device),
+        }
+    }
+    Err(SourceFault::TooLong)
+}

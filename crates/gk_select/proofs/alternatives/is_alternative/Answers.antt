@@ -1,0 +1,11 @@
+use Rattle.std.proofs.Common.{ℕ, List, false, arith, ap, sym, ◌∙◌}
+use Rattle.std.specs.Prelude.{is_some}
+use Rattle.std.proofs.lemmas.Str.Pattern.{strip_prefix_char}
+use Rattle.gk_select.proofs.AlternativeWords.{plain_alternative, same_some}
+use Rattle.gk_select.specs.Alternatives.{tag_named}
+use Rattle.gk_select.proofs.alternatives.is_alternative.Goals as goal
+
+pub returns-in-None : goal.returns-in-None
+returns-in-None c =
+    let plain = rw c.in-None.is at (strip_prefix_char 126 c.args.text.now c.strip_prefix.result c.strip_prefix.ensures.cases (omega arith)) in
+    c.names_tag-in-None.ensures ∙ sym (ap is_some (plain_alternative c.args.text.now plain) ∙ same_some (λ (tag : List ℕ). record { negated = false; tag = tag }) (tag_named c.args.text.now))
