@@ -24,17 +24,17 @@ VALUED = [f"--{it.name}" for it in OPTIONS if it.takes != "Nothing"]
 CHANGES = (
     (written.OPTION_TABLE, 'name: "stop"', 'name: "halt"', "halt", 9),
     (written.OPTION_TABLE, "leave later scenarios untested", "leave others", "leave others", 5),
-    (written.ARGUMENTS, '"progress" => Some', '"dots" => Some', "dots", 5),
+    (written.FORMAT_TABLE, '"progress"', '"dots"', "dots", 5),
     (written.DEFAULT_FILE, "step it fails =>", "step it breaks =>", "it breaks", 4),
-    (written.ACTION_TABLE, '["name", "n"], ["name", "n"]', '["name", "n"], ["name", "n", "by"]', "{by}", 1),
+    (written.ACTION_TABLE, '["name", "n"]', '["name", "n", "by"]', "{by}", 1),
 )
 
 
 def unread():
     """Tables of which tools/tables.py reads other rows than there are."""
     counts = {"options": (OPTIONS, written.OPTION_TABLE, r"OptionRow \{\n +name:"),
-              "formats": (FORMATS, written.ARGUMENTS, r"=> Some\(Format::"),
-              "steps": (STEPS, written.DEFAULT_FILE, r" => \w+\\n"), "actions": (ACTIONS, written.ACTION_TABLE, r"\n +row!\(")}
+              "formats": (FORMATS, written.FORMAT_TABLE, r"\n +Format::\w+ => \""),
+              "steps": (STEPS, written.DEFAULT_FILE, r" => \w+\\n"), "actions": (ACTIONS, written.ACTION_TABLE, r"\n    \w*row!\(\"")}
     for name, (rows, path, row) in counts.items():
         count = len(re.findall(row, driver.text(path)))
         yield f"tools/tables.py reads {len(rows)} of {count} {name}" if len(rows) != count else ""
@@ -47,7 +47,7 @@ def not_up_to_date():
 
 def copied(folder):
     """Copies tools/tables.py with all that it reads and writes. Returns how to call the copy."""
-    sources = {written.OPTION_TABLE, written.ARGUMENTS, written.ACTION_TABLE, written.DEFAULT_FILE}
+    sources = {written.OPTION_TABLE, written.FORMAT_TABLE, written.ACTION_TABLE, written.DEFAULT_FILE}
     for path in ("tools/tables.py", *sources, *written.texts()):
         driver.write(folder, {path: driver.text(path)})
     return lambda option: driver.start(sys.executable, [os.path.join(folder, "tools", "tables.py"), option])

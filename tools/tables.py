@@ -6,8 +6,8 @@
     --check   names those that differ from what --write would write; the status is 1 if there are any
     --json    prints the tables: options, formats, steps and actions
 
-The tables are OPTIONS of crates/gk_cli, ACTIONS and DEFAULT_TEXT of crates/gk_steps, and the names in `format_of` of
-crates/gk_cli. A written part is between a line with `tools/tables.py: NAME` and the next line with `tools/tables.py: end`.
+The tables are OPTIONS of crates/gk_cli, ACTIONS and DEFAULT_TEXT of crates/gk_steps, and the names of formats in
+crates/gk_report. A written part is between a line with `tools/tables.py: NAME` and the next line with `tools/tables.py: end`.
 """
 
 import collections
@@ -20,7 +20,7 @@ import textwrap
 HOME = os.path.dirname(os.path.dirname(os.path.realpath(__file__)))
 
 # Where the tables are.
-OPTION_TABLE, ARGUMENTS = "crates/gk_cli/src/option_table.rt", "crates/gk_cli/src/arguments.rt"
+OPTION_TABLE, FORMAT_TABLE = "crates/gk_cli/src/option_table.rt", "crates/gk_report/src/report.rt"
 ACTION_TABLE, DEFAULT_FILE = "crates/gk_steps/src/action.rt", "crates/gk_steps/src/default_file.rt"
 
 # ---- texts that the sources lack
@@ -113,7 +113,7 @@ def options():
 
 def formats():
     """The names of the formats. The first is that of a run without --format."""
-    return re.findall(r'^ *"(\w+)" => Some\(Format::', read(ARGUMENTS), re.M)
+    return re.findall(r'^ *Format::\w+ => "(\w+)",', read(FORMAT_TABLE), re.M)
 
 
 def default_text():
@@ -130,8 +130,9 @@ def steps():
 
 def actions():
     """The actions, each with the fields of a pattern that it needs, and all that it uses."""
-    rows = re.findall(r'^ *row!\(("\w+"), \w+, (\[.*?\]), (\[.*?\])\)', read(ACTION_TABLE), re.M)
-    return [Action(json.loads(name), literals(needs), literals(uses)) for name, needs, uses in rows]
+    rows = re.findall(r'^ *(\w*)row!\("(\w+)", \w+, \w+, \w+(.*)\),$', read(ACTION_TABLE), re.M)
+    fields = {"text_": (["name"], ["name", "text"])}
+    return [Action(name, *fields.get(kind, (literals(rest), literals(rest)))) for kind, name, rest in rows]
 
 
 def given(option):

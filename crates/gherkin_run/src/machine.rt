@@ -51,7 +51,7 @@ impl<R: Files> System for Machine<'_, R> {
 
 /// Returns the arguments of the program. No clause says that these are the program's own arguments: `env::args` of std
 /// has none.
-pub fn arguments_of<R: Env + AllocGlobal>(rt: &R) -> Result<Vec<String>, ArgumentsFault> {
+pub fn program_arguments<R: Env + AllocGlobal>(rt: &R) -> Result<Vec<String>, ArgumentsFault> {
     match env::args(rt) {
         Ok(arguments) => match arguments.collect(rt.alloc()) {
             Ok(arguments) => Ok(arguments),

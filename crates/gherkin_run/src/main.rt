@@ -10,7 +10,7 @@ mod machine;
 
 use gk_program::run;
 use gk_request::Counted;
-use machine::{Machine, arguments_of};
+use machine::{Machine, program_arguments};
 use std::io::Write;
 use std::process::ExitCode;
 use std::rt::{Env, Files};
@@ -26,7 +26,7 @@ fn run_on<R: Env + Files + AllocGlobal, W: Write, E: Write>(
         (device_of W.contents out.old) (device_of W.contents out.new)
         (device_of E.contents errors.old) (device_of E.contents errors.new) (exit_status result) }
 {
-    let arguments = arguments_of(machine.rt);
+    let arguments = program_arguments(machine.rt);
     let ended = run(machine.rt.alloc(), machine, arguments, out, errors);
     ExitCode::from(ended.status)
 }

@@ -36,7 +36,8 @@ use Rattle.clap.specs.declared.error.kind.ErrorKind.{ErrorKind}
 use Rattle.clap.specs.declared.error.kind.ErrorKind.TheVariants.{ArgumentConflict, InvalidValue}
 use Rattle.gk_report.specs.declared.report.Format.{Format}
 use Rattle.gk_report.specs.declared.report.Format.TheVariants.{Plain, Progress, Json}
-use Rattle.gk_cli.specs.Arguments.{HasRule, IsAskedBy, IsCommand, IsFaultBy, IsLineNumber, PairValue, SaysArguments, SaysMatches, SaysPair, command, split_at_equals, faults_in, files_rule, format_asked, format_name, found_in, has_equals, is_format, line_number, values_of, is_clash, is_given, with_version}
+use Rattle.gk_report.specs.Report.{format_name}
+use Rattle.gk_cli.specs.Arguments.{HasRule, IsAskedBy, IsCommand, IsFaultBy, IsLineNumber, PairValue, SaysArguments, SaysMatches, SaysPair, command, split_at_equals, faults_in, files_rule, format_asked, found_in, has_equals, is_format, line_number, values_of, is_clash, is_given, with_version}
 use Rattle.gk_cli.specs.OptionTable.{option_value, rule_of_option}
 use Rattle.gk_cli.specs.declared.arguments.Words.{Words}
 use Rattle.gk_cli.specs.declared.arguments.WordsFault.{WordsFault}
@@ -267,20 +268,6 @@ flag_read E (Some t) r b none some is = is ∙ go r (some t refl)
 name_read : (o : Option (Bor Text)) (d r : Bor Text) → r ≡ unwrap_or o d → r.now ≡ unwrap_or (option_map (λ s. s.now) o) d.now
 name_read None d r e = ap (λ (b : Bor Text). b.now) e
 name_read (Some x) d r e = ap (λ (b : Bor Text). b.now) e
-
--- a name that is none of the three
-pub unknown_name : (name : Text) → (name ≡ codes "plain" → ⊥) → (name ≡ codes "progress" → ⊥) → (name ≡ codes "json" → ⊥) → is_format name ≡ false
-unknown_name name plain progress json = none _ _ _ (differs (codes "plain") plain) (differs (codes "progress") progress) (differs (codes "json") json)
-  where
-    none : (a b c : Bool) → a ≡ false → b ≡ false → c ≡ false → (a || (b || (c || false))) ≡ false
-    none a b c e f g = rw (e, f, g) refl
-
-    differs : (text : Text) → (name ≡ text → ⊥) → bytes_eq text name ≡ false
-    differs text other = go (bytes_eq text name) refl
-      where
-        go : (b : Bool) → bytes_eq text name ≡ b → bytes_eq text name ≡ false
-        go true e = absurd (other (sym ((bytes_eq-Decides text name).0 e)))
-        go false e = e
 
 pub format_read : (f : Found) (o : Option (Bor Text)) (d r : Bor Text) → r ≡ unwrap_or o d → d.now ≡ codes "plain"
     → option_map (λ s. s.now) o ≡ first_value f (codes "format") → r.now ≡ format_asked (rows_of f)

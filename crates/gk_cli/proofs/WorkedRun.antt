@@ -34,7 +34,7 @@ use Rattle.gk_steps.specs.declared.action.Action.TheVariants as actions
 use Rattle.gk_steps.specs.declared.pattern.FieldKind.TheVariants as kinds
 use Rattle.gk_steps.specs.Pattern.{Literal, FieldPiece}
 use Rattle.gk_steps.specs.Matching.{match_of}
-use Rattle.gk_steps.specs.Action.{action_row, text_row}
+use Rattle.gk_steps.specs.Action.{action_row, row_of}
 use Rattle.gk_steps.specs.Finding.{EntryValue, LibraryValue, found}
 use Rattle.gk_steps.specs.LibraryFile.{is_ignored, type_of, sides_of, last_arrow, SpellsEntry, SpellEntries, ReadsLibrary}
 use Rattle.gk_steps.specs.DefaultFile.{default_entries}
@@ -340,7 +340,7 @@ write_spells : SpellsEntry [] write_line write_entry
 unfolding type_of sides_of last_arrow action_row
 write_spells = record {
   sides = record { pattern = codes "a file named \"{name}\" with:"; action = codes "write_file" };
-  row = text_row (codes "write_file") actions.WriteFile;
+  row = row_of actions.WriteFile;
   is_type = refl;
   is_cut = refl;
   is_pattern = record { spelled = refl; names = search; distinct = (tt, tt); runs = (omega arith, (omega arith, tt)); some = omega arith };
@@ -356,7 +356,7 @@ ask_spells : SpellsEntry (write_entry ∷ []) ask_line ask_entry
 unfolding type_of sides_of last_arrow action_row
 ask_spells = record {
   sides = record { pattern = codes "the file \"{name}\" should be \"{text}\""; action = codes "file_is" };
-  row = text_row (codes "file_is") actions.FileIs;
+  row = row_of actions.FileIs;
   is_type = refl;
   is_cut = refl;
   is_pattern = record { spelled = refl; names = search; distinct = ((other_name, tt), (tt, tt)); runs = (omega arith, (omega arith, (omega arith, tt))); some = omega arith };

@@ -19,8 +19,7 @@ use Rattle.clap.specs.declared.error.kind.ErrorKind.TheVariants.{ArgumentConflic
 use Rattle.gk_cli.specs.OptionTable.{OptionValue, options, rule_of_option}
 use Rattle.gk_cli.specs.declared.option_table.Takes.{Takes}
 use Rattle.gk_cli.specs.declared.option_table.Takes.TheVariants.{Nothing as Flag}
-use Rattle.gk_report.specs.declared.report.Format.{Format}
-use Rattle.gk_report.specs.declared.report.Format.TheVariants.{Plain, Progress, Json}
+use Rattle.gk_report.specs.Report.{format_name, format_named}
 use Rattle.gk_cli.specs.declared.arguments.Mode.{Mode}
 use Rattle.gk_cli.specs.declared.arguments.Mode.TheVariants.{Report, Explanation, Findings}
 use Rattle.gk_request.specs.declared.request.Options.{Options}
@@ -53,15 +52,9 @@ command = fold with_rule command_of_files (map rule_of_option options)
 abbrev pub found_in : List Text → List Row
 found_in arguments = matches_of command arguments
 
--- The name of a format. (behave's documentation: formatters)
-abbrev pub format_name : Format → Text
-format_name Plain = codes "plain"
-format_name Progress = codes "progress"
-format_name Json = codes "json"
-
 -- Whether a format has this name.
 abbrev pub is_format : Text → Bool
-is_format name = list_any (λ format. bytes_eq (format_name format) name) (Plain ∷ Progress ∷ Json ∷ [])
+is_format name = is_some (format_named name)
 
 -- The name of the format that `--format` asks for; plain if there is none. (behave's documentation: command line arguments)
 abbrev pub format_asked : List Row → Text
@@ -120,11 +113,6 @@ IsLineNumber text = IsUnsignedIn 1 4294967295 text
 -- The number that the text spells, in decimal digits after an optional plus.
 abbrev pub line_number : Text → ℕ
 line_number text = digits_value 10 (without_leading_plus text)
-
--- The format with this name; an unknown name has none.
-abbrev pub SaysFormat : Text → Option Format → Type 0
-SaysFormat name (Some format) = format_name format ≡ name
-SaysFormat name None = is_format name ≡ false
 
 -- A name and a text.
 pub record PairValue : Type 0 where

@@ -5,13 +5,14 @@ ghost use Rattle.clap.specs.Words.{found_of, kind_of, rows_of, with_rule};
 ghost use Rattle.clap.specs.declared.error.kind.ErrorKind.TheVariants.{ArgumentConflict, InvalidValue};
 ghost use Rattle.gk_cli.specs.Arguments as spec;
 ghost use Rattle.gk_cli.specs.OptionTable.{option_value, rule_of_option};
-ghost use Rattle.gk_cli.specs.Arguments.{is_clash, mode_asked, files_rule, command, HasRule, IsCommand, is_set, IsLineNumber, line_number, format_name, format_asked, SaysFormat, SaysPair, SaysPairs, AreAsked, SaysMatches, SaysArguments};
+ghost use Rattle.gk_report.specs.Report.{format_name};
+ghost use Rattle.gk_cli.specs.Arguments.{is_clash, mode_asked, files_rule, command, HasRule, IsCommand, is_set, IsLineNumber, line_number, format_asked, SaysPair, SaysPairs, AreAsked, SaysMatches, SaysArguments};
 
 use crate::option_table::{OPTIONS, OptionRow, Takes};
 use clap::builder::ValueParser;
 use clap::error::ErrorKind;
 use clap::{Arg, ArgAction, ArgMatches, Command};
-use gk_report::{Format, Style};
+use gk_report::{FORMATS, Format, Style, format_named};
 use gk_request::Options;
 use std::alloc::{AllocError, AllocFailed, Global};
 use thiserror::Error;
@@ -243,18 +244,6 @@ fn flag(matches: &ArgMatches, name: &str) -> bool
     matches.get_one::<bool>(name).unwrap_or(false)
 }
 
-// Returns the format with this name, if there is one.
-fn format_of(name: &str) -> Option<Format>
-    ensures { SaysFormat name.now result }
-{
-    match name {
-        "plain" => Some(Format::Plain),
-        "progress" => Some(Format::Progress),
-        "json" => Some(Format::Json),
-        _ => None,
-    }
-}
-
 // Makes the error for an unknown format, in clap's words.
 fn unknown_format(
     alloc: Global,
@@ -263,9 +252,16 @@ fn unknown_format(
 ) -> Result<clap::Error, AllocError>
     ensures { IfOk result (λ error. kind_of error ≡ InvalidValue) }
 {
-    let message = format!(in alloc;
-        "invalid value '{name}' for '--format <F>'\n  [possible values: plain, progress, json]"
+    let mut message = format!(in alloc;
+        "invalid value '{name}' for '--format <F>'\n  [possible values: "
     )?;
+    let mut between = "";
+    for format in &FORMATS {
+        message.push_str(between)?;
+        message.push_str(format.name())?;
+        between = ", ";
+    }
+    message.push_str("]")?;
     command.error(ErrorKind::InvalidValue, message.as_str())
 }
 
@@ -431,7 +427,7 @@ fn words_by<'a>(
         return Err(WordsFault::Usage(clash(alloc, reader, mode_of(&matches), name)?));
     }
     let name = matches.get_str("format").unwrap_or("plain");
-    match format_of(name) {
+    match format_named(name) {
         Some(format) => words_of(alloc, &matches, format),
         None => Err(WordsFault::Usage(unknown_format(alloc, reader, name)?)),
     }

@@ -5,7 +5,9 @@ use Rattle.std.proofs.lemmas.List.{append-nil, map-append, reverse-append, rever
 use Rattle.std.proofs.lemmas.List.Concat.{flat_map-append}
 use Rattle.gk_gherkin.specs.Feature.{BlockValue, StepValue}
 use Rattle.gk_steps.specs.declared.action.Action.{Action}
-use Rattle.gk_steps.specs.declared.action.Action.TheVariants as actions
+use Rattle.gk_steps.specs.declared.action.Does.{Does}
+use Rattle.gk_steps.specs.declared.action.Does.TheVariants.{Changes, Checks, Registers, Skips}
+use Rattle.gk_steps.specs.Action.{row_of}
 use Rattle.gk_steps.specs.Finding.{LibraryValue, FoundValue, action_of, found, found_any}
 use Rattle.gk_world.specs.State.{State, enter}
 use Rattle.gk_run.specs.declared.acting.Site.{Site}
@@ -21,7 +23,7 @@ use Rattle.gk_run.specs.declared.section.Level.{Level}
 use Rattle.gk_run.specs.declared.section.Level.TheVariants as levels
 use Rattle.gk_run.specs.declared.section.Part.TheVariants as parts
 use Rattle.gk_run.specs.declared.section.Stage.{Stage}
-use Rattle.gk_run.specs.Acting.{Acted as Result, CleanupValue, ArgumentsValue, act, at_site, done_of, fails, arguments_of, is_pass, may_register, registers as registers_found, without_cleanups}
+use Rattle.gk_run.specs.Acting.{Acted as Result, CleanupValue, ArgumentsValue, act, does_at_site, table, skip_outcome, done_of, fails, arguments_of, is_pass, may_register, registers as registers_found, without_cleanups}
 use Rattle.gk_run.specs.SectionHooks.{clean_each, after_lists, before_list, entered, walk_each}
 use Rattle.gk_run.specs.Ending.{ending_of, has_passed}
 use Rattle.gk_run.specs.Events.{Event as Told, of_step, Stand, after_event, ended_in, left_by}
@@ -29,7 +31,7 @@ use Rattle.gk_run.specs.Running.{alone}
 use Rattle.gk_run.specs.Section.{after_of, before_of, in_order, site_of, steps_of_case}
 use Rattle.gk_run.specs.Walk.{looked_up, one_step, stepped, steps_from, walk}
 use Rattle.gk_explain.specs.declared.registrations.Registration.{Registration}
-use Rattle.gk_explain.specs.Registrations.{PlacedCleanup, is_at_cleanup, found_registers, is_passed, registered_by, last_of, all_but_last, placed_cleanups, placed_by, CleanupsAreOfTheirSteps}
+use Rattle.gk_explain.specs.Registrations.{PlacedCleanup, is_registering, found_registers, is_passed, registered_by, last_of, all_but_last, placed_cleanups, placed_by, CleanupsAreOfTheirSteps}
 
 -- A cleanup with its place.
 abbrev Pair : Type 0
@@ -81,34 +83,14 @@ at_cleanup false o s block r = none
 at_cleanup true None s block r = none
 at_cleanup true (Some f) s block r = record { pairs = (r, record { found = f; block = block }) ∷ []; is_places = refl; is_both = refl; is_cleanups = refl }
 
--- What an action registers.
-by_action : (a : Action) (site : Site) (library : LibraryValue) (g : ArgumentsValue) (s : State) (r : Registration) →
-    (let acted = at_site a site library g s in
-    ArePaired (cond (is_pass acted.done.outcome && is_at_cleanup a) (r ∷ []) []) (all_at r acted.registered) acted.registered)
-by_action actions.WriteFile site library g s r = no_cleanup (at_site actions.WriteFile site library g s).done.outcome (r ∷ [])
-by_action actions.AppendFile site library g s r = no_cleanup (at_site actions.AppendFile site library g s).done.outcome (r ∷ [])
-by_action actions.RemoveFile site library g s r = no_cleanup (at_site actions.RemoveFile site library g s).done.outcome (r ∷ [])
-by_action actions.RenameFile site library g s r = no_cleanup (at_site actions.RenameFile site library g s).done.outcome (r ∷ [])
-by_action actions.WriteFiles site library g s r = no_cleanup (at_site actions.WriteFiles site library g s).done.outcome (r ∷ [])
-by_action actions.FileExists site library g s r = no_cleanup (at_site actions.FileExists site library g s).done.outcome (r ∷ [])
-by_action actions.FileAbsent site library g s r = no_cleanup (at_site actions.FileAbsent site library g s).done.outcome (r ∷ [])
-by_action actions.FileIs site library g s r = no_cleanup (at_site actions.FileIs site library g s).done.outcome (r ∷ [])
-by_action actions.FileContains site library g s r = no_cleanup (at_site actions.FileContains site library g s).done.outcome (r ∷ [])
-by_action actions.SetEnv site library g s r = no_cleanup (at_site actions.SetEnv site library g s).done.outcome (r ∷ [])
-by_action actions.RemoveEnv site library g s r = no_cleanup (at_site actions.RemoveEnv site library g s).done.outcome (r ∷ [])
-by_action actions.EnvIs site library g s r = no_cleanup (at_site actions.EnvIs site library g s).done.outcome (r ∷ [])
-by_action actions.EnvAbsent site library g s r = no_cleanup (at_site actions.EnvAbsent site library g s).done.outcome (r ∷ [])
-by_action actions.SetValue site library g s r = no_cleanup (at_site actions.SetValue site library g s).done.outcome (r ∷ [])
-by_action actions.DeleteValue site library g s r = no_cleanup (at_site actions.DeleteValue site library g s).done.outcome (r ∷ [])
-by_action actions.ValueIs site library g s r = no_cleanup (at_site actions.ValueIs site library g s).done.outcome (r ∷ [])
-by_action actions.ValueAbsent site library g s r = no_cleanup (at_site actions.ValueAbsent site library g s).done.outcome (r ∷ [])
-by_action actions.SetNumber site library g s r = no_cleanup (at_site actions.SetNumber site library g s).done.outcome (r ∷ [])
-by_action actions.AddNumber site library g s r = no_cleanup (at_site actions.AddNumber site library g s).done.outcome (r ∷ [])
-by_action actions.NumberIs site library g s r = no_cleanup (at_site actions.NumberIs site library g s).done.outcome (r ∷ [])
-by_action actions.AtCleanup site library g s r = at_cleanup (may_register site) (found_any library g.step) s g.block r
-by_action actions.SkipScenario site library g s r = no_cleanup (at_site actions.SkipScenario site library g s).done.outcome (r ∷ [])
-by_action actions.Pass site library g s r = no_cleanup (at_site actions.Pass site library g s).done.outcome (r ∷ [])
-by_action actions.Fail site library g s r = no_cleanup (at_site actions.Fail site library g s).done.outcome (r ∷ [])
+-- What an action that does this registers.
+by_does : (d : Does) (a : Action) (site : Site) (library : LibraryValue) (g : ArgumentsValue) (s : State) (r : Registration) →
+    (let acted = does_at_site d a site library g s in
+    ArePaired (cond (is_pass acted.done.outcome && is_registering d) (r ∷ []) []) (all_at r acted.registered) acted.registered)
+by_does Changes a site library g s r = no_cleanup (table a g s).outcome (r ∷ [])
+by_does Checks a site library g s r = no_cleanup (table a g s).outcome (r ∷ [])
+by_does Registers a site library g s r = at_cleanup (may_register site) (found_any library g.step) s g.block r
+by_does Skips a site library g s r = no_cleanup (skip_outcome site) (r ∷ [])
 
 -- What a step registers that found this.
 by_found : (o : Option FoundValue) (library : LibraryValue) (site : Site) (s : State) (step : StepValue) (r : Registration) →
@@ -116,7 +98,7 @@ by_found : (o : Option FoundValue) (library : LibraryValue) (site : Site) (s : S
     ArePaired (cond (is_passed this.mark && found_registers library o) (r ∷ []) []) (all_at r this.registered) this.registered)
 unfolding act
 by_found None library site s step r = none
-by_found (Some f) library site s step r = by_action (action_of library f) site library (arguments_of library f step.block) s r
+by_found (Some f) library site s step r = (let action = action_of library f in by_does (row_of action).does action site library (arguments_of library f step.block) s r)
 
 -- What is registered by events that lead from some cleanups to others, and come to no cleanup that runs.
 record Adds (library : LibraryValue) (ts : List Told) (before after : List CleanupValue) : Type 0 where

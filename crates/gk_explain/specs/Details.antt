@@ -1,9 +1,12 @@
 -- Details below an event that failed: what its reason means there.
-use Rattle.std.specs.Prelude.{ℕ, ℤ, List, [], ◌++◌, Option, Some, None, unwrap_or, codes, option_copied, length}
+use Rattle.std.specs.Prelude.{ℕ, ℤ, List, [], ◌++◌, Option, Some, None, unwrap_or, codes, length}
 use Rattle.std.specs.Fmt.{decimal, signed_decimal}
-use Rattle.gk_gherkin.specs.Feature.{BlockValue, StepValue, block_value}
+use Rattle.gk_gherkin.specs.Feature.{BlockValue, StepValue}
 use Rattle.gk_steps.specs.declared.action.Action.{Action}
 use Rattle.gk_steps.specs.declared.action.Action.TheVariants as actions
+use Rattle.gk_steps.specs.declared.action.ActsOn.{ActsOn}
+use Rattle.gk_steps.specs.declared.action.ActsOn.TheVariants.{File, Variable, Value}
+use Rattle.gk_steps.specs.Action.{row_of}
 use Rattle.gk_steps.specs.Finding.{LibraryValue, FoundValue, action_of, found}
 use Rattle.gk_world.specs.State.{State, see}
 use Rattle.gk_world.specs.Refusals.{joined}
@@ -16,41 +19,21 @@ use Rattle.gk_run.specs.declared.results.Reason.TheVariants as reasons
 use Rattle.gk_run.specs.Acting.{ArgumentsValue, arguments_of}
 use Rattle.gk_run.specs.Events.{Event as Told, of_step, of_cleanup}
 use Rattle.gk_report.specs.ReportTexts.{line_feed}
-use Rattle.gk_explain.specs.declared.details.Given as declared
-use Rattle.gk_explain.specs.declared.details.Kind.{Kind}
-use Rattle.gk_explain.specs.declared.details.Kind.TheVariants as kinds
 use Rattle.gk_explain.specs.declared.differences.Position.{Position}
 use Rattle.gk_explain.specs.Differences.{first_difference}
 use Rattle.gk_explain.specs.Nearest.{nearest_told}
 use Rattle.gk_explain.specs.Shown.{shown, marked_text, marked_text_with}
 use Rattle.gk_explain.specs.Tables.{other_table, refused_file}
 
--- The kind of thing that an action works on.
-abbrev pub kind_of : Action → Kind
-kind_of actions.WriteFile = kinds.File
-kind_of actions.AppendFile = kinds.File
-kind_of actions.RemoveFile = kinds.File
-kind_of actions.RenameFile = kinds.File
-kind_of actions.WriteFiles = kinds.File
-kind_of actions.FileExists = kinds.File
-kind_of actions.FileAbsent = kinds.File
-kind_of actions.FileIs = kinds.File
-kind_of actions.FileContains = kinds.File
-kind_of actions.SetEnv = kinds.Variable
-kind_of actions.RemoveEnv = kinds.Variable
-kind_of actions.EnvIs = kinds.Variable
-kind_of actions.EnvAbsent = kinds.Variable
-kind_of _ = kinds.Value
-
 -- The text of a file or a variable, or the value that is seen, under a name.
-abbrev pub held : Kind → State → List ℕ → Option (List ℕ)
-held kinds.File s name = s.files name
-held kinds.Variable s name = s.env name
-held kinds.Value s name = see s name
+abbrev pub held : ActsOn → State → List ℕ → Option (List ℕ)
+held File s name = s.files name
+held Variable s name = s.env name
+held Value s name = see s name
 
 -- The text that an action finds under the name that it is given; it is empty if there is none.
 abbrev pub found_text : Action → ArgumentsValue → State → List ℕ
-found_text action g s = unwrap_or (held (kind_of action) s g.name) []
+found_text action g s = unwrap_or (held (row_of action).acts_on s g.name) []
 
 -- The lines of an expected text.
 abbrev pub expected_text : List ℕ → List ℕ
@@ -90,15 +73,15 @@ difference actions.FileContains g there = lacking (unwrap_or g.text []) there
 difference actions.NumberIs g there = unequal g.number there
 difference action g there = compared (unwrap_or g.text []) there
 
--- The word for what an action works on.
-abbrev pub kind_word : Kind → List ℕ
-kind_word kinds.File = codes "file"
-kind_word kinds.Variable = codes "variable"
-kind_word kinds.Value = codes "value"
+-- The word for what an action acts on.
+abbrev pub word_of : ActsOn → List ℕ
+word_of File = codes "file"
+word_of Variable = codes "variable"
+word_of Value = codes "value"
 
 -- The line that says that nothing exists under a name.
-unfoldable pub absent_line : Kind → List ℕ → List ℕ
-absent_line kind name = codes "      there is no " ++ (kind_word kind ++ (codes " \"" ++ (shown name ++ codes "\"\n")))
+unfoldable pub absent_line : ActsOn → List ℕ → List ℕ
+absent_line acts_on name = codes "      there is no " ++ (word_of acts_on ++ (codes " \"" ++ (shown name ++ codes "\"\n")))
 
 -- The text that is in an action's way: the one under its name or, if a file is renamed, the one under the new name.
 abbrev pub present_text : Action → ArgumentsValue → State → List ℕ
@@ -137,10 +120,10 @@ new_text action g s = unwrap_or g.text []
 unfoldable pub text_length : ℕ → List ℕ
 text_length count = codes "      the text has " ++ (decimal count ++ codes " bytes; at most 1048576 are allowed\n")
 
--- What a reason means for an action at a state. If the text of a step that is to be run at the end finds no entry, the nearest one is named.
+-- What a reason means for an action at a state. If the text of a step that is to be run at the end finds no entry, the one that may be meant is named.
 abbrev pub details : LibraryValue → Action → ArgumentsValue → Reason → State → List ℕ
 details library action g reasons.Differs s = difference action g (found_text action g s)
-details library action g reasons.Absent s = absent_line (kind_of action) g.name
+details library action g reasons.Absent s = absent_line (row_of action).acts_on g.name
 details library action g reasons.Present s = found_below (present_text action g s)
 details library action g reasons.NotNumber s = found_below (found_text action g s)
 details library action g reasons.OutOfRange s = sum_out_of_range (found_text action g s) g.number
@@ -161,7 +144,7 @@ abbrev pub details_if_found : LibraryValue → Option FoundValue → BlockValue 
 details_if_found library None block outcome s = []
 details_if_found library (Some f) block outcome s = outcome_details library f block outcome s
 
--- What a step's mark means. For an undefined step, the nearest entry is named.
+-- What a step's mark means. For an undefined step, the entry that may be meant is named.
 abbrev pub mark_details : LibraryValue → StepValue → Mark → State → List ℕ
 mark_details library step (Acted outcome) s = details_if_found library (found library step.step_type step.text) step.block outcome s
 mark_details library step Undefined s = nearest_told library step.text
@@ -171,7 +154,3 @@ mark_details library step mark s = []
 unfoldable pub event_details : LibraryValue → Told → List ℕ
 event_details library (of_step place step mark cleanups s) = mark_details library step mark s
 event_details library (of_cleanup level cleanup outcome s) = outcome_details library cleanup.found cleanup.block outcome s
-
--- The value of a `Given` without its action.
-abbrev pub given_value : declared.Given → ArgumentsValue
-given_value g = record { name = g.name.now; to = g.to.now; step = g.step.now; number = g.number; text = option_copied g.text; block = block_value g.block.now }

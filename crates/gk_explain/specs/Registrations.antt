@@ -3,8 +3,9 @@ use Rattle.std.specs.Prelude.{◌≡◌, ◌-◌, Bool, true, false, cond, ◌&&
 use Rattle.std.specs.List.{slice_get}
 use Rattle.gk_gherkin.specs.Feature.{StepValue}
 use Rattle.gk_select.specs.Case.{CaseValue}
-use Rattle.gk_steps.specs.declared.action.Action.{Action}
-use Rattle.gk_steps.specs.declared.action.Action.TheVariants as actions
+use Rattle.gk_steps.specs.declared.action.Does.{Does}
+use Rattle.gk_steps.specs.declared.action.Does.TheVariants.{Registers}
+use Rattle.gk_steps.specs.Action.{row_of}
 use Rattle.gk_steps.specs.Finding.{LibraryValue, FoundValue, action_of, found}
 use Rattle.gk_world.specs.State.{State}
 use Rattle.gk_run.specs.declared.results.Mark.{Mark}
@@ -16,15 +17,15 @@ use Rattle.gk_run.specs.Section.{in_order}
 use Rattle.gk_run.specs.Running.{alone}
 use Rattle.gk_explain.specs.declared.registrations.Registration.{Registration}
 
--- Whether an action is the one that registers a cleanup. (behave's documentation: cleanups)
-abbrev pub is_at_cleanup : Action → Bool
-is_at_cleanup actions.AtCleanup = true
-is_at_cleanup _ = false
+-- Whether an action that does this registers a cleanup if it passes. (behave's documentation: cleanups)
+abbrev pub is_registering : Does → Bool
+is_registering Registers = true
+is_registering _ = false
 
 -- Whether what was found for a step registers a cleanup if the step passes.
 abbrev pub found_registers : LibraryValue → Option FoundValue → Bool
 found_registers library None = false
-found_registers library (Some f) = is_at_cleanup (action_of library f)
+found_registers library (Some f) = is_registering (row_of (action_of library f)).does
 
 -- Whether a step was carried out and passed.
 abbrev pub is_passed : Mark → Bool

@@ -1,13 +1,12 @@
 //! Details below the line of an event that failed.
 ghost use Rattle.std.specs.Prelude.{◌≡◌, ◌++◌, length, option_copied, string_bytes};
 ghost use Rattle.gk_gherkin.specs.Feature.{block_value};
-ghost use Rattle.gk_steps.specs.Finding.{library_value, found_value, action_of, found};
+ghost use Rattle.gk_steps.specs.Finding.{found_value, found};
 ghost use Rattle.gk_world.specs.State.{state_of};
-ghost use Rattle.gk_run.specs.Acting as acting;
+ghost use Rattle.gk_run.specs.Acting.{arguments_value};
 ghost use Rattle.gk_run.specs.declared.results.Outcome.TheVariants.{Failed};
 ghost use Rattle.gk_report.specs.ReportTexts.{Pushes};
 ghost use Rattle.gk_explain.specs.Details as spec;
-ghost use Rattle.gk_explain.specs.Details.{given_value};
 ghost use Rattle.gk_explain.specs.Event.{event_told};
 
 use crate::differences::{Position, first_difference};
@@ -15,105 +14,28 @@ use crate::event::{CleanupEvent, Event, StepEvent};
 use crate::nearest_lines::NearestLines;
 use crate::shown::{push_shown, push_text, push_text_with};
 use crate::tables::{push_table, refused_file};
-use gk_gherkin::Block;
-use gk_run::{Mark, Outcome, Reason};
-use gk_steps::{Action, Found, Library};
+use gk_run::{Arguments, Mark, Outcome, Reason, arguments_of};
+use gk_steps::{Action, ActsOn};
 use gk_world::Sandbox;
 use std::alloc::{AllocError, Global};
 
-/// The kind of thing that an action works on.
-#[derive(Clone, Copy, Debug, PartialEq, Eq)]
-pub enum Kind {
-    /// A file.
-    File,
-    /// A variable.
-    Variable,
-    /// A value: the one that is seen, or the one of the innermost layer.
-    Value,
-}
-
-/// An action and the arguments that it works with.
-#[derive(Clone, Copy)]
-pub struct Given<'a> {
-    pub action: Action,
-    /// The field `name`.
-    pub name: &'a str,
-    /// The field `to`.
-    pub to: &'a str,
-    /// The field `step`.
-    pub step: &'a str,
-    /// The field `n`.
-    pub number: i64,
-    /// The field `text` or, without one, the step's doc string.
-    pub text: Option<&'a str>,
-    /// The step's block.
-    pub block: &'a Block,
-}
-
-fn kind_of(action: Action) -> Kind
-    ensures { result ≡ spec.kind_of action }
-{
-    match action {
-        Action::WriteFile
-        | Action::AppendFile
-        | Action::RemoveFile
-        | Action::RenameFile
-        | Action::WriteFiles
-        | Action::FileExists
-        | Action::FileAbsent
-        | Action::FileIs
-        | Action::FileContains => Kind::File,
-        Action::SetEnv | Action::RemoveEnv | Action::EnvIs | Action::EnvAbsent => Kind::Variable,
-        _ => Kind::Value,
-    }
-}
-
 // Returns the text of a file or a variable, or the value that is seen, under a name.
-fn held<'a>(kind: Kind, sandbox: &'a Sandbox, name: &str) -> Option<&'a str>
-    ensures { option_copied result ≡ spec.held kind (state_of sandbox.now.now) name.now }
+fn held<'a>(acts_on: ActsOn, sandbox: &'a Sandbox, name: &str) -> Option<&'a str>
+    ensures { option_copied result ≡ spec.held acts_on (state_of sandbox.now.now) name.now }
 {
-    match kind {
-        Kind::File => sandbox.file(name),
-        Kind::Variable => sandbox.env(name),
-        Kind::Value => sandbox.value(name),
+    match acts_on {
+        ActsOn::File => sandbox.file(name),
+        ActsOn::Variable => sandbox.env(name),
+        ActsOn::Value => sandbox.value(name),
     }
 }
 
 // Returns the text that an action finds under the name that it is given; it is empty if there is none.
-fn found_text<'a>(given: &Given<'_>, sandbox: &'a Sandbox) -> &'a str
-    ensures { result.now ≡ spec.found_text given.now.action (given_value given.now)
+fn found_text<'a>(action: Action, given: &Arguments<'_>, sandbox: &'a Sandbox) -> &'a str
+    ensures { result.now ≡ spec.found_text action (arguments_value given.now)
         (state_of sandbox.now.now) }
 {
-    held(kind_of(given.action), sandbox, given.name).unwrap_or("")
-}
-
-// Returns the text of a doc string, if the block is one.
-fn doc_string(block: &Block) -> Option<&str>
-    ensures { option_copied result ≡ acting.doc_string (block_value block.now) }
-{
-    match block {
-        Block::Text(text) => Some(text.as_str()),
-        _ => None,
-    }
-}
-
-// Returns the action of what was found, with its arguments.
-fn given_to<'a>(library: &Library, found: &'a Found, block: &'a Block) -> Given<'a>
-    ensures action { result.action
-        ≡ action_of (library_value library.now) (found_value found.now) }
-    ensures given { given_value result ≡ acting.arguments_of
-        (library_value library.now) (found_value found.now) (block_value block.now) }
-{
-    let used = library.used_fields(found);
-    Given {
-        action: library.action(found),
-        name: used.name.unwrap_or(""),
-        to: used.to.unwrap_or(""),
-        step: used.step.unwrap_or(""),
-        number: used.number.unwrap_or(0),
-        text: used.text.or(doc_string(block)),
-        block,
-    }
+    held(action.row().acts_on, sandbox, given.name).unwrap_or("")
 }
 
 // Appends the line with the position at which two texts first differ.
@@ -195,49 +117,50 @@ fn push_unequal(
 fn push_difference(
     alloc: Global,
     out: &mut String,
-    given: &Given<'_>,
+    action: Action,
+    given: &Arguments<'_>,
     found: &str,
 ) -> Result<(), AllocError>
     ensures { Pushes out.old
-        (spec.difference given.now.action (given_value given.now) found.now) result out.new }
+        (spec.difference action (arguments_value given.now) found.now) result out.new }
 {
-    match given.action {
+    match action {
         Action::FileContains => push_lacking(alloc, out, given.text.unwrap_or(""), found),
         Action::NumberIs => push_unequal(alloc, out, given.number, found),
         _ => push_compared(alloc, out, given.text.unwrap_or(""), found),
     }
 }
 
-fn kind_word(kind: Kind) -> &'static str
-    ensures { result.now ≡ spec.kind_word kind }
+fn word_of(acts_on: ActsOn) -> &'static str
+    ensures { result.now ≡ spec.word_of acts_on }
 {
-    match kind {
-        Kind::File => "file",
-        Kind::Variable => "variable",
-        Kind::Value => "value",
+    match acts_on {
+        ActsOn::File => "file",
+        ActsOn::Variable => "variable",
+        ActsOn::Value => "value",
     }
 }
 
 // Appends the line that says that nothing exists under a name.
 #[tactic(auto, unfolding(crate::specs::Details::absent_line))]
-fn push_absent(out: &mut String, kind: Kind, name: &str) -> Result<(), AllocError>
-    ensures { Pushes out.old (spec.absent_line kind name.now) result out.new }
+fn push_absent(out: &mut String, acts_on: ActsOn, name: &str) -> Result<(), AllocError>
+    ensures { Pushes out.old (spec.absent_line acts_on name.now) result out.new }
 {
     out.push_str("      there is no ")?;
-    out.push_str(kind_word(kind))?;
+    out.push_str(word_of(acts_on))?;
     out.push_str(" \"")?;
     push_shown(out, name)?;
     out.push_str("\"\n")
 }
 
 // Returns the text that is in an action's way.
-fn present_text<'a>(given: &Given<'_>, sandbox: &'a Sandbox) -> &'a str
-    ensures { result.now ≡ spec.present_text given.now.action (given_value given.now)
+fn present_text<'a>(action: Action, given: &Arguments<'_>, sandbox: &'a Sandbox) -> &'a str
+    ensures { result.now ≡ spec.present_text action (arguments_value given.now)
         (state_of sandbox.now.now) }
 {
-    match given.action {
+    match action {
         Action::RenameFile => sandbox.file(given.to).unwrap_or(""),
-        _ => found_text(given, sandbox),
+        _ => found_text(action, given, sandbox),
     }
 }
 
@@ -268,10 +191,10 @@ fn push_in_outer_layer(alloc: Global, out: &mut String, found: &str) -> Result<(
 }
 
 // Returns the name that an action gives to what it changes.
-fn given_name<'a>(given: &Given<'a>) -> &'a str
-    ensures { result.now ≡ spec.given_name given.now.action (given_value given.now) }
+fn given_name<'a>(action: Action, given: &Arguments<'a>) -> &'a str
+    ensures { result.now ≡ spec.given_name action (arguments_value given.now) }
 {
-    match given.action {
+    match action {
         Action::RenameFile => given.to,
         Action::WriteFiles => refused_file(given.block).name,
         _ => given.name,
@@ -298,12 +221,12 @@ fn joined_len(text: &str, more: &str) -> u128
 }
 
 // Returns the number of bytes of the text that an action gives to what it changes.
-fn new_text_len(given: &Given<'_>, sandbox: &Sandbox) -> u128
-    ensures { result ≡ length (spec.new_text given.now.action (given_value given.now)
+fn new_text_len(action: Action, given: &Arguments<'_>, sandbox: &Sandbox) -> u128
+    ensures { result ≡ length (spec.new_text action (arguments_value given.now)
         (state_of sandbox.now.now)) }
 {
     let text = given.text.unwrap_or("");
-    match given.action {
+    match action {
         Action::AppendFile => joined_len(sandbox.file(given.name).unwrap_or(""), text),
         Action::WriteFiles => joined_len("", refused_file(given.block).text),
         _ => joined_len("", text),
@@ -322,10 +245,11 @@ fn push_text_length(out: &mut String, count: u128) -> Result<(), AllocError>
     Ok(())
 }
 
-// An action that failed: its arguments, the reason, and the sandbox that it left.
+// An action that failed, its arguments, the reason, and the sandbox that it left.
 #[derive(Clone, Copy)]
 struct Failure<'a> {
-    given: Given<'a>,
+    action: Action,
+    given: Arguments<'a>,
     reason: Reason,
     sandbox: &'a Sandbox,
 }
@@ -338,23 +262,24 @@ fn push_details(
     failure: &Failure<'_>,
 ) -> Result<(), AllocError>
     ensures pushed { let given = failure.now.given in Pushes out.old
-        (spec.details nearest.old given.action (given_value given) failure.now.reason
+        (spec.details nearest.old failure.now.action (arguments_value given) failure.now.reason
         (state_of failure.now.sandbox.now.now)) result out.new }
     ensures kept { nearest.new ≡ nearest.old }
 {
+    let action = failure.action;
     let given = &failure.given;
     let sandbox = failure.sandbox;
-    let found = found_text(given, sandbox);
+    let found = found_text(action, given, sandbox);
     match failure.reason {
-        Reason::Differs => push_difference(alloc, out, given, found),
-        Reason::Absent => push_absent(out, kind_of(given.action), given.name),
-        Reason::Present => push_text(alloc, out, "found   ", present_text(given, sandbox)),
+        Reason::Differs => push_difference(alloc, out, action, given, found),
+        Reason::Absent => push_absent(out, action.row().acts_on, given.name),
+        Reason::Present => push_text(alloc, out, "found   ", present_text(action, given, sandbox)),
         Reason::NotNumber => push_text(alloc, out, "found   ", found),
         Reason::OutOfRange => push_sum(alloc, out, found, given.number),
         Reason::OtherLayer => push_in_outer_layer(alloc, out, found),
         Reason::BadTable => push_table(out, given.block),
-        Reason::BadName => push_name_length(out, given_name(given).len()),
-        Reason::TextTooLong => push_text_length(out, new_text_len(given, sandbox)),
+        Reason::BadName => push_name_length(out, given_name(action, given).len()),
+        Reason::TextTooLong => push_text_length(out, new_text_len(action, given, sandbox)),
         Reason::NoStep => nearest.push(alloc, out, given.step),
         _ => Ok(()),
     }
@@ -379,7 +304,8 @@ fn push_reason(
     match library.find(alloc, step.step_type, step.text.as_str())? {
         Some(found) => {
             let failure = Failure {
-                given: given_to(library, &found, &step.block),
+                action: library.action(&found),
+                given: arguments_of(library, &found, &step.block),
                 reason,
                 sandbox: event.sandbox,
             };
@@ -402,8 +328,10 @@ fn push_cleanup_reason(
         (state_of event.now.sandbox.now.now)) result out.new }
     ensures kept { nearest.new ≡ nearest.old }
 {
+    let library = nearest.library();
     let failure = Failure {
-        given: given_to(nearest.library(), event.found, event.block),
+        action: library.action(event.found),
+        given: arguments_of(library, event.found, event.block),
         reason,
         sandbox: event.sandbox,
     };

@@ -1,4 +1,4 @@
-//! A cache of the lines that name nearest entries.
+//! A cache of the lines that name the entries that may be meant.
 ghost use Rattle.std.specs.Prelude.{◌≡◌, IfSome, string_bytes};
 ghost use Rattle.gk_steps.specs.Finding.{library_value};
 ghost use Rattle.gk_report.specs.ReportTexts.{Pushes};
@@ -10,7 +10,7 @@ use std::alloc::{AllocError, Global};
 use std::collections::HashMap;
 use std::marker::Model;
 
-/// A library and, for each text that was asked for, the line, if any, that names the entry nearest to it. So a
+/// A library and, for each text that was asked for, the line, if any, that names the entry that may be meant. So a
 /// text that occurs again, such as a step of a Background in each scenario, isn't compared with all entries again.
 #[derive(Debug, Drop)]
 pub struct NearestLines<'a> {
@@ -67,7 +67,7 @@ impl<'a> NearestLines<'a> {
         Ok(())
     }
 
-    /// Appends the line that names the entry nearest to a text, as `push_nearest` does. An error comes only if
+    /// Appends the line that names the entry that a text may mean, as `push_nearest` does. An error comes only if
     /// a growth was refused; a part of the line may have been appended then.
     pub fn push(&mut self, alloc: Global, out: &mut String, text: &str) -> Result<(), AllocError>
         ensures pushed { Pushes out.old (nearest_told self.old text.now) result out.new }

@@ -7,7 +7,7 @@ ghost use Rattle.gk_explain.specs.Registrations as spec;
 
 use crate::event::{Event, StepEvent};
 use gk_run::{Mark, Outcome, Part};
-use gk_steps::{Action, Found, Library};
+use gk_steps::{Does, Found, Library};
 use std::alloc::{AllocError, Global};
 
 /// The place where a cleanup was registered: the part of its section that contains the step, and the step's
@@ -24,7 +24,7 @@ fn found_registers(library: &Library, found: Option<Found>) -> bool
         (option_map found_value found) }
 {
     match found {
-        Some(found) => matches!(library.action(&found), Action::AtCleanup),
+        Some(found) => matches!(library.action(&found).row().does, Does::Registers),
         None => false,
     }
 }

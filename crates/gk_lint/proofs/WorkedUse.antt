@@ -8,6 +8,7 @@ use Rattle.gk_gherkin.specs.Lines.{Lines, line_at}
 use Rattle.gk_select.specs.TagGrammar.{one_term, or_terms, one_factor, and_factors, tagged, negated}
 use Rattle.gk_select.specs.Filling.{filled, filled_from, cell_under}
 use Rattle.gk_steps.specs.declared.action.Action.TheVariants.{FileIs, WriteFiles, FileExists, SetValue, AtCleanup, SkipScenario}
+use Rattle.gk_steps.specs.Action.{row_of}
 use Rattle.gk_lint.specs.declared.findings.FindingKind.TheVariants.{NameTwice, OfStep, UnusedEntry, HookOfNoTag}
 use Rattle.gk_lint.specs.declared.step_faults.StepFault.TheVariants.{NotAllowed, NoText, NoTable, BadTable, IgnoredText, IgnoredTable}
 use Rattle.gk_lint.specs.Findings.{at_line, named_once}
@@ -28,19 +29,19 @@ once : named_once step_faults 3 (NoText ∷ NotAllowed ∷ NoText ∷ []) ≡ at
 once = refl
 
 -- A check of a file with no text, with a doc string, with both, and with a table; and a check that works with no text.
-no_text : block_faults FileIs false Empty ≡ NoText ∷ []
+no_text : block_faults (row_of FileIs).takes false Empty ≡ NoText ∷ []
 no_text = refl
 
-doc_string : block_faults FileIs false (Text (codes "red")) ≡ []
+doc_string : block_faults (row_of FileIs).takes false (Text (codes "red")) ≡ []
 doc_string = refl
 
-field_and_doc_string : block_faults FileIs true (Text (codes "red")) ≡ IgnoredText ∷ []
+field_and_doc_string : block_faults (row_of FileIs).takes true (Text (codes "red")) ≡ IgnoredText ∷ []
 field_and_doc_string = refl
 
-table_for_text : block_faults SetValue false (Table ((codes "red" ∷ []) ∷ [])) ≡ NoText ∷ IgnoredTable ∷ []
+table_for_text : block_faults (row_of SetValue).takes false (Table ((codes "red" ∷ []) ∷ [])) ≡ NoText ∷ IgnoredTable ∷ []
 table_for_text = refl
 
-text_for_none : block_faults FileExists false (Text (codes "red")) ≡ IgnoredText ∷ []
+text_for_none : block_faults (row_of FileExists).takes false (Text (codes "red")) ≡ IgnoredText ∷ []
 text_for_none = refl
 
 -- A scenario is skipped in a hook before a tag, and neither in one after it nor in a cleanup, which registers nothing.
@@ -57,13 +58,13 @@ register_in_cleanup : site_faults AtCleanup Cleanup ≡ NotAllowed ∷ []
 register_in_cleanup = refl
 
 -- A table of files, another one, and none.
-files : block_faults WriteFiles false (Table ((codes "name" ∷ codes "text" ∷ []) ∷ (codes "a" ∷ codes "1" ∷ []) ∷ [])) ≡ []
+files : block_faults (row_of WriteFiles).takes false (Table ((codes "name" ∷ codes "text" ∷ []) ∷ (codes "a" ∷ codes "1" ∷ []) ∷ [])) ≡ []
 files = refl
 
-other_columns : block_faults WriteFiles false (Table ((codes "text" ∷ codes "name" ∷ []) ∷ [])) ≡ BadTable ∷ []
+other_columns : block_faults (row_of WriteFiles).takes false (Table ((codes "text" ∷ codes "name" ∷ []) ∷ [])) ≡ BadTable ∷ []
 other_columns = refl
 
-no_table : block_faults WriteFiles false (Text (codes "red")) ≡ NoTable ∷ IgnoredText ∷ []
+no_table : block_faults (row_of WriteFiles).takes false (Text (codes "red")) ≡ NoTable ∷ IgnoredText ∷ []
 no_table = refl
 
 -- An outline's step is run once for each row, and a scenario's as it is.

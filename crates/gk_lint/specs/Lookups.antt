@@ -3,6 +3,7 @@ use Rattle.std.specs.Prelude.{codes, not, ℕ, Bool, List, [], ◌∷◌, ◌++�
 use Rattle.gk_gherkin.specs.Feature.{BlockValue, StepValue}
 use Rattle.gk_steps.specs.declared.action.Action.{Action}
 use Rattle.gk_steps.specs.declared.action.Action.TheVariants as actions
+use Rattle.gk_steps.specs.Action.{row_of}
 use Rattle.gk_steps.specs.Finding.{LibraryValue, FoundValue, found, found_any, action_of, text_field}
 use Rattle.gk_lint.specs.Blocks.{block_faults, fault_if}
 use Rattle.gk_lint.specs.declared.step_faults.StepFault.{StepFault}
@@ -21,17 +22,17 @@ has_text library f = is_some (text_field library f (codes "text"))
 
 -- The fault of an action at a site: that it always fails there.
 abbrev pub site_faults : Action → StepSite → List StepFault
-site_faults action site = fault_if (not (may_stand action site)) NotAllowed
+site_faults action site = fault_if (not (may_stand (row_of action).does site)) NotAllowed
 
 -- The faults of a cleanup, by what its text finds among the entries of type `step`. It is carried out with the block of the step that registered it. (behave's documentation: cleanups)
 abbrev pub cleanup_faults : LibraryValue → Option FoundValue → BlockValue → List StepFault
 cleanup_faults library None block = []
-cleanup_faults library (Some f) block = site_faults (action_of library f) Cleanup ++ block_faults (action_of library f) (has_text library f) block
+cleanup_faults library (Some f) block = site_faults (action_of library f) Cleanup ++ block_faults (row_of (action_of library f)).takes (has_text library f) block
 
 -- The faults of a step whose entry has this action. `at_cleanup` passes the block to the cleanup.
 abbrev pub action_faults : Action → LibraryValue → FoundValue → BlockValue → List StepFault
 action_faults actions.AtCleanup library f block = cleanup_faults library (found_any library (cleanup_text library f)) block
-action_faults action library f block = block_faults action (has_text library f) block
+action_faults action library f block = block_faults (row_of action).takes (has_text library f) block
 
 -- The faults of a step that is carried out at a site, by what its text finds.
 abbrev pub found_faults : LibraryValue → StepSite → Option FoundValue → BlockValue → List StepFault

@@ -2,8 +2,8 @@
 use Rattle.std.specs.Prelude.{Bool, true, false}
 use Rattle.gk_gherkin.specs.declared.hooks.HookKind.{HookKind}
 use Rattle.gk_gherkin.specs.declared.hooks.HookKind.TheVariants as kinds
-use Rattle.gk_steps.specs.declared.action.Action.{Action}
-use Rattle.gk_steps.specs.declared.action.Action.TheVariants as actions
+use Rattle.gk_steps.specs.declared.action.Does.{Does}
+use Rattle.gk_steps.specs.declared.action.Does.TheVariants.{Registers, Skips}
 use Rattle.gk_lint.specs.declared.step_sites.StepSite.{StepSite}
 use Rattle.gk_lint.specs.declared.step_sites.StepSite.TheVariants.{Scenario, Hook, Cleanup}
 
@@ -25,8 +25,8 @@ may_register Scenario = true
 may_register Hook = true
 may_register Cleanup = false
 
--- Whether an action is allowed at a site. An action that isn't allowed always fails there.
-abbrev pub may_stand : Action → StepSite → Bool
-may_stand actions.AtCleanup site = may_register site
-may_stand actions.SkipScenario site = may_skip site
-may_stand action site = true
+-- Whether an action that does this is allowed at a site. An action that isn't allowed always fails there.
+abbrev pub may_stand : Does → StepSite → Bool
+may_stand Registers site = may_register site
+may_stand Skips site = may_skip site
+may_stand _ site = true

@@ -50,7 +50,7 @@ fn add_site_faults(
 ) -> Result<(), AllocError>
     ensures { OnOk result (faults.new.items ≡ faults.old.items ++ spec.site_faults action site) }
 {
-    let fails = !may_stand(action, site);
+    let fails = !may_stand(action.row().does, site);
     add_if(faults, fails, StepFault::NotAllowed)
 }
 
@@ -111,7 +111,7 @@ impl Lookups {
                 let action = library.action(&found);
                 add_site_faults(&mut self.faults, action, StepSite::Cleanup)?;
                 let has_text = has_text(library, &found);
-                add_block_faults(&mut self.faults, action, has_text, block)
+                add_block_faults(&mut self.faults, action.row().takes, has_text, block)
             }
             None => set_hint(&mut self.cleanup, alloc, library, text),
         }
@@ -144,7 +144,7 @@ impl Lookups {
             }
             _ => {
                 let has_text = has_text(library, found);
-                add_block_faults(&mut self.faults, action, has_text, block)
+                add_block_faults(&mut self.faults, action.row().takes, has_text, block)
             }
         }
     }

@@ -3,7 +3,7 @@ ghost use Rattle.std.specs.Prelude.{◌≡◌};
 ghost use Rattle.gk_lint.specs.StepSites as spec;
 
 use gk_gherkin::HookKind;
-use gk_steps::Action;
+use gk_steps::Does;
 
 /// The site at which a step is carried out. It decides which actions are allowed there.
 #[derive(Clone, Copy, Debug, PartialEq, Eq)]
@@ -44,13 +44,13 @@ fn may_register(site: StepSite) -> bool
     }
 }
 
-/// Returns whether an action is allowed at a site. An action that isn't allowed always fails there.
-pub fn may_stand(action: Action, site: StepSite) -> bool
-    ensures { result ≡ spec.may_stand action site }
+/// Returns whether an action that does this is allowed at a site. An action that isn't allowed always fails there.
+pub fn may_stand(does: Does, site: StepSite) -> bool
+    ensures { result ≡ spec.may_stand does site }
 {
-    match action {
-        Action::AtCleanup => may_register(site),
-        Action::SkipScenario => may_skip(site),
-        _ => true,
+    match does {
+        Does::Registers => may_register(site),
+        Does::Skips => may_skip(site),
+        Does::Changes | Does::Checks => true,
     }
 }

@@ -4,6 +4,7 @@ pub mod PrintedLemmas
 pub mod RuleLemmas
 pub mod RuleGroupLemmas
 pub mod JsonReportLemmas
+pub mod FormatLemmas
 pub mod ReportLemmas
 pub mod PartPiecesLemmas
 pub mod WorkedReports

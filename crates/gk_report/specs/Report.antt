@@ -1,5 +1,6 @@
 -- The report as bytes: its head, the parts of the features in order, and its tail.
-use Rattle.std.specs.Prelude.{◌≡◌, ℕ, Bool, true, false, ◌&&◌, List, [], ◌∷◌, ◌++◌}
+use Rattle.std.specs.Prelude.{◌≡◌, codes, ℕ, Bool, true, false, ◌&&◌, List, [], ◌∷◌, ◌++◌, find, Option}
+use Rattle.std.specs.Str.{bytes_eq}
 use Rattle.serde_json.specs.Written.{compact_text}
 use Rattle.gk_run.specs.declared.results.Status.{Status}
 use Rattle.gk_run.specs.Results.{FeatureRow, Results}
@@ -12,6 +13,24 @@ use Rattle.gk_report.specs.Summary.{summary_of, status_of, status, status_by}
 use Rattle.gk_report.specs.PlainReport.{plain_part, closing_lines}
 use Rattle.gk_report.specs.ProgressReport.{progress_part}
 use Rattle.gk_report.specs.JsonReport.{json_head, json_part, json_tail, document}
+
+-- The name of a format. (behave's documentation: formatters)
+abbrev pub format_name : Format → List ℕ
+format_name formats.Plain = codes "plain"
+format_name formats.Progress = codes "progress"
+format_name formats.Json = codes "json"
+
+-- All formats.
+abbrev pub all_formats : List Format
+all_formats = formats.Plain ∷ formats.Progress ∷ formats.Json ∷ []
+
+-- The first of some formats that has this name; none if no format has it.
+abbrev pub format_among : List Format → List ℕ → Option Format
+format_among some name = find (λ (format : Format). bytes_eq (format_name format) name) some
+
+-- The format of this name; none if no format has it.
+abbrev pub format_named : List ℕ → Option Format
+format_named name = format_among all_formats name
 
 -- The head in a format.
 abbrev pub head_in : Format → List ℕ

@@ -13,7 +13,10 @@ mod summary;
 
 pub use part_pieces::{PartPieces, part, pieces};
 pub use plain_report::push_ending;
-pub use report::{Format, Style, head, json_reports_are_documents, reports_grow_by_parts, tail};
+pub use report::{
+    FORMATS, Format, Style, format_named, head, json_reports_are_documents, reports_grow_by_parts,
+    tail,
+};
 pub use report_texts::push_one_line;
 pub use rule_groups::rules_follow_their_scenarios;
 pub use summary::{Counts, Summary};

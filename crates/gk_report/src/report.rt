@@ -1,5 +1,6 @@
 //! The report of a run in a style: its head, the part of each feature, and its tail.
-ghost use Rattle.std.specs.Prelude.{IfOk, string_bytes};
+ghost use Rattle.std.specs.Prelude.{◌≡◌, bytes_eq, find, IfOk, option_copied, string_bytes};
+ghost use Rattle.std.specs.Option.{IfSome};
 ghost use Rattle.gk_report.specs.Report as spec;
 ghost use Rattle.gk_report.specs.ReportTexts.{AnswersText};
 ghost use Rattle.gk_report.specs.Report.{IsTailOf, IsOneDocument, ReportsGrowByParts};
@@ -21,6 +22,44 @@ pub enum Format {
     Progress,
     /// One JSON document on one line.
     Json,
+}
+
+/// All formats, in the order in which messages list them. The first is that of a report for which none is asked.
+pub static FORMATS: [Format; 3] = [Format::Plain, Format::Progress, Format::Json];
+
+impl Format {
+    /// Returns the name of the format. (behave's documentation: formatters)
+    pub fn name(self) -> &'static str
+        ensures { result.now ≡ spec.format_name self }
+    {
+        match self {
+            Format::Plain => "plain",
+            Format::Progress => "progress",
+            Format::Json => "json",
+        }
+    }
+}
+
+fn has_name(format: Format, name: &str) -> bool
+    ensures { result ≡ bytes_eq (spec.format_name format) name.now }
+{
+    format.name() == name
+}
+
+// Returns the first of some formats that has this name.
+fn first_named<'a>(formats: &'a [Format], name: &str) -> Option<&'a Format>
+    ensures { option_copied result ≡ spec.format_among formats.now name.now }
+{
+    formats.iter().find(|format| has_name(**format, name))
+}
+
+/// Returns the format of this name, or `None` if no format has it. Doesn't allocate.
+#[tactic(auto, using(crate::proofs::FormatLemmas::among_named))]
+pub fn format_named(name: &str) -> Option<Format>
+    ensures found { result ≡ spec.format_named name.now }
+    ensures named { IfSome result (λ format. spec.format_name format ≡ name.now) }
+{
+    first_named(&FORMATS, name).copied()
 }
 
 /// How a report is written.

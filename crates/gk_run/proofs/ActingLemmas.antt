@@ -1,12 +1,12 @@
 -- What the world's changes and answers are to the table of actions.
-use Rattle.std.specs.Prelude.{⊤, ℤ, pos, negsuc, ◌+ℤ◌, if◌then◌else◌, not, ◌==◌, String, string_bytes, FitsSigned, cond, option_map, ◌&&◌, Option, Some, None, Result, Ok, Err, OnOk, OnErr, map, unwrap_or, is_none}
+use Rattle.std.specs.Prelude.{⊤, ℤ, pos, negsuc, ◌+ℤ◌, if◌then◌else◌, not, String, FitsSigned, cond, option_map, ◌&&◌, Option, Some, None, Result, Ok, Err, OnOk, OnErr, map, unwrap_or, is_none}
 use Rattle.std.specs.FinMap as finite
 use Rattle.std.specs.FinMap.{get-insert, get-remove}
 use Rattle.std.specs.Str.Parse.{signed_digits_value, without_leading_sign}
 use Rattle.std.specs.Fmt.{signed_decimal}
-use Rattle.std.proofs.Common.{inl, inr, ◌≢◌, ◌≤◌, Vec, Global, vec_len, get_or, drop-cons, add-one, w64, ◌≡◌, ℕ, suc, ◌+◌, ◌<◌, Bool, true, false, List, [], ◌∷◌, length, drop, refl, sym, ap, subst, ◌∙◌, arith, eqb-true, leb-true, le-leb, true≢false}
+use Rattle.std.proofs.Common.{inl, inr, ◌≤◌, Vec, Global, get_or, drop-cons, add-one, w64, ◌≡◌, ℕ, suc, ◌+◌, ◌<◌, Bool, true, false, List, [], ◌∷◌, length, drop, refl, sym, ap, subst, ◌∙◌, arith, leb-true, le-leb, true≢false}
 use Rattle.std.proofs.lemmas.Bool.Decides.{Decides-ltb}
-use Rattle.std.proofs.lemmas.List.{append-nil, length-map, drop_all}
+use Rattle.std.proofs.lemmas.List.{append-nil, drop_all}
 use Rattle.std.proofs.lemmas.Fmt.{length_signed_le}
 use Rattle.std.proofs.lemmas.Cmp.{nat_list_cmp_total}
 use Rattle.std.proofs.lemmas.Map.Text.{is_eq-slice_cmp}
@@ -24,14 +24,15 @@ use Rattle.gk_run.specs.declared.results.Reason.{Reason}
 use Rattle.gk_run.specs.declared.results.Reason.TheVariants as reasons
 use Rattle.gk_steps.specs.Decimal.{is_number, is_numeral, number_of, is_i64}
 use Rattle.gk_steps.specs.declared.action.Action.{Action}
-use Rattle.gk_steps.specs.declared.action.Action.TheVariants as actions
+use Rattle.gk_steps.specs.declared.action.Does.{Does}
+use Rattle.gk_steps.specs.declared.action.Does.TheVariants.{Changes, Checks, Registers, Skips}
 use Rattle.std.specs.Option.{option_or}
 use Rattle.std.specs.Ordering.{int_eq}
 use Rattle.gk_steps.specs.declared.used_fields.UsedFields.{UsedFields}
 use Rattle.gk_steps.specs.Finding.{found_any, HasUsedFields, LibraryValue, FoundValue, action_of}
 use Rattle.gk_gherkin.specs.Feature.{BlockValue, texts}
 use Rattle.gk_run.specs.declared.acting.Arguments.{Arguments}
-use Rattle.gk_run.specs.Acting.{WritesFirst, WritesFile, row_file, ArgumentsValue, arguments_of, arguments_by_uses, arguments_value, doc_string, table, act, at_site, without_cleanups, registers, registers_at, may_register, CleanupValue, HasRegistered, write_row, write_rows, have_two_cells, Done, add_number, is_pass, and_then, put, passes, fails, stays, unless, unless_for, outcome_of, IsDone, IsActed, Performs, exists, is_absent, agreement, agrees, equals, is_number as number_check, skip_outcome, with_file, without_file, with_env, without_env, with_own, without_own}
+use Rattle.gk_run.specs.Acting.{WritesFirst, WritesFile, row_file, ArgumentsValue, arguments_of, arguments_by_uses, arguments_value, doc_string, table, act, at_site, does_at_site, without_cleanups, registers, registers_at, may_register, CleanupValue, HasRegistered, write_row, write_rows, Done, add_number, is_pass, and_then, put, passes, fails, stays, unless, unless_for, outcome_of, IsDone, IsActed, Performs, exists, is_absent, agreement, agrees, equals, is_number as number_check, skip_outcome, with_file, without_file, with_env, without_env, with_own, without_own}
 
 not_so : (b : Bool) (P : Type 0) → (b ≡ true → P) → (P → ⊥) → b ≡ false
 not_so true P so never = absurd (never (so refl))
@@ -343,28 +344,6 @@ pub rows_end : (rows : List RowInMemory) (i : ℕ) (s : SandboxValue) → length
 rows_end rows i s none =
     subst (λ (rs : List RowInMemory). RowsActed rs s outcomes.Passed s) (sym (drop_all i rows none)) (record { carried_out = (refl, refl); layers = record { layers = refl; marks = refl }; kept = λ m. refl })
 
--- a row of two cells, before the others
-pub two_more : (rows : List RowInMemory) (i : ℕ) (row : RowInMemory) → i < length rows → row ≡ get_or rows i row → vec_len row ≡ 2
-    → have_two_cells (map (λ row. texts row.items) (drop i rows)) ≡ have_two_cells (map (λ row. texts row.items) (drop (i + 1) rows))
-two_more rows i row some is two =
-    let a = ap (λ (rs : List RowInMemory). have_two_cells (map (λ row. texts row.items) rs)) (rows_left rows i row some is) in
-    let b = length-map row.items string_bytes ∙ sym row.ok.0 ∙ two in
-    let c = ap (λ n. (n == 2) && have_two_cells (map (λ row. texts row.items) (drop (i + 1) rows))) b in
-    a ∙ c
-
--- a row of another number of cells
-pub two_less : (rows : List RowInMemory) (i : ℕ) (row : RowInMemory) → i < length rows → row ≡ get_or rows i row → vec_len row ≢ 2
-    → have_two_cells (map (λ row. texts row.items) (drop i rows)) ≡ false
-two_less rows i row some is other =
-    let a = ap (λ (rs : List RowInMemory). have_two_cells (map (λ row. texts row.items) rs)) (rows_left rows i row some is) in
-    let e = length-map row.items string_bytes in
-    let far = not_so (length (cells row) == 2) (length (cells row) ≡ 2) (eqb-true (length (cells row)) 2) (λ same. other (row.ok.0 ∙ sym e ∙ same)) in
-    let c = ap (λ b. b && have_two_cells (map (λ row. texts row.items) (drop (i + 1) rows))) far in
-    a ∙ c
-
-pub two_end : (rows : List RowInMemory) (i : ℕ) → length rows ≤ i → have_two_cells (map (λ row. texts row.items) (drop i rows)) ≡ true
-two_end rows i none = ap (λ (rs : List RowInMemory). have_two_cells (map (λ row. texts row.items) rs)) (drop_all i rows none)
-
 -- a sum that no `i64` has
 pub not_in_range : (z : ℤ) → (FitsSigned w64 z → ⊥) → is_i64 z ≡ false
 not_in_range z never = not_so (is_i64 z) (FitsSigned w64 z) (fits_so z) never
@@ -425,32 +404,12 @@ number_fits text m e =
 
 -- ---- where an action is carried out
 
--- an action other than at_cleanup and skip_scenario does what its row says
-pub row_at : (action : Action) (site : Site) (library : LibraryValue) (g : ArgumentsValue) (s : State) → (action ≡ actions.AtCleanup → ⊥) → (action ≡ actions.SkipScenario → ⊥) → at_site action site library g s ≡ without_cleanups (table action g s)
-row_at actions.WriteFile site library g s n m = refl
-row_at actions.AppendFile site library g s n m = refl
-row_at actions.RemoveFile site library g s n m = refl
-row_at actions.RenameFile site library g s n m = refl
-row_at actions.WriteFiles site library g s n m = refl
-row_at actions.FileExists site library g s n m = refl
-row_at actions.FileAbsent site library g s n m = refl
-row_at actions.FileIs site library g s n m = refl
-row_at actions.FileContains site library g s n m = refl
-row_at actions.SetEnv site library g s n m = refl
-row_at actions.RemoveEnv site library g s n m = refl
-row_at actions.EnvIs site library g s n m = refl
-row_at actions.EnvAbsent site library g s n m = refl
-row_at actions.SetValue site library g s n m = refl
-row_at actions.DeleteValue site library g s n m = refl
-row_at actions.ValueIs site library g s n m = refl
-row_at actions.ValueAbsent site library g s n m = refl
-row_at actions.SetNumber site library g s n m = refl
-row_at actions.AddNumber site library g s n m = refl
-row_at actions.NumberIs site library g s n m = refl
-row_at actions.AtCleanup site library g s n m = absurd (n refl)
-row_at actions.SkipScenario site library g s n m = absurd (m refl)
-row_at actions.Pass site library g s n m = refl
-row_at actions.Fail site library g s n m = refl
+-- an action that neither registers nor skips does what its row says
+pub row_at : (does : Does) (action : Action) (site : Site) (library : LibraryValue) (g : ArgumentsValue) (s : State) → (does ≡ Registers → ⊥) → (does ≡ Skips → ⊥) → does_at_site does action site library g s ≡ without_cleanups (table action g s)
+row_at Changes action site library g s n m = refl
+row_at Checks action site library g s n m = refl
+row_at Registers action site library g s n m = absurd (n refl)
+row_at Skips action site library g s n m = absurd (m refl)
 
 -- a cleanup that is registered where that is allowed
 pub registered_at : (site : Site) (library : LibraryValue) (g h : ArgumentsValue) (s : State) → may_register site ≡ true → g ≡ h → registers s g.block (found_any library g.step) ≡ registers_at site s library h

@@ -8,7 +8,6 @@ use Rattle.gk_gherkin.specs.declared.hooks.HookKind.{HookKind}
 use Rattle.gk_gherkin.specs.Hooks.{HookValue, is_for}
 use Rattle.gk_steps.specs.declared.used_fields.FoundUse.{FoundUse}
 use Rattle.gk_steps.specs.Finding.{FoundValue, HasCandidateFor, IsUseOf, LibraryValue, found}
-use Rattle.gk_steps.specs.declared.action.Action.{Action}
 use Rattle.gk_world.specs.Sandbox.{SandboxValue}
 use Rattle.gk_world.specs.State.{State, state_of}
 use Rattle.gk_run.specs.declared.acting.Site.{Site}

@@ -1,14 +1,17 @@
 -- What an action does to the plain state, what it registers, and its outcome.
-use Rattle.std.specs.Prelude.{◌≡◌, ◌⊎◌, Result, Ok, Err, option_copied, ℕ, ℤ, pos, ◌+ℤ◌, Bool, true, false, cond, not, ◌&&◌, ◌||◌, ◌==◌, List, [], ◌∷◌, ◌++◌, length, Option, Some, None, codes, bytes_eq, is_some, is_none, unwrap_or, drop}
+use Rattle.std.specs.Prelude.{◌≡◌, ◌⊎◌, Result, Ok, Err, option_copied, ℕ, ℤ, pos, ◌+ℤ◌, Bool, true, false, cond, not, ◌||◌, List, [], ◌∷◌, ◌++◌, Option, Some, None, codes, bytes_eq, is_none, unwrap_or}
 use Rattle.std.specs.Ordering.{int_eq}
 use Rattle.std.specs.Fmt.{signed_decimal}
-use Rattle.std.specs.List.{list_all}
 use Rattle.std.specs.Option.{option_or}
 use Rattle.gk_gherkin.specs.Feature.{BlockValue, Empty, Text, Table, block_value}
 use Rattle.gk_gherkin.specs.Text.{stands_in}
 use Rattle.gk_steps.specs.Decimal.{number_of, is_i64}
 use Rattle.gk_steps.specs.declared.action.Action.{Action}
 use Rattle.gk_steps.specs.declared.action.Action.TheVariants as actions
+use Rattle.gk_steps.specs.declared.action.Does.{Does}
+use Rattle.gk_steps.specs.declared.action.Does.TheVariants.{Registers, Skips}
+use Rattle.gk_steps.specs.Action.{row_of}
+use Rattle.gk_steps.specs.FilesTable.{files_below}
 use Rattle.gk_gherkin.specs.declared.feature.Block.{Block}
 use Rattle.gk_steps.specs.declared.finding.Found.{Found}
 use Rattle.gk_steps.specs.declared.library.Library.{Library}
@@ -60,6 +63,10 @@ arguments_with name to step number text block = record {
   text = option_or text (doc_string block);
   block = block;
 }
+
+-- The value of an `Arguments`.
+abbrev pub arguments_value : Arguments → ArgumentsValue
+arguments_value a = record { name = a.name.now; to = a.to.now; step = a.step.now; number = a.number; text = option_copied a.text; block = block_value a.block.now }
 
 -- The arguments of a step.
 abbrev pub arguments_of : LibraryValue → FoundValue → BlockValue → ArgumentsValue
@@ -187,20 +194,6 @@ renamed_files s name to = cond (bytes_eq name to) [] ((to, unwrap_or (s.files na
 abbrev pub rename_file : State → List ℕ → List ℕ → Done
 rename_file s name to = let done = unless s ((is_bad_name name || is_none (s.files name), reasons.Absent) ∷ bad_name to ∷ []) (moved s name to) in record done { files = cond (is_pass done.outcome) (renamed_files s name to) [] }
 
--- The first row of a table of files: its cells are `name` and `text`.
-abbrev pub is_head : List (List ℕ) → Bool
-is_head (name ∷ text ∷ []) = bytes_eq name (codes "name") && bytes_eq text (codes "text")
-is_head _ = false
-
--- Rows with two cells each: a name and a text.
-abbrev pub have_two_cells : List (List (List ℕ)) → Bool
-have_two_cells rows = list_all (λ row. length row == 2) rows
-
--- A table of files.
-abbrev pub is_files_table : List (List (List ℕ)) → Bool
-is_files_table [] = false
-is_files_table (head ∷ rows) = is_head head && have_two_cells rows
-
 -- A row of a table of files, written as a file. A row of such a table has two cells.
 abbrev pub write_row : State → List (List ℕ) → Done
 write_row s (name ∷ text ∷ []) = put s name text (with_file s name text)
@@ -216,11 +209,16 @@ abbrev pub write_rows : State → List (List (List ℕ)) → Done
 write_rows s [] = passes s
 write_rows s (row ∷ rows) = let written = write_row s row in and_then (row_file row) written (write_rows written.state rows)
 
--- A table of files that is written, from its second row on. If the block isn't such a table, nothing is written.
+-- The rows below the header of a table of files, written. Of any other table nothing is written.
+abbrev pub write_below : State → Option (List (List (List ℕ))) → Done
+write_below s None = fails s reasons.BadTable
+write_below s (Some rows) = write_rows s rows
+
+-- A block that is written as a table of files. If it isn't such a table, nothing is written.
 abbrev pub write_table : State → BlockValue → Done
 write_table s Empty = fails s reasons.NoTable
 write_table s (Text text) = fails s reasons.NoTable
-write_table s (Table rows) = cond (is_files_table rows) (write_rows s (drop 1 rows)) (fails s reasons.BadTable)
+write_table s (Table rows) = write_below s (files_below rows)
 
 -- The innermost layer's value becomes the number that is held plus another, in decimal.
 abbrev pub add_number : State → List ℕ → Option (List ℕ) → ℤ → Done
@@ -298,11 +296,15 @@ registers s block (Some f) = record { done = passes s; registered = record { fou
 abbrev pub registers_at : Site → State → LibraryValue → ArgumentsValue → Acted
 registers_at site s library g = cond (may_register site) (registers s g.block (found_any library g.step)) (without_cleanups (fails s reasons.NotHere))
 
--- What an action does at a site. at_cleanup looks up the field `step` among the entries of type `step`, and skip_scenario skips the scenario. At a site that doesn't allow them, these two fail, as their rows of the table say. Every other action does what its row says.
+-- What becomes of an action at a site, by what it does. An action that registers looks up the field `step` among the entries of type `step`, and one that skips ends the scenario. At a site that doesn't allow them, they fail, as their rows of the table say. Every other action does what its row says.
+abbrev pub does_at_site : Does → Action → Site → LibraryValue → ArgumentsValue → State → Acted
+does_at_site Registers action site library g s = registers_at site s library g
+does_at_site Skips action site library g s = without_cleanups (stays s (skip_outcome site))
+does_at_site _ action site library g s = without_cleanups (table action g s)
+
+-- What an action does at a site.
 abbrev pub at_site : Action → Site → LibraryValue → ArgumentsValue → State → Acted
-at_site actions.AtCleanup site library g s = registers_at site s library g
-at_site actions.SkipScenario site library g s = without_cleanups (stays s (skip_outcome site))
-at_site action site library g s = without_cleanups (table action g s)
+at_site action = does_at_site (row_of action).does action
 
 -- What the action of a found step leaves and registers.
 unfoldable pub act : LibraryValue → Site → FoundValue → BlockValue → State → Acted
@@ -345,10 +347,6 @@ pub record IsActed (done : Done) (old : SandboxValue) (outcome : Outcome) (new :
   pub kept : outcome ≡ outcomes.Memory → WritesFirst done.files old new
 
 -- Proof machinery, from here on: what the code's calls do.
-
--- The value of an `Arguments`.
-abbrev pub arguments_value : Arguments → ArgumentsValue
-arguments_value a = record { name = a.name.now; to = a.to.now; step = a.step.now; number = a.number; text = option_copied a.text; block = block_value a.block.now }
 
 -- The outcome for what a change of the world returned.
 abbrev pub outcome_of : {A : Type 0} → Result A WorldFault → Outcome

@@ -3,7 +3,7 @@ ghost use Rattle.std.specs.Prelude.{◌≡◌, ◌<◌, option_copied, bytes_eq}
 ghost use Rattle.gk_gherkin.specs.Feature.{block_value};
 ghost use Rattle.gk_gherkin.specs.Text.{stands_in};
 ghost use Rattle.gk_steps.specs.declared.action.Action.TheVariants as actions;
-ghost use Rattle.gk_steps.specs.Finding.{library_value};
+ghost use Rattle.gk_steps.specs.Finding.{library_value, found_value};
 ghost use Rattle.gk_world.specs.State.{State, state_of};
 ghost use Rattle.gk_world.specs.Sandbox.{depth};
 ghost use Rattle.gk_run.specs.Acting as words;
@@ -17,7 +17,7 @@ use crate::results::{Outcome, Reason};
 use file_actions::{append_file, remove_file, rename_file, write_file, write_files};
 use gk_gherkin::Block;
 use gk_gherkin::text::stands_in;
-use gk_steps::{Action, Found, Library, UsedFields, number_of};
+use gk_steps::{Action, Does, Found, Library, UsedFields, number_of};
 use gk_world::{Sandbox, WorldFault};
 use std::alloc::{AllocError, Global};
 use value_actions::{add_number, delete_value, remove_env, set_env, set_number, set_value};
@@ -35,7 +35,8 @@ pub enum Site {
     Cleanup,
 }
 
-/// The arguments of an action.
+/// The arguments of a step's action: the fields of the step, its text and its block. A field that the pattern doesn't
+/// have is empty, or 0.
 #[derive(Clone, Copy)]
 pub struct Arguments<'a> {
     /// The field `name`.
@@ -156,6 +157,15 @@ pub(crate) fn arguments_by<'a>(used: UsedFields<'a>, block: &'a Block) -> Argume
     }
 }
 
+/// Returns the arguments of the action of a step that was found in a library, with the step's block. Doesn't allocate.
+#[inline(always)]
+pub fn arguments_of<'a>(library: &Library, found: &'a Found, block: &'a Block) -> Arguments<'a>
+    ensures { arguments_value result ≡ words.arguments_of
+        (library_value library.now) (found_value found.now) (block_value block.now) }
+{
+    arguments_by(library.used_fields(found), block)
+}
+
 #[inline(always)]
 fn perform(
     alloc: Global,
@@ -259,10 +269,10 @@ pub(crate) fn act_by(
     ensures memory { action ≡ actions.AtCleanup →
         NeedsCandidate (library_value library.now) arguments.now.step.now result }
 {
-    match action {
-        Action::AtCleanup => at_cleanup(alloc, cleanups, library, site, arguments),
-        Action::SkipScenario => skip(site),
-        _ => perform(alloc, sandbox, action, arguments),
+    match action.row().does {
+        Does::Registers => at_cleanup(alloc, cleanups, library, site, arguments),
+        Does::Skips => skip(site),
+        Does::Changes | Does::Checks => perform(alloc, sandbox, action, arguments),
     }
 }
 
@@ -295,7 +305,7 @@ pub fn act(
         cleanups.old result cleanups.new }
     ensures memory { CleanupNeedsCandidate library.now found.now block.now result }
 {
-    let arguments = arguments_by(library.used_fields(found), block);
+    let arguments = arguments_of(library, found, block);
     let action = library.action(found);
     act_by(alloc, sandbox, cleanups, library, site, action, &arguments)
 }

@@ -40,7 +40,7 @@ mod dry_run;
 mod laws;
 mod open_run;
 
-pub use acting::{Site, act};
+pub use acting::{Arguments, Site, act, arguments_of};
 pub use cases::is_bad;
 pub use chosen::{Chosen, RuleHead};
 pub use cleanups::Cleanups;

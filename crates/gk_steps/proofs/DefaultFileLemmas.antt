@@ -1,13 +1,13 @@
 -- The default library is what its text says.
-use Rattle.std.proofs.Common.{◌≡◌, ℕ, ◌<◌, ◌≤◌, Bool, true, false, not, nat_lt, ◌&&◌, List, [], ◌∷◌, ◌++◌, length, codes, map, option_map, flat_map, IsTrue, Option, Some, None, refl, ap, sym, subst, ◌∙◌, arith, lit≤}
-use Rattle.std.specs.Prelude.{is_some, filter}
+use Rattle.std.proofs.Common.{◌≡◌, ℕ, ◌<◌, ◌≤◌, Bool, true, false, not, nat_lt, ◌&&◌, List, [], ◌∷◌, ◌++◌, length, map, option_map, flat_map, IsTrue, Option, Some, None, refl, ap, sym, ◌∙◌, arith, lit≤}
+use Rattle.std.specs.Prelude.{⊤, is_some, filter}
 use Rattle.std.specs.List.{AllByRecursion, list_all}
 use Rattle.std.specs.Str.{bytes_eq, chars, is_utf8}
 use lib.Utf8
 use Rattle.std.proofs.lemmas.Bool.Decides.{nat_tests}
 use Rattle.std.proofs.lemmas.Slice.Eq.{bytes_eq-Decides}
 use Rattle.gk_gherkin.specs.declared.feature.StepType.{StepType}
-use Rattle.gk_gherkin.specs.Lines.{LineValue, Lines, limit, line_at, lines_of}
+use Rattle.gk_gherkin.specs.Lines.{LineValue, Lines, limit, lines_of}
 use Rattle.gk_steps.specs.declared.action.Action.{Action}
 use Rattle.gk_steps.specs.Pattern.{PieceValue, Literal, FieldPiece, spelled_piece, is_field_name, field_names, field_kind, AreLongestRuns, SpellsPattern}
 use Rattle.gk_steps.specs.Matching.{MatchesNot, best_match}
@@ -32,7 +32,7 @@ names_so : (names : List (List ℕ)) → list_all is_field_name names ≡ true �
 names_so [] e = tt
 names_so (n ∷ ns) e = let parts = and_so (is_field_name n) (list_all is_field_name ns) e in (parts.0, names_so ns parts.1)
 
-runs_ok : List PieceValue → Bool
+unfoldable pub runs_ok : List PieceValue → Bool
 runs_ok [] = true
 runs_ok (Literal text ∷ Literal other ∷ ps) = false
 runs_ok (Literal text ∷ ps) = nat_lt 0 (length text) && runs_ok ps
@@ -49,7 +49,7 @@ runs_so (Literal text ∷ Literal other ∷ ps) e = let bad : ⊥ = cc in absurd
 runs_so (Literal text ∷ FieldPiece name kind ∷ ps) e = let parts = and_so (nat_lt 0 (length text)) (runs_ok (FieldPiece name kind ∷ ps)) e in (less_so 0 (length text) parts.0, runs_so (FieldPiece name kind ∷ ps) parts.1)
 runs_so (FieldPiece name kind ∷ ps) e = runs_so ps e
 
-spells_ok : List ℕ → List PieceValue → Bool
+unfoldable pub spells_ok : List ℕ → List PieceValue → Bool
 spells_ok text ps = bytes_eq text (flat_map spelled_piece ps) && (list_all is_field_name (field_names ps) && (runs_ok ps && is_pattern ps))
 
 spells_so : (text : List ℕ) (ps : List PieceValue) → spells_ok text ps ≡ true → SpellsPattern text ps
@@ -61,7 +61,7 @@ spells_so text ps e =
     let s : IsSpelled text ps = record { spelled = (bytes_eq-Decides text (flat_map spelled_piece ps)).0 a.0; names = names_so (field_names ps) b.0; runs = runs_so ps c.0 } in
     spells text ps s c.1
 
-passes : Option StepType → List ℕ → EntryValue → Bool
+unfoldable pub passes : Option StepType → List ℕ → EntryValue → Bool
 passes step_type text e = not (is_of_type e.step_type step_type && is_some (best_match e.pattern text))
 
 no_match : (ps : List PieceValue) (text : List ℕ) (o : Option (List (List ℕ))) → not (is_some o) ≡ true → IsBestResult ps text o → MatchesNot ps text
@@ -96,22 +96,22 @@ good earlier line e sides row is_type is_cut is_action action spelled needs kind
 }
 
 -- lines that are good, each after the entries of those before
-option_action : Option Sides → Option Action
+unfoldable pub option_action : Option Sides → Option Action
 option_action None = None
 option_action (Some sides) = option_map (λ (row : ActionRowValue). row.action) (action_row sides.action)
 
-row_ok : LibraryValue → EntryValue → Sides → Option ActionRowValue → Bool
+unfoldable pub row_ok : LibraryValue → EntryValue → Sides → Option ActionRowValue → Bool
 row_ok earlier e sides None = false
 row_ok earlier e sides (Some row) =
     spells_ok sides.pattern e.pattern
     && (list_all (λ name. is_some (field_kind e.pattern name)) row.needs
     && (list_all (λ name. is_none_or_kind (field_kind e.pattern name) (kind_of_field name)) row.uses && list_all (passes e.step_type sides.pattern) earlier))
 
-sides_ok : LibraryValue → EntryValue → Option Sides → Bool
+unfoldable pub sides_ok : LibraryValue → EntryValue → Option Sides → Bool
 sides_ok earlier e None = false
 sides_ok earlier e (Some sides) = row_ok earlier e sides (action_row sides.action)
 
-all_ok : LibraryValue → Lines → LibraryValue → Bool
+unfoldable pub all_ok : LibraryValue → Lines → LibraryValue → Bool
 all_ok earlier [] [] = true
 all_ok earlier (line ∷ ls) (e ∷ es) = sides_ok earlier e (sides_of line) && all_ok (earlier ++ e ∷ []) ls es
 all_ok earlier _ _ = false
@@ -149,57 +149,24 @@ all_so earlier (line ∷ ls) (e ∷ es) types actions ok =
       all_so (earlier ++ e ∷ []) ls es (same_rest _ _ _ _ types) (same_rest _ _ _ _ actions) parts.1,
     )
 
--- the lines of the text
-abbrev default_lines : Lines
-default_lines =
-    line_at 1 (codes "step a file named \"{name}\" with: => write_file")
-    ∷ line_at 2 (codes "step a file named \"{name}\" containing \"{text}\" => write_file")
-    ∷ line_at 3 (codes "step the file \"{name}\" is extended with: => append_file")
-    ∷ line_at 4 (codes "step the file \"{name}\" is extended with \"{text}\" => append_file")
-    ∷ line_at 5 (codes "step the file \"{name}\" is removed => remove_file")
-    ∷ line_at 6 (codes "step the file \"{name}\" is renamed to \"{to}\" => rename_file")
-    ∷ line_at 7 (codes "step these files: => write_files")
-    ∷ line_at 8 (codes "step the file \"{name}\" should exist => file_exists")
-    ∷ line_at 9 (codes "step the file \"{name}\" should not exist => file_absent")
-    ∷ line_at 10 (codes "step the file \"{name}\" should be: => file_is")
-    ∷ line_at 11 (codes "step the file \"{name}\" should be \"{text}\" => file_is")
-    ∷ line_at 12 (codes "step the file \"{name}\" should contain: => file_contains")
-    ∷ line_at 13 (codes "step the file \"{name}\" should contain \"{text}\" => file_contains")
-    ∷ line_at 14 (codes "step the variable \"{name}\" is set to \"{text}\" => set_env")
-    ∷ line_at 15 (codes "step the variable \"{name}\" is unset => remove_env")
-    ∷ line_at 16 (codes "step the variable \"{name}\" should be \"{text}\" => env_is")
-    ∷ line_at 17 (codes "step the variable \"{name}\" should be unset => env_absent")
-    ∷ line_at 18 (codes "step the value \"{name}\" is set to \"{text}\" => set_value")
-    ∷ line_at 19 (codes "step the value \"{name}\" is deleted => delete_value")
-    ∷ line_at 20 (codes "step the value \"{name}\" should be \"{text}\" => value_is")
-    ∷ line_at 21 (codes "step the value \"{name}\" should be absent => value_absent")
-    ∷ line_at 22 (codes "step the number \"{name}\" is set to {n:d} => set_number")
-    ∷ line_at 23 (codes "step the number \"{name}\" grows by {n:d} => add_number")
-    ∷ line_at 24 (codes "step the number \"{name}\" should be {n:d} => number_is")
-    ∷ line_at 25 (codes "step at cleanup {step} => at_cleanup")
-    ∷ line_at 26 (codes "step the scenario is skipped => skip_scenario")
-    ∷ line_at 27 (codes "step it passes => pass")
-    ∷ line_at 28 (codes "step it fails => fail")
-    ∷ []
+-- the lines of a text that are not ignored
+unfoldable pub lines_left : List ℕ → Lines
+lines_left text = filter (λ line. not (is_ignored line)) (lines_of text)
 
-all_lines : filter (λ line. not (is_ignored line)) (lines_of default_text) ≡ default_lines
-unfolding default_text
-all_lines = refl
+-- a text whose lines spell entries, by computation: their types, their actions, and what else makes them good
+pub reads_so : (text : List ℕ) (es : LibraryValue) → map type_of (lines_left text) ≡ map (λ (e : EntryValue). Some e.step_type) es
+    → map (λ line. option_action (sides_of line)) (lines_left text) ≡ map (λ (e : EntryValue). Some e.action) es → all_ok [] (lines_left text) es ≡ true → ReadsLibrary (lines_of text) es
+unfolding lines_left
+reads_so text es types actions ok = all_so [] (lines_left text) es types actions ok
 
-types_same : map type_of default_lines ≡ map (λ (e : EntryValue). Some e.step_type) default_entries
-unfolding type_of
-types_same = refl
-
-actions_same : map (λ line. option_action (sides_of line)) default_lines ≡ map (λ (e : EntryValue). Some e.action) default_entries
-unfolding option_action sides_of last_arrow action_row
-actions_same = refl
-
-lines_ok : all_ok [] default_lines default_entries ≡ true
-unfolding all_ok sides_ok row_ok sides_of last_arrow action_row spells_ok runs_ok passes is_utf8 chars lib.Utf8.encode
-lines_ok = refl
+-- what a proof unfolds to compute that a text reads so
+unfoldable pub library_on_literals : ⊤
+unfolding lines_left type_of option_action sides_of last_arrow action_row all_ok sides_ok row_ok spells_ok runs_ok passes is_utf8 chars lib.Utf8.encode
+library_on_literals = tt
 
 pub default_reads : ReadsLibrary (lines_of default_text) default_entries
-default_reads = subst (λ (q : Lines). SpellEntries [] q default_entries) (sym all_lines) (all_so [] default_lines default_entries types_same actions_same lines_ok)
+unfolding library_on_literals default_text
+default_reads = reads_so default_text default_entries refl refl refl
 
 pub default_short : length default_text ≤ limit
 unfolding default_text

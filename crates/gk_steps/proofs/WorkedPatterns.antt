@@ -1,19 +1,19 @@
 -- Worked examples of the definitions.
-use Rattle.std.specs.Prelude.{codes, ◌≡◌, ℕ, pos, neg_ℤ, true, false, List, [], ◌∷◌, length, map, flat_map, Some, None, refl}
+use Rattle.std.specs.Prelude.{codes, ◌≡◌, ℕ, pos, neg_ℤ, true, false, List, [], ◌∷◌, map, flat_map, Some, None, refl}
 use Rattle.std.specs.Str.{chars, is_utf8}
 use lib.Utf8
 use Rattle.std.proofs.Common.{arith, inl}
-use Rattle.gk_gherkin.specs.Lines.{LineValue, lines_of, line_at}
+use Rattle.gk_gherkin.specs.Lines.{LineValue, line_at}
 use Rattle.gk_gherkin.specs.declared.feature.StepType.TheVariants.{Given, Then}
 use Rattle.gk_steps.specs.declared.action.Action.TheVariants as actions
 use Rattle.gk_steps.specs.declared.pattern.FieldKind.{FieldKind}
 use Rattle.gk_steps.specs.declared.pattern.FieldKind.TheVariants.{Plain, Decimal}
 use Rattle.gk_steps.specs.Pattern.{PieceValue, Literal, FieldPiece, spelled_piece, is_field_name, SpellsPattern}
 use Rattle.gk_steps.specs.Matching.{IsPreferred, TextField, NumberField, match_of}
-use Rattle.gk_steps.specs.Action.{ActionRowValue, action_row, plain_row, step_word}
+use Rattle.gk_steps.specs.Action.{ActionRowValue, action_row, row_of}
 use Rattle.gk_steps.specs.Finding.{LibraryValue, found, found_at, action_of, text_field, number_field}
 use Rattle.gk_steps.specs.LibraryFile.{type_of, sides_of, last_arrow, HasNeededFields, HasRightKinds}
-use Rattle.gk_steps.specs.DefaultFile.{any_entry, default_text}
+use Rattle.gk_steps.specs.DefaultFile.{any_entry}
 
 abbrev line : List ℕ → LineValue
 line text = line_at 1 text
@@ -124,13 +124,13 @@ unknown = (refl, refl)
 
 -- Rows of the table of actions.
 abbrev cleanup_row : ActionRowValue
-cleanup_row = plain_row (codes "at_cleanup") actions.AtCleanup (step_word ∷ [])
+cleanup_row = row_of actions.AtCleanup
 
 cleanup_named : action_row (codes "at_cleanup") ≡ Some cleanup_row
 unfolding action_row
 cleanup_named = refl
 
-skip_named : action_row (codes "skip_scenario") ≡ Some (plain_row (codes "skip_scenario") actions.SkipScenario [])
+skip_named : action_row (codes "skip_scenario") ≡ Some (row_of actions.SkipScenario)
 unfolding action_row
 skip_named = refl
 
@@ -139,7 +139,3 @@ without_step needs = let missing : false ≡ true = needs.0 in let bad : ⊥ = c
 
 step_as_number : HasRightKinds cleanup_row (Literal (codes "later ") ∷ FieldPiece (codes "step") Decimal ∷ []) → ⊥
 step_as_number kinds = let same : ◌≡◌ {A = FieldKind} Decimal Plain = kinds.0 Decimal refl in let bad : ⊥ = cc in bad
-
-default_lines : length (lines_of default_text) ≡ 28
-unfolding default_text
-default_lines = refl

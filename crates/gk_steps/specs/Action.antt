@@ -1,27 +1,44 @@
--- The built-in actions by name, and the fields that each needs and uses.
+-- The table of the built-in actions: one row each.
 use Rattle.std.specs.Prelude.{codes, ℕ, List, [], ◌∷◌, map, Option, find, if◌then◌else◌}
 use Rattle.std.proofs.Common.{Bor}
 use Rattle.std.specs.Str.{bytes_eq}
 use Rattle.gk_steps.specs.declared.pattern.FieldKind.{FieldKind}
 use Rattle.gk_steps.specs.declared.pattern.FieldKind.TheVariants.{Plain, Decimal}
 use Rattle.gk_steps.specs.declared.action.Action.{Action}
-use Rattle.gk_steps.specs.declared.action.ActionRow.{ActionRow}
 use Rattle.gk_steps.specs.declared.action.Action.TheVariants as actions
+use Rattle.gk_steps.specs.declared.action.Does.{Does}
+use Rattle.gk_steps.specs.declared.action.Does.TheVariants.{Changes, Checks, Registers, Skips}
+use Rattle.gk_steps.specs.declared.action.ActsOn.{ActsOn}
+use Rattle.gk_steps.specs.declared.action.ActsOn.TheVariants.{File, Variable, Value}
+use Rattle.gk_steps.specs.declared.action.Takes.{Takes}
+use Rattle.gk_steps.specs.declared.action.Takes.TheVariants.{Nothing, Text, Table}
+use Rattle.gk_steps.specs.declared.action.ActionRow.{ActionRow}
 
 -- The contents of borrowed words.
 abbrev pub words_said : List (Bor (List ℕ)) → List (List ℕ)
 words_said words = map (λ word. word.now) words
 
--- A row of the table of actions: a name, its action, the fields that it needs, and all fields that it uses.
+-- A row of the table of actions: a name, its action, what the action does, what it acts on, what it takes besides its other fields, the fields that it needs, and all fields that it uses.
 pub record ActionRowValue : Type 0 where
   pub name : List ℕ
   pub action : Action
+  pub does : Does
+  pub acts_on : ActsOn
+  pub takes : Takes
   pub needs : List (List ℕ)
   pub uses : List (List ℕ)
 
 -- The value of an `ActionRow`.
 abbrev pub action_row_value : ActionRow → ActionRowValue
-action_row_value row = record { name = row.name.now; action = row.action; needs = words_said row.needs.now; uses = words_said row.uses.now }
+action_row_value row = record {
+  name = row.name.now;
+  action = row.action;
+  does = row.does;
+  acts_on = row.acts_on;
+  takes = row.takes;
+  needs = words_said row.needs.now;
+  uses = words_said row.uses.now;
+}
 
 -- The field for a name.
 abbrev pub name_word : List ℕ
@@ -47,42 +64,57 @@ step_word = codes "step"
 abbrev pub kind_of_field : List ℕ → FieldKind
 kind_of_field name = if bytes_eq name number_word then Decimal else Plain
 
--- The row of an action that uses only the fields that it needs.
-abbrev pub plain_row : List ℕ → Action → List (List ℕ) → ActionRowValue
-plain_row name action needs = record { name = name; action = action; needs = needs; uses = needs }
+-- The row of an action that takes neither a text nor a table, and uses only the fields that it needs.
+abbrev pub plain_row : List ℕ → Action → Does → ActsOn → List (List ℕ) → ActionRowValue
+plain_row name action does acts_on needs = record { name = name; action = action; does = does; acts_on = acts_on; takes = Nothing; needs = needs; uses = needs }
 
--- The row of an action that needs `name`, and uses `text` if the pattern has it.
-abbrev pub text_row : List ℕ → Action → ActionRowValue
-text_row name action = record { name = name; action = action; needs = name_word ∷ []; uses = name_word ∷ text_word ∷ [] }
+-- The row of an action that needs `name` and takes a text: that of the field `text` if the pattern has one, and otherwise the doc string.
+abbrev pub text_row : List ℕ → Action → Does → ActsOn → ActionRowValue
+text_row name action does acts_on = record { name = name; action = action; does = does; acts_on = acts_on; takes = Text; needs = name_word ∷ []; uses = name_word ∷ text_word ∷ [] }
 
--- The table of actions: a name, its action, the fields that it needs, and those that it uses.
-abbrev pub action_table : List ActionRowValue
-action_table =
-    text_row (codes "write_file") actions.WriteFile
-    ∷ text_row (codes "append_file") actions.AppendFile
-    ∷ plain_row (codes "remove_file") actions.RemoveFile (name_word ∷ [])
-    ∷ plain_row (codes "rename_file") actions.RenameFile (name_word ∷ to_word ∷ [])
-    ∷ plain_row (codes "write_files") actions.WriteFiles []
-    ∷ plain_row (codes "file_exists") actions.FileExists (name_word ∷ [])
-    ∷ plain_row (codes "file_absent") actions.FileAbsent (name_word ∷ [])
-    ∷ text_row (codes "file_is") actions.FileIs
-    ∷ text_row (codes "file_contains") actions.FileContains
-    ∷ text_row (codes "set_env") actions.SetEnv
-    ∷ plain_row (codes "remove_env") actions.RemoveEnv (name_word ∷ [])
-    ∷ text_row (codes "env_is") actions.EnvIs
-    ∷ plain_row (codes "env_absent") actions.EnvAbsent (name_word ∷ [])
-    ∷ text_row (codes "set_value") actions.SetValue
-    ∷ plain_row (codes "delete_value") actions.DeleteValue (name_word ∷ [])
-    ∷ text_row (codes "value_is") actions.ValueIs
-    ∷ plain_row (codes "value_absent") actions.ValueAbsent (name_word ∷ [])
-    ∷ plain_row (codes "set_number") actions.SetNumber (name_word ∷ number_word ∷ [])
-    ∷ plain_row (codes "add_number") actions.AddNumber (name_word ∷ number_word ∷ [])
-    ∷ plain_row (codes "number_is") actions.NumberIs (name_word ∷ number_word ∷ [])
-    ∷ plain_row (codes "at_cleanup") actions.AtCleanup (step_word ∷ [])
-    ∷ plain_row (codes "skip_scenario") actions.SkipScenario []
-    ∷ plain_row (codes "pass") actions.Pass []
-    ∷ plain_row (codes "fail") actions.Fail []
+-- The row of an action that takes a table, and uses no field.
+abbrev pub table_row : List ℕ → Action → Does → ActsOn → ActionRowValue
+table_row name action does acts_on = record { name = name; action = action; does = does; acts_on = acts_on; takes = Table; needs = []; uses = [] }
+
+-- The row of each action: its name, what it does, what it acts on, and the fields that it needs. An action that is given no name counts as one on values.
+abbrev pub row_of : Action → ActionRowValue
+row_of actions.WriteFile = text_row (codes "write_file") actions.WriteFile Changes File
+row_of actions.AppendFile = text_row (codes "append_file") actions.AppendFile Changes File
+row_of actions.RemoveFile = plain_row (codes "remove_file") actions.RemoveFile Changes File (name_word ∷ [])
+row_of actions.RenameFile = plain_row (codes "rename_file") actions.RenameFile Changes File (name_word ∷ to_word ∷ [])
+row_of actions.WriteFiles = table_row (codes "write_files") actions.WriteFiles Changes File
+row_of actions.FileExists = plain_row (codes "file_exists") actions.FileExists Checks File (name_word ∷ [])
+row_of actions.FileAbsent = plain_row (codes "file_absent") actions.FileAbsent Checks File (name_word ∷ [])
+row_of actions.FileIs = text_row (codes "file_is") actions.FileIs Checks File
+row_of actions.FileContains = text_row (codes "file_contains") actions.FileContains Checks File
+row_of actions.SetEnv = text_row (codes "set_env") actions.SetEnv Changes Variable
+row_of actions.RemoveEnv = plain_row (codes "remove_env") actions.RemoveEnv Changes Variable (name_word ∷ [])
+row_of actions.EnvIs = text_row (codes "env_is") actions.EnvIs Checks Variable
+row_of actions.EnvAbsent = plain_row (codes "env_absent") actions.EnvAbsent Checks Variable (name_word ∷ [])
+row_of actions.SetValue = text_row (codes "set_value") actions.SetValue Changes Value
+row_of actions.DeleteValue = plain_row (codes "delete_value") actions.DeleteValue Changes Value (name_word ∷ [])
+row_of actions.ValueIs = text_row (codes "value_is") actions.ValueIs Checks Value
+row_of actions.ValueAbsent = plain_row (codes "value_absent") actions.ValueAbsent Checks Value (name_word ∷ [])
+row_of actions.SetNumber = plain_row (codes "set_number") actions.SetNumber Changes Value (name_word ∷ number_word ∷ [])
+row_of actions.AddNumber = plain_row (codes "add_number") actions.AddNumber Changes Value (name_word ∷ number_word ∷ [])
+row_of actions.NumberIs = plain_row (codes "number_is") actions.NumberIs Checks Value (name_word ∷ number_word ∷ [])
+row_of actions.AtCleanup = plain_row (codes "at_cleanup") actions.AtCleanup Registers Value (step_word ∷ [])
+row_of actions.SkipScenario = plain_row (codes "skip_scenario") actions.SkipScenario Skips Value []
+row_of actions.Pass = plain_row (codes "pass") actions.Pass Checks Value []
+row_of actions.Fail = plain_row (codes "fail") actions.Fail Checks Value []
+
+-- All actions.
+abbrev pub all_actions : List Action
+all_actions =
+    actions.WriteFile ∷ actions.AppendFile ∷ actions.RemoveFile ∷ actions.RenameFile ∷ actions.WriteFiles ∷ actions.FileExists
+    ∷ actions.FileAbsent ∷ actions.FileIs ∷ actions.FileContains ∷ actions.SetEnv ∷ actions.RemoveEnv ∷ actions.EnvIs
+    ∷ actions.EnvAbsent ∷ actions.SetValue ∷ actions.DeleteValue ∷ actions.ValueIs ∷ actions.ValueAbsent ∷ actions.SetNumber
+    ∷ actions.AddNumber ∷ actions.NumberIs ∷ actions.AtCleanup ∷ actions.SkipScenario ∷ actions.Pass ∷ actions.Fail
     ∷ []
+
+-- The table of actions.
+abbrev pub action_table : List ActionRowValue
+action_table = map row_of all_actions
 
 -- The first of some rows with this name; none if no row has it.
 abbrev pub row_among : List ActionRowValue → List ℕ → Option ActionRowValue

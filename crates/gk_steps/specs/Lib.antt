@@ -4,6 +4,7 @@ pub mod Decimal
 pub mod Matching
 pub mod LiteralEnds
 pub mod Action
+pub mod FilesTable
 pub mod Finding
 pub mod FilledCells
 pub mod LibraryFile

@@ -1,7 +1,7 @@
 //! The built-in actions.
 ghost use Rattle.std.specs.Prelude.{◌≡◌, find, map, option_copied, option_map};
 ghost use Rattle.std.specs.Str.{bytes_eq};
-ghost use Rattle.gk_steps.specs.Action.{action_row, action_row_value, action_table, row_among};
+ghost use Rattle.gk_steps.specs.Action.{action_row, action_row_value, action_table, row_among, row_of};
 
 /// The action of a step that finds an entry. The guide describes what each action does to the sandbox.
 #[derive(Clone, Copy, Debug, PartialEq, Eq)]
@@ -32,59 +32,126 @@ pub enum Action {
     Fail,
 }
 
-/// A row of the table of actions: a name, its action, the fields of a pattern that it needs, and all fields that it
-/// uses.
+/// What an action does.
+#[derive(Clone, Copy, Debug, PartialEq, Eq)]
+pub enum Does {
+    /// It changes the sandbox.
+    Changes,
+    /// It passes or fails, and changes nothing.
+    Checks,
+    /// It registers a cleanup, where that is allowed. (behave's documentation: cleanups)
+    Registers,
+    /// It skips the scenario, where that is allowed. (behave's documentation: skipping scenarios)
+    Skips,
+}
+
+/// What an action acts on.
+#[derive(Clone, Copy, Debug, PartialEq, Eq)]
+pub enum ActsOn {
+    /// A file.
+    File,
+    /// A variable.
+    Variable,
+    /// A value: the one that is seen, or the one of the innermost layer. An action that is given no name counts as
+    /// one on values.
+    Value,
+}
+
+/// What an action takes besides its other fields.
+#[derive(Clone, Copy, Debug, PartialEq, Eq)]
+pub enum Takes {
+    /// Neither a text nor a table.
+    Nothing,
+    /// A text: that of the field `text` if the pattern has one, and otherwise the doc string.
+    Text,
+    /// A table.
+    Table,
+}
+
+/// A row of the table of actions.
 #[derive(Clone, Copy, Debug)]
 pub struct ActionRow {
     /// The name, as a library writes it.
     pub name: &'static str,
     /// The action.
     pub action: Action,
+    /// What it does.
+    pub does: Does,
+    /// What it acts on.
+    pub acts_on: ActsOn,
+    /// What it takes besides its other fields.
+    pub takes: Takes,
     /// The names of the fields that a pattern must have.
     pub needs: &'static [&'static str],
     /// The names of all fields that have an effect.
     pub uses: &'static [&'static str],
 }
 
-// A row of the table: the name, the action, the fields that it needs, and all fields that it uses.
+// A row of the table, by its columns in order.
 macro_rules! row {
-    ($name:literal, $action:ident, $needs:expr, $uses:expr) => {
+    ($name:literal, $action:ident, $does:ident, $acts_on:ident, $takes:ident, $needs:expr, $uses:expr) => {
         ActionRow {
             name: $name,
             action: Action::$action,
+            does: Does::$does,
+            acts_on: ActsOn::$acts_on,
+            takes: Takes::$takes,
             needs: &$needs,
             uses: &$uses,
         }
     };
 }
 
-// The table of actions.
+// The row of an action that takes neither a text nor a table, and uses only the fields that it needs.
+macro_rules! plain_row {
+    ($name:literal, $action:ident, $does:ident, $acts_on:ident, $needs:expr) => {
+        row!($name, $action, $does, $acts_on, Nothing, $needs, $needs)
+    };
+}
+
+// The row of an action that needs `name` and takes a text.
+macro_rules! text_row {
+    ($name:literal, $action:ident, $does:ident, $acts_on:ident) => {
+        row!($name, $action, $does, $acts_on, Text, ["name"], ["name", "text"])
+    };
+}
+
+// The table of actions, in the order of the variants.
 static ACTIONS: [ActionRow; 24] = [
-    row!("write_file", WriteFile, ["name"], ["name", "text"]),
-    row!("append_file", AppendFile, ["name"], ["name", "text"]),
-    row!("remove_file", RemoveFile, ["name"], ["name"]),
-    row!("rename_file", RenameFile, ["name", "to"], ["name", "to"]),
-    row!("write_files", WriteFiles, [], []),
-    row!("file_exists", FileExists, ["name"], ["name"]),
-    row!("file_absent", FileAbsent, ["name"], ["name"]),
-    row!("file_is", FileIs, ["name"], ["name", "text"]),
-    row!("file_contains", FileContains, ["name"], ["name", "text"]),
-    row!("set_env", SetEnv, ["name"], ["name", "text"]),
-    row!("remove_env", RemoveEnv, ["name"], ["name"]),
-    row!("env_is", EnvIs, ["name"], ["name", "text"]),
-    row!("env_absent", EnvAbsent, ["name"], ["name"]),
-    row!("set_value", SetValue, ["name"], ["name", "text"]),
-    row!("delete_value", DeleteValue, ["name"], ["name"]),
-    row!("value_is", ValueIs, ["name"], ["name", "text"]),
-    row!("value_absent", ValueAbsent, ["name"], ["name"]),
-    row!("set_number", SetNumber, ["name", "n"], ["name", "n"]),
-    row!("add_number", AddNumber, ["name", "n"], ["name", "n"]),
-    row!("number_is", NumberIs, ["name", "n"], ["name", "n"]),
-    row!("at_cleanup", AtCleanup, ["step"], ["step"]),
-    row!("skip_scenario", SkipScenario, [], []),
-    row!("pass", Pass, [], []),
-    row!("fail", Fail, [], []),
+    text_row!("write_file", WriteFile, Changes, File),
+    text_row!("append_file", AppendFile, Changes, File),
+    plain_row!("remove_file", RemoveFile, Changes, File, ["name"]),
+    plain_row!("rename_file", RenameFile, Changes, File, ["name", "to"]),
+    row!("write_files", WriteFiles, Changes, File, Table, [], []),
+    plain_row!("file_exists", FileExists, Checks, File, ["name"]),
+    plain_row!("file_absent", FileAbsent, Checks, File, ["name"]),
+    text_row!("file_is", FileIs, Checks, File),
+    text_row!("file_contains", FileContains, Checks, File),
+    text_row!("set_env", SetEnv, Changes, Variable),
+    plain_row!("remove_env", RemoveEnv, Changes, Variable, ["name"]),
+    text_row!("env_is", EnvIs, Checks, Variable),
+    plain_row!("env_absent", EnvAbsent, Checks, Variable, ["name"]),
+    text_row!("set_value", SetValue, Changes, Value),
+    plain_row!("delete_value", DeleteValue, Changes, Value, ["name"]),
+    text_row!("value_is", ValueIs, Checks, Value),
+    plain_row!("value_absent", ValueAbsent, Checks, Value, ["name"]),
+    plain_row!("set_number", SetNumber, Changes, Value, ["name", "n"]),
+    plain_row!("add_number", AddNumber, Changes, Value, ["name", "n"]),
+    plain_row!("number_is", NumberIs, Checks, Value, ["name", "n"]),
+    plain_row!("at_cleanup", AtCleanup, Registers, Value, ["step"]),
+    plain_row!("skip_scenario", SkipScenario, Skips, Value, []),
+    plain_row!("pass", Pass, Checks, Value, []),
+    plain_row!("fail", Fail, Checks, Value, []),
 ];
+
+impl Action {
+    /// Returns the action's row of the table.
+    pub fn row(self) -> &'static ActionRow
+        ensures { action_row_value result.now ≡ row_of self }
+    {
+        &ACTIONS[self as usize]
+    }
+}
 
 fn is_named(row: &ActionRow, name: &str) -> bool
     ensures { result ≡ bytes_eq row.now.name.now name.now }

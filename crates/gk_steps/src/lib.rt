@@ -10,6 +10,7 @@ mod decimal;
 mod default_file;
 mod digits;
 mod entry_index;
+mod files_table;
 mod filled_cells;
 mod finding;
 mod laws;
@@ -25,9 +26,10 @@ mod spelling;
 mod table_rows;
 mod used_fields;
 
-pub use action::{Action, ActionRow, action_rows, row_named};
+pub use action::{Action, ActionRow, ActsOn, Does, Takes, action_rows, row_named};
 pub use decimal::number_of;
 pub use default_file::{DEFAULT_TEXT, default_library};
+pub use files_table::files_below;
 pub use finding::Found;
 pub use laws::{
     default_text_reads_as_its_entries, finding_is_determined, library_fault_is_unique,

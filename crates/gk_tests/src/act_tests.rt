@@ -2,9 +2,9 @@ ghost use Rattle.std.specs.Prelude.{◌≡◌, ◌<◌};
 ghost use Rattle.gk_world.specs.Sandbox.{depth, KeepsLayers};
 
 use crate::run_tests::cases_of;
-use gk_gherkin::Step;
-use gk_run::{Cleanups, Outcome, Reason, Site, act};
-use gk_steps::{Library, default_library};
+use gk_gherkin::{Block, Step};
+use gk_run::{Cleanups, Outcome, Reason, Site, act, arguments_of};
+use gk_steps::{Library, default_library, files_below};
 use gk_world::Sandbox;
 use std::alloc::Global;
 use std::test::Fail;
@@ -412,5 +412,48 @@ fn texts_have_a_greatest_length(rt: HostRuntime) -> Result<(), Fail> {
     let steps = steps_of(rt.alloc(), lines.as_str())?;
     let outcome = in_layers(rt.alloc(), &library, Site::Step, steps)?;
     assert_eq!(rt; outcome, Outcome::Failed(Reason::TextTooLong));
+    Ok(())
+}
+
+#[test]
+fn arguments_are_those_of_a_step(rt: HostRuntime) -> Result<(), Fail> {
+    let library = default_library(rt.alloc())?;
+    let lines = "Given a file named \"a\" containing \"b\"\n\"\"\"\nc\n\"\"\"";
+    for step in steps_of(rt.alloc(), lines)? {
+        match library.find(rt.alloc(), step.step_type, step.text.as_str())? {
+            Some(found) => {
+                let given = arguments_of(&library, &found, &step.block);
+                assert_eq!(rt; given.name, "a");
+                assert_eq!(rt; given.text, Some("b"));
+                assert_eq!(rt; given.number, 0);
+            }
+            None => return Err("no such step".into()),
+        }
+    }
+    Ok(())
+}
+
+// Returns the number of rows below the header of the table of files under the step with these lines.
+fn files_under(alloc: Global, lines: &str) -> Result<Option<usize>, Fail> {
+    for step in steps_of(alloc, lines)? {
+        if let Block::Table(rows) = &step.block {
+            return Ok(files_below(rows).map(|files| files.len()));
+        }
+    }
+    Err("no table".into())
+}
+
+#[test]
+fn tables_of_files_have_a_header(rt: HostRuntime) -> Result<(), Fail> {
+    let files = files_under(rt.alloc(), "Given a\n| name | text |\n| a | 1 |\n| b | 2 |")?;
+    assert_eq!(rt; files, Some(2));
+    assert_eq!(rt;
+        files_under(rt.alloc(), "Given a\n| name | text |")?,
+        Some(0)
+    );
+    assert_eq!(rt;
+        files_under(rt.alloc(), "Given a\n| text | name |\n| a | 1 |")?,
+        None
+    );
     Ok(())
 }

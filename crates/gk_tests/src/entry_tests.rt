@@ -1,7 +1,8 @@
 use gk_gherkin::{StepType, borrowed_line};
 use gk_steps::{
-    Action, Entry, FieldKind, Library, LibraryFault, PatternFault, action_rows, entry_text,
-    field_kind, has_right_kind, is_ignored, number_of, read_pattern, row_named,
+    Action, ActsOn, Does, Entry, FieldKind, Library, LibraryFault, PatternFault, Takes,
+    action_rows, entry_text, field_kind, has_right_kind, is_ignored, number_of, read_pattern,
+    row_named,
 };
 use std::alloc::Global;
 use std::test::Fail;
@@ -33,6 +34,9 @@ fn actions_have_rows(rt: HostRuntime) {
         found = row.action == Action::SetNumber && row.needs.len() == 2 && row.uses.len() == 2;
     }
     assert!(rt; found);
+    let row = Action::AppendFile.row();
+    assert!(rt; row.action == Action::AppendFile && row.does == Does::Changes);
+    assert!(rt; row.acts_on == ActsOn::File && row.takes == Takes::Text);
 }
 
 #[test]

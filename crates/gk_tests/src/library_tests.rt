@@ -72,13 +72,10 @@ fn libraries_are_read_and_asked(rt: HostRuntime) -> Result<(), Fail> {
 #[test]
 fn the_built_in_library_has_its_entries(rt: HostRuntime) -> Result<(), Fail> {
     let library = default_library(rt.alloc())?;
-    assert_eq!(rt; library.entries.len(), 28);
+    let text = "a file named \"n\" with:";
+    let found = looked_up(rt.alloc(), &library, StepType::Given, text)?;
+    assert_eq!(rt; found.as_str(), "0 [Text(\"n\")] 0 [Text(\"n\")] true");
     let text = "the number \"n\" grows by 5";
-    let found = looked_up(rt.alloc(), &library, StepType::Then, text)?;
-    assert_eq!(rt;
-        found.as_str(),
-        "22 [Text(\"n\"), Number(5)] 22 [Text(\"n\"), Number(5)] true"
-    );
     let used = used(rt.alloc(), &library, StepType::Then, text)?;
     assert_eq!(rt; used.as_str(), "AddNumber Some(\"n\") Some(5)");
     Ok(())

@@ -2,7 +2,8 @@ use crate::run_tests::result_of;
 use crate::steps_tests::repeated;
 use crate::suite_tests::ran;
 use gk_report::{
-    Counts, Format, PartPieces, Style, Summary, head, pieces, push_ending, push_one_line, tail,
+    Counts, FORMATS, Format, PartPieces, Style, Summary, format_named, head, pieces, push_ending,
+    push_one_line, tail,
 };
 use gk_run::{FeatureResult, Reason, Status};
 use std::alloc::{AllocError, Global};
@@ -60,6 +61,14 @@ fn reports_begin(rt: HostRuntime) -> Result<(), AllocError> {
         assert_eq!(rt; head(rt.alloc(), style)?.as_str(), wanted);
     }
     Ok(())
+}
+
+#[test]
+fn formats_have_names(rt: HostRuntime) {
+    assert_eq!(rt; FORMATS.len(), 3);
+    assert_eq!(rt; Format::Progress.name(), "progress");
+    assert_eq!(rt; format_named("json"), Some(Format::Json));
+    assert_eq!(rt; format_named("JSON"), None);
 }
 
 // Returns the counts of the feature.

@@ -9,6 +9,7 @@ ghost use Rattle.gk_run.specs.Acting.{IsActed, WritesFile, Performs};
 use crate::acting::{Arguments, outcome_of};
 use crate::results::{Outcome, Reason};
 use gk_gherkin::Block;
+use gk_steps::files_below;
 use gk_world::{Sandbox, is_bad_name};
 use std::alloc::{AllocError, Global};
 
@@ -84,27 +85,6 @@ pub fn rename_file(alloc: Global, sandbox: &mut Sandbox, arguments: &Arguments<'
     }
 }
 
-// Reports whether a row is `name`, `text`.
-fn is_head(row: &[String]) -> bool
-    ensures { result ≡ words.is_head (texts row.now) }
-{
-    match row {
-        [name, text] => name.as_str() == "name" && text.as_str() == "text",
-        _ => false,
-    }
-}
-
-fn have_two_cells(rows: &[Vec<String>]) -> bool
-    ensures { result ≡ words.have_two_cells (map (λ row. texts row.items) rows.now) }
-{
-    'rows: for row in rows {
-        if row.len() != 2 {
-            return false;
-        }
-    }
-    true
-}
-
 // Writes a row as a file.
 fn write_row(sandbox: &mut Sandbox, row: &[String]) -> Outcome
     ensures acted { IsActed (words.write_row (state_of sandbox.old.now) (texts row.now))
@@ -139,12 +119,8 @@ pub fn write_files(sandbox: &mut Sandbox, arguments: &Arguments<'_>) -> Outcome
     let Block::Table(rows) = arguments.block else {
         return Outcome::Failed(Reason::NoTable);
     };
-    let Some((head, rows)) = rows.split_first() else {
-        return Outcome::Failed(Reason::BadTable);
-    };
-    if is_head(head) && have_two_cells(rows) {
-        write_rows(sandbox, rows)
-    } else {
-        Outcome::Failed(Reason::BadTable)
+    match files_below(rows) {
+        Some(files) => write_rows(sandbox, files),
+        None => Outcome::Failed(Reason::BadTable),
     }
 }

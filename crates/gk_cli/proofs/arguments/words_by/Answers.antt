@@ -1,4 +1,4 @@
-use Rattle.std.proofs.Common.{◌∙◌, rules, ap, map, refl, string_bytes, sym}
+use Rattle.std.proofs.Common.{◌∙◌, rules, ap, is_some, map, refl, string_bytes, sym}
 use Rattle.clap.specs.Words.{found_of}
 use Rattle.gk_cli.specs.Arguments.{is_format}
 use Rattle.gk_cli.proofs.ArgumentsLemmas.{format_read, found_lines, says_clash, says_fault, says_found, says_unknown}
@@ -22,18 +22,18 @@ words_of-requires-clause-lines c =
 
 pub words_of-requires-clause-format : goal.words_of-requires-clause-format
 words_of-requires-clause-format c =
-    c.in-Some-format_of.ensures ∙ format_read (found_of c.in_ok-matches.matches) c.get_str.result _ c.unwrap_or-name.result c.unwrap_or-name.ensures refl c.get_str.ensures
+    c.in-Some-format_named.ensures.named ∙ format_read (found_of c.in_ok-matches.matches) c.get_str.result _ c.unwrap_or-name.result c.unwrap_or-name.ensures refl c.get_str.ensures
 
-pub returns-in-Some-format_of : goal.returns-in-Some-format_of
-returns-in-Some-format_of c =
+pub returns-in-Some-format_named : goal.returns-in-Some-format_named
+returns-in-Some-format_named c =
     let ensures = c.in_ok-matches.ensures in
     let format = format_read (found_of c.in_ok-matches.matches) c.get_str.result _ c.unwrap_or-name.result c.unwrap_or-name.ensures refl c.get_str.ensures in
-    says_found (map string_bytes c.args.words.now) c.args.reader.now c.try_get_matches_from_mut.new.self c.in_ok-matches.matches c.in-Some-format_of.format c.words_of.result
-    c.requires ensures.fails ensures.after ensures.ok.0 ensures.ok.1 ensures.ok.2 ensures.kinds (sym c.in_default.ensures) (c.in-Some-format_of.ensures ∙ format) c.words_of.ensures
+    says_found (map string_bytes c.args.words.now) c.args.reader.now c.try_get_matches_from_mut.new.self c.in_ok-matches.matches c.in-Some-format_named.format c.words_of.result
+    c.requires ensures.fails ensures.after ensures.ok.0 ensures.ok.1 ensures.ok.2 ensures.kinds (sym c.in_default.ensures) (c.in-Some-format_named.ensures.named ∙ format) c.words_of.ensures
 
 pub returns : goal.returns
 returns c =
     let ensures = c.in_ok-matches.ensures in
     let format = format_read (found_of c.in_ok-matches.matches) c.get_str.result _ c.unwrap_or-name.result c.unwrap_or-name.ensures refl c.get_str.ensures in
     says_unknown (map string_bytes c.args.words.now) c.args.reader.now c.in_ok-matches.matches c.in_ok-unknown_format-in-None.field-0
-    c.requires ensures.ok.2 ensures.kinds (sym c.in_default.ensures) (ap is_format (sym format) ∙ c.in-None.ensures) c.in_ok-unknown_format-in-None.ensures
+    c.requires ensures.ok.2 ensures.kinds (sym c.in_default.ensures) (ap is_format (sym format) ∙ ap is_some (sym c.in-None.ensures.found)) c.in_ok-unknown_format-in-None.ensures

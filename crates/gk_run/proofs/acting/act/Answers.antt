@@ -3,7 +3,7 @@ use Rattle.gk_gherkin.specs.Feature.{block_value}
 use Rattle.gk_steps.specs.Finding.{library_value, found_value}
 use Rattle.gk_world.specs.State.{state_of}
 use Rattle.gk_run.specs.Acting.{Acted, ArgumentsValue, arguments_value, done_of, IsActed, HasRegistered, NeedsCandidate}
-use Rattle.gk_run.proofs.ActingLemmas.{called_is, used_given}
+use Rattle.gk_run.proofs.ActingLemmas.{called_is}
 use Rattle.gk_run.proofs.acting.act.Goals as goal
 
 pub returns : goal.returns
@@ -13,9 +13,8 @@ returns c =
     let block = block_value c.args.block.now in
     let o = c.act_by.result in
     let e = c.action-action.ensures in
-    let used = c.used_fields.ensures in
-    let h = c.arguments_by-arguments.ensures ∙ used_given library f c.used_fields.result block (record { name = used.name; to = used.to; step = used.step; number = used.number; text = used.text }) in
-    let is = called_is library c.args.site f block (state_of c.args.sandbox.now.now) c.action-action.result (arguments_value c.arguments_by-arguments.result) e h in
+    let h = c.arguments_of-arguments.ensures in
+    let is = called_is library c.args.site f block (state_of c.args.sandbox.now.now) c.action-action.result (arguments_value c.arguments_of-arguments.result) e h in
     record {
       acted = subst (λ (acted : Acted). IsActed (done_of acted) c.args.sandbox.now o c.act_by.new.sandbox) is c.act_by.ensures.acted;
       registered = subst (λ (acted : Acted). HasRegistered acted c.args.cleanups.now o c.act_by.new.cleanups) is c.act_by.ensures.registered;

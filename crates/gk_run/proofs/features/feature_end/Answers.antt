@@ -1,4 +1,4 @@
-use Rattle.std.proofs.Common.{◌∙◌, Bool, true, List, map, subst, sym}
+use Rattle.std.proofs.Common.{◌∙◌, Bool, map, subst, sym}
 use Rattle.gk_gherkin.specs.Feature.{texts}
 use Rattle.gk_world.specs.State.{State, state_of}
 use Rattle.gk_run.specs.declared.section.Level.TheVariants as levels
@@ -6,7 +6,7 @@ use Rattle.gk_run.specs.Chosen.{head_value, groups_from, members_of_rank}
 use Rattle.gk_run.specs.PrivateContracts.{inside_value, members_in}
 use Rattle.gk_run.specs.Features.{inside_by, Inside}
 use Rattle.gk_run.specs.Events.{stand_of, IsRan, Ran, tells}
-use Rattle.gk_run.specs.OpenSection.{IsBegun, SectionRow, section_of, section_state, run_value}
+use Rattle.gk_run.specs.OpenSection.{IsBegun, section_of, section_state, run_value}
 use Rattle.gk_run.proofs.FeaturesLemmas.{feature_unbegun}
 use Rattle.gk_run.proofs.SectionLemmas.{begun_still, passed_state, ready}
 use Rattle.gk_run.proofs.ToldLemmas.{section_ran}
