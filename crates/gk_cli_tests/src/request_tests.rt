@@ -158,7 +158,9 @@ fn first_bad_text_of_tags_is_found(rt: HostRuntime) -> Result<(), Fail> {
     let mut options = tagged(rt.alloc())?;
     let none = first_bad_tags(rt.alloc(), options.tags.as_slice())?;
     assert_eq!(rt; none, None);
-    options.tags.push(String::from_str(rt.alloc(), "@bell and")?)?;
+    options
+        .tags
+        .push(String::from_str(rt.alloc(), "@bell and")?)?;
     options.tags.push(String::from_str(rt.alloc(), "-")?)?;
     let found = first_bad_tags(rt.alloc(), options.tags.as_slice())?;
     assert_eq!(rt; found, Some("@bell and"));
@@ -174,7 +176,8 @@ fn bad_text_of_tags_has_notes(rt: HostRuntime) -> Result<(), Fail> {
     };
     let mut notes = String::new(rt.alloc());
     push_notes(&mut notes, rt.alloc(), Some("@bell and"), &files, fault)?;
-    let wanted = "    @bell and\n    it breaks at its end, where \"not\", \"(\" or a tag such as @a has to stand\n";
+    let wanted =
+        "    @bell and\n    it breaks at its end, where \"not\", \"(\" or a tag such as @a has to stand\n";
     assert_eq!(rt; notes.as_str(), wanted);
     Ok(())
 }
