@@ -17,6 +17,8 @@ pub mod CaseCounts
 pub mod CaseRules
 pub mod RisingLines
 pub mod CaseLines
+pub mod RowLines
+pub mod RowOrder
 pub mod ChosenLines
 pub mod WorkedOutlines
 pub mod WorkedChoices

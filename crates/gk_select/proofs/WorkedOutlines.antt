@@ -6,6 +6,7 @@ use Rattle.gk_gherkin.specs.Feature.{Empty, StepValue, ExamplesValue, ScenarioVa
 use Rattle.gk_select.specs.Filling.{filled, filled_from, cell_under}
 use Rattle.gk_select.specs.Expansion.{cases}
 use Rattle.gk_select.specs.Case.{CaseValue}
+use Rattle.gk_select.specs.ExampleRows.{outline_rows}
 use Rattle.gk_select.specs.Outline.{outline_name}
 
 -- Filling: replaced text isn't looked at again, a `<` that begins no placeholder stays, and of two equal headers the first counts.
@@ -72,6 +73,12 @@ outline_texts : map (λ (c : CaseValue). map (λ (s : StepValue). s.text) c.step
     ∷ (codes "the variable \"V\" is set to \"y\"" ∷ codes "the variable \"V\" should be \"y\"" ∷ []) ∷ []
 unfolding cases filled filled_from cell_under digits set_step check_step
 outline_texts = refl
+
+rows_of_outline : outline_rows outline
+    ≡ record { line = 7; number = 1; cells = (codes "a", codes "<b>") ∷ (codes "b", codes "x") ∷ [] }
+    ∷ record { line = 10; number = 1; cells = (codes "a", codes "y") ∷ (codes "b", codes "z") ∷ [] } ∷ []
+unfolding outline_rows
+rows_of_outline = refl
 
 -- A name has no blanks at its end, also where the Examples have no name; a blank at its beginning stays.
 name_without_blanks : outline_name (codes "s") 1 2 (codes "more \t") ≡ codes "s -- @1.2 more"

@@ -8,6 +8,7 @@ pub mod Outline
 pub mod Expansion
 pub mod RuleOrder
 pub mod FileOrder
+pub mod ExampleRows
 pub mod Counting
 pub mod TagWords
 pub mod TagGrammar

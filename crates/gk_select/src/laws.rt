@@ -2,12 +2,14 @@
 ghost use Rattle.std.specs.Prelude.{◌≡◌, ℕ, List, Some, length, map};
 ghost use Rattle.std.specs.List.{list_any};
 ghost use Rattle.gk_gherkin.specs.Lines.{lines_of, IsText};
-ghost use Rattle.gk_gherkin.specs.Feature.{FeatureValue};
+ghost use Rattle.gk_gherkin.specs.Feature.{FeatureValue, ScenarioValue};
 ghost use Rattle.gk_gherkin.specs.Grammar.{Reads};
 ghost use Rattle.gk_select.specs.Filling.{FillsByCut};
+ghost use Rattle.gk_select.specs.Inherited.{InheritedValue};
 ghost use Rattle.gk_select.specs.Expansion.{cases, IsExpandable, HasNoOutline, plain_cases, case_count};
 ghost use Rattle.gk_select.specs.RuleOrder.{FallIntoRules};
 ghost use Rattle.gk_select.specs.FileOrder.{CasesAreInFileOrder};
+ghost use Rattle.gk_select.specs.ExampleRows.{RowsAreAtCases, RowsAreInFileOrder};
 ghost use Rattle.gk_select.specs.TagGrammar.{Expression};
 ghost use Rattle.gk_select.specs.TagValues.{holds};
 ghost use Rattle.gk_select.specs.Alternatives.{AlternativeValue, ReadsAlternatives, alternative_holds};
@@ -41,6 +43,18 @@ pub fn plain_scenarios_are_cases()
 /// scenario. (Cucumber's Gherkin reference: scenario outline)
 pub fn rows_are_cases()
     ensures { (f : FeatureValue) → length (cases f) ≡ case_count f }
+{}
+
+/// The rows of an outline have the lines of its cases, in order. Any other scenario has no rows. (Cucumber's
+/// Gherkin reference: scenario outline)
+pub fn rows_are_at_cases()
+    ensures { (inherited : InheritedValue) (s : ScenarioValue) → RowsAreAtCases inherited s }
+{}
+
+/// In a feature that is read from a file, each row of an outline is on a later line than the row before it.
+/// (Cucumber's Gherkin reference: examples)
+pub fn rows_are_in_file_order()
+    ensures { RowsAreInFileOrder }
 {}
 
 /// The rules of the cases are indexes among the feature's rules and are non-decreasing from case to case. A

@@ -14,8 +14,9 @@ mod filling;
 mod inherited;
 mod outline;
 
-// The cases of a feature.
+// The cases of a feature, and the rows of its outlines.
 mod counting;
+mod example_rows;
 mod expansion;
 
 // The words of a text of tags.
@@ -41,11 +42,12 @@ pub use case::Case;
 pub use choice::Choice;
 pub use copies::{copied_texts, fill_step};
 pub use counting::{STEP_LIMIT, has_room};
+pub use example_rows::{ExampleCell, ExampleRow, outline_rows};
 pub use expansion::{expand, into_cases};
 pub use laws::{
     alternatives_are_rules, cases_are_in_file_order, cases_fall_into_rules,
-    plain_scenarios_are_cases, read_features_are_expandable, rows_are_cases, texts_have_one_cut,
-    texts_have_one_rule,
+    plain_scenarios_are_cases, read_features_are_expandable, rows_are_at_cases, rows_are_cases,
+    rows_are_in_file_order, texts_have_one_cut, texts_have_one_rule,
 };
 pub use outline::is_outline;
 pub use select_fault::SelectFault;

@@ -1,0 +1,9 @@
+use Rattle.std.proofs.Common.{◌≡◌, ◌++◌, ◌+◌, drop, map}
+use Rattle.std.specs.List.{enumerate_from}
+use Rattle.gk_gherkin.specs.Feature.{texts, row_value, examples_value}
+use Rattle.gk_select.specs.ExampleRows.{example_row_value, numbered_row, rows_of_examples}
+use Rattle.gk_select.proofs.example_rows.push_rows.Given as goal
+
+abbrev pub invariant-loop-i : goal.invariant-loop-i
+invariant-loop-i l = map example_row_value l.rows.items ++ map (numbered_row (texts l.examples.header.items)) (enumerate_from (l.i + 1) (map row_value (drop l.i l.examples.rows.items)))
+    ≡ map example_row_value l.fn.rows.items ++ rows_of_examples (examples_value l.examples)
