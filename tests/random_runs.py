@@ -24,6 +24,8 @@ from reports import AROUND, Report, Style, one_line, unreached
 from tables import FORMATS
 
 COUNT = 1215  # suites
+# The end of the name of a row's case: the cell of its column `row`, and its number.
+ROW = re.compile(r" (\d+) -- @1\.(\d+) e$")
 # The lines of an explanation that have a cleanup, and a step that registered one, each with its place.
 CLEANUP = re.compile(r"  (\S+:\d+): cleanup \.\.\. ")
 REGISTERED = re.compile(r"  (\S+:\d+): (?:before: |after: )?\S+ (?:at cleanup|later) .* \.\.\. passed$")
@@ -181,6 +183,9 @@ class Comparison:
         parts = text.removesuffix(ending).split("\n\n")[:-1]
         for part, (heading, steps) in zip(parts, wanted, strict=True):
             first, *events = part.split("\n")
+            row = ROW.search(heading)
+            if row and not re.fullmatch(rf"  row {row[2]}: name=.*, row={row[1]}", events.pop(0)):
+                yield f"--explain {options}: in {part} no row {row[2]} is named"
             cleanups = [it for it in events if CLEANUP.match(it)]
             others = [it for it in events if it in cleanups or it.startswith(("  h.hooks:", "      "))]
             if first != f"{heading} ... failed" or [it for it in events if it not in others] != steps:

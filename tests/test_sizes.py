@@ -15,6 +15,7 @@ import collections
 import functools
 import os
 import random
+import re
 import tempfile
 import threading
 
@@ -732,12 +733,14 @@ growing(1000, {
 # ---- explanations
 
 def explained(*files, note="", entries=""):
-    """A run that is explained. A note stands below each step that is undefined."""
+    """A run that is explained. A note stands below each step that is undefined. Row N of an outline has the cell N - 1."""
     cases = [(it.source, case) for it in files for case in it.cases]
     failed = [(source, case) for source, case in cases if case.status == "failed"]
     text = ""
     for source, case in failed:
         text += f"{source}:{case.line}: {case.keyword}: {case.name} ... failed\n"
+        row = re.search(r" -- @1\.(\d+)$", case.name)
+        text += f"  row {row[1]}: a={int(row[1]) - 1}\n" if row else ""
         for step in case.steps:
             text += f"  {source}:{step.line}: {step.keyword} {step.text} ... {step.status}\n"
             text += note if step.status == "undefined" else ""
@@ -753,6 +756,8 @@ def explained(*files, note="", entries=""):
 rows({
     "steps of an explained scenario": lambda size: explained(one(*["it passes"] * size, FAILING, "it passes")),
     "explained scenarios": lambda size: explained(FeatureFile().scenarios(size, [FAILING])),
+    "explained rows of examples": lambda size: explained(
+        FeatureFile().outline("o", FAILING).examples(*([str(at)] for at in range(size)))),
     "scenarios of which none is explained": lambda size: explained(FeatureFile().scenarios(size, ["it passes"])),
     "explained features": lambda size: explained(*[one(FAILING)] * size),
     "features without scenarios": lambda size: explained(*[FeatureFile(source="b.feature")] * size, one(FAILING)),

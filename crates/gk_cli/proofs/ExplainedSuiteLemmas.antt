@@ -1,5 +1,6 @@
 -- What a whole run that is explained says.
 use Rattle.std.proofs.Common.{◌≡◌, ℕ, List, inl, inr}
+use Rattle.gk_select.specs.ExampleRows.{ExampleRowValue}
 use Rattle.gk_world.specs.State.{Contents}
 use Rattle.gk_run.specs.OpenSection.{Run}
 use Rattle.gk_run.specs.Chosen.{ChosenValue}
@@ -12,18 +13,18 @@ use Rattle.gk_cli.specs.ToldRun.{IsToldUpTo}
 use Rattle.gk_cli.specs.ExplainedRun.{Explains, Closes, IsExplainedUpTo}
 
 -- What was told to an explainer that had said nothing is explained.
-pub told_up_to : (run : Run) (hooks : List ℕ) (contents : Contents) (features : List ChosenValue) (first : Explainer) (old new : Device) (fault : RunFault) → said first ≡ nothing_said run.library hooks →
-    IsToldUpTo Hears Explains Closes run contents features first old new fault → IsExplainedUpTo run hooks contents features old new fault
-told_up_to run hooks contents features first old new fault silent (text, inl part, stopped) = inl (record { first = first; silent = silent; text = text; explains = part; stopped = stopped })
-told_up_to run hooks contents features first old new fault silent (text, inr (results, judged, whole), stopped) =
+pub told_up_to : (run : Run) (hooks : List ℕ) (rows : List (List ExampleRowValue)) (contents : Contents) (features : List ChosenValue) (first : Explainer) (old new : Device) (fault : RunFault) → said first ≡ nothing_said run.library hooks rows →
+    IsToldUpTo Hears Explains Closes run contents features first old new fault → IsExplainedUpTo run hooks rows contents features old new fault
+told_up_to run hooks rows contents features first old new fault silent (text, inl part, stopped) = inl (record { first = first; silent = silent; text = text; explains = part; stopped = stopped })
+told_up_to run hooks rows contents features first old new fault silent (text, inr (results, judged, whole), stopped) =
     inr (record { results = results; judged = judged; first = first; silent = silent; text = text; explains = whole; stopped = stopped })
 
 -- Why an explanation ends without its whole text.
-pub why_stopped : (run : Run) (hooks : List ℕ) (contents : Contents) (features : List ChosenValue) (old new : Device) (fault : RunFault) → IsExplainedUpTo run hooks contents features old new fault → StopsBy old new fault
-why_stopped run hooks contents features old new fault (inl part) = part.stopped.why
-why_stopped run hooks contents features old new fault (inr short) = short.stopped.why
+pub why_stopped : (run : Run) (hooks : List ℕ) (rows : List (List ExampleRowValue)) (contents : Contents) (features : List ChosenValue) (old new : Device) (fault : RunFault) → IsExplainedUpTo run hooks rows contents features old new fault → StopsBy old new fault
+why_stopped run hooks rows contents features old new fault (inl part) = part.stopped.why
+why_stopped run hooks rows contents features old new fault (inr short) = short.stopped.why
 
 -- And nothing was flushed.
-pub unflushed_so : (run : Run) (hooks : List ℕ) (contents : Contents) (features : List ChosenValue) (old new : Device) (fault : RunFault) → IsExplainedUpTo run hooks contents features old new fault → new.flushes ≡ old.flushes
-unflushed_so run hooks contents features old new fault (inl part) = part.stopped.unflushed
-unflushed_so run hooks contents features old new fault (inr short) = short.stopped.unflushed
+pub unflushed_so : (run : Run) (hooks : List ℕ) (rows : List (List ExampleRowValue)) (contents : Contents) (features : List ChosenValue) (old new : Device) (fault : RunFault) → IsExplainedUpTo run hooks rows contents features old new fault → new.flushes ≡ old.flushes
+unflushed_so run hooks rows contents features old new fault (inl part) = part.stopped.unflushed
+unflushed_so run hooks rows contents features old new fault (inr short) = short.stopped.unflushed

@@ -1,9 +1,10 @@
 -- A whole run with an explanation.
 use Rattle.std.specs.Prelude.{ℕ, false, List}
+use Rattle.gk_select.specs.ExampleRows.{ExampleRowValue}
 use Rattle.gk_world.specs.State.{Contents}
 use Rattle.gk_run.specs.OpenSection.{Run}
 use Rattle.gk_request.specs.declared.run_fault.RunFault.{RunFault}
-use Rattle.gk_request.specs.Inputs.{Inputs, AreInputs}
+use Rattle.gk_request.specs.Inputs.{Inputs, AreInputs, AreRowsOf}
 use Rattle.gk_request.specs.Request.{Request}
 use Rattle.gk_cli.specs.Writing.{Device}
 use Rattle.gk_cli.specs.ExplainedRun.{IsExplained, IsExplainedUpTo}
@@ -12,10 +13,14 @@ use Rattle.gk_cli.specs.ExplainedRun.{IsExplained, IsExplainedUpTo}
 abbrev pub explained_run : Request → Inputs → Run
 explained_run r inputs = record { library = inputs.library; hooks = inputs.hooks; dry_run = false; stop = r.stop }
 
+-- The request reads as these inputs, with these rows of each feature's outlines.
+abbrev pub AreExplainable : Request → Inputs → List (List ExampleRowValue) → Type 0
+AreExplainable r inputs rows = AreInputs r inputs × AreRowsOf r.sources rows
+
 -- The request reads, the explanation of a run of it with judged results was written, and their status is returned.
 abbrev pub Explained : Request → List ℕ → Contents → Device → Device → ℕ → Type 0
-Explained r hooks contents old new answer = (inputs : Inputs) × AreInputs r inputs × IsExplained (explained_run r inputs) hooks contents inputs.features old new answer
+Explained r hooks contents old new answer = (inputs : Inputs) × (rows : List (List ExampleRowValue)) × AreExplainable r inputs rows × IsExplained (explained_run r inputs) hooks rows contents inputs.features old new answer
 
 -- The request reads, and a prefix of the text that explains a run of it was written.
 abbrev pub ExplainedInPart : Request → List ℕ → Contents → Device → Device → RunFault → Type 0
-ExplainedInPart r hooks contents old new fault = (inputs : Inputs) × AreInputs r inputs × IsExplainedUpTo (explained_run r inputs) hooks contents inputs.features old new fault
+ExplainedInPart r hooks contents old new fault = (inputs : Inputs) × (rows : List (List ExampleRowValue)) × AreExplainable r inputs rows × IsExplainedUpTo (explained_run r inputs) hooks rows contents inputs.features old new fault

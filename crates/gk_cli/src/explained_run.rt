@@ -1,6 +1,7 @@
 //! A run whose explanation is written as each feature ends.
 ghost use Rattle.std.specs.Prelude.{◌≡◌, map, IfOk, IfErr};
 ghost use Rattle.std.specs.List.{AllByRecursion};
+ghost use Rattle.gk_select.specs.ExampleRows.{row_lists};
 ghost use Rattle.gk_world.specs.Sandbox.{depth, IsSame};
 ghost use Rattle.gk_run.specs.OpenSection.{run_of};
 ghost use Rattle.gk_run.specs.Chosen.{chosen_value, IsFormed};
@@ -68,9 +69,9 @@ impl Reporter for Explainer<'_> {
 }
 
 /// Runs the inputs that were read, and writes the explanation. When a feature has ended, it says what happened in those
-/// of its scenarios that failed or ran out of memory. It does the same for the hooks and cleanups of the feature's
-/// rules and for the feature's own and, when the run has ended, for the run's own. Then come the list of all these and
-/// the closing lines of the plain report. `hooks` is the name of the hooks file. The errors are those of `tell_run`.
+/// of its scenarios that failed or ran out of memory, and names the row of each that is the case of a row. It does the
+/// same for the hooks and cleanups of the feature's rules and for the feature's own and, when the run has ended, for the
+/// run's own. Then come the list of all these and the closing lines of the plain report. `hooks` is the name of the hooks file. The errors are those of `tell_run`.
 pub fn write_explanation<W: Write>(
     alloc: Global,
     sandbox: &mut Sandbox,
@@ -82,11 +83,13 @@ pub fn write_explanation<W: Write>(
     requires outside { depth sandbox.old ≡ 0 }
     requires formed { AllByRecursion IsFormed inputs.features.items }
     ensures ok { IfOk result (IsExplained
-        (run_of inputs.library inputs.hooks stop) hooks.now sandbox.old.now
+        (run_of inputs.library inputs.hooks stop) hooks.now
+        (row_lists inputs.rows.items) sandbox.old.now
         (map chosen_value inputs.features.items)
         (device_of W.contents out.old) (device_of W.contents out.new)) }
     ensures err { IfErr result (IsExplainedUpTo
-        (run_of inputs.library inputs.hooks stop) hooks.now sandbox.old.now
+        (run_of inputs.library inputs.hooks stop) hooks.now
+        (row_lists inputs.rows.items) sandbox.old.now
         (map chosen_value inputs.features.items)
         (device_of W.contents out.old) (device_of W.contents out.new)) }
     ensures same { IsSame sandbox.old sandbox.new }
@@ -95,8 +98,9 @@ pub fn write_explanation<W: Write>(
         library,
         hooks: hook_file,
         features,
+        rows,
     } = inputs;
-    let explainer = Explainer::new(alloc, &library, hooks);
+    let explainer = Explainer::new(alloc, &library, hooks, rows.as_slice());
     let parts = RunParts {
         alloc,
         library: &library,

@@ -75,7 +75,7 @@ fn report_suite<S: FeatureSource, W: Write>(
     // memory are the plain ones.
     inputs_are_unique();
     without_memory_there_is_one_list();
-    match read_inputs(alloc, options, files) {
+    match read_inputs(alloc, options, false, files) {
         Ok(inputs) => write_run(alloc, sandbox, options, inputs, out),
         Err(fault) => Err(fault),
     }
@@ -106,7 +106,7 @@ fn explain_suite<S: FeatureSource, W: Write>(
     ensures used { UsesWriter result
         (device_of W.contents out.old) (device_of W.contents out.new) }
 {
-    match read_inputs(alloc, options, files) {
+    match read_inputs(alloc, options, true, files) {
         Ok(inputs) => {
             let hooks = name_of(&files.hooks);
             write_explanation(alloc, sandbox, options.stop, hooks, inputs, out)
@@ -160,7 +160,7 @@ fn lint_suite<S: FeatureSource, W: Write>(
 ///
 /// `Explanation`: runs them in the same way, and writes an explanation instead of the report. When a feature has ended,
 /// each of its scenarios that failed or ran out of memory gets a heading with its place and status. Below the heading
-/// is a line for each of its events, in order. The hooks and cleanups of each of its rules, and the feature's own, get
+/// is the row of the Examples, if the scenario is the case of a row, and a line for each of its events, in order. The hooks and cleanups of each of its rules, and the feature's own, get
 /// the same if they failed or ran out of memory. When the run has ended, so do its own. Then the headings appear as a
 /// list, followed by the closing lines of the plain report. Scenarios that passed, are skipped or aren't reached are
 /// only counted. The options `dry_run` and `style` are ignored.

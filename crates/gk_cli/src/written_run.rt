@@ -45,6 +45,7 @@ pub fn write_run<W: Write>(
         library,
         hooks,
         features,
+        rows: _,
     } = inputs;
     write_head(alloc, options.style, out)?;
     let report = GrowingReport::new(options.style);

@@ -29,29 +29,31 @@ fn tagged(alloc: Global) -> Result<Options, AllocError> {
     Ok(options)
 }
 
-// What was read of one feature: the numbers of entries and of hooks, the feature's file, its name, its rules and its
-// choice.
+// What was read of one feature: the numbers of entries and of hooks, the feature's file, its name, its rules, its choice
+// and the rows of its outlines.
 fn shown(alloc: Global, read: &ReadInputs) -> Result<String, Fail> {
     let [feature] = read.features.as_slice() else {
         return Err("not one feature".into());
     };
     Ok(format!(in alloc;
-        "{} {}; {} {} {:?} {:?}",
+        "{} {}; {} {} {:?} {:?} {:?}",
         read.library.entries.len(),
         read.hooks.hooks.len(),
         feature.source,
         feature.name,
         feature.rules,
-        feature.selected
+        feature.selected,
+        read.rows
     )?)
 }
 
 fn inputs(
     alloc: Global,
     options: &Options,
+    with_rows: bool,
     files: &mut SuiteFiles<Source>,
 ) -> Result<String, Fail> {
-    let read = read_inputs(alloc, options, files)?;
+    let read = read_inputs(alloc, options, with_rows, files)?;
     shown(alloc, &read)
 }
 
@@ -60,13 +62,26 @@ fn requests_are_read(rt: HostRuntime) -> Result<(), Fail> {
     let options = tagged(rt.alloc())?;
     let mut files = bells(rt.alloc())?;
     assert_eq!(rt;
-        inputs(rt.alloc(), &options, &mut files)?.as_str(),
-        "28 2; bells.feature Bells [RuleHead { line: 4, tags: [] }] [true, false, true]"
+        inputs(rt.alloc(), &options, false, &mut files)?.as_str(),
+        "28 2; bells.feature Bells [RuleHead { line: 4, tags: [] }] [true, false, true] []"
     );
     let left = format!(in rt.alloc(); "{:?}", files.sources)?;
     assert_eq!(rt;
         left.as_str(),
         "[Source { name: \"bells.feature\", bytes: [] }]"
+    );
+    Ok(())
+}
+
+#[test]
+fn rows_are_read_if_they_are_asked_for(rt: HostRuntime) -> Result<(), Fail> {
+    let options = plain(rt.alloc());
+    let mut files = bells(rt.alloc())?;
+    let read = read_inputs(rt.alloc(), &options, true, &mut files)?;
+    let rows = format!(in rt.alloc(); "{:?}", read.rows)?;
+    assert_eq!(rt;
+        rows.as_str(),
+        "[[ExampleRow { line: 9, number: 1, cells: [ExampleCell { header: \"hour\", text: \"one\" }] }, ExampleRow { line: 10, number: 2, cells: [ExampleCell { header: \"hour\", text: \"two\" }] }]]"
     );
     Ok(())
 }

@@ -5,6 +5,7 @@ use Rattle.std.specs.Str.{chars, is_utf8}
 use lib.Utf8
 use Rattle.gk_gherkin.specs.declared.feature.StepType.TheVariants as types
 use Rattle.gk_gherkin.specs.Feature.{StepValue, Empty, Table}
+use Rattle.gk_select.specs.ExampleRows.{ExampleRowValue}
 use Rattle.gk_world.specs.State.{State}
 use Rattle.gk_run.specs.declared.results.Mark.TheVariants as marks
 use Rattle.gk_run.specs.declared.results.Outcome.TheVariants as outcomes
@@ -30,6 +31,7 @@ use Rattle.gk_lint.specs.Likeness.{same_letters, is_one_off, common_len, differ_
 use Rattle.gk_explain.specs.Nearest.{hint_told, before_nearest, before_other_type, after_other_type}
 use Rattle.gk_explain.specs.Tables.{refused_file}
 use Rattle.gk_explain.specs.EventLines.{line_of_step, line_of_cleanup, place_text}
+use Rattle.gk_explain.specs.RowLines.{row_line}
 use Rattle.gk_explain.specs.Headings.{case_heading, rule_heading, feature_heading, around_text, run_heading, explanation_text}
 use Rattle.gk_explain.specs.Explanation.{ExplanationValue, nothing_said, with_event, with_case, with_rule, with_source, with_feature, with_run}
 
@@ -47,7 +49,7 @@ feature around = record { source = codes "f"; name = codes "n"; line = 1; status
 
 -- A feature of the file `f` begins, with hooks of the file `h`.
 abbrev begun : ExplanationValue
-begun = with_source (codes "f") (nothing_said [] (codes "h"))
+begun = with_source (codes "f") (nothing_said [] (codes "h") [])
 
 -- Events, one after another.
 abbrev after_events : List Told → ExplanationValue → ExplanationValue
@@ -75,6 +77,22 @@ passed_is_not : (s : State) (cleanup : CleanupValue) → with_case (scenario sta
 unfolding found chars lib.Utf8.encode event_details digits status_text reason_text escaped status_line line_of_step line_of_cleanup place_text case_heading explanation_text
 passed_is_not s cleanup = refl
 
+-- The rows of a feature. The second is on the line of the scenario.
+abbrev rows : List ExampleRowValue
+rows = record { line = 4; number = 1; cells = [] } ∷ record { line = 6; number = 2; cells = (codes "a", codes "x\ny") ∷ (codes "b", []) ∷ [] } ∷ []
+
+abbrev begun_with_rows : ExplanationValue
+begun_with_rows = with_source (codes "f") (nothing_said [] (codes "h") (rows ∷ []))
+
+-- A scenario that is the case of a row names it.
+row_is_named : (with_case (scenario statuses.Failed) begun_with_rows).ready ≡ codes "f:6: Scenario: s ... failed\n  row 2: a=x\\ny, b=\n\n"
+unfolding chars lib.Utf8.encode digits status_text escaped status_line place_text case_heading explanation_text row_line
+row_is_named = refl
+
+-- The next feature has no rows.
+rows_end_with_their_feature : (let next = with_source (codes "g") begun_with_rows in next.rows) ≡ []
+rows_end_with_their_feature = refl
+
 -- A library with an entry that registers a cleanup, and one that passes.
 abbrev later_library : LibraryValue
 later_library = record { step_type = None; pattern = Literal (codes "later ") ∷ FieldPiece (codes "step") kinds.Plain ∷ []; action = actions.AtCleanup } ∷ record { step_type = None; pattern = Literal (codes "ok") ∷ []; action = actions.Pass } ∷ []
@@ -87,7 +105,7 @@ with_cleanups s cleanup =
     ∷ of_step (record { level = levels.Scenario; part = parts.Steps }) (step (codes "Given") (codes "later no") 8) (marks.Acted (outcomes.Failed reasons.NoStep)) [] s
     ∷ of_step (record { level = levels.Scenario; part = parts.Steps }) (step (codes "Given") (codes "ok") 9) marks.Skipped [] s
     ∷ of_cleanup levels.Scenario cleanup outcomes.Passed s
-    ∷ of_cleanup levels.Scenario cleanup (outcomes.Failed reasons.Asked) s ∷ []) (with_source (codes "f") (nothing_said later_library (codes "h")))
+    ∷ of_cleanup levels.Scenario cleanup (outcomes.Failed reasons.Asked) s ∷ []) (with_source (codes "f") (nothing_said later_library (codes "h") []))
 
 -- Its cleanups have the places of the steps that registered them, the last first.
 cleanups_have_places : (s : State) (cleanup : CleanupValue) → (with_case (scenario statuses.Failed) (with_cleanups s cleanup)).ready

@@ -1,5 +1,6 @@
 -- The state that explains a run.
-use Rattle.std.specs.Prelude.{ℕ, List, [], ◌++◌, string_bytes}
+use Rattle.std.specs.Prelude.{ℕ, List, [], ◌∷◌, ◌++◌, map, string_bytes}
+use Rattle.gk_select.specs.ExampleRows.{ExampleRowValue, example_row_value, row_lists}
 use Rattle.gk_steps.specs.Finding.{LibraryValue}
 use Rattle.gk_run.specs.declared.results.Status.{Status}
 use Rattle.gk_run.specs.declared.section.Level.{Level}
@@ -10,12 +11,15 @@ use Rattle.gk_explain.specs.declared.explanation.Explanation.{Explanation}
 use Rattle.gk_explain.specs.Event.{level_of}
 use Rattle.gk_explain.specs.EventLines.{NamesValue}
 use Rattle.gk_explain.specs.SectionLines.{SectionValue, section_value, untold, after_event}
+use Rattle.gk_explain.specs.RowLines.{rows_from, row_at, named_row}
 use Rattle.gk_explain.specs.Headings.{case_heading, rule_heading, feature_heading, run_heading, explained, listed}
 
--- The library in which the run finds its steps; the names of the files; what is kept of the open run, feature, rule and scenario; what is ready to be written; and the list of what failed.
+-- The library in which the run finds its steps; the names of the files; the rows of outlines that are still to come in the open feature, and those of each later feature; what is kept of the open run, feature, rule and scenario; what is ready to be written; and the list of what failed.
 pub record ExplanationValue : Type 0 where
   pub library : LibraryValue
   pub names : NamesValue
+  pub rows : List ExampleRowValue
+  pub coming : List (List ExampleRowValue)
   pub run : SectionValue
   pub feature : SectionValue
   pub rule : SectionValue
@@ -28,6 +32,8 @@ abbrev pub explanation_value : Explanation → ExplanationValue
 explanation_value e = record {
   library = e.nearest;
   names = record { hooks = e.hooks.now; source = string_bytes e.source };
+  rows = map example_row_value e.rows.now;
+  coming = row_lists e.coming.now;
   run = section_value e.run;
   feature = section_value e.feature;
   rule = section_value e.rule;
@@ -36,9 +42,9 @@ explanation_value e = record {
   failures = string_bytes e.explained.failures;
 }
 
--- Nothing was told yet, and no feature was begun.
-abbrev pub nothing_said : LibraryValue → List ℕ → ExplanationValue
-nothing_said library hooks = record { library = library; names = record { hooks = hooks; source = [] }; run = untold; feature = untold; rule = untold; scenario = untold; ready = []; failures = [] }
+-- Nothing was told yet, and no feature was begun. Each feature has a list of rows, in the order of the features.
+abbrev pub nothing_said : LibraryValue → List ℕ → List (List ExampleRowValue) → ExplanationValue
+nothing_said library hooks rows = record { library = library; names = record { hooks = hooks; source = [] }; rows = []; coming = rows; run = untold; feature = untold; rule = untold; scenario = untold; ready = []; failures = [] }
 
 -- A change of the section of a level.
 abbrev pub with_section : Level → (SectionValue → SectionValue) → ExplanationValue → ExplanationValue
@@ -55,9 +61,9 @@ with_event told e = with_section (level_of told) (after_event e.library e.names 
 abbrev pub with_end : List ℕ → Status → List ℕ → ExplanationValue → ExplanationValue
 with_end heading status lines e = record e { ready = e.ready ++ explained heading status lines; failures = e.failures ++ listed heading status }
 
--- A scenario with these lines has ended with a result, and nothing is kept of it.
+-- A scenario with these lines has ended with a result, and nothing is kept of it. If it is the case of a row, its explanation names the row below the heading. The rows above it are dropped.
 abbrev pub with_case_of : List ℕ → CaseRow → ExplanationValue → ExplanationValue
-with_case_of lines c e = let ended = with_end (case_heading e.names.source c) c.status lines e in record ended { scenario = untold }
+with_case_of lines c e = let rows = rows_from c.line e.rows in let ended = with_end (case_heading e.names.source c) c.status (named_row (row_at c.line rows) ++ lines) e in record ended { scenario = untold; rows = rows }
 
 -- The open scenario has ended with a result.
 abbrev pub with_case : CaseRow → ExplanationValue → ExplanationValue
@@ -72,9 +78,14 @@ abbrev pub with_ended : Ended → ExplanationValue → ExplanationValue
 with_ended (of_case c) e = with_case c e
 with_ended (of_rule r) e = with_rule r e
 
+-- A feature with these rows of outlines begins, or one without rows if there is no list left.
+abbrev pub with_rows : List (List ExampleRowValue) → ExplanationValue → ExplanationValue
+with_rows [] e = record e { rows = [] }
+with_rows (rows ∷ others) e = record e { rows = rows; coming = others }
+
 -- A feature of a file begins.
 abbrev pub with_source : List ℕ → ExplanationValue → ExplanationValue
-with_source source e = record e { names = record { hooks = e.names.hooks; source = source } }
+with_source source e = let begun = with_rows e.coming e in record begun { names = record { hooks = e.names.hooks; source = source } }
 
 -- The open feature has ended with a result.
 abbrev pub with_feature : FeatureRow → ExplanationValue → ExplanationValue

@@ -10,6 +10,7 @@ pub mod DifferingLines
 pub mod Registrations
 pub mod EventLines
 pub mod SectionLines
+pub mod RowLines
 pub mod Headings
 pub mod Explanation
 pub mod Explainer

@@ -1,5 +1,6 @@
 //! An observer that explains a run.
 ghost use Rattle.std.specs.Prelude.{◌≡◌, true, false, IfOk, OnOk, OnErr, string_bytes};
+ghost use Rattle.gk_select.specs.ExampleRows.{row_lists};
 ghost use Rattle.gk_steps.specs.Finding.{library_value};
 ghost use Rattle.gk_run.specs.Results.{feature_row};
 ghost use Rattle.gk_explain.specs.Registrations.{CleanupsAreOfTheirSteps};
@@ -14,6 +15,7 @@ use gk_gherkin::{Block, Step};
 use gk_run::{
     CaseResult, FeatureResult, Level, Mark, Observer, Outcome, RuleResult, Stage, Status,
 };
+use gk_select::ExampleRow;
 use gk_steps::{Found, Library};
 use gk_world::Sandbox;
 use std::alloc::{AllocError, Global};
@@ -21,9 +23,10 @@ use std::alloc::{AllocError, Global};
 /// An observer that explains a run.
 ///
 /// It explains each scenario that failed or was refused memory, and in the same way the hooks and cleanups of
-/// each rule, each feature and the run. An explanation has a line for each event, in order. Below the line of
-/// an event that failed, it says what the reason means there. Below an undefined step, it names the nearest
-/// entry of the library, if any is near. It keeps no event.
+/// each rule, each feature and the run. An explanation has a line for each event, in order. Above them is a
+/// line that names the row, if the scenario is the case of a row of an outline. Below the line of an event that
+/// failed, it says what the reason means there. Below an undefined step, it names the entry of the library that
+/// may be meant, if there is one. It keeps no event.
 ///
 /// If a growth is refused to it, in any call and at any event, it is cut: from then on it adds nothing, and
 /// calls for its texts return an error. The run that it hears goes on.
@@ -36,15 +39,22 @@ pub struct Explainer<'a> {
 
 impl<'a> Explainer<'a> {
     /// Returns an explainer that was told nothing. `library` is the library in which the run finds its steps,
-    /// and `hooks` is the run's name for the hooks file. Doesn't allocate.
-    pub fn new(alloc: Global, library: &'a Library, hooks: &'a str) -> Explainer<'a>
+    /// and `hooks` is the run's name for the hooks file. `rows` has the rows of each feature's outlines, in the
+    /// order of the features; a feature without a list there has no rows. Doesn't allocate.
+    pub fn new(
+        alloc: Global,
+        library: &'a Library,
+        hooks: &'a str,
+        rows: &'a [Vec<ExampleRow>],
+    ) -> Explainer<'a>
         ensures uncut { spec.is_cut result ≡ false }
         ensures said { said result
-            ≡ nothing_said (library_value library.entry.now) hooks.entry.now }
+            ≡ nothing_said (library_value library.entry.now) hooks.entry.now
+            (row_lists rows.entry.now) }
     {
         Explainer {
             alloc,
-            explanation: Explanation::new(alloc, library, hooks),
+            explanation: Explanation::new(alloc, library, hooks, rows),
             cut: false,
         }
     }
@@ -66,7 +76,8 @@ impl<'a> Explainer<'a> {
         }
     }
 
-    /// Begins a feature of the source with this name. Call it before the feature's first event. If a growth is
+    /// Begins a feature of the source with this name, and goes on to the next list of rows. Call it before the
+    /// feature's first event. If a growth is
     /// refused, the explainer is cut.
     pub fn begin_feature(&mut self, source: &str)
         ensures { Becomes self.old (with_source source.now) self.new }

@@ -3,6 +3,7 @@
 ghost use Rattle.std.specs.Prelude.{◌≡◌, ◌++◌, true, false, IfOk, OnOk, OnErr, string_bytes};
 ghost use Rattle.gk_run.specs.Running as cases;
 ghost use Rattle.gk_report.specs.ReportTexts.{line_feed, Pushes};
+ghost use Rattle.gk_explain.specs.RowLines.{named_row, borrowed_row};
 ghost use Rattle.gk_explain.specs.Headings as headings;
 ghost use Rattle.gk_explain.specs.SectionLines.{section_value, untold};
 
@@ -10,18 +11,23 @@ use crate::event::{Event, level_of};
 use crate::event_lines::Names;
 use crate::headings::{Ended, ended_status, push_explanation, push_heading};
 use crate::nearest_lines::NearestLines;
+use crate::row_lines::{row_at, rows_from};
 use crate::section_lines::SectionLines;
 use gk_run::{CaseResult, FeatureResult, Level, RuleResult, Status, is_bad};
+use gk_select::ExampleRow;
 use gk_steps::Library;
 use std::alloc::{AllocError, Global};
 use std::mem;
 
-/// What is kept of each open section, and what is explained.
+/// What is kept of each open section, the rows of outlines that are still to come in the open feature and in
+/// later ones, and what is explained.
 #[derive(Debug, Drop)]
 pub struct Explanation<'a> {
     nearest: NearestLines<'a>,
     hooks: &'a str,
     source: String,
+    rows: &'a [ExampleRow],
+    coming: &'a [Vec<ExampleRow>],
     run: SectionLines,
     feature: SectionLines,
     rule: SectionLines,
@@ -38,28 +44,38 @@ struct Explained {
 
 impl Explained {
     // Adds the explanation of what failed, and its line in the list.
-    fn add(&mut self, source: &str, ended: Ended<'_>, lines: &str) -> Result<(), AllocError>
+    fn add(
+        &mut self,
+        source: &str,
+        ended: Ended<'_>,
+        row: Option<&ExampleRow>,
+        lines: &str,
+    ) -> Result<(), AllocError>
         ensures ready { Pushes self.old.ready
             (headings.explanation_text (headings.heading_of source.now ended.entry)
-            (headings.ended_status ended.entry) lines.now) result self.new.ready }
+            (headings.ended_status ended.entry) (named_row (borrowed_row row.entry) ++ lines.now))
+            result self.new.ready }
         ensures failures { Pushes self.old.failures
             (headings.heading_of source.now ended.entry ++ line_feed) result self.new.failures }
     {
-        push_explanation(&mut self.ready, source, ended, lines)?;
+        push_explanation(&mut self.ready, source, ended, row, lines)?;
         push_heading(&mut self.failures, source, ended)?;
         self.failures.push_str("\n")
     }
 
-    // Explains what has ended if it failed or was refused memory. On success nothing is kept of its section.
+    // Explains what has ended if it failed or was refused memory, and names its row if it has one. On success
+    // nothing is kept of its section.
     fn end(
         &mut self,
         source: &str,
         ended: Ended<'_>,
+        row: Option<&ExampleRow>,
         section: &mut SectionLines,
     ) -> Result<(), AllocError>
         ensures ready { let old = section_value section.old in Pushes self.old.ready
             (headings.explained (headings.heading_of source.now ended.entry)
-            (headings.ended_status ended.entry) old.lines) result self.new.ready }
+            (headings.ended_status ended.entry) (named_row (borrowed_row row.entry) ++ old.lines))
+            result self.new.ready }
         ensures failures { Pushes self.old.failures
             (headings.listed (headings.heading_of source.now ended.entry)
             (headings.ended_status ended.entry)) result self.new.failures }
@@ -68,7 +84,7 @@ impl Explained {
             OnErr result ⊥ }
     {
         if is_bad(ended_status(ended)) {
-            self.add(source, ended, section.lines())?;
+            self.add(source, ended, row, section.lines())?;
         }
         section.clear();
         Ok(())
@@ -77,22 +93,32 @@ impl Explained {
 
 impl<'a> Explanation<'a> {
     ghost use Rattle.std.specs.Prelude.{◌≡◌, IfOk, OnOk, string_bytes};
+    ghost use Rattle.gk_select.specs.ExampleRows.{row_lists};
     ghost use Rattle.gk_steps.specs.Finding.{library_value};
     ghost use Rattle.gk_run.specs.Results.{case_row, rule_row, feature_row};
     ghost use Rattle.gk_explain.specs.Event.{event_told};
     ghost use Rattle.gk_explain.specs.Headings.{failures_text};
-    ghost use Rattle.gk_explain.specs.Explanation.{explanation_value, nothing_said, with_event, with_case, with_rule, with_source, with_feature, with_run, with_taken};
+    ghost use Rattle.gk_explain.specs.Explanation.{explanation_value, nothing_said, with_event, with_case, with_rule, with_rows, with_source, with_feature, with_run, with_taken};
 
     /// Returns an explanation that was told nothing, before any feature has begun. The run finds its steps in
-    /// `library`, and `hooks` is the name of the hooks file. Doesn't allocate.
-    pub fn new(alloc: Global, library: &'a Library, hooks: &'a str) -> Explanation<'a>
+    /// `library`, and `hooks` is the name of the hooks file. `rows` has the rows of each feature's outlines, in
+    /// the order of the features. Doesn't allocate.
+    pub fn new(
+        alloc: Global,
+        library: &'a Library,
+        hooks: &'a str,
+        rows: &'a [Vec<ExampleRow>],
+    ) -> Explanation<'a>
         ensures { explanation_value result
-            ≡ nothing_said (library_value library.entry.now) hooks.entry.now }
+            ≡ nothing_said (library_value library.entry.now) hooks.entry.now
+            (row_lists rows.entry.now) }
     {
         Explanation {
             nearest: NearestLines::new(alloc, library),
             hooks,
             source: String::new(alloc),
+            rows: &[],
+            coming: rows,
             run: SectionLines::new(alloc),
             feature: SectionLines::new(alloc),
             rule: SectionLines::new(alloc),
@@ -104,12 +130,27 @@ impl<'a> Explanation<'a> {
         }
     }
 
+    // Goes on to the rows of the next feature.
+    fn begin_rows(&mut self)
+        ensures { let old = explanation_value self.old in
+            explanation_value self.new ≡ with_rows old.coming old }
+    {
+        match self.coming.split_first() {
+            Some((rows, others)) => {
+                self.rows = rows.as_slice();
+                self.coming = others;
+            }
+            None => self.rows = &[],
+        }
+    }
+
     /// Begins a feature of a file with this name. An error comes only if a growth was refused; the source has
     /// no name then.
     pub fn begin_feature(&mut self, source: &str) -> Result<(), AllocError>
         ensures { OnOk result (explanation_value self.new
             ≡ with_source source.now (explanation_value self.old)) }
     {
+        self.begin_rows();
         self.source.clear();
         self.source.push_str(source)
     }
@@ -122,7 +163,7 @@ impl<'a> Explanation<'a> {
     {
         let source = self.source.as_str();
         self.explained
-            .end(source, Ended::Feature(feature), &mut self.feature)
+            .end(source, Ended::Feature(feature), None, &mut self.feature)
     }
 
     /// Adds an event to what is kept of its section. An error comes only if a growth was refused; the section
@@ -144,16 +185,19 @@ impl<'a> Explanation<'a> {
         }
     }
 
-    /// Ends the open scenario with this result. An error comes only if a growth was refused; a part of its
-    /// explanation may be ready then.
+    /// Ends the open scenario with this result. If it is the case of a row, its explanation names the row. Each
+    /// case must be told before those on later lines, or its row isn't found. An error comes only if a growth
+    /// was refused; a part of its explanation may be ready then.
     pub fn end_case(&mut self, case: &CaseResult) -> Result<(), AllocError>
         ensures ended { OnOk result (explanation_value self.new
             ≡ with_case (case_row case.now) (explanation_value self.old)) }
         ensures free { cases.is_bad case.now.status ≡ false → OnErr result ⊥ }
     {
+        self.rows = rows_from(self.rows, case.line);
+        let row = row_at(self.rows, case.line);
         let source = self.source.as_str();
         self.explained
-            .end(source, Ended::Scenario(case), &mut self.scenario)
+            .end(source, Ended::Scenario(case), row, &mut self.scenario)
     }
 
     /// Ends the open rule with this result. Errors are those of `end_case`.
@@ -164,7 +208,7 @@ impl<'a> Explanation<'a> {
     {
         let source = self.source.as_str();
         self.explained
-            .end(source, Ended::Rule(rule), &mut self.rule)
+            .end(source, Ended::Rule(rule), None, &mut self.rule)
     }
 
     /// Ends the run. `around` is the status of the run's hooks and cleanups. Errors are those of `end_case`.
@@ -175,7 +219,7 @@ impl<'a> Explanation<'a> {
     {
         let source = self.source.as_str();
         self.explained
-            .end(source, Ended::Run(around), &mut self.run)
+            .end(source, Ended::Run(around), None, &mut self.run)
     }
 
     /// Returns what is ready; after that, nothing is ready. Doesn't allocate.

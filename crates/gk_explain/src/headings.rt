@@ -1,13 +1,16 @@
 //! Headings and explanations of what failed.
-ghost use Rattle.std.specs.Prelude.{◌≡◌};
+ghost use Rattle.std.specs.Prelude.{◌≡◌, ◌++◌};
 ghost use Rattle.gk_run.specs.Results.{case_row, rule_row, feature_row};
 ghost use Rattle.gk_report.specs.ReportTexts.{Pushes};
+ghost use Rattle.gk_explain.specs.RowLines.{named_row, borrowed_row};
 ghost use Rattle.gk_explain.specs.Headings as spec;
 
 use crate::event_lines::push_place;
+use crate::row_lines::push_named_row;
 use crate::shown::push_escaped;
 use gk_report::push_ending;
 use gk_run::{CaseResult, FeatureResult, RuleResult, Status};
+use gk_select::ExampleRow;
 use std::alloc::AllocError;
 
 /// A scenario that has ended, or the hooks and cleanups of a rule, of a feature or of the run, and how they
@@ -97,20 +100,24 @@ pub fn push_heading(out: &mut String, source: &str, ended: Ended<'_>) -> Result<
     }
 }
 
-/// Appends an explanation: the heading of what has ended with its status, the lines of events, and an empty
-/// line. An error comes only if a growth was refused; a part of it may have been appended then.
+/// Appends an explanation: the heading of what has ended with its status, the line that names its row if it
+/// has one, the lines of events, and an empty line. An error comes only if a growth was refused; a part of it
+/// may have been appended then.
 #[tactic(auto, unfolding(crate::specs::Headings::explanation_text, gk_report::specs::PlainReport::status_line))]
 pub fn push_explanation(
     out: &mut String,
     source: &str,
     ended: Ended<'_>,
+    row: Option<&ExampleRow>,
     lines: &str,
 ) -> Result<(), AllocError>
     ensures { Pushes out.old (spec.explanation_text (spec.heading_of source.now ended.entry)
-        (spec.ended_status ended.entry) lines.now) result out.new }
+        (spec.ended_status ended.entry) (named_row (borrowed_row row.entry) ++ lines.now))
+        result out.new }
 {
     push_heading(out, source, ended)?;
     push_ending(out, ended_status(ended), None)?;
+    push_named_row(out, row)?;
     out.push_str(lines)?;
     out.push_str("\n")
 }

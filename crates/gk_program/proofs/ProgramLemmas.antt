@@ -90,7 +90,7 @@ fault_as_before (Findings steps) tags result old new by fault left is = subst (�
 -- why a run was stopped
 stopped_by : (mode : Mode) (files : FilesValue) (r : Request) (c : Contents) (old new : Device) (by : RunFault) → IsStoppedAs mode files r c old new by → StopsBy old new by
 stopped_by Report files r c old new by stopped = stopped.2.why
-stopped_by Explanation files r c old new by stopped = elim stopped.2 [
+stopped_by Explanation files r c old new by stopped = elim stopped.3 [
   | inl part ↦ part.stopped.why
   | inr short ↦ short.stopped.why
 ]

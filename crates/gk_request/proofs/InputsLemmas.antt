@@ -1,6 +1,7 @@
 -- Inputs, one after another, and that they are determined.
-use Rattle.std.proofs.Common.{◌≡◌, ◌⊎◌, inl, inr, ℕ, suc, zero, ◌+◌, ◌<◌, Bool, List, [], ◌∷◌, ◌++◌, map, take, drop, length, get_or, Option, Some, None, Result, Ok, Err, refl, ap, sym, subst, ◌∙◌, arith, add-one, append_assoc}
+use Rattle.std.proofs.Common.{◌≡◌, ◌⊎◌, inl, inr, ℕ, suc, zero, ◌+◌, ◌<◌, Bool, true, false, List, [], ◌∷◌, ◌++◌, map, take, drop, length, get_or, Option, Some, None, Result, Ok, Err, refl, ap, sym, subst, ◌∙◌, arith, add-one, append_assoc}
 use Rattle.std.proofs.lemmas.Grind.{common_steps}
+use Rattle.std.proofs.lemmas.List.{append-nil}
 use Rattle.std.specs.Prelude.{option_map, slice_get, OnOk}
 use Rattle.std.specs.List.{AllByRecursion}
 use Rattle.gk_gherkin.specs.declared.read_fault.ReadFault.{ReadFault}
@@ -16,6 +17,7 @@ use Rattle.gk_select.specs.declared.case.Case.{Case}
 use Rattle.gk_select.specs.declared.select_fault.SelectFault.{SelectFault}
 use Rattle.gk_select.specs.declared.select_fault.SelectFault.TheVariants as select_faults
 use Rattle.gk_select.specs.Case.{CaseValue, case_value}
+use Rattle.gk_select.specs.ExampleRows.{ExampleRowValue}
 use Rattle.gk_select.specs.TagGrammar.{Expression}
 use Rattle.gk_select.specs.TagRules.{ReadsTags}
 use Rattle.gk_select.specs.Choice.{is_chosen}
@@ -28,7 +30,7 @@ use Rattle.gk_steps.specs.LibraryFault.{LibraryFaultSays}
 use Rattle.gk_run.specs.declared.chosen.Chosen.{Chosen}
 use Rattle.gk_run.specs.Chosen.{HeadValue, MemberValue, ChosenValue, chosen_value, members_of, IsFormed}
 use Rattle.gk_request.specs.Source.{SourceValue}
-use Rattle.gk_request.specs.Inputs.{Inputs, InputsAreUnique, IsFirstBadText, AreRules, IsLibrary, AreHooks, member_by, chosen_of, with_reading, IsWithinLimit, AreRead, HasFault, IsReading, IsReadOnto}
+use Rattle.gk_request.specs.Inputs.{Inputs, InputsAreUnique, IsFirstBadText, AreRules, IsLibrary, AreHooks, member_by, chosen_of, with_reading, IsWithinLimit, AreRead, with_rows, AreRowsOf, AreRowsIf, rows_onto, AreRowsReadOnto, HasFault, IsReading, IsReadOnto}
 use Rattle.gk_request.specs.Request.{Request}
 use Rattle.gk_request.specs.declared.run_fault.RunFault.{RunFault}
 use Rattle.gk_request.specs.declared.run_fault.RunFault.TheVariants.{Read, Library, Hooks, Select, Write, Memory}
@@ -110,6 +112,30 @@ read_one chooses (x ∷ ss) fs s reading h text reads within = (
   read_one chooses ss h.1 s reading h.5 text reads within,
   ap (λ x. x ++ with_reading chooses s.name reading []) h.6 ∙ with_more chooses x.name h.0 h.1 (with_reading chooses s.name reading []),
 )
+
+with_more_rows : (reading : Option FeatureValue) (others more : List (List ExampleRowValue)) → with_rows reading others ++ more ≡ with_rows reading (others ++ more)
+with_more_rows None others more = refl
+with_more_rows (Some f) others more = refl
+
+rows_of_one : (ss : List SourceValue) (rows : List (List ExampleRowValue)) (s : SourceValue) (reading : Option FeatureValue) → AreRowsOf ss rows → Reads (lines_of s.bytes) reading → AreRowsOf (ss ++ s ∷ []) (rows ++ with_rows reading [])
+rows_of_one [] rows s reading none reads = (reading, [], reads, refl, ap (λ x. x ++ with_rows reading []) none)
+rows_of_one (x ∷ ss) rows s reading h reads = (
+  h.0,
+  h.1 ++ with_rows reading [],
+  h.2,
+  rows_of_one ss h.1 s reading h.3 reads,
+  ap (λ x. x ++ with_rows reading []) h.4 ∙ with_more_rows h.0 h.1 (with_rows reading []),
+)
+
+-- The rows of one source more, if they are wanted.
+pub rows_one : (wanted : Bool) (ss : List SourceValue) (old new : List (List ExampleRowValue)) (s : SourceValue) → AreRowsIf wanted ss old → AreRowsReadOnto wanted s old new → AreRowsIf wanted (ss ++ s ∷ []) new
+rows_one true ss old new s rows onto = subst (AreRowsOf (ss ++ s ∷ [])) (sym onto.added) (rows_of_one ss old s onto.reading rows onto.reads)
+rows_one false ss old new s rows onto = onto.added ∙ rows
+
+-- A source without a feature adds no list.
+pub no_rows_more : (wanted : Bool) (rows : List (List ExampleRowValue)) → rows ≡ rows_onto wanted None rows
+no_rows_more true rows = sym (append-nil rows)
+no_rows_more false rows = refl
 
 -- The fault of a feature's cases, named as it is.
 pub too_many_at : (input : ℕ) (f : FeatureValue) (fault : SelectFault) → SaysExpansion f fault → SaysTooMany input f (select_fault_at input fault)

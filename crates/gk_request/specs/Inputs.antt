@@ -1,5 +1,5 @@
 -- The inputs that a request spells.
-use Rattle.std.specs.Prelude.{◌≡◌, ◌≤◌, ℕ, Bool, List, [], ◌∷◌, ◌++◌, map, take, slice_get, Option, Some, None}
+use Rattle.std.specs.Prelude.{◌≡◌, ◌≤◌, ℕ, Bool, true, false, List, [], ◌∷◌, ◌++◌, map, take, slice_get, Option, Some, None}
 use Rattle.std.specs.List.{AllByRecursion}
 use Rattle.gk_gherkin.specs.declared.read_fault.ReadFault.{ReadFault}
 use Rattle.gk_gherkin.specs.Lines.{lines_of, IsText}
@@ -9,6 +9,7 @@ use Rattle.gk_gherkin.specs.Hooks.{HookValue, hooks_value}
 use Rattle.gk_gherkin.specs.HooksGrammar.{ReadsHooks}
 use Rattle.gk_gherkin.specs.ReadFault.{FaultSays, FeatureFault}
 use Rattle.gk_select.specs.Case.{CaseValue}
+use Rattle.gk_select.specs.ExampleRows.{ExampleRowValue, outline_rows}
 use Rattle.gk_select.specs.Expansion.{cases, step_count, step_limit, HasTooManySteps, IsExpandable}
 use Rattle.gk_select.specs.TagGrammar.{Expression}
 use Rattle.gk_select.specs.TagRules.{ReadsTags, tag_rule_value}
@@ -78,6 +79,23 @@ AreRead chooses [] features = features ≡ []
 AreRead chooses (s ∷ ss) features =
     (reading : Option FeatureValue) × (others : List ChosenValue)
     × IsText s.bytes × Reads (lines_of s.bytes) reading × IsWithinLimit reading × AreRead chooses ss others × (features ≡ with_reading chooses s.name reading others)
+
+-- The rows of the outlines of a source's feature, before those of others; a source without a feature adds no list.
+abbrev pub with_rows : Option FeatureValue → List (List ExampleRowValue) → List (List ExampleRowValue)
+with_rows None others = others
+with_rows (Some f) others = outline_rows f ∷ others
+
+-- For each feature that the sources read as, in order, there is a list with the rows of its outlines.
+abbrev pub AreRowsOf : List SourceValue → List (List ExampleRowValue) → Type 0
+AreRowsOf [] rows = rows ≡ []
+AreRowsOf (s ∷ ss) rows =
+    (reading : Option FeatureValue) × (others : List (List ExampleRowValue))
+    × Reads (lines_of s.bytes) reading × AreRowsOf ss others × (rows ≡ with_rows reading others)
+
+-- The rows of the sources' outlines if they are wanted; otherwise there is no list.
+abbrev pub AreRowsIf : Bool → List SourceValue → List (List ExampleRowValue) → Type 0
+AreRowsIf true sources rows = AreRowsOf sources rows
+AreRowsIf false sources rows = rows ≡ []
 
 -- The request, apart from its sources, reads as these rules of tags, this library and these hooks.
 pub record IsReadBefore (r : Request) (before : ReadBefore) : Type 0 where
@@ -159,3 +177,14 @@ pub record IsReadOnto (chooses : CaseValue → Bool) (source : SourceValue) (old
   pub limit : IsWithinLimit reading
   pub added : map chosen_value new ≡ map chosen_value old ++ with_reading chooses source.name reading []
   pub formed : AllByRecursion IsFormed old → AllByRecursion IsFormed new
+
+-- Rows of outlines after one more source, whose feature has these if they are wanted.
+abbrev pub rows_onto : Bool → Option FeatureValue → List (List ExampleRowValue) → List (List ExampleRowValue)
+rows_onto true reading rows = rows ++ with_rows reading []
+rows_onto false reading rows = rows
+
+-- A source reads, and the rows of its outlines, if they are wanted, are added after those of the others.
+pub record AreRowsReadOnto (wanted : Bool) (source : SourceValue) (old new : List (List ExampleRowValue)) : Type 0 where
+  pub reading : Option FeatureValue
+  pub reads : Reads (lines_of source.bytes) reading
+  pub added : new ≡ rows_onto wanted reading old

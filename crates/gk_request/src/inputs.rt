@@ -6,6 +6,7 @@ ghost use Rattle.gk_gherkin.specs.Feature.{feature_value, rule_value, texts};
 ghost use Rattle.gk_gherkin.specs.Hooks.{hooks_value};
 ghost use Rattle.gk_select.specs.Case.{case_value};
 ghost use Rattle.gk_select.specs.Choice.{chosen_by, is_chosen};
+ghost use Rattle.gk_select.specs.ExampleRows.{row_lists};
 ghost use Rattle.gk_select.specs.Expansion.{IsExpandable};
 ghost use Rattle.gk_select.specs.TagRules.{tag_rule_value};
 ghost use Rattle.gk_steps.specs.Finding.{library_value};
@@ -13,7 +14,7 @@ ghost use Rattle.gk_run.specs.Chosen.{chosen_value, head_value, IsFormed};
 ghost use Rattle.gk_request.specs.Source.{names_of, without_bytes, GaveUpInTurn};
 ghost use Rattle.gk_request.specs.Request.{suite_value, request_of_files, HaveSameNames, AreGivenUp, AreGivenUpInTurn, asked_of};
 ghost use Rattle.gk_request.specs.Inputs as spec;
-ghost use Rattle.gk_request.specs.Inputs.{InputsAreUnique, IsBadText, IsReadAs, AreRules, IsLibrary, AreHooks, AreRead, AreInputs, IsReading, IsReadBefore, IsReadOnto, inputs_value};
+ghost use Rattle.gk_request.specs.Inputs.{InputsAreUnique, IsBadText, IsReadAs, AreRules, IsLibrary, AreHooks, AreRead, AreRowsIf, AreRowsReadOnto, AreInputs, IsReading, IsReadBefore, IsReadOnto, inputs_value};
 ghost use Rattle.gk_request.specs.RunFault as faults;
 ghost use Rattle.gk_request.specs.RunFault.{IsUnread, IsUnreadBefore, SaysTags, SaysLibrary, SaysHooks, SaysExpansion, SaysSourceAt, SaysSources, SaysTooMany};
 
@@ -26,8 +27,8 @@ use gk_gherkin::{
 };
 use gk_run::{Chosen, RuleHead};
 use gk_select::{
-    Case, Choice, SelectFault, TagRule, cases_fall_into_rules, copied_texts, has_room, into_cases,
-    read_features_are_expandable, read_tags, texts_have_one_rule,
+    Case, Choice, ExampleRow, SelectFault, TagRule, cases_fall_into_rules, copied_texts, has_room,
+    into_cases, outline_rows, read_features_are_expandable, read_tags, texts_have_one_rule,
 };
 use gk_steps::{Library, LibraryFault, default_library, library_reading_is_unique, read_library};
 use std::alloc::{AllocError, Global};
@@ -38,6 +39,9 @@ pub struct ReadInputs {
     pub library: Library,
     pub hooks: HookFile,
     pub features: Vec<Chosen>,
+    /// The rows of each feature's outlines, in the order of `features`. If they weren't asked for, there is no
+    /// list.
+    pub rows: Vec<Vec<ExampleRow>>,
 }
 
 fn read_rules(alloc: Global, tags: &[String]) -> Result<Vec<TagRule>, SelectFault>
@@ -321,39 +325,72 @@ fn add_feature(
     Ok(())
 }
 
-// Reads the source at a place, and adds its feature, if it has one, after those of other sources. The source drops its
-// bytes before the cases of its feature are listed.
+// Adds the rows of a feature's outlines after those of other features, if they are wanted.
+fn add_rows(
+    alloc: Global,
+    with_rows: bool,
+    feature: &Feature,
+    rows: &mut Vec<Vec<ExampleRow>>,
+) -> Result<(), AllocError>
+    ensures { OnOk result (row_lists rows.new.items ≡ spec.rows_onto
+        with_rows (Some (feature_value feature.now)) (row_lists rows.old.items)) }
+{
+    if with_rows {
+        rows.push(outline_rows(alloc, feature)?)?;
+    }
+    Ok(())
+}
+
+// Reads the source at a place, and adds its feature, if it has one, after those of other sources, and the rows of its
+// outlines, if they are wanted. The source drops its bytes before its rows and the cases of its feature are listed.
 fn read_onto<S: FeatureSource>(
     alloc: Global,
     choice: &Choice,
+    with_rows: bool,
     input: usize,
     source: &mut S,
     features: &mut Vec<Chosen>,
+    rows: &mut Vec<Vec<ExampleRow>>,
 ) -> Result<(), RunFault>
     ensures given_up { S.value source.new ≡ without_bytes (S.value source.old) }
     ensures ok { OnOk result (IsReadOnto (chosen_by choice.now) (S.value source.old)
         features.old.items features.new.items) }
+    ensures rows { OnOk result (AreRowsReadOnto with_rows (S.value source.old)
+        (row_lists rows.old.items) (row_lists rows.new.items)) }
     ensures fault { IfErr result (λ e. SaysSourceAt input (S.value source.old).bytes e) }
 {
     let read = feature_at(alloc, input, source.bytes());
     source.give_up(alloc);
     let name = source.name();
     match read {
-        Ok(Some(feature)) => add_feature(alloc, choice, input, name, feature, features),
+        Ok(Some(feature)) => {
+            add_rows(alloc, with_rows, &feature, rows)?;
+            add_feature(alloc, choice, input, name, feature, features)
+        }
         Ok(None) => Ok(()),
         Err(fault) => Err(fault),
     }
+}
+
+// What is read of sources: their features, and the rows of each feature's outlines, if they are wanted.
+#[derive(Drop)]
+struct ReadSources {
+    features: Vec<Chosen>,
+    rows: Vec<Vec<ExampleRow>>,
 }
 
 // Reads sources. Each drops its bytes before the next one is read.
 fn read_sources<S: FeatureSource>(
     alloc: Global,
     choice: &Choice,
+    with_rows: bool,
     sources: &mut [S],
-) -> Result<Vec<Chosen>, RunFault>
-    ensures read { IfOk result (λ features. AreRead (chosen_by choice.now)
-        (map S.value sources.old) (map chosen_value features.items)) }
-    ensures formed { IfOk result (λ features. AllByRecursion IsFormed features.items) }
+) -> Result<ReadSources, RunFault>
+    ensures read { IfOk result (λ r. AreRead (chosen_by choice.now)
+        (map S.value sources.old) (map chosen_value r.features.items)) }
+    ensures rows { IfOk result (λ r. AreRowsIf with_rows
+        (map S.value sources.old) (row_lists r.rows.items)) }
+    ensures formed { IfOk result (λ r. AllByRecursion IsFormed r.features.items) }
     ensures fault { IfErr result (λ e. SaysSources (chosen_by choice.now)
         (map S.value sources.old) e) }
     ensures names { names_of (map S.value sources.new) ≡ names_of (map S.value sources.old) }
@@ -362,12 +399,21 @@ fn read_sources<S: FeatureSource>(
         ≡ map without_bytes (map S.value sources.old)) }
 {
     let mut features = Vec::new(alloc);
+    let mut rows = Vec::new(alloc);
     for (input, source) in sources.iter_mut().enumerate() {
-        if let Err(fault) = read_onto(alloc, choice, input, source, &mut features) {
+        if let Err(fault) = read_onto(
+            alloc,
+            choice,
+            with_rows,
+            input,
+            source,
+            &mut features,
+            &mut rows,
+        ) {
             return Err(fault);
         }
     }
-    Ok(features)
+    Ok(ReadSources { features, rows })
 }
 
 /// The inputs that are read before the sources.
@@ -411,10 +457,12 @@ pub fn read_before(
 }
 
 /// Reads the request: first the texts of tags, then the library, then the hooks, then each source. An error names the
-/// first that doesn't read. Each source drops its bytes before the next one is read, and the names stay.
+/// first that doesn't read. Each source drops its bytes before the next one is read, and the names stay. The rows of
+/// outlines are copied only if `with_rows` asks for them.
 pub fn read_inputs<S: FeatureSource>(
     alloc: Global,
     options: &Options,
+    with_rows: bool,
     files: &mut SuiteFiles<S>,
 ) -> Result<ReadInputs, RunFault>
     ensures names { HaveSameNames (suite_value S.value files.old) (suite_value S.value files.new) }
@@ -424,6 +472,8 @@ pub fn read_inputs<S: FeatureSource>(
         (suite_value S.value files.old) (suite_value S.value files.new)) }
     ensures read { IfOk result (λ inputs. AreInputs
         (request_of_files options.now (suite_value S.value files.old)) (inputs_value inputs)) }
+    ensures rows { let files = suite_value S.value files.old in IfOk result (λ inputs.
+        AreRowsIf with_rows files.sources (row_lists inputs.rows.items)) }
     ensures formed { IfOk result (λ inputs. AllByRecursion IsFormed inputs.features.items) }
     ensures fault { IfErr result (λ e. IsUnread
         (request_of_files options.now (suite_value S.value files.old)) e) }
@@ -435,11 +485,12 @@ pub fn read_inputs<S: FeatureSource>(
         Err(fault) => return Err(fault),
     };
     let choice = choice_by(alloc, before.rules, options.lines.as_slice())?;
-    match read_sources(alloc, &choice, files.sources.as_mut_slice()) {
-        Ok(features) => Ok(ReadInputs {
+    match read_sources(alloc, &choice, with_rows, files.sources.as_mut_slice()) {
+        Ok(read) => Ok(ReadInputs {
             library: before.library,
             hooks: before.hooks,
-            features,
+            features: read.features,
+            rows: read.rows,
         }),
         Err(fault) => Err(fault),
     }

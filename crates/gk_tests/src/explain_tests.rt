@@ -1,9 +1,11 @@
 ghost use Rattle.gk_run.specs.Chosen.{IsFormed};
 
+use crate::run_tests::feature_of;
 use crate::suite_tests::chosen;
 use gk_explain::{Explainer, push_entry, push_place, push_shown, type_word};
 use gk_gherkin::{HookFile, StepType, read_hooks};
 use gk_run::{Chosen, FeatureResult, NoRoom, Suite};
+use gk_select::{ExampleRow, outline_rows};
 use gk_steps::{Library, default_library, read_library};
 use gk_world::Sandbox;
 use std::alloc::{AllocError, Global};
@@ -117,16 +119,17 @@ fn joined(
     Ok(out)
 }
 
-// Explains a run of a feature.
+// Explains a run of a feature whose outlines have these rows.
 fn explained(
     alloc: Global,
     library: &Library,
     hooks: &HookFile,
+    rows: &[Vec<ExampleRow>],
     chosen: Chosen,
 ) -> Result<String, AllocError>
     requires { IsFormed chosen }
 {
-    let mut explainer = Explainer::new(alloc, library, "h.hooks");
+    let mut explainer = Explainer::new(alloc, library, "h.hooks", rows);
     let ready = ready(alloc, library, hooks, chosen, &mut explainer);
     joined(alloc, ready, failures(explainer))
 }
@@ -136,7 +139,35 @@ fn runs_are_explained(rt: HostRuntime) -> Result<(), Fail> {
     let library = default_library(rt.alloc())?;
     let hooks = read_hooks(rt.alloc(), HOOKS.as_bytes())?;
     let chosen = chosen(rt.alloc(), BOXES)?;
-    let explained = explained(rt.alloc(), &library, &hooks, chosen)?;
+    let explained = explained(rt.alloc(), &library, &hooks, &[], chosen)?;
     assert_eq!(rt; explained.as_str(), EXPLAINED);
+    Ok(())
+}
+
+// A scenario and an outline that fail. Its rows are on lines 8 and 9.
+const ROWS: &str =
+    "Feature: Rows\n  Scenario: Plain\n    Given it fails\n  Scenario Outline: Row\n    Given it fails\n    Examples:\n      | a | b\\nc |\n      | 1 | x   |\n      | 2 |     |\n";
+
+// What is ready once the feature has ended and once the run has, and the list of what failed, each with a line below
+// it.
+const NAMED_ROWS: &str =
+    "boxes.feature:2: Scenario: Plain ... failed\n  boxes.feature:3: Given it fails ... failed: fail step\n\nboxes.feature:8: Scenario Outline: Row -- @1.1 ... failed\n  row 1: a=1, b\\nc=x\n  boxes.feature:5: Given it fails ... failed: fail step\n\nboxes.feature:9: Scenario Outline: Row -- @1.2 ... failed\n  row 2: a=2, b\\nc=\n  boxes.feature:5: Given it fails ... failed: fail step\n\n--\n--\nboxes.feature:2: Scenario: Plain\nboxes.feature:8: Scenario Outline: Row -- @1.1\nboxes.feature:9: Scenario Outline: Row -- @1.2\n\n--\n";
+
+// Returns the rows of a text's feature, as the only feature of a run.
+fn rows_of(alloc: Global, text: &str) -> Result<Vec<Vec<ExampleRow>>, Fail> {
+    let feature = feature_of(alloc, text)?;
+    let mut rows = Vec::new(alloc);
+    rows.push(outline_rows(alloc, &feature)?)?;
+    Ok(rows)
+}
+
+#[test]
+fn rows_are_named(rt: HostRuntime) -> Result<(), Fail> {
+    let library = default_library(rt.alloc())?;
+    let hooks = read_hooks(rt.alloc(), b"")?;
+    let rows = rows_of(rt.alloc(), ROWS)?;
+    let chosen = chosen(rt.alloc(), ROWS)?;
+    let explained = explained(rt.alloc(), &library, &hooks, &rows, chosen)?;
+    assert_eq!(rt; explained.as_str(), NAMED_ROWS);
     Ok(())
 }

@@ -1,6 +1,8 @@
+use crate::run_tests::feature_of;
 use gk_gherkin::read_feature;
 use gk_select::{
-    TagRule, expand, has_room, into_cases, read_features_are_expandable, read_tags, tag_stop,
+    TagRule, expand, has_room, into_cases, outline_rows, read_features_are_expandable, read_tags,
+    tag_stop,
 };
 use std::alloc::{AllocError, Global};
 use std::test::Fail;
@@ -36,6 +38,22 @@ fn features_are_expanded(rt: HostRuntime) -> Result<(), Fail> {
     let (kept, moved) = shown_cases(rt.alloc(), FEATURE)?;
     assert_eq!(rt; kept.as_str(), CASES);
     assert_eq!(rt; moved.as_str(), CASES);
+    Ok(())
+}
+
+// The rows of a text's feature.
+fn shown_rows(alloc: Global, text: &str) -> Result<String, Fail> {
+    let feature = feature_of(alloc, text)?;
+    let rows = outline_rows(alloc, &feature)?;
+    Ok(format!(in alloc; "{rows:?}")?)
+}
+
+#[test]
+fn rows_are_listed(rt: HostRuntime) -> Result<(), Fail> {
+    assert_eq!(rt;
+        shown_rows(rt.alloc(), FEATURE)?.as_str(),
+        "[ExampleRow { line: 14, number: 1, cells: [ExampleCell { header: \"a\", text: \"1\" }] }]"
+    );
     Ok(())
 }
 

@@ -1,5 +1,6 @@
 use Rattle.gk_run.specs.OpenSection.{run_of}
 use Rattle.std.proofs.Common.{map}
+use Rattle.gk_select.specs.ExampleRows.{row_lists}
 use Rattle.gk_run.specs.Chosen.{chosen_value}
 use Rattle.gk_cli.specs.Writing.{device_of}
 use Rattle.gk_request.proofs.ResultLemmas.{if_ok, if_err}
@@ -8,11 +9,12 @@ use Rattle.gk_cli.proofs.explained_run.write_explanation.Goals as goal
 
 pub returns-clause-ok : goal.returns-clause-ok
 returns-clause-ok g c =
+    let silent = rw (c.as_slice.ensures.value) at c.new-explainer.ensures.said in
     if_ok c.tell_run.result (λ status told. record {
       results = told.results;
       judged = told.judged;
       first = c.new-explainer.result;
-      silent = c.new-explainer.ensures.said;
+      silent = silent;
       text = told.text;
       explains = told.tells_all;
       written = told.written;
@@ -21,8 +23,9 @@ returns-clause-ok g c =
 
 pub returns-clause-err : goal.returns-clause-err
 returns-clause-err g c =
+    let silent = rw (c.as_slice.ensures.value) at c.new-explainer.ensures.said in
     let run = run_of c.args.inputs.library c.args.inputs.hooks c.args.stop in
     let features = map chosen_value c.args.inputs.features.items in
     let old = device_of g.W.Write.contents c.args.out.now in
     let new = device_of g.W.Write.contents c.tell_run.new.out in
-    if_err c.tell_run.result (λ fault told. told_up_to run c.args.hooks.now c.args.sandbox.now.now features c.new-explainer.result old new fault c.new-explainer.ensures.said told) c.tell_run.ensures.err
+    if_err c.tell_run.result (λ fault told. told_up_to run c.args.hooks.now (row_lists c.args.inputs.rows.items) c.args.sandbox.now.now features c.new-explainer.result old new fault silent told) c.tell_run.ensures.err

@@ -1,5 +1,6 @@
 use Rattle.std.proofs.Common.{◌≡◌, ◌∙◌, ap}
 use Rattle.gk_cli.specs.ExplainedSuite.{ExplainedInPart}
+use Rattle.gk_select.specs.ExampleRows.{row_lists}
 use Rattle.gk_request.specs.Inputs.{inputs_value}
 use Rattle.gk_request.specs.Request.{name_of, suite_value, request_of_files, hooks_name}
 use Rattle.gk_cli.specs.Writing.{device_of}
@@ -13,7 +14,7 @@ pub returns-in-Ok-clause-explained : goal.returns-in-Ok-clause-explained
 returns-in-Ok-clause-explained g c =
     let named : c.name_of-hooks.result.now ≡ hooks_name (suite_value g.S.FeatureSource.value c.args.files.now) = c.name_of-hooks.ensures ∙ ap name_of c.read_inputs.ensures.names.hooks in
     let done = rw (named) at c.write_explanation.ensures.ok in
-    if_ok c.write_explanation.result (λ status said. (inputs_value c.in-Ok.inputs, c.in-Ok.ensures.read, said)) done
+    if_ok c.write_explanation.result (λ status said. (inputs_value c.in-Ok.inputs, row_lists c.in-Ok.inputs.rows.items, (c.in-Ok.ensures.read, c.in-Ok.ensures.rows), said)) done
 
 pub returns-in-Ok-clause-fault : goal.returns-in-Ok-clause-fault
 returns-in-Ok-clause-fault g c =
@@ -23,7 +24,7 @@ returns-in-Ok-clause-fault g c =
     let new = device_of g.W.Write.contents c.write_explanation.new.out in
     let named : c.name_of-hooks.result.now ≡ hooks = c.name_of-hooks.ensures ∙ ap name_of c.read_inputs.ensures.names.hooks in
     let done = rw (named) at c.write_explanation.ensures.err in
-    if_err c.write_explanation.result (λ fault part. cut_says (ExplainedInPart request hooks c.args.sandbox.now.now old new) request old new fault (why_stopped _ _ _ _ old new fault part) (inputs_value c.in-Ok.inputs, c.in-Ok.ensures.read, part)) done
+    if_err c.write_explanation.result (λ fault part. cut_says (ExplainedInPart request hooks c.args.sandbox.now.now old new) request old new fault (why_stopped _ _ _ _ _ old new fault part) (inputs_value c.in-Ok.inputs, row_lists c.in-Ok.inputs.rows.items, (c.in-Ok.ensures.read, c.in-Ok.ensures.rows), part)) done
 
 pub returns-in-Err-clause-fault : goal.returns-in-Err-clause-fault
 returns-in-Err-clause-fault g c =
@@ -42,4 +43,4 @@ pub returns-in-Ok-clause-used : goal.returns-in-Ok-clause-used
 returns-in-Ok-clause-used g c =
     let old = device_of g.W.Write.contents c.args.out.now in
     let new = device_of g.W.Write.contents c.write_explanation.new.out in
-    used_by_run c.write_explanation.result old new (λ status said. (said.text, said.written)) (λ fault part. unflushed_so _ _ _ _ old new fault part) c.write_explanation.ensures.ok c.write_explanation.ensures.err
+    used_by_run c.write_explanation.result old new (λ status said. (said.text, said.written)) (λ fault part. unflushed_so _ _ _ _ _ old new fault part) c.write_explanation.ensures.ok c.write_explanation.ensures.err

@@ -26,7 +26,7 @@ returns-in-Ok-read_sources-clause-read g c =
       tags = before.tags;
       library = before.library;
       hooks = before.hooks;
-      features = subst (λ f. AreRead f request.sources (map chosen_value c.in-Ok-read_sources.features.items)) choice read;
+      features = subst (λ f. AreRead f request.sources (map chosen_value c.in-Ok-read_sources.read.features.items)) choice read;
     }
 
 pub returns-in-Err-read_sources-clause-fault : goal.returns-in-Err-read_sources-clause-fault

@@ -1,10 +1,11 @@
 use Rattle.std.proofs.Common.{◌≡◌, ◌∙◌, ◌+◌, ◌++◌, ◌∷◌, [], ap, map, take, get_or, subst, sym, refl, arith}
 use Rattle.std.proofs.lemmas.List.{length-map, take_all}
 use Rattle.gk_select.specs.Choice.{chosen_by}
+use Rattle.gk_select.specs.ExampleRows.{row_lists}
 use Rattle.gk_run.specs.Chosen.{chosen_value}
 use Rattle.gk_request.specs.Source.{SourceValue, names_of, without_bytes}
-use Rattle.gk_request.specs.Inputs.{AreRead}
-use Rattle.gk_request.proofs.InputsLemmas.{read_one, take_one, first_unread}
+use Rattle.gk_request.specs.Inputs.{AreRead, AreRowsIf}
+use Rattle.gk_request.proofs.InputsLemmas.{read_one, rows_one, take_one, first_unread}
 use Rattle.gk_request.proofs.TakenSourcesLemmas.{all_changed, changed_first, kept, next_place, one_more_changed}
 use Rattle.gk_request.proofs.inputs.read_sources.Goals as goal
 
@@ -21,6 +22,7 @@ returns-in-Err g c =
       in_turn = (input + 1, after ∙ changed_first without_bytes (input + 1) sources);
       given_up = tt;
       read = tt;
+      rows = tt;
       formed = tt;
       fault = first_unread (chosen_by c.args.choice.now) sources (map chosen_value c.loop-input.features.items) input source c.in-Err.fault c.loop-input.invariant.read place c.in-Err.ensures.fault;
     }
@@ -40,6 +42,9 @@ loop-input-preserved g c =
           subst (λ ss. AreRead chooses ss (map chosen_value c.read_onto.new.features.items)) (sym (take_one sources input source place))
           (subst (AreRead chooses (take input sources ++ source ∷ [])) (sym onto.added)
           (read_one chooses (take input sources) (map chosen_value c.loop-input.features.items) source onto.reading c.loop-input.invariant.read onto.text onto.reads onto.limit));
+      rows =
+          subst (λ ss. AreRowsIf c.args.with_rows ss (row_lists c.read_onto.new.rows.items)) (sym (take_one sources input source place))
+          (rows_one c.args.with_rows (take input sources) (row_lists c.loop-input.rows.items) (row_lists c.read_onto.new.rows.items) source c.loop-input.invariant.rows c.in_default.ensures.rows);
       formed = onto.formed c.loop-input.invariant.formed;
     }
 
@@ -49,6 +54,13 @@ returns-clause-read g c =
     let all : take c.loop-input.input sources ≡ sources =
     take_all c.loop-input.input sources (omega (arith, length-map c.args.sources.now g.S.FeatureSource.value, c.loop-input.auto.sources, c.loop-input.auto.input-end, c.loop-input-test.false)) in
     subst (λ ss. AreRead (chosen_by c.args.choice.now) ss (map chosen_value c.loop-input.features.items)) all c.loop-input.invariant.read
+
+pub returns-clause-rows : goal.returns-clause-rows
+returns-clause-rows g c =
+    let sources = map g.S.FeatureSource.value c.args.sources.now in
+    let all : take c.loop-input.input sources ≡ sources =
+    take_all c.loop-input.input sources (omega (arith, length-map c.args.sources.now g.S.FeatureSource.value, c.loop-input.auto.sources, c.loop-input.auto.input-end, c.loop-input-test.false)) in
+    subst (λ ss. AreRowsIf c.args.with_rows ss (row_lists c.loop-input.rows.items)) all c.loop-input.invariant.rows
 
 pub returns-clause-names : goal.returns-clause-names
 returns-clause-names g c = ap names_of c.loop-input.invariant.left ∙ kept without_bytes (λ (s : SourceValue). s.name) (λ s. refl) c.loop-input.input (map g.S.FeatureSource.value c.args.sources.now)

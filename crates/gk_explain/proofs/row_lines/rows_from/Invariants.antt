@@ -1,0 +1,7 @@
+use Rattle.std.proofs.Common.{◌≡◌, map, drop}
+use Rattle.gk_select.specs.ExampleRows.{example_row_value}
+use Rattle.gk_explain.specs.RowLines.{rows_from}
+use Rattle.gk_explain.proofs.row_lines.rows_from.Given as goal
+
+abbrev pub invariant-loop-i : goal.invariant-loop-i
+invariant-loop-i l = rows_from l.line (map example_row_value (drop l.i l.rows)) ≡ rows_from l.line (map example_row_value l.rows)

@@ -1,0 +1,89 @@
+//! The line that names a row of an outline, and the rows that are still to come.
+ghost use Rattle.std.specs.Prelude.{◌≡◌, map};
+ghost use Rattle.gk_select.specs.ExampleRows.{cell_value, example_row_value};
+ghost use Rattle.gk_report.specs.ReportTexts.{Pushes};
+ghost use Rattle.gk_explain.specs.RowLines as spec;
+ghost use Rattle.gk_explain.specs.RowLines.{borrowed_row, RowsAreFound};
+
+use crate::shown::push_escaped;
+use gk_select::{ExampleCell, ExampleRow};
+use std::alloc::AllocError;
+
+/// Returns the rows from the first whose line is at least this one on. Doesn't allocate.
+pub fn rows_from(rows: &[ExampleRow], line: u32) -> &[ExampleRow]
+    ensures { map example_row_value result.now
+        ≡ spec.rows_from line (map example_row_value rows.now) }
+{
+    for (i, row) in rows.iter().enumerate() {
+        if row.line >= line {
+            let (_, rest) = rows.split_at(i);
+            return rest;
+        }
+    }
+    &[]
+}
+
+/// Returns the first row if it is at this line. Doesn't allocate.
+pub fn row_at(rows: &[ExampleRow], line: u32) -> Option<&ExampleRow>
+    ensures { borrowed_row result
+        ≡ spec.row_at line (map example_row_value rows.now) }
+{
+    match rows.split_first() {
+        Some((row, _)) if row.line == line => Some(row),
+        _ => None,
+    }
+}
+
+/// Of rows whose lines rise, the one at a line is found, if there is one, even if rows were dropped for an earlier
+/// line.
+pub fn rows_are_found()
+    ensures { RowsAreFound }
+{}
+
+// Returns what is between the cell with this index and the text before it.
+fn separator(index: usize) -> &'static str
+    ensures { result.now ≡ spec.separator index }
+{
+    if index == 0 { ": " } else { ", " }
+}
+
+// Appends the cell with this index after its header.
+fn push_cell(out: &mut String, index: usize, cell: &ExampleCell) -> Result<(), AllocError>
+    ensures { Pushes out.old (spec.cell_text (index, cell_value cell.now)) result out.new }
+{
+    out.push_str(separator(index))?;
+    push_escaped(out, cell.header.as_str())?;
+    out.push_str("=")?;
+    push_escaped(out, cell.text.as_str())
+}
+
+// Appends cells, each after its header.
+fn push_cells(out: &mut String, cells: &[ExampleCell]) -> Result<(), AllocError>
+    ensures { Pushes out.old (spec.cells_text (map cell_value cells.now)) result out.new }
+{
+    for (index, cell) in cells.iter().enumerate() {
+        push_cell(out, index, cell)?;
+    }
+    Ok(())
+}
+
+// Appends the line that names a row.
+#[tactic(auto, unfolding(crate::specs::RowLines::row_line))]
+fn push_row_line(out: &mut String, row: &ExampleRow) -> Result<(), AllocError>
+    ensures { Pushes out.old (spec.row_line (example_row_value row.now)) result out.new }
+{
+    write!(out, "  row {}", row.number)?;
+    push_cells(out, &row.cells)?;
+    out.push_str("\n")
+}
+
+/// Appends the line that names a row of an outline, if there is one. An error comes only if a growth was
+/// refused; a part of the line may have been appended then.
+pub fn push_named_row(out: &mut String, row: Option<&ExampleRow>) -> Result<(), AllocError>
+    ensures { Pushes out.old (spec.named_row (borrowed_row row.entry)) result out.new }
+{
+    match row {
+        Some(row) => push_row_line(out, row),
+        None => Ok(()),
+    }
+}
