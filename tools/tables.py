@@ -25,18 +25,6 @@ ACTION_TABLE, DEFAULT_FILE = "crates/gk_steps/src/action.rt", "crates/gk_steps/s
 
 # ---- texts that the sources lack
 
-# What the man page says of an option below its help, unless its row in the source has a comment.
-LONG = {
-    "tags": "A comma means or, and ~ means not.",
-    "line": "N is the line of a scenario's heading, or of a row of an outline's examples.",
-    "env": "Steps see no variable of the real environment.",
-    "file": "PATH is read before the run, and never written. Its text is UTF-8 and has at most 1048576 bytes.",
-    "explain": "Failed hooks and cleanups are explained, too.",
-    "lint": "Each finding is a line NAME:LINE: TEXT. Tags of --tags that appear in no file, and each --line that chooses "
-            "nothing, are listed, too. If the lines of a file can't be read, standard error has the first fault of each such "
-            "file, the faulty line and a fix.",
-    "no-steps": "No step is looked up, so neither a library nor a hooks file is read. What is found goes by the grammar alone.",
-}
 # The page of the guide on an option.
 PAGES = {
     "tags": "choosing.md#tags", "line": "choosing.md#lines", "library": "own_steps.md", "hooks": "hooks.md",
@@ -48,41 +36,13 @@ PAGES = {
 LABELS = {"stop": "Stop at the first failure", "no-skipped": "Leave out skipped scenarios"}
 # The tables of the guide's page on steps, each with its first action.
 STEP_TABLES = {"write_file": "Files", "set_env": "Variables", "set_value": "Values and numbers", "at_cleanup": "Others"}
-# What the step of an action does, and its reasons for failing.
-DOES = {
-    "write_file": ("writes the file, replacing an old text", "bad name, text too long"),
-    "append_file": ("appends the text", "bad name, absent, text too long"),
-    "remove_file": ("removes the file", "bad name, absent"),
-    "rename_file": ("renames the file, replacing an old `TO`", "absent, bad name (of `TO`)"),
-    "write_files": ("writes a file for each row of a table with the header `name`, `text`",
-                    "no table, bad table, bad name, text too long"),
-    "file_exists": ("checks that it exists", "absent"),
-    "file_absent": ("checks that it doesn't", "present"),
-    "file_is": ("compares the whole text", "absent, differs"),
-    "file_contains": ("looks for the text in the file", "absent, differs"),
-    "set_env": ("sets the variable", "bad name, text too long"),
-    "remove_env": ("removes the variable", "bad name, absent"),
-    "env_is": ("compares the text", "absent, differs"),
-    "env_absent": ("checks that there is none", "present"),
-    "set_value": ("sets the value in the step's layer", "bad name, text too long"),
-    "delete_value": ("deletes it from the step's layer", "bad name, absent, other layer"),
-    "value_is": ("compares the text", "absent, differs"),
-    "value_absent": ("checks that there is none in any layer", "present"),
-    "set_number": ("sets the value to the number", "bad name"),
-    "add_number": ("adds `N`, and sets the sum in the step's layer", "bad name, absent, not a number, out of range"),
-    "number_is": ("compares the number", "absent, not a number, differs"),
-    "at_cleanup": ("registers `STEP` to run as a [cleanup](cleanups.md) when the layer ends", "not allowed here, no such step"),
-    "skip_scenario": ("[skips](cleanups.md) the scenario", "not allowed here"),
-    "pass": ("nothing", ""),
-    "fail": ("fails", "fail step"),
-}
 
 # ---- the tables of the sources
 
 # An option: `takes` is Nothing, Text, Texts or Lines.
 Option = collections.namedtuple("Option", "name takes value heading help long beside_report beside_explain beside_lint beside_no_steps")
 Step = collections.namedtuple("Step", "type text action")
-Action = collections.namedtuple("Action", "name needs uses")
+Action = collections.namedtuple("Action", "name needs uses does reasons")
 
 
 def read(path):
@@ -105,7 +65,7 @@ def options():
         row = dict(re.findall(r"^ *(\w+): (.*?),?\n", re.sub(r":\n\s*", ": ", body), re.M))
         name, value, heading, help_text = (
             json.loads(constants.get(it, it)) for it in (row["name"], row["value_name"], row["heading"], row["help"]))
-        long = " ".join(it.strip(" /") for it in comment.splitlines()) or LONG.get(name, "")
+        long = " ".join(it.strip(" /") for it in comment.splitlines())
         found.append(Option(name, row["takes"].rpartition(":")[2], value, heading, help_text, long,
                             *(row[it] == "true" for it in Option._fields[6:])))
     return found
@@ -128,11 +88,20 @@ def steps():
     return [Step(*entry.split(" ", 1), action) for entry, _, action in entries]
 
 
+def comments():
+    """The comments above the variants of the actions: what each does, and its reasons for failing."""
+    body = re.search(r"^pub enum Action \{\n(.*?)^\}", read(ACTION_TABLE), re.M | re.S)[1]
+    for comment, variant in re.findall(r"((?:^ *///[^\n]*\n)+)^ *(\w+),$", body, re.M):
+        does, _, reasons = " ".join(it.strip(" /") for it in comment.splitlines()).partition(" Reasons: ")
+        yield variant, (does[0].lower() + does[1:].rstrip("."), reasons.rstrip("."))
+
+
 def actions():
-    """The actions, each with the fields of a pattern that it needs, and all that it uses."""
-    rows = re.findall(r'^ *(\w*)row!\("(\w+)", \w+, \w+, \w+(.*)\),$', read(ACTION_TABLE), re.M)
-    fields = {"text_": (["name"], ["name", "text"])}
-    return [Action(name, *fields.get(kind, (literals(rest), literals(rest)))) for kind, name, rest in rows]
+    """The actions: the fields of a pattern that each needs, all that it uses, what it does, and its reasons for failing."""
+    rows = re.findall(r'^ *(\w*)row!\("(\w+)", (\w+), \w+, \w+(.*)\),$', read(ACTION_TABLE), re.M)
+    fields, said = {"text_": (["name"], ["name", "text"])}, dict(comments())
+    return [Action(name, *fields.get(kind, (literals(rest), literals(rest))), *said[variant])
+            for kind, name, variant, rest in rows]
 
 
 def given(option):
@@ -353,8 +322,7 @@ def guide_steps():
     for action in actions():
         if action.name in STEP_TABLES:
             tables.append((STEP_TABLES[action.name], []))
-        does, fails = DOES[action.name]
-        tables[-1][1].append(["<br>".join(code(upper_fields(it)) for it in of_action(action)), does, reasons(fails)])
+        tables[-1][1].append(["<br>".join(code(upper_fields(it)) for it in of_action(action)), action.does, reasons(action.reasons)])
     for number, (heading, rows) in enumerate(tables):
         yield from ["", *table([heading, "Does", "Can fail with"], rows)][number == 0:]
 

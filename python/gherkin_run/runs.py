@@ -250,6 +250,7 @@ def lint(
     # tools/tables.py: lint
     tags: Union[str, Iterable[str], None] = None,
     line: Union[int, Iterable[int], None] = None,
+    env: Optional[Mapping[str, str]] = None,
     no_steps: bool = False,
     # tools/tables.py: end
 ) -> Findings:

@@ -495,7 +495,7 @@ says_found arguments old new m format r is whole after from parsed matches kinds
           subst (All (λ n. 1 ≤ n)) (sym says.options.lines) (positive _ lines),
         )
     go (Err (Usage e)) says = absurd says
-    go (Err Env) says = (faultless, subst (λ x. SaysMatches x (Err Env)) same says)
+    go (Err (Env mode value)) says = (faultless, subst (λ x. SaysMatches x (Err (Env mode value))) same says)
     go (Err File) says = (faultless, subst (λ x. SaysMatches x (Err File)) same says)
     go (Err Memory) says = tt
 
@@ -526,6 +526,6 @@ says_fault arguments old e (Err (Usage f)) is kinds by =
       | inl memory ↦ absurd (by.1 memory)
       | inr among ↦ stays_among _ _ _ (subst (λ (x : Error). IsAmong (kind_of x) (fault_of command arguments)) (sym by.0) among)
     ]
-says_fault arguments old e (Err Env) is kinds by = absurd by
+says_fault arguments old e (Err (Env mode value)) is kinds by = absurd by
 says_fault arguments old e (Err File) is kinds by = absurd by
 says_fault arguments old e (Err Memory) is kinds by = tt

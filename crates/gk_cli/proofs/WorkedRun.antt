@@ -1,16 +1,16 @@
 -- Whole runs by computation: from the bytes of the files to the report's bytes and the status.
-use Rattle.std.specs.Prelude.{Option, ◌≡◌, ◌≢◌, ⊤, ℕ, Bool, true, false, cond, not, List, [], ◌∷◌, ◌++◌, slice_index, filter, Some, None, codes}
+use Rattle.std.specs.Prelude.{Option, ◌≡◌, ◌≢◌, ⊤, ℕ, Bool, true, false, cond, List, [], ◌∷◌, ◌++◌, Some, None, codes}
 use Rattle.std.specs.Io.KnownBytes.{Appends}
 use Rattle.std.specs.Fmt.{digits}
 use Rattle.std.specs.FinMap.{get-empty}
 use Rattle.std.specs.Str.{chars, is_utf8}
 use lib.Utf8
-use Rattle.std.proofs.Common.{refl, ap, sym, subst, ◌∙◌, arith, inl}
+use Rattle.std.proofs.Common.{refl, ap, subst, ◌∙◌, arith, inl}
 use Rattle.std.proofs.Math.Path.{fun_ext}
 use Rattle.std.proofs.lemmas.Str.{IsUtf8-from_is_utf8}
 use Rattle.gk_gherkin.specs.declared.feature.StepType.TheVariants.{Given, When, Then}
 use Rattle.gk_gherkin.specs.declared.hooks.HookKind.TheVariants.{BeforeScenario, AfterAll}
-use Rattle.gk_gherkin.specs.Lines.{Lines, LineValue, line_at, lines_of}
+use Rattle.gk_gherkin.specs.Lines.{lines_of}
 use Rattle.gk_gherkin.specs.Feature.{Empty, Text, StepValue, FeatureValue}
 use Rattle.gk_gherkin.specs.Hooks.{HookValue}
 use Rattle.gk_gherkin.specs.Class.{class, class_of, class_of_words, heading_keyword, heading_name, step_keyword, step_text}
@@ -34,10 +34,10 @@ use Rattle.gk_steps.specs.declared.action.Action.TheVariants as actions
 use Rattle.gk_steps.specs.declared.pattern.FieldKind.TheVariants as kinds
 use Rattle.gk_steps.specs.Pattern.{Literal, FieldPiece}
 use Rattle.gk_steps.specs.Matching.{match_of}
-use Rattle.gk_steps.specs.Action.{action_row, row_of}
 use Rattle.gk_steps.specs.Finding.{EntryValue, LibraryValue, found}
-use Rattle.gk_steps.specs.LibraryFile.{is_ignored, type_of, sides_of, last_arrow, SpellsEntry, SpellEntries, ReadsLibrary}
+use Rattle.gk_steps.specs.LibraryFile.{ReadsLibrary}
 use Rattle.gk_steps.specs.DefaultFile.{default_entries}
+use Rattle.gk_steps.proofs.DefaultFileLemmas.{reads_so, library_on_literals}
 use Rattle.gk_world.specs.State.{nothing_yet, State, Map, nothing, state_of}
 use Rattle.gk_run.specs.Acting.{act}
 use Rattle.gk_run.specs.Results.{Results}
@@ -312,9 +312,6 @@ abbrev library_bytes : List ℕ
 library_bytes = codes "given a file named \"{name}\" with: => write_file\n"
     ++ codes "then the file \"{name}\" should be \"{text}\" => file_is\n"
 
-other_name : codes "text" ≢ codes "name"
-other_name e = let first : ◌≡◌ {A = ℕ} 116 110 = ap (λ (word : List ℕ). slice_index word 0) e in absurd (omega arith)
-
 -- What the library file says.
 abbrev write_entry : EntryValue
 write_entry = record { step_type = Some Given; pattern = Literal (codes "a file named \"") ∷ FieldPiece (codes "name") kinds.Plain ∷ Literal (codes "\" with:") ∷ []; action = actions.WriteFile }
@@ -323,53 +320,10 @@ write_entry = record { step_type = Some Given; pattern = Literal (codes "a file 
 abbrev ask_entry : EntryValue
 ask_entry = record { step_type = Some Then; pattern = Literal (codes "the file \"") ∷ FieldPiece (codes "name") kinds.Plain ∷ Literal (codes "\" should be \"") ∷ FieldPiece (codes "text") kinds.Plain ∷ Literal (codes "\"") ∷ []; action = actions.FileIs }
 
--- The first line.
-abbrev write_line : LineValue
-write_line = line_at 1 (codes "given a file named \"{name}\" with: => write_file")
-
--- The second line.
-abbrev ask_line : LineValue
-ask_line = line_at 2 (codes "then the file \"{name}\" should be \"{text}\" => file_is")
-
--- Neither line is ignored.
-library_lines : filter (λ line. not (is_ignored line)) (lines_of library_bytes) ≡ write_line ∷ ask_line ∷ []
-library_lines = refl
-
--- The first line spells the first entry.
-write_spells : SpellsEntry [] write_line write_entry
-unfolding type_of sides_of last_arrow action_row
-write_spells = record {
-  sides = record { pattern = codes "a file named \"{name}\" with:"; action = codes "write_file" };
-  row = row_of actions.WriteFile;
-  is_type = refl;
-  is_cut = refl;
-  is_pattern = record { spelled = refl; names = search; distinct = (tt, tt); runs = (omega arith, (omega arith, tt)); some = omega arith };
-  is_action = refl;
-  action = refl;
-  needs = search;
-  kinds = (λ kind e. cc, (λ kind e. cc, tt));
-  unambiguous = tt;
-}
-
--- The second line spells the second entry.
-ask_spells : SpellsEntry (write_entry ∷ []) ask_line ask_entry
-unfolding type_of sides_of last_arrow action_row
-ask_spells = record {
-  sides = record { pattern = codes "the file \"{name}\" should be \"{text}\""; action = codes "file_is" };
-  row = row_of actions.FileIs;
-  is_type = refl;
-  is_cut = refl;
-  is_pattern = record { spelled = refl; names = search; distinct = ((other_name, tt), (tt, tt)); runs = (omega arith, (omega arith, (omega arith, tt))); some = omega arith };
-  is_action = refl;
-  action = refl;
-  needs = search;
-  kinds = (λ kind e. cc, (λ kind e. cc, tt));
-  unambiguous = (λ e. let no : ⊥ = cc in absurd no, tt);
-}
-
 -- The lines of its bytes spell the two entries.
 library_reads : ReadsLibrary (lines_of library_bytes) (write_entry ∷ ask_entry ∷ [])
-library_reads = subst (λ (ls : Lines). SpellEntries [] ls (write_entry ∷ ask_entry ∷ [])) (sym library_lines) (write_spells, (ask_spells, tt))
+unfolding library_on_literals
+library_reads = reads_so library_bytes (write_entry ∷ ask_entry ∷ []) refl refl refl
 
 abbrev library : LibraryValue
 library = write_entry ∷ ask_entry ∷ []

@@ -136,10 +136,14 @@ abbrev pub SaysPair : Text → Option (String Global × String Global) → Type 
 SaysPair text (Some pair) = (has_equals text ≡ true) × (pair_value pair ≡ split_at_equals text)
 SaysPair text None = has_equals text ≡ false
 
--- The parts of each text, in order, if each has an `=`.
-abbrev pub SaysPairs : List Text → Option (Vec (String Global × String Global) Global) → Type 0
-SaysPairs texts (Some pairs) = All (λ text. has_equals text ≡ true) texts × (map pair_value pairs.items ≡ map split_at_equals texts)
-SaysPairs texts None = Any (λ text. has_equals text ≡ false) texts
+-- One of these texts, which has no `=`.
+abbrev pub IsOneWithout : List Text → Text → Type 0
+IsOneWithout texts text = Any (λ one. one ≡ text) texts × (has_equals text ≡ false)
+
+-- The parts of each text, in order, if each has an `=`; otherwise one that has none.
+abbrev pub SaysPairs : List Text → Result (Vec (String Global × String Global) Global) (String Global) → Type 0
+SaysPairs texts (Ok pairs) = All (λ text. has_equals text ≡ true) texts × (map pair_value pairs.items ≡ map split_at_equals texts)
+SaysPairs texts (Err text) = IsOneWithout texts (string_bytes text)
 
 -- The options are those that clap found.
 pub record AreAsked (rows : List Row) (options : Options) : Type 0 where
@@ -162,11 +166,11 @@ pub record IsAskedBy (rows : List Row) (w : Words) : Type 0 where
   pub world_files : map pair_value w.world_files.items ≡ map split_at_equals (values_of (codes "file") rows)
   pub file_equals : All (λ text. has_equals text ≡ true) (values_of (codes "file") rows)
 
--- What the arguments ask for, from what clap found. `Env` comes if an `--env` has no `=`, and otherwise `File` if a `--file` has none.
+-- What the arguments ask for, from what clap found. `Env` comes if an `--env` has no `=`, with what was to be written and that value, and otherwise `File` if a `--file` has none.
 abbrev pub SaysMatches : List Row → Result Words WordsFault → Type 0
 SaysMatches rows (Ok w) = IsAskedBy rows w
 SaysMatches rows (Err (Usage e)) = ⊥
-SaysMatches rows (Err Env) = Any (λ text. has_equals text ≡ false) (values_of (codes "env") rows)
+SaysMatches rows (Err (Env mode value)) = (mode ≡ mode_asked rows) × IsOneWithout (values_of (codes "env") rows) (string_bytes value)
 SaysMatches rows (Err File) = All (λ text. has_equals text ≡ true) (values_of (codes "env") rows) × Any (λ text. has_equals text ≡ false) (values_of (codes "file") rows)
 SaysMatches rows (Err Memory) = Unit {0}
 
@@ -174,7 +178,7 @@ SaysMatches rows (Err Memory) = Unit {0}
 abbrev pub SaysArguments : List Text → Result Words WordsFault → Type 0
 SaysArguments arguments (Ok w) = (faults_in arguments ≡ []) × IsAskedBy (found_in arguments) w × (w.files.items ≢ []) × All (λ n. 1 ≤ n) w.options.lines.items
 SaysArguments arguments (Err (Usage e)) = IsAmong (kind_of e) (faults_in arguments)
-SaysArguments arguments (Err Env) = (faults_in arguments ≡ []) × SaysMatches (found_in arguments) (Err Env)
+SaysArguments arguments (Err (Env mode value)) = (faults_in arguments ≡ []) × SaysMatches (found_in arguments) (Err (Env mode value))
 SaysArguments arguments (Err File) = (faults_in arguments ≡ []) × SaysMatches (found_in arguments) (Err File)
 SaysArguments arguments (Err Memory) = Unit {0}
 
@@ -194,6 +198,6 @@ pub record IsCommand (wanted : App) (c : Command) : Type 0 where
 -- The fault that an error of clap's becomes: Memory if clap ran out of memory, and Usage otherwise.
 abbrev pub IsFaultBy : Error → WordsFault → Type 0
 IsFaultBy e (Usage f) = (f ≡ e) × (kind_of e ≢ OutOfMemory)
-IsFaultBy e Env = ⊥
+IsFaultBy e (Env mode value) = ⊥
 IsFaultBy e File = ⊥
 IsFaultBy e Memory = kind_of e ≡ OutOfMemory

@@ -58,7 +58,7 @@ options =
     ∷ anywhere (codes "line") Lines
     ∷ with_steps (codes "library") OneText
     ∷ with_steps (codes "hooks") OneText
-    ∷ in_a_run (codes "env") Texts
+    ∷ with_steps (codes "env") Texts
     ∷ in_a_run (codes "file") Texts
     ∷ in_a_report (codes "dry-run") Flag
     ∷ in_a_run (codes "stop") Flag

@@ -64,7 +64,11 @@ pub enum WordsFault {
     Usage(clap::Error),
     /// The value of an `--env` has no `=`.
     #[error("bad --env")]
-    Env,
+    Env {
+        /// What was to be written.
+        mode: Mode,
+        value: String,
+    },
     /// The value of a `--file` has no `=`.
     #[error("bad --file")]
     File,
@@ -213,18 +217,21 @@ fn pair(alloc: Global, text: &str) -> Result<Option<(String, String)>, AllocErro
     }
 }
 
-// Splits each text at its first `=`. Returns `None` if a text has no `=`.
-fn pairs(alloc: Global, texts: &[&str]) -> Result<Option<Vec<(String, String)>>, AllocError>
+// Splits each text at its first `=`. If a text has no `=`, the first such text is the error.
+fn pairs(
+    alloc: Global,
+    texts: &[&str],
+) -> Result<Result<Vec<(String, String)>, String>, AllocError>
     ensures { IfOk result (SaysPairs (map (λ text. text.now) texts.now)) }
 {
     let mut pairs = Vec::new(alloc);
     for text in texts {
         match pair(alloc, text)? {
             Some(pair) => pairs.push(pair)?,
-            None => return Ok(None),
+            None => return Ok(Err(String::from_str(alloc, text)?)),
         }
     }
-    Ok(Some(pairs))
+    Ok(Ok(pairs))
 }
 
 fn copied_text(alloc: Global, text: Option<&str>) -> Result<Option<String>, AllocError>
@@ -395,12 +402,15 @@ fn words_of(alloc: Global, matches: &ArgMatches, format: Format) -> Result<Words
     let library = copied_text(alloc, matches.get_str("library"))?;
     let hooks = copied_text(alloc, matches.get_str("hooks"))?;
     let env = match pairs(alloc, values_of(matches, "env"))? {
-        Some(env) => env,
-        None => return Err(WordsFault::Env),
+        Ok(env) => env,
+        Err(value) => {
+            let mode = mode_of(matches);
+            return Err(WordsFault::Env { mode, value });
+        }
     };
     let world_files = match pairs(alloc, values_of(matches, "file"))? {
-        Some(world_files) => world_files,
-        None => return Err(WordsFault::File),
+        Ok(world_files) => world_files,
+        Err(_) => return Err(WordsFault::File),
     };
     Ok(Words {
         options,

@@ -40,8 +40,9 @@ const RUN: &str = "How they run";
 
 const REPORT: &str = "Report";
 
-/// The options, in the order of the help.
+/// The options, in the order of the help. The comment above a row is what the man page says of it below its help.
 pub static OPTIONS: [OptionRow; 13] = [
+    // A comma means or, and ~ means not.
     OptionRow {
         name: "tags",
         takes: Takes::Texts,
@@ -53,6 +54,7 @@ pub static OPTIONS: [OptionRow; 13] = [
         beside_lint: true,
         beside_no_steps: true,
     },
+    // N is the line of a scenario's heading, or of a row of an outline's examples.
     OptionRow {
         name: "line",
         takes: Takes::Lines,
@@ -86,6 +88,7 @@ pub static OPTIONS: [OptionRow; 13] = [
         beside_lint: true,
         beside_no_steps: false,
     },
+    // Steps see no variable of the real environment.
     OptionRow {
         name: "env",
         takes: Takes::Texts,
@@ -94,9 +97,10 @@ pub static OPTIONS: [OptionRow; 13] = [
         help: "Set a variable before the run; of equal names the last counts",
         beside_report: true,
         beside_explain: true,
-        beside_lint: false,
+        beside_lint: true,
         beside_no_steps: false,
     },
+    // PATH is read before the run, and never written. Its text is UTF-8 and has at most 1048576 bytes.
     OptionRow {
         name: "file",
         takes: Takes::Texts,
@@ -152,6 +156,7 @@ pub static OPTIONS: [OptionRow; 13] = [
         beside_lint: false,
         beside_no_steps: false,
     },
+    // Failed hooks and cleanups are explained, too.
     OptionRow {
         name: "explain",
         takes: Takes::Nothing,
@@ -163,6 +168,9 @@ pub static OPTIONS: [OptionRow; 13] = [
         beside_lint: false,
         beside_no_steps: false,
     },
+    // Each finding is a line NAME:LINE: TEXT. Tags of --tags that appear in no file, and each --line that chooses
+    // nothing, are listed, too. If the lines of a file can't be read, standard error has the first fault of each such
+    // file, the faulty line and a fix.
     OptionRow {
         name: "lint",
         takes: Takes::Nothing,
@@ -174,6 +182,7 @@ pub static OPTIONS: [OptionRow; 13] = [
         beside_lint: true,
         beside_no_steps: true,
     },
+    // No step is looked up, so neither a library nor a hooks file is read. What is found goes by the grammar alone.
     OptionRow {
         name: "no-steps",
         takes: Takes::Nothing,

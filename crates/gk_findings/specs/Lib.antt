@@ -5,3 +5,4 @@ pub mod LintedSuite
 pub mod Hints
 pub mod TagHints
 pub mod FaultNotes
+pub mod EnvNotes

@@ -2,6 +2,7 @@
 //! read.
 #![tactic(auto)]
 
+mod env_notes;
 mod fault_notes;
 mod finding_lines;
 mod hints;
@@ -9,5 +10,6 @@ mod linted_sources;
 mod linted_suite;
 mod tag_hints;
 
+pub use env_notes::{EnvMistake, notes_on_env};
 pub use fault_notes::push_notes;
 pub use linted_suite::findings_text;

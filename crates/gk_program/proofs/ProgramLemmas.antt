@@ -9,7 +9,7 @@ use Rattle.std.proofs.lemmas.List.{append-nil, drop_all, get_or-map, length-map,
 use Rattle.std.proofs.lemmas.List.Elements.{All-push}
 use Rattle.std.proofs.Math.Seq.{drop-cons, take-suc}
 use Rattle.gk_world.specs.State.{Contents, nothing_yet}
-use Rattle.gk_world.specs.Refusals.{IsFault}
+use Rattle.gk_world.specs.Refusals.{IsFault, put_refusal}
 use Rattle.gk_world.specs.Sandbox.{SandboxValue, new_sandbox, with_env}
 use Rattle.gk_world.specs.declared.refusals.WorldFault.{WorldFault}
 use Rattle.gk_world.specs.declared.refusals.WorldFault.TheVariants as world
@@ -29,9 +29,11 @@ use Rattle.gk_cli.specs.declared.arguments.Words.{Words}
 use Rattle.gk_request.specs.declared.run_fault.RunFault.{RunFault}
 use Rattle.gk_request.specs.declared.run_fault.RunFault.TheVariants as run
 use Rattle.gk_program.specs.Files.{AreRead, IsFaultOfFiles, IsFileFault, Reading, StopsHere, StopsReading, files_in_order, name_of}
-use Rattle.gk_program.specs.Program.{AreGiven, AreTaken, IsFaultAs, IsFaultOfGiven, IsFaultOfRun, IsFaultOfVariable, IsFlushedRun, IsGiven, IsRefused, IsRun, SaysCallsOfRun, IsRunFrom, SaysProgram, SaysRunFrom, SaysSuite, SaysVariables, contents_given, variables_given, with_variables, hinted, is_lint}
+use Rattle.gk_program.specs.Program.{AreGiven, AreTaken, IsFaultAs, IsFaultOfGiven, IsFaultOfRun, IsFlushedRun, IsGiven, IsRefused, IsRun, SaysCallsOfRun, IsRunFrom, SaysProgram, SaysRunFrom, SaysSuite, SaysVariables, contents_given, variables_given, with_variables, hinted}
 use Rattle.gk_program.specs.Asked.{files_to_put, names_given}
 use Rattle.gk_program.specs.WorldFiles.{ArePut, StopsPutting}
+use Rattle.gk_findings.specs.declared.env_notes.EnvMistake.{EnvMistake}
+use Rattle.gk_program.specs.EnvFault.{IsEnvFault, IsFaultOfVariable, is_lint, mistake_of}
 use Rattle.gk_program.specs.FaultListing.{IsListedAs}
 use Rattle.gk_program.specs.declared.fault.Fault.{Fault}
 use Rattle.gk_program.specs.declared.fault.Fault.TheVariants.{NotUtf8, Usage, Env, File, NotText, TextTooLong, CannotRead, TooLong, OfRun, Unread, Write, Memory}
@@ -161,13 +163,24 @@ pub all_taken : {X : Type 0} (P : PairValue → Type 0) (f : X → PairValue) (x
 all_taken P f xs i le good = subst (λ l. All P (map f l)) (take_all i xs le) good
 
 -- what a refusal says of the program's fault
-pub refused : (variables : List PairValue) (old new : SandboxValue) (refusal : Option WorldFault) (by : WorldFault) (fault : Fault) → IsFault refusal by → IsFaultOfVariable by fault
-    → (IsSome refusal → Any IsRefused variables) → SaysVariables variables old new (Err fault)
-refused variables old new refusal world.Memory fault h is any = subst (λ x. SaysVariables variables old new (Err x)) (sym is) tt
-refused variables old new refusal world.Absent fault h is any = subst (λ x. SaysVariables variables old new (Err x)) (sym is) (any (ap is_some h))
-refused variables old new refusal world.TextTooLong fault h is any = subst (λ x. SaysVariables variables old new (Err x)) (sym is) (any (ap is_some h))
-refused variables old new refusal world.BadName fault h is any = subst (λ x. SaysVariables variables old new (Err x)) (sym is) (any (ap is_some h))
-refused variables old new refusal world.OtherLayer fault h is any = subst (λ x. SaysVariables variables old new (Err x)) (sym is) (any (ap is_some h))
+same_fault : (mode : Mode) (variables : List PairValue) (old new : SandboxValue) (mistake : EnvMistake) (name : List ℕ) (fault : Fault) → IsEnvFault mode mistake name fault
+    → ((notes : String Global) → fault ≡ Env notes → Any (IsRefused mode (Env notes)) variables) → SaysVariables mode variables old new (Err fault)
+same_fault mode variables old new mistake name (Env notes) is any = any notes refl
+same_fault mode variables old new mistake name Memory is any = tt
+same_fault mode variables old new mistake name _ is any = absurd is
+
+told_so : (mode : Mode) (variables : List PairValue) (old new : SandboxValue) (v : PairValue) (by : WorldFault) (fault : Fault) → put_refusal v.name v.text ≡ Some by → IsFaultOfVariable mode v.name by fault → IsEnvFault mode (mistake_of by) v.name fault
+    → (IsRefused mode fault v → Any (IsRefused mode fault) variables) → SaysVariables mode variables old new (Err fault)
+told_so mode variables old new v by fault h is env any = same_fault mode variables old new (mistake_of by) v.name fault env
+    (λ notes same. subst (λ f. Any (IsRefused mode f) variables) same (any (subst (λ r. IsSomeAnd r (λ reason. IsFaultOfVariable mode v.name reason fault)) (sym h) is)))
+
+pub refused : (mode : Mode) (variables : List PairValue) (old new : SandboxValue) (v : PairValue) (by : WorldFault) (fault : Fault) → IsFault (put_refusal v.name v.text) by → IsFaultOfVariable mode v.name by fault
+    → (IsRefused mode fault v → Any (IsRefused mode fault) variables) → SaysVariables mode variables old new (Err fault)
+refused mode variables old new v world.Memory fault h is any = subst (λ x. SaysVariables mode variables old new (Err x)) (sym is) tt
+refused mode variables old new v world.Absent fault h is any = told_so mode variables old new v world.Absent fault h is is any
+refused mode variables old new v world.TextTooLong fault h is any = told_so mode variables old new v world.TextTooLong fault h is is any
+refused mode variables old new v world.BadName fault h is any = told_so mode variables old new v world.BadName fault h is is any
+refused mode variables old new v world.OtherLayer fault h is any = told_so mode variables old new v world.OtherLayer fault h is is any
 
 pub refused_here : {X : Type 0} (P : PairValue → Type 0) (f : X → PairValue) (xs : List X) (i : ℕ) (x : X) → i < length xs → x ≡ get_or xs i x → P (f x) → Any P (map f xs)
 refused_here P f xs i x lt is here =
@@ -175,15 +188,15 @@ refused_here P f xs i x lt is here =
     (i, f x, less, get_or-map f xs i x (f x) lt ∙ ap f (sym is), here)
 
 pub of_variables : {S : Type 0} (r : Reading S) (w : Words) (s : S) (d : Device) (variables : List (String Global × String Global)) (old new : SandboxValue) (fault : Fault) → variables ≡ w.env.items
-    → SaysVariables (map pair_value variables) old new (Err fault) → SaysProgram r w s s d d fault
-of_variables r w s d variables old new Env same says = inl (subst (λ xs. Any IsRefused (map pair_value xs)) same says, refl, untouched d)
+    → SaysVariables w.mode (map pair_value variables) old new (Err fault) → SaysProgram r w s s d d fault
+of_variables r w s d variables old new (Env notes) same says = inl (subst (λ xs. Any (IsRefused w.mode (Env notes)) (map pair_value xs)) same says, refl, untouched d)
 of_variables r w s d variables old new Memory same says = inl (refl, untouched d)
 of_variables r w s d variables old new _ same says = absurd says
 
-pub calls_of_variables : (d : Device) (variables : List PairValue) (old new : SandboxValue) (fault : Fault) → SaysVariables variables old new (Err fault) → SaysCallsOfRun d d fault
-calls_of_variables d variables old new Env says = untouched d
-calls_of_variables d variables old new Memory says = inl (untouched d)
-calls_of_variables d variables old new _ says = absurd says
+pub calls_of_variables : (d : Device) (mode : Mode) (variables : List PairValue) (old new : SandboxValue) (fault : Fault) → SaysVariables mode variables old new (Err fault) → SaysCallsOfRun d d fault
+calls_of_variables d mode variables old new (Env notes) says = untouched d
+calls_of_variables d mode variables old new Memory says = inl (untouched d)
+calls_of_variables d mode variables old new _ says = absurd says
 
 -- ---- a fault of a file
 
@@ -244,7 +257,7 @@ calls_of_files library hooks names d _ (inr (inr h)) mode = absurd h.4
 abbrev IsSuiteFault : Fault → Type 0
 IsSuiteFault NotUtf8 = ⊥
 IsSuiteFault (Usage e) = ⊥
-IsSuiteFault Env = ⊥
+IsSuiteFault (Env notes) = ⊥
 IsSuiteFault File = ⊥
 IsSuiteFault (NotText name) = ⊥
 IsSuiteFault (TextTooLong name) = ⊥

@@ -6,8 +6,11 @@ use Rattle.clap.specs.declared.error.Error.{Error}
 use Rattle.clap.specs.declared.error.kind.ErrorKind.{ErrorKind}
 use Rattle.clap.specs.declared.error.kind.ErrorKind.TheVariants.{DisplayHelp, DisplayVersion}
 use Rattle.gk_cli.specs.Arguments.{PairValue, SaysArguments, faults_in, pair_value}
+use Rattle.gk_cli.specs.declared.arguments.Mode.{Mode}
 use Rattle.gk_cli.specs.declared.arguments.Words.{Words}
 use Rattle.gk_cli.specs.declared.arguments.WordsFault.TheVariants as words
+use Rattle.gk_findings.specs.declared.env_notes.EnvMistake.TheVariants.{NoEquals}
+use Rattle.gk_program.specs.EnvFault.{IsEnvFault}
 use Rattle.gk_program.specs.Files.{names_in_order}
 use Rattle.gk_program.specs.declared.asked.ArgumentsFault.{ArgumentsFault}
 use Rattle.gk_program.specs.declared.asked.ArgumentsFault.TheVariants as arguments
@@ -33,7 +36,7 @@ abbrev pub SaysAsked : List Text → Result Asked Fault → Type 0
 SaysAsked arguments (Ok (Help text)) = (kind : ErrorKind) × IsRequest kind × IsAmong kind (faults_in arguments)
 SaysAsked arguments (Ok (Run w)) = SaysArguments arguments (Ok w)
 SaysAsked arguments (Err (Usage text)) = (kind : ErrorKind) × (IsRequest kind → ⊥) × IsAmong kind (faults_in arguments)
-SaysAsked arguments (Err Env) = SaysArguments arguments (Err words.Env)
+SaysAsked arguments (Err (Env notes)) = (mode : Mode) × (value : String Global) × SaysArguments arguments (Err (words.Env mode value)) × IsEnvFault mode NoEquals (string_bytes value) (Env notes)
 SaysAsked arguments (Err File) = SaysArguments arguments (Err words.File)
 SaysAsked arguments (Err Memory) = Unit {0}
 SaysAsked arguments (Err _) = ⊥

@@ -21,11 +21,11 @@ said_line name fault = codes "gherkin_run: " ++ (fault_line name fault ++ codes 
 abbrev pub says : List ℕ → ℕ → FaultRow
 says line status = record { text = codes "gherkin_run: " ++ line; status = status }
 
--- The table of faults. A mistake that clap finds has clap's own text. Invalid files have all their lines. With `--lint`, a file that can't be read has a hint. A fault of a run has the line of the run's fault, with the name of the file that has the fault.
+-- The table of faults. A mistake that clap finds has clap's own text. Invalid files have all their lines. With `--lint`, a file that can't be read has a hint, and an `--env` has notes. A fault of a run has the line of the run's fault, with the name of the file that has the fault.
 abbrev pub row_of : Fault → FaultRow
 row_of NotUtf8 = says (codes "not UTF-8\n") 2
 row_of (Usage text) = record { text = string_bytes text; status = 2 }
-row_of Env = says (codes "bad --env\n") 2
+row_of (Env notes) = says (codes "bad --env\n" ++ string_bytes notes) 2
 row_of File = says (codes "bad --file\n") 2
 row_of (NotText f) = says (string_bytes f ++ codes ": not UTF-8\n") 3
 row_of (TextTooLong f) = says (string_bytes f ++ codes ": longer than 1048576 bytes\n") 3

@@ -1,13 +1,11 @@
 -- What the program returns and writes.
-use Rattle.std.specs.Prelude.{◌≡◌, ◌⊎◌, ◌<◌, ◌≤◌, ◌+◌, ℕ, Bool, true, false, List, [], ◌∷◌, map, None, Result, Ok, Err, IsSome, IsSomeAnd, option_map, string_bytes}
+use Rattle.std.specs.Prelude.{◌≡◌, ◌⊎◌, ◌<◌, ◌≤◌, ◌+◌, ℕ, Bool, true, false, List, [], ◌∷◌, map, None, Result, Ok, Err, IsSomeAnd, option_map, string_bytes}
 use Rattle.std.specs.Io.KnownBytes.{Keeps}
 use Rattle.std.specs.List.{All, Any}
 use Rattle.clap.specs.Words.{Text}
 use Rattle.gk_world.specs.State.{Contents, nothing_yet}
 use Rattle.gk_world.specs.Refusals.{put_refusal}
 use Rattle.gk_world.specs.Sandbox.{SandboxValue, with_env}
-use Rattle.gk_world.specs.declared.refusals.WorldFault.{WorldFault}
-use Rattle.gk_world.specs.declared.refusals.WorldFault.TheVariants as world
 use Rattle.gk_cli.specs.Arguments.{PairValue, pair_value}
 use Rattle.gk_request.specs.Counted.{one_more}
 use Rattle.gk_request.specs.Request.{Request, FilesValue, request_of_files}
@@ -20,6 +18,7 @@ use Rattle.gk_cli.specs.declared.arguments.Words.{Words}
 use Rattle.gk_request.specs.declared.run_fault.RunFault.{RunFault}
 use Rattle.gk_request.specs.declared.run_fault.RunFault.TheVariants as run
 use Rattle.gk_program.specs.Asked.{SaysGiven, files_to_put, names_given}
+use Rattle.gk_program.specs.EnvFault.{IsFaultOfVariable, is_lint}
 use Rattle.gk_program.specs.FaultListing.{IsListedAs}
 use Rattle.gk_program.specs.Files.{AreRead, Reading, StopsReading, files_in_order}
 use Rattle.gk_program.specs.declared.fault.Fault.{Fault}
@@ -76,25 +75,20 @@ abbrev pub with_variables : Contents → List PairValue → Contents
 with_variables c [] = c
 with_variables c (v ∷ vs) = with_variables (with_env c v.name v.text) vs
 
--- A variable that no sandbox takes: a bad name, or a text that is too long.
-abbrev pub IsRefused : PairValue → Type 0
-IsRefused v = IsSome (put_refusal v.name v.text)
+-- A variable that no sandbox takes, because of a bad name or a text that is too long, with its fault.
+abbrev pub IsRefused : Mode → Fault → PairValue → Type 0
+IsRefused mode fault v = IsSomeAnd (put_refusal v.name v.text) (λ reason. IsFaultOfVariable mode v.name reason fault)
 
 -- A sandbox takes each of these variables.
 abbrev pub AreTaken : List PairValue → Type 0
 AreTaken variables = All (λ v. put_refusal v.name v.text ≡ None) variables
 
--- A variable that the sandbox refuses is a mistake in the arguments, unless memory was refused.
-abbrev pub IsFaultOfVariable : WorldFault → Fault → Type 0
-IsFaultOfVariable world.Memory fault = fault ≡ Memory
-IsFaultOfVariable _ fault = fault ≡ Env
-
 -- The variables are in the sandbox, and its layers are unchanged; or one of them is refused. Nothing is said of refused memory.
-abbrev pub SaysVariables : List PairValue → SandboxValue → SandboxValue → Result (Unit {0}) Fault → Type 0
-SaysVariables variables old new (Ok u) = (new.now ≡ with_variables old.now variables) × (new.saved ≡ old.saved) × AreTaken variables
-SaysVariables variables old new (Err Env) = Any IsRefused variables
-SaysVariables variables old new (Err Memory) = Unit {0}
-SaysVariables variables old new (Err _) = ⊥
+abbrev pub SaysVariables : Mode → List PairValue → SandboxValue → SandboxValue → Result (Unit {0}) Fault → Type 0
+SaysVariables mode variables old new (Ok u) = (new.now ≡ with_variables old.now variables) × (new.saved ≡ old.saved) × AreTaken variables
+SaysVariables mode variables old new (Err (Env notes)) = Any (IsRefused mode (Env notes)) variables
+SaysVariables mode variables old new (Err Memory) = Unit {0}
+SaysVariables mode variables old new (Err _) = ⊥
 
 -- The program's fault for a fault of the run: the same fault, with a file's name in place of its number.
 abbrev pub IsFaultOfRun : FilesValue → RunFault → Fault → Type 0
@@ -176,11 +170,6 @@ pub record IsFaultOfName {S : Type 0} (reads : Reading S) (w : Words) (before af
   pub given : IsGiven w name
   pub stops : StopsReading reads before (names_given w) after fault
 
--- Nothing runs in this mode.
-abbrev pub is_lint : Mode → Bool
-is_lint (Findings steps) = true
-is_lint mode = false
-
 -- A fault of reading files, in this mode: with `--lint`, a file that can't be read has a hint.
 abbrev pub hinted : Mode → Fault → Fault
 hinted mode (CannotRead name hint) = CannotRead name (is_lint mode)
@@ -190,7 +179,7 @@ hinted mode fault = fault
 abbrev pub SaysRunFrom : {S : Type 0} → Reading S → Words → Contents → S → S → Device → Device → Fault → Type 0
 SaysRunFrom reads w contents before after old new NotUtf8 = ⊥
 SaysRunFrom reads w contents before after old new (Usage text) = ⊥
-SaysRunFrom reads w contents before after old new Env = ⊥
+SaysRunFrom reads w contents before after old new (Env notes) = ⊥
 SaysRunFrom reads w contents before after old new File = ⊥
 SaysRunFrom reads w contents before after old new (NotText name) = ⊥
 SaysRunFrom reads w contents before after old new (TextTooLong name) = ⊥
@@ -201,7 +190,7 @@ SaysRunFrom reads w contents before after old new fault = IsFaultOfGiven reads w
 
 -- A variable is refused, or memory. The system is unchanged, and standard output was not called.
 abbrev pub IsFaultOfVariables : {S : Type 0} → Words → S → S → Device → Device → Fault → Type 0
-IsFaultOfVariables w before after old new Env = Any IsRefused (variables_given w) × (before ≡ after) × IsUntouched old new
+IsFaultOfVariables w before after old new (Env notes) = Any (IsRefused w.mode (Env notes)) (variables_given w) × (before ≡ after) × IsUntouched old new
 IsFaultOfVariables w before after old new Memory = (before ≡ after) × IsUntouched old new
 IsFaultOfVariables w before after old new fault = ⊥
 

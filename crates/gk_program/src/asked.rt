@@ -4,8 +4,10 @@ ghost use Rattle.gk_cli.specs.Arguments.{pair_value};
 ghost use Rattle.gk_program.specs.Asked.{AreNamesAsked, SaysAsked, SaysError, SaysGiven, fault_without, given_value, names_asked_by};
 ghost use Rattle.gk_program.specs.Files.{one_of};
 
+use crate::env_fault::fault_of_env;
 use crate::fault::Fault;
 use gk_cli::{Words, WordsFault, read_words};
+use gk_findings::EnvMistake;
 use std::alloc::{AllocError, Global};
 
 /// Why there are no arguments.
@@ -43,7 +45,10 @@ fn asked_by(alloc: Global, arguments: &[String]) -> Result<Asked, Fault>
     match read_words(alloc, arguments) {
         Ok(words) => Ok(Asked::Run(words)),
         Err(WordsFault::Usage(error)) => asked_for(alloc, error),
-        Err(WordsFault::Env) => Err(Fault::Env),
+        Err(WordsFault::Env { mode, value }) => {
+            let mistake = EnvMistake::NoEquals;
+            Err(fault_of_env(alloc, mode, mistake, value.as_str()))
+        }
         Err(WordsFault::File) => Err(Fault::File),
         Err(WordsFault::Memory) => Err(Fault::Memory),
     }

@@ -17,8 +17,10 @@ pub enum Fault {
     Usage {
         text: String,
     },
-    /// An `--env` has no `=`, a bad name, or a text that is too long.
-    Env,
+    /// An `--env` has no `=`, a bad name, or a text that is too long. With `--lint`, notes are below the line.
+    Env {
+        notes: String,
+    },
     /// A `--file` has no `=`, or a bad name.
     File,
     /// The file of a `--file` isn't UTF-8.
@@ -63,7 +65,7 @@ impl Fault {
         ensures { result ≡ (row_of self.now).status }
     {
         match self {
-            Fault::NotUtf8 | Fault::Usage { .. } | Fault::Env | Fault::File => 2,
+            Fault::NotUtf8 | Fault::Usage { .. } | Fault::Env { .. } | Fault::File => 2,
             Fault::NotText { .. }
             | Fault::TextTooLong { .. }
             | Fault::CannotRead { .. }
@@ -88,7 +90,7 @@ impl Fault {
             Fault::Unread { place, .. } => *place,
             Fault::NotUtf8
             | Fault::Usage { .. }
-            | Fault::Env
+            | Fault::Env { .. }
             | Fault::File
             | Fault::Write
             | Fault::Memory => NOWHERE,
@@ -134,7 +136,7 @@ impl fmt::Display for Fault {
         match self {
             Fault::NotUtf8 => f.write_str("gherkin_run: not UTF-8\n"),
             Fault::Usage { text } => f.write_str(text.as_str()),
-            Fault::Env => f.write_str("gherkin_run: bad --env\n"),
+            Fault::Env { notes } => write!(f, "gherkin_run: bad --env\n{notes}"),
             Fault::File => f.write_str("gherkin_run: bad --file\n"),
             Fault::NotText { name } => write!(f, "gherkin_run: {name}: not UTF-8\n"),
             Fault::TextTooLong { name } => {

@@ -5,6 +5,7 @@
 
 mod asked;
 mod ended;
+mod env_fault;
 mod fault;
 mod fault_listing;
 mod fault_place;

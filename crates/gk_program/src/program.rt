@@ -12,17 +12,18 @@ ghost use Rattle.gk_program.specs.Asked.{given_value};
 ghost use Rattle.gk_program.specs.Ended.{IsEnded};
 ghost use Rattle.gk_program.specs.Fault.{said_line, text_of};
 ghost use Rattle.gk_program.specs.Program as spec;
-ghost use Rattle.gk_program.specs.Program.{IsTextFault, IsFaultOfVariable, SaysVariables, IsFaultOfRun, IsFaultAs, IsFlushedRun, SaysSuite, SaysCalls, SaysCallsOfRun, SaysProgram, SaysRunFrom, IsRun, IsRunFrom, IsShown, IsDoneFor, IsFaultFor};
+ghost use Rattle.gk_program.specs.Program.{IsTextFault, SaysVariables, IsFaultOfRun, IsFaultAs, IsFlushedRun, SaysSuite, SaysCalls, SaysCallsOfRun, SaysProgram, SaysRunFrom, IsRun, IsRunFrom, IsShown, IsDoneFor, IsFaultFor};
 
 use crate::asked::{ArgumentsFault, Asked, asked_with};
 use crate::ended::{Ended, ending};
+use crate::env_fault::{fault_of_variable, is_lint};
 use crate::fault::Fault;
 use crate::fault_listing::fault_listed;
 use crate::files::{System, read_run_files};
 use crate::world_files::put_files;
 use gk_cli::{Mode, Words, write_suite};
 use gk_request::{Counted, Options, RunFault, Source, SuiteFiles, write_whole};
-use gk_world::{Sandbox, WorldFault};
+use gk_world::Sandbox;
 use std::alloc::Global;
 use std::io::Write;
 
@@ -48,24 +49,21 @@ fn show_text<W: Write>(text: &str, out: &mut Counted<W>) -> Result<u8, Fault>
     }
 }
 
-fn fault_of_variable(fault: WorldFault) -> Fault
-    ensures { IsFaultOfVariable fault result }
-{
-    match fault {
-        WorldFault::Memory => Fault::Memory,
-        _ => Fault::Env,
-    }
-}
-
 /// Puts the variables into the sandbox, in order. If several have the same name, the last one counts. A bad name or a
 /// text that is too long is `Env`.
-fn put_variables(sandbox: &mut Sandbox, variables: &[(String, String)]) -> Result<(), Fault>
-    ensures { SaysVariables (map pair_value variables.now) sandbox.old sandbox.new result }
+fn put_variables(
+    alloc: Global,
+    mode: Mode,
+    sandbox: &mut Sandbox,
+    variables: &[(String, String)],
+) -> Result<(), Fault>
+    ensures { SaysVariables mode (map pair_value variables.now) sandbox.old sandbox.new result }
 {
     for variable in variables {
-        match sandbox.put_env(variable.0.as_str(), variable.1.as_str()) {
+        let name = variable.0.as_str();
+        match sandbox.put_env(name, variable.1.as_str()) {
             Ok(()) => {}
-            Err(fault) => return Err(fault_of_variable(fault)),
+            Err(fault) => return Err(fault_of_variable(alloc, mode, name, fault)),
         }
     }
     Ok(())
@@ -190,13 +188,6 @@ fn run_sources<W: Write>(
     }
 }
 
-// Returns whether nothing runs in this mode.
-fn is_lint(mode: Mode) -> bool
-    ensures { result ≡ spec.is_lint mode }
-{
-    matches!(mode, Mode::Findings { .. })
-}
-
 // Returns this fault of reading files. With `--lint`, it has a hint.
 fn hinted(mode: Mode, fault: Fault) -> Fault
     ensures { result ≡ spec.hinted mode fault }
@@ -254,7 +245,7 @@ fn run_in<S: System, W: Write>(
     ensures calls { IfErr result
         (SaysCallsOfRun (device_of W.contents out.old) (device_of W.contents out.new)) }
 {
-    put_variables(sandbox, words.env.as_slice())?;
+    put_variables(alloc, words.mode, sandbox, words.env.as_slice())?;
     put_files(alloc, system, sandbox, words.world_files.as_slice())?;
     run_files(alloc, system, sandbox, words, out)
 }

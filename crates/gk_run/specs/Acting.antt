@@ -73,50 +73,50 @@ abbrev pub arguments_of : LibraryValue → FoundValue → BlockValue → Argumen
 arguments_of library found =
     arguments_with (text_field library found (codes "name")) (text_field library found (codes "to")) (text_field library found (codes "step")) (number_field library found (codes "n")) (text_field library found (codes "text"))
 
--- An action that changes nothing, takes no memory and has this outcome.
+-- What an action leaves that changes nothing, takes no memory and has this outcome.
 abbrev pub stays : State → Outcome → Done
 stays s outcome = record { state = s; outcome = outcome; takes_memory = false; files = [] }
 
--- An action that takes memory, passes and leaves this state.
+-- What an action leaves that takes memory and passes: this state.
 abbrev pub passes : State → Done
 passes s = record { state = s; outcome = outcomes.Passed; takes_memory = true; files = [] }
 
--- An action that fails for this reason and changes nothing.
+-- What an action leaves that fails for this reason and changes nothing.
 abbrev pub fails : State → Reason → Done
 fails s why = stays s (outcomes.Failed why)
 
--- An action that fails if there is a reason, and otherwise passes with a new state.
+-- What an action leaves that fails if there is a reason, and otherwise passes with a new state.
 abbrev pub unless_for : State → Option Reason → State → Done
 unless_for s None new = passes new
 unless_for s (Some why) new = fails s why
 
--- An action that fails with the first reason whose test holds, and otherwise passes and leaves a new state.
+-- What an action leaves that fails with the first reason whose test holds, and otherwise passes with a new state.
 abbrev pub unless : State → List (Bool × Reason) → State → Done
 unless s tests new = unless_for s (first_true tests) new
 
--- An action that works with T. Without T it fails before anything else.
+-- What an action leaves that works with T. Without T it fails before anything else.
 abbrev pub with_T : State → Option (List ℕ) → (List ℕ → Done) → Done
 with_T s None action = fails s reasons.NoText
 with_T s (Some text) action = action text
 
--- An outcome after which an action continues.
+-- Whether an outcome is `Passed`, after which the next part of the action follows.
 abbrev pub is_pass : Outcome → Bool
 is_pass outcomes.Passed = true
 is_pass _ = false
 
--- Two parts of an action, of which the first writes this file. The second counts only if the first passed.
+-- What two parts of an action leave, of which the first writes this file. The second counts only if the first passed.
 abbrev pub and_then : List ℕ × List ℕ → Done → Done → Done
 and_then file this next = cond (is_pass this.outcome) (record next { takes_memory = true; files = file ∷ next.files }) this
 
--- The reason if a name has no bytes, or too many.
+-- The test that a name has no bytes, or too many, and its reason.
 abbrev pub bad_name : List ℕ → Bool × Reason
 bad_name name = (is_bad_name name, reasons.BadName)
 
--- The reason if a text has too many bytes.
+-- The test that a text has too many bytes, and its reason.
 abbrev pub too_long : List ℕ → Bool × Reason
 too_long text = (is_too_long text, reasons.TextTooLong)
 
--- The reason if nothing is held.
+-- The test that no text has the name, and its reason. What is *held* is the text that the name has, if any.
 abbrev pub absent : Option (List ℕ) → Bool × Reason
 absent held = (is_none held, reasons.Absent)
 
@@ -190,7 +190,7 @@ moved s name to = cond (bytes_eq name to) s (without_file (with_file s to (unwra
 abbrev pub renamed_files : State → List ℕ → List ℕ → List (List ℕ × List ℕ)
 renamed_files s name to = cond (bytes_eq name to) [] ((to, unwrap_or (s.files name) []) ∷ [])
 
--- A file is renamed. The file must exist, which a bad name has none of, and the new name must be a good one.
+-- A file is renamed. This fails with `Absent` if there is no such file, as under a bad name, and then with `BadName` if the new name is bad.
 abbrev pub rename_file : State → List ℕ → List ℕ → Done
 rename_file s name to = let done = unless s ((is_bad_name name || is_none (s.files name), reasons.Absent) ∷ bad_name to ∷ []) (moved s name to) in record done { files = cond (is_pass done.outcome) (renamed_files s name to) [] }
 
@@ -227,7 +227,7 @@ add_number s name held n =
     let sum = unwrap_or number (pos 0) +ℤ n in
     unless s (bad_name name ∷ absent held ∷ (is_none number, reasons.NotNumber) ∷ (not (is_i64 sum), reasons.OutOfRange) ∷ []) (with_own s name (signed_decimal sum))
 
--- The table of the actions, one row each. The row of a check says its outcome. Any other row says whether the action works with T, the reasons for which it fails, in order, and the state that it otherwise leaves. An outer layer has a value that the innermost one has not, so `delete_value` then has the reason OtherLayer. At a site that allows them, at_cleanup and skip_scenario do something else, which isn't in the table. (behave's documentation: context layers)
+-- The table of the actions, one row each. The row of a check says its outcome. Any other row says whether the action works with T, the reasons for which it fails, in order, and the state that it otherwise leaves. `delete_value` fails with OtherLayer if only an outer layer has the value. At a site that allows them, at_cleanup and skip_scenario do something else, which isn't in the table. (behave's documentation: context layers)
 abbrev pub table : Action → ArgumentsValue → State → Done
 table actions.WriteFile g s = with_T s g.text (λ text. put s g.name text (with_file s g.name text))
 table actions.AppendFile g s = with_T s g.text (λ text. unless s (bad_name g.name ∷ absent (s.files g.name) ∷ too_long (joined s.files g.name text) ∷ []) (with_file s g.name (joined s.files g.name text)))
@@ -282,7 +282,7 @@ skip_outcome sites.Step = outcomes.Skip
 skip_outcome sites.CaseHook = outcomes.Skip
 skip_outcome _ = outcomes.Failed reasons.NotHere
 
--- Everything except a cleanup may register a cleanup.
+-- Whether an action at a site may register a cleanup: everywhere except in a cleanup.
 abbrev pub may_register : Site → Bool
 may_register sites.Cleanup = false
 may_register _ = true
@@ -310,7 +310,7 @@ at_site action = does_at_site (row_of action).does action
 unfoldable pub act : LibraryValue → Site → FoundValue → BlockValue → State → Acted
 act library site found block s = at_site (action_of library found) site library (arguments_of library found block) s
 
--- An action was carried out, or memory was refused in it, which can be only if it takes memory.
+-- An action was carried out, or memory was refused in it, which requires `takes_memory`.
 abbrev pub IsDone : Done → Outcome → State → Type 0
 IsDone done outcomes.Memory new = done.takes_memory ≡ true
 IsDone done outcome new = (outcome ≡ done.outcome) × (new ≡ done.state)

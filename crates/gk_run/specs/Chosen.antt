@@ -52,7 +52,7 @@ pub record IsFormed (c : Chosen) : Type 0 where
   pub paired : IsPaired c
   pub falls : FallIntoRules (length c.rules.items) (map (λ case. case.rule) c.cases.items)
 
--- A case among these is selected.
+-- Whether a case among these is selected.
 abbrev pub has_selected : List MemberValue → Bool
 has_selected members = list_any (λ (m : MemberValue). m.selected) members
 

@@ -56,7 +56,7 @@ abbrev pub dry_features_of : LibraryValue → List FeatureCuts → List ChosenVa
 dry_features_of library cuts [] = []
 dry_features_of library cuts (f ∷ fs) = dry_feature_of library (first_or uncut_feature cuts) f ∷ dry_features_of library (later cuts) fs
 
--- The rows of features are those of some cuts.
+-- The results of features are those of some cuts.
 abbrev pub AreDryFeatures : LibraryValue → List ChosenValue → List FeatureRow → Type 0
 AreDryFeatures library features rows = (cuts : List FeatureCuts) × (rows ≡ dry_features_of library cuts features)
 
@@ -67,7 +67,7 @@ abbrev pub IsDryStep : LibraryValue → Bool → StepValue → Mark → Type 0
 IsDryStep library true step mark = mark ≡ Untested
 IsDryStep library false step mark = IsLookedUp library Untested step mark
 
--- Steps were looked up. The first truth value says whether memory was refused before them, `refused` whether it is refused after them.
+-- Steps were looked up. The first Boolean says whether memory was refused before them, `refused` whether it is refused after them.
 abbrev pub AreDrySteps : LibraryValue → Bool → List StepValue → List StepRow → Bool → Type 0
 AreDrySteps library true steps rows refused = (rows ≡ rows_of_steps steps []) × (refused ≡ true)
 AreDrySteps library false steps rows true =

@@ -25,23 +25,23 @@ abbrev pub reason_of_mark : Mark → Option Reason
 reason_of_mark (Acted (outcomes.Failed why)) = Some why
 reason_of_mark _ = None
 
--- The mark of a step or a cleanup that failed or is undefined.
+-- Whether a mark is that of a step or a cleanup that failed or is undefined.
 abbrev pub is_bad_mark : Mark → Bool
 is_bad_mark (Acted (outcomes.Failed why)) = true
 is_bad_mark Undefined = true
 is_bad_mark _ = false
 
--- The mark of a step or a cleanup whose action skipped the scenario.
+-- Whether a mark is that of a step or a cleanup whose action skipped the scenario.
 abbrev pub is_skip_mark : Mark → Bool
 is_skip_mark (Acted outcomes.Skip) = true
 is_skip_mark _ = false
 
--- The mark of a step or a cleanup in which memory was refused.
+-- Whether a mark is that of a step or a cleanup in which memory was refused.
 abbrev pub is_memory_mark : Mark → Bool
 is_memory_mark (Acted outcomes.Memory) = true
 is_memory_mark _ = false
 
--- How steps, hooks and cleanups with these marks end: memory if memory was refused in one; otherwise failed if one failed or is undefined; otherwise skipped if one skipped the scenario; otherwise passed. The marks `Skipped` and `Untested` have no effect.
+-- How steps, hooks and cleanups with these marks end. The first that applies: memory, if it was refused in one; failed, if one failed or is undefined; skipped, if one skipped the scenario. Otherwise passed. The marks `Skipped` and `Untested` have no effect.
 abbrev pub ended_of : List Mark → Ending
 ended_of marks =
     cond (list_any is_memory_mark marks) endings.Memory
@@ -52,7 +52,7 @@ ended_of marks =
 abbrev pub ending_of : Mark → Ending
 ending_of mark = ended_of (mark ∷ [])
 
--- None failed, is undefined or skipped the scenario, and memory was refused in none.
+-- Whether none failed, is undefined or skipped the scenario, and memory was refused in none.
 abbrev pub has_passed : Ending → Bool
 has_passed endings.Passed = true
 has_passed _ = false

@@ -15,7 +15,7 @@ use Rattle.gk_run.specs.Ending.{ended_of}
 use Rattle.std.specs.List.{FoldsTo}
 use Rattle.gk_run.specs.Results.{CaseRow, RuleRow}
 
--- An event: a step, with its stage, its mark, the cleanups that it registered and the state that it left; or a cleanup of a section of this level, with its outcome and the state that it left.
+-- An event. `of_step` is a step: its stage, its mark, the cleanups that it registered, and the state that it left. `of_cleanup` is a cleanup of a section of this level: its outcome, and the state that it left.
 pub data Event : Type 0 where
   of_step : Stage → StepValue → Mark → List CleanupValue → State → Event
   of_cleanup : Level → CleanupValue → Outcome → State → Event
@@ -78,7 +78,7 @@ pub record IsCutOff (all told : List Event) : Type 0 where
   pub whole : all ≡ front ++ (event ∷ rest)
   pub cut : told ≡ front ++ (refused left event ∷ [])
 
--- The events of `all` that happened, with `rest` left: none if memory was refused before them; those up to the one in which it was refused, if it is refused now; otherwise each that isn't in `rest`.
+-- The events of `all` that happened so far. If memory was refused before them, none did. If it is refused now, those up to the refused one did. Otherwise all except `rest` did.
 abbrev pub SoFar : Bool → Bool → List Event → List Event → List Event → Type 0
 SoFar true now all rest told = told ≡ []
 SoFar false true all rest told = IsCutOff all told

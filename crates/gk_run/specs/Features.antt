@@ -26,7 +26,7 @@ abbrev pub rule_of : Run → State → Bool → RuleCuts → Group → Ran (Sect
 rule_of run outside is_open cuts g =
     section_of run levels.Rule g.head.tags outside (is_open && has_selected g.members) cuts.own (λ section is_ready. cases_of run section is_ready cuts.cases g.members)
 
--- What comes after a rule is still reached. (behave's documentation: `--stop`)
+-- Whether what comes after a rule is still reached. (behave's documentation: `--stop`)
 abbrev pub rule_stays_open : Run → SectionRow (List CaseRow) → Bool
 rule_stays_open run end = stays_open run end.around && all_stay_open run end.inside
 
@@ -66,7 +66,7 @@ verdict_by memory failed untested passed = cond memory statuses.Memory (cond fai
 abbrev pub rule_statuses : List RuleRow → List Status
 rule_statuses rows = map (λ (row : RuleRow). row.around) rows
 
--- The verdict of a feature, by how its hooks and cleanups and those of its rules ended, and by its cases: memory if one of these is memory; otherwise failed if one is failed; otherwise untested if a case is untested; otherwise passed if a case passed; otherwise skipped.
+-- The verdict of a feature. The first that applies: memory or failed, if its hooks and cleanups, those of a rule or a case are; untested or passed, if a case is. Otherwise skipped.
 abbrev pub feature_verdict : Status → List Status → List Status → Status
 feature_verdict around rules cases =
     verdict_by (list_any is_memory (around ∷ rules) || list_any is_memory cases) (list_any is_failed (around ∷ rules) || list_any is_failed cases) (list_any is_untested cases) (list_any is_passed cases)
@@ -100,7 +100,7 @@ features_of run outside is_open cuts (f ∷ fs) =
     let next = features_of run outside (is_open && stays_open run ran.result.status) (later cuts) fs in
     record { result = ran.result ∷ next.result; told = ran.told ++ next.told }
 
--- A feature's row is that of some cuts, from the run's state if the run is open.
+-- A feature's result is that of some cuts, from the run's state if the run is open.
 abbrev pub IsFeatureResult : Run → State → Bool → ChosenValue → FeatureRow → Type 0
 IsFeatureResult run now is_open f row = (outside : State) → (is_open ≡ true → now ≡ outside) → (cuts : FeatureCuts) × (row ≡ result_of (feature_of run outside is_open cuts f))
 

@@ -1,4 +1,4 @@
--- The results that a run may have, and the same in words: what holds of each result, by its place in its list.
+-- The results that a run may have, and the same as relations: what holds of each result, by its place in its list.
 use Rattle.std.specs.Prelude.{◌≡◌, Bool, true, false, cond, ◌||◌, List, [], ◌++◌, ℕ, ◌↔◌, All, map, length, take, zip, flat_map, Some, slice_get, unwrap_or}
 use Rattle.std.specs.List.{list_any}
 use Rattle.gk_world.specs.State.{Contents, State, state_of}
@@ -41,7 +41,7 @@ dry_results run cuts features = record { features = dry_features_of run.library 
 abbrev pub results_of : Run → Contents → Cuts → List ChosenValue → Results
 results_of run contents cuts features = cond run.dry_run (dry_results run cuts features) (results_from run (state_of contents) cuts features)
 
--- Judged results: they are those of some cuts.
+-- Results are judged if they are those that the definitions give for some cuts.
 abbrev pub Judged : Run → Contents → List ChosenValue → Results → Type 0
 Judged run contents features results = (cuts : Cuts) × (results ≡ results_of run contents cuts features)
 

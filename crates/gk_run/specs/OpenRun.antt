@@ -16,7 +16,7 @@ use Rattle.gk_run.specs.Running.{is_bad, stays_open_by}
 use Rattle.gk_run.specs.Features.{FeatureCuts, IsFeatureResult, features_of}
 use Rattle.gk_run.specs.Judged.{Judged, BeginsJudged}
 
--- A run that was begun: its layer, how the before_all hook ended, the cleanups that are registered in it, whether it stops at a failure, and whether a feature so far is failed or memory. (behave's documentation: context layers, environment file functions, `--stop`)
+-- A run that was begun: its layer, how `before_all` ended, and its cleanups. `stop` says whether it stops at a failure, `has_failed` whether a feature is failed or memory. (behave's documentation: context layers, environment file functions, `--stop`)
 pub record SuiteValue : Type 0 where
   pub layer : ℕ
   pub before : Ending
@@ -24,7 +24,7 @@ pub record SuiteValue : Type 0 where
   pub stop : Bool
   pub has_failed : Bool
 
--- Further features are begun: the before_all hook passed whole, and the run hasn't stopped. (behave's documentation: environment file functions, `--stop`)
+-- Whether further features are begun: the before_all hook passed whole, and the run hasn't stopped. (behave's documentation: environment file functions, `--stop`)
 abbrev pub opens_features : SuiteValue → Bool
 opens_features suite = has_passed suite.before && not (suite.stop && suite.has_failed)
 
@@ -60,7 +60,7 @@ abbrev pub IsFinishTold : {S : Type 0} → (S → Event → S → Type 0) → Ru
 IsFinishTold hears run suite now around begin end =
     (outside : State) (first : List Event) → IsBegun run levels.Run [] outside first suite.before (stand_of now suite.cleanups) → IsEndTold hears run levels.Run [] outside around first begin end
 
--- The rows of features are those of some cuts, from the run's state if they are begun.
+-- The results of features are those of some cuts, from the run's state if they are begun.
 abbrev pub AreFeatures : Run → State → Bool → List ChosenValue → List FeatureRow → Type 0
 AreFeatures run now opens features rows = (outside : State) → (opens ≡ true → now ≡ outside) → (cuts : List FeatureCuts) × (rows ≡ result_of (features_of run outside opens cuts features))
 

@@ -17,7 +17,7 @@ use Rattle.gk_run.specs.Ending.{is_memory_ending}
 use Rattle.gk_run.specs.Events.{Event, SoFar, Stand, ended_in, left_by, stand_of, Ran, happens}
 use Rattle.gk_run.specs.Section.{Events, Cut, happened, around_of, before_passed}
 
--- What stays the same during a run: the step library, the hooks, whether it is a dry run, and whether the first scenario, rule or feature that is failed or memory stops it. Nothing is carried out in a dry run. (behave's documentation: `--dry-run`, `--stop`)
+-- What stays the same during a run: its step library and its hooks, whether it is a dry run, and whether it stops. It stops at the first scenario, rule or feature that is failed or memory. Nothing is carried out in a dry run. (behave's documentation: `--dry-run`, `--stop`)
 pub record Run : Type 0 where
   pub library : LibraryValue
   pub hooks : List HookValue
@@ -28,7 +28,7 @@ pub record Run : Type 0 where
 abbrev pub run_of : Library → HookFile → Bool → Run
 run_of library hooks stop = record { library = library_value library; hooks = hooks_value hooks; dry_run = false; stop = stop }
 
--- The events of a section that starts from the state outside and enters its own layer: its before list; its steps, from how the before list ended and the state that it left; its after lists and its cleanups. (behave's documentation: context layers, environment file functions, cleanups)
+-- The events of a section that starts from the state outside. Its layer is entered and its before list walked. Then come its steps, from how that ended and what it left; its after lists; its cleanups. (behave's documentation: context layers, environment file functions, cleanups)
 abbrev pub events_with : (Ending → State → List Event) → Run → Level → List (List ℕ) → State → Events
 events_with steps_of run level tags outside =
     let before = begun run.library run.hooks level tags outside in

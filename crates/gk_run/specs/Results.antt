@@ -9,7 +9,7 @@ use Rattle.gk_run.specs.declared.results.CaseResult.{CaseResult}
 use Rattle.gk_run.specs.declared.results.RuleResult.{RuleResult}
 use Rattle.gk_run.specs.declared.results.FeatureResult.{FeatureResult}
 
--- The result of a step: its status, and the reason if it failed.
+-- The result of a step: its keyword, text and line; its status; and the reason if it failed.
 pub record StepRow : Type 0 where
   pub keyword : List ℕ
   pub text : List ℕ
@@ -27,7 +27,7 @@ pub record CaseRow : Type 0 where
   pub cleanups : List Outcome
   pub steps : List StepRow
 
--- The result of a rule without its cases: how its hooks and cleanups ended.
+-- The result of a rule without its cases: its line, and how its hooks and cleanups ended.
 pub record RuleRow : Type 0 where
   pub line : ℕ
   pub around : Status
@@ -63,7 +63,7 @@ rule_row r = record { line = r.line; around = r.around }
 abbrev pub feature_row : FeatureResult → FeatureRow
 feature_row r = record { source = string_bytes r.source; name = string_bytes r.name; line = r.line; status = r.status; around = r.around; rules = map rule_row r.rules.items; cases = map case_row r.cases.items }
 
--- The second status is the first one, which is the one asked for.
+-- Whether the second status is the first, the one asked for.
 abbrev pub is_status : Status → Status → Bool
 is_status statuses.Passed statuses.Passed = true
 is_status statuses.Failed statuses.Failed = true
@@ -73,26 +73,26 @@ is_status statuses.Untested statuses.Untested = true
 is_status statuses.Memory statuses.Memory = true
 is_status _ _ = false
 
--- The status is passed.
+-- Whether the status is passed.
 abbrev pub is_passed : Status → Bool
 is_passed = is_status statuses.Passed
 
--- The status is failed.
+-- Whether the status is failed.
 abbrev pub is_failed : Status → Bool
 is_failed = is_status statuses.Failed
 
--- The status is skipped.
+-- Whether the status is skipped.
 abbrev pub is_skipped : Status → Bool
 is_skipped = is_status statuses.Skipped
 
--- The status is undefined.
+-- Whether the status is undefined.
 abbrev pub is_undefined : Status → Bool
 is_undefined = is_status statuses.Undefined
 
--- The status is untested.
+-- Whether the status is untested.
 abbrev pub is_untested : Status → Bool
 is_untested = is_status statuses.Untested
 
--- The status is memory.
+-- Whether the status is memory.
 abbrev pub is_memory : Status → Bool
 is_memory = is_status statuses.Memory

@@ -20,7 +20,7 @@ use Rattle.gk_run.specs.Chosen.{MemberValue}
 abbrev pub alone : Run → State → CaseValue → Events
 alone run section c = events_with (λ ended s. steps_from run.library ended s c.steps) run levels.Scenario c.own_tags section
 
--- The verdict of a case with these events: memory if memory was refused in one of its steps, its hooks' steps or its cleanups; otherwise failed if one of these failed or is undefined; otherwise skipped if one skipped the scenario; otherwise passed.
+-- The verdict of a case with these events: how its hooks' steps, its steps and its cleanups ended together.
 abbrev pub verdict_of : Events → Status
 verdict_of e = verdict_status (ended_in (in_order e))
 
@@ -48,7 +48,7 @@ unselected_row c = unrun_row c statuses.Skipped (same_marks Skipped c)
 abbrev pub unreached_row : CaseValue → CaseRow
 unreached_row c = unrun_row c statuses.Untested []
 
--- A case's row is that of some cut.
+-- A case's result is the case's alone, cut at one event or nowhere.
 abbrev pub IsReached : Run → State → CaseValue → CaseRow → Type 0
 IsReached run section c row = (cut : Cut) × (row ≡ reached_row run section cut c)
 
@@ -72,19 +72,19 @@ abbrev pub later : {A : Type 0} → List A → List A
 later [] = []
 later (x ∷ xs) = xs
 
--- A status that is failed or memory.
+-- Whether a status is failed or memory.
 abbrev pub is_bad : Status → Bool
 is_bad status = is_failed status || is_memory status
 
--- What comes next is still reached: the run doesn't stop at a failure, or this status is neither failed nor memory.
+-- Whether what comes next is still reached: the run doesn't stop at a failure, or this status is neither failed nor memory.
 abbrev pub stays_open_by : Bool → Status → Bool
 stays_open_by stop status = not (stop && is_bad status)
 
--- What comes next in a run is still reached. (behave's documentation: `--stop`)
+-- Whether what comes next in a run is still reached. (behave's documentation: `--stop`)
 abbrev pub stays_open : Run → Status → Bool
 stays_open run status = stays_open_by run.stop status
 
--- What comes after these cases is still reached. (behave's documentation: `--stop`)
+-- Whether what comes after these cases is still reached. (behave's documentation: `--stop`)
 abbrev pub all_stay_open : Run → List CaseRow → Bool
 all_stay_open run rows = list_all (λ (row : CaseRow). stays_open run row.status) rows
 

@@ -1,4 +1,4 @@
--- The events of a section, and the point at which a refused growth cuts it.
+-- The events of a section, and the point at which refused memory cuts it.
 use Rattle.std.specs.Prelude.{zero, suc, Bool, true, false, cond, List, [], ◌∷◌, ◌++◌, ℕ}
 use Rattle.gk_world.specs.State.{State}
 use Rattle.gk_run.specs.declared.acting.Site.{Site}
@@ -12,7 +12,7 @@ use Rattle.gk_run.specs.declared.section.Stage.{Stage}
 use Rattle.gk_run.specs.Ending.{has_passed, around_status}
 use Rattle.gk_run.specs.Events.{Event, cut_at, ended_in}
 
--- The site of the steps of a before hook. They may skip only in a scenario's before hook.
+-- The site of the steps of a before hook. They may skip only in a scenario's before hook. (behave's documentation: skipping scenarios)
 abbrev pub before_site : Level → Site
 before_site levels.Scenario = sites.CaseHook
 before_site _ = sites.Hook
@@ -39,7 +39,7 @@ steps_of_case = record { level = levels.Scenario; part = parts.Steps }
 abbrev pub after_of : Level → Stage
 after_of level = record { level = level; part = parts.After }
 
--- The events of a section, in four parts, one after another: the steps of its before list; the steps of the scenario, if the section is a scenario's; the steps of its after lists; its cleanups.
+-- The events of a section, in four parts: the steps of its before list; those of the scenario, in a scenario's section; those of its after lists; its cleanups.
 pub record Events : Type 0 where
   pub before : List Event
   pub steps : List Event
@@ -50,7 +50,7 @@ pub record Events : Type 0 where
 abbrev pub in_order : Events → List Event
 in_order e = e.before ++ (e.steps ++ (e.after ++ e.cleanups))
 
--- The point at which a refused growth cuts a section: at none of its events, or at event n of one of its parts, counted from 0. That event leaves this state.
+-- The point at which refused memory cuts a section: at none of its events, or at event n of one of its parts, counted from 0. That event leaves this state.
 pub data Cut : Type 0 where
   nowhere : Cut
   in_before : ℕ → State → Cut
@@ -58,7 +58,7 @@ pub data Cut : Type 0 where
   in_after : ℕ → State → Cut
   in_cleanups : ℕ → State → Cut
 
--- There is an event with this number.
+-- Whether there is an event with this number.
 abbrev pub has_event : ℕ → List Event → Bool
 has_event n [] = false
 has_event zero (event ∷ events) = true
@@ -80,6 +80,6 @@ around_events e = e.before ++ (e.after ++ e.cleanups)
 abbrev pub around_of : Events → Status
 around_of e = around_status (ended_in (around_events e))
 
--- The before list of a section passed whole.
+-- Whether the before list of a section passed whole.
 abbrev pub before_passed : Events → Bool
 before_passed e = has_passed (ended_in e.before)

@@ -53,7 +53,7 @@ looked_up library matched step = cond (is_some (found library step.step_type ste
 abbrev pub unrun_step : StepValue → Mark → State → Event
 unrun_step step mark s = of_step steps_of_case step mark [] s
 
--- The events of the steps of a case, from a state and from how the case has ended before them. Each step is carried out while all before it passed. After a skip each is skipped; after a failure each is looked up, and skipped if the library matches it. (behave's documentation: a failed step ends its scenario)
+-- The events of the steps of a case, from a state and from how the case stands so far. Each step is carried out while all before it passed. After a skip each is skipped; after a failure each is looked up, and skipped if the library matches it. (behave's documentation: a failed step ends its scenario)
 abbrev pub steps_from : LibraryValue → Ending → State → List StepValue → List Event
 steps_from library stood s [] = []
 steps_from library endings.Passed s (step ∷ steps) =
@@ -120,11 +120,11 @@ pub record CarriesOut (library : LibraryValue) (stage : Stage) (start : Stand) (
   pub leaves : left_by start events ≡ after library (site_of stage) start steps count
   pub rest : drop count events ≡ others
 
--- The events of the steps above one that ended like this and left this state.
+-- The events of the steps after one that ended like this and left this state.
 abbrev pub Above : Type 0
 Above = Ending → State → List StepValue → List Event
 
--- A list ends at a step, counted from 0. The steps up to it are carried out, those below it passed, and the events of those above it follow from how it ended.
+-- A list ends at a step, counted from 0. The steps up to it are carried out, the earlier ones passed, and the events of the later ones follow from how it ended.
 abbrev pub EndsAt : LibraryValue → Stage → Stand → List StepValue → Above → List Event → ℕ → Type 0
 EndsAt library stage start steps above events stop =
     let left = after library (site_of stage) start steps (suc stop) in
@@ -136,11 +136,11 @@ pub record EndsAtTheLeastStop (library : LibraryValue) (stage : Stage) (start : 
   pub passes : HasNoStop library (site_of stage) start steps → CarriesOut library stage start steps events (length steps) (length steps) []
   pub either : ((stop : ℕ) × IsStop library (site_of stage) start steps stop) ⊎ HasNoStop library (site_of stage) start steps
 
--- Each walk ends like this, and the steps above its end have no events, whatever its steps, its stage, and the state and the cleanups of the section before it.
+-- Each walk ends like this, and the steps after its end have no events, whatever its steps, its stage, and the state and the cleanups of the section before it.
 abbrev pub WalksEndAtTheLeastStop : Type 0
 WalksEndAtTheLeastStop = (library : LibraryValue) (stage : Stage) (start : Stand) (steps : List StepValue) → EndsAtTheLeastStop library stage start steps (λ ended s others. []) (walk library stage start.state steps)
 
--- The mark of a step of a case that isn't carried out, after this ending: after a skip it is skipped; otherwise it is skipped if the library matches it, and undefined if it doesn't. (behave's documentation: a failed step ends its scenario)
+-- The mark of a later step, which isn't carried out. After a skip, or if the library matches it, it is skipped; otherwise it is undefined. (behave's documentation: a failed step ends its scenario)
 abbrev pub mark_above : LibraryValue → Ending → StepValue → Mark
 mark_above library endings.Skipped step = Skipped
 mark_above library ended step = looked_up library Skipped step

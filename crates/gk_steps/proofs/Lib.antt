@@ -17,7 +17,7 @@ mod LibraryLineLemmas
 mod LibraryStagesLemmas
 mod LibraryFileLemmas
 mod OneLibraryFault
-mod DefaultFileLemmas
+pub mod DefaultFileLemmas
 mod WorkedPatterns
 mod DigitLemmas
 mod NumberLemmas

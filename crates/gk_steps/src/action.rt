@@ -3,32 +3,58 @@ ghost use Rattle.std.specs.Prelude.{◌≡◌, find, map, option_copied, option_
 ghost use Rattle.std.specs.Str.{bytes_eq};
 ghost use Rattle.gk_steps.specs.Action.{action_row, action_row_value, action_table, row_among, row_of};
 
-/// The action of a step that finds an entry. The guide describes what each action does to the sandbox.
+/// The action of a step that finds an entry: what it does, and the reasons for which it fails, in the order in which
+/// they are looked for. `tools/tables.py` writes these into the guide.
 #[derive(Clone, Copy, Debug, PartialEq, Eq)]
 pub enum Action {
+    /// Writes the file, replacing an old text. Reasons: bad name, text too long.
     WriteFile,
+    /// Appends the text. Reasons: bad name, absent, text too long.
     AppendFile,
+    /// Removes the file. Reasons: bad name, absent.
     RemoveFile,
+    /// Renames the file, replacing an old `TO`. Reasons: absent, bad name (of `TO`).
     RenameFile,
+    /// Writes a file for each row of a table with the header `name`, `text`. Reasons: no table, bad table, bad name,
+    /// text too long.
     WriteFiles,
+    /// Checks that the file exists. Reasons: absent.
     FileExists,
+    /// Checks that there is no such file. Reasons: present.
     FileAbsent,
+    /// Compares the file's whole text. Reasons: absent, differs.
     FileIs,
+    /// Looks for the text in the file. Reasons: absent, differs.
     FileContains,
+    /// Sets the variable. Reasons: bad name, text too long.
     SetEnv,
+    /// Removes the variable. Reasons: bad name, absent.
     RemoveEnv,
+    /// Compares the variable's text. Reasons: absent, differs.
     EnvIs,
+    /// Checks that there is no such variable. Reasons: present.
     EnvAbsent,
+    /// Sets the value in the step's layer. Reasons: bad name, text too long.
     SetValue,
+    /// Deletes the value from the step's layer. Reasons: bad name, absent, other layer.
     DeleteValue,
+    /// Compares the value's text. Reasons: absent, differs.
     ValueIs,
+    /// Checks that no layer has the value. Reasons: present.
     ValueAbsent,
+    /// Sets the value to the number. Reasons: bad name.
     SetNumber,
+    /// Adds `N` to the value, and sets the sum in the step's layer. Reasons: bad name, absent, not a number, out of range.
     AddNumber,
+    /// Compares the value as a number. Reasons: absent, not a number, differs.
     NumberIs,
+    /// Registers `STEP` to run as a cleanup when the layer ends. Reasons: not allowed here, no such step.
     AtCleanup,
+    /// Skips the scenario. Reasons: not allowed here.
     SkipScenario,
+    /// Does nothing.
     Pass,
+    /// Fails. Reasons: fail step.
     Fail,
 }
 

@@ -1,4 +1,4 @@
--- The changes of the world that are refused, and why. The reasons for a change are listed in order, and the first that holds is the fault.
+-- The changes of the world that are refused, and why. The reasons for a change are listed in order, and the first that holds is the fault. A *refusal* is the fault for which a change is refused.
 use Rattle.std.specs.Prelude.{◌≡◌, ◌≢◌, ℕ, Bool, cond, ◌||◌, ◌==◌, nat_lt, List, [], ◌∷◌, ◌++◌, length, Option, Some, None, is_none, unwrap_or, MatchOption, Result, Ok, Err}
 use Rattle.gk_world.specs.declared.refusals.WorldFault.{WorldFault}
 use Rattle.gk_world.specs.declared.refusals.WorldFault.TheVariants.{Absent, TextTooLong, BadName, OtherLayer, Memory}

@@ -15,7 +15,7 @@ use Rattle.gk_world.specs.Journal.{rewound, FitAll}
 use Rattle.gk_world.specs.World as world
 use Rattle.gk_world.specs.World.{contents_of, Fits, IsClear}
 
--- A sandbox's value: the contents; for each open layer, the innermost first, what its end restores; the recorded undos, the oldest first; and how many there were when each layer began.
+-- A sandbox as contracts see it: the contents; for each open layer, the innermost first, what its end restores; the recorded undos, the oldest first. `marks` has the number of undos that were recorded when each layer began.
 pub record SandboxValue : Type 0 where
   pub now : Contents
   pub saved : List Contents
@@ -57,12 +57,12 @@ pub record Becomes (now : Contents) (old new : SandboxValue) : Type 0 where
   pub marks : new.marks ≡ old.marks
   pub recorded : Records old.saved old new
 
--- What each layer's end restores and the marks stay, as they do at every change. (behave's documentation: context layers)
+-- A change keeps what each layer's end restores, and the marks. (behave's documentation: context layers)
 pub record KeepsLayers (old new : SandboxValue) : Type 0 where
   pub layers : new.saved ≡ old.saved
   pub marks : new.marks ≡ old.marks
 
--- A sandbox before and after changes and complete inner layers. A refused change leaves it as it is. (behave's documentation: context layers)
+-- The second sandbox comes from the first by changes and complete inner layers. A refused change leaves it as it is. (behave's documentation: context layers)
 pub data Works : SandboxValue → SandboxValue → Type 0 where
   done : {s : SandboxValue} → Works s s
   change : {s t u : SandboxValue} → KeepsLayers s t → Works t u → Works s u

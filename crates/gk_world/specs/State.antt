@@ -1,4 +1,4 @@
--- The contents of a sandbox, and the plain state that they give, which is never undone.
+-- The contents of a sandbox, and the plain state that they give, which is never undone. A *layer* is opened by the run, a feature, a rule or a scenario; its end restores what its beginning found.
 use Rattle.std.specs.Prelude.{◌≡◌, ℕ, cond, List, [], ◌∷◌, Option, None, Some, bytes_eq, refl}
 use Rattle.std.specs.Coded.{Coded, code_by, coded×, coded_list, coded_ℕ}
 use Rattle.std.specs.Option.{option_or}
@@ -38,7 +38,7 @@ abbrev pub with_innermost : (Texts → Texts) → List Texts → List Texts
 with_innermost f [] = []
 with_innermost f (v ∷ vs) = f v ∷ vs
 
--- A map from names to texts, as a function that gives the text of each name, if any.
+-- A function that gives the text of each name, if any.
 abbrev pub Map : Type 0
 Map = List ℕ → Option (List ℕ)
 
@@ -69,7 +69,7 @@ pub record State : Type 0 where
 abbrev pub see : State → List ℕ → Option (List ℕ)
 see s name = option_or (s.own name) (s.outer name)
 
--- The state after a section begins: the own values are laid over the outer ones, and no value is own. (behave's documentation: context layers)
+-- The state after a layer begins: the own values are laid over the outer ones, and no value is own. (behave's documentation: context layers)
 abbrev pub enter : State → State
 enter s = record s { outer = laid_over s.own s.outer; own = nothing }
 

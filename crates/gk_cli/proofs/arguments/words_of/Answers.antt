@@ -8,8 +8,8 @@ use Rattle.gk_cli.proofs.arguments.words_of.Goals as goal
 pub returns : goal.returns
 returns c =
     let f = found_of c.args.matches.now in
-    let env = subst (SaysPairs _) c.in-Some.is c.in_ok-env.ensures in
-    let world_files = subst (SaysPairs _) c.in-Some-2.is c.in_ok-world_files.ensures in
+    let env = subst (SaysPairs _) c.in-Ok.is c.in_ok-env.ensures in
+    let world_files = subst (SaysPairs _) c.in-Ok-2.is c.in_ok-world_files.ensures in
     record {
       files = c.in_ok-files.ensures ∙ c.values_of.ensures;
       options = c.in_ok-options.ensures;

@@ -1,9 +1,9 @@
 use Rattle.std.proofs.Common.{◌≡◌, ◌∙◌, ap₂, map, sym, None, subst}
-use Rattle.gk_world.specs.Refusals.{put_refusal}
+use Rattle.gk_world.specs.Refusals.{IsFault, put_refusal}
 use Rattle.gk_world.specs.Sandbox.{with_env}
 use Rattle.gk_cli.specs.Arguments.{pair_value}
+use Rattle.gk_program.specs.EnvFault.{IsFaultOfVariable}
 use Rattle.gk_program.specs.Program.{IsRefused}
-use Rattle.std.specs.Prelude.{IsSome}
 use Rattle.gk_program.proofs.ProgramLemmas.{all_taken, all_put, refused_here, taken_more, put_more, refused}
 use Rattle.gk_program.proofs.program.put_variables.Goals as goal
 
@@ -11,8 +11,11 @@ pub returns-in-Err : goal.returns-in-Err
 returns-in-Err c =
     let name = c.as_str.ensures.value in
     let text = c.as_str-in-loop-variable.ensures.value in
-    refused (map pair_value c.args.variables.now) c.args.sandbox.now c.put_env.new.self (put_refusal c.as_str.result.now c.as_str-in-loop-variable.result.now) c.in-Err.fault c.fault_of_variable.result c.in-Err.ensures.answer c.fault_of_variable.ensures
-    (λ some. refused_here IsRefused pair_value c.args.variables.now c.loop-variable.variable-index c.variable-item.result c.loop-variable-test.true c.variable-item.is (subst IsSome (ap₂ put_refusal name text) some))
+    let fault = c.fault_of_variable.result in
+    refused c.args.mode (map pair_value c.args.variables.now) c.args.sandbox.now c.put_env.new.self (pair_value c.variable-item.result) c.in-Err.fault fault
+    (subst (λ r. IsFault r c.in-Err.fault) (ap₂ put_refusal name text) c.in-Err.ensures.answer)
+    (subst (λ n. IsFaultOfVariable c.args.mode n c.in-Err.fault fault) name c.fault_of_variable.ensures)
+    (refused_here (IsRefused c.args.mode fault) pair_value c.args.variables.now c.loop-variable.variable-index c.variable-item.result c.loop-variable-test.true c.variable-item.is)
 
 pub loop-variable-preserved : goal.loop-variable-preserved
 loop-variable-preserved c =

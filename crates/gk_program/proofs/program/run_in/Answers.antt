@@ -17,7 +17,7 @@ returns-in_err-put_variables-clause-fault g c =
 pub returns-in_err-put_variables-clause-calls : goal.returns-in_err-put_variables-clause-calls
 returns-in_err-put_variables-clause-calls g c =
     let d = device_of (λ w. g.W.Write.contents w) c.args.out.now in
-    passed_on c.from_residual.result c.from_residual.ensures.1 (λ fault same. subst (SaysCallsOfRun d d) (sym same) (calls_of_variables d (map pair_value c.as_slice.result.now) c.args.sandbox.now c.put_variables.new.sandbox c.in_err-put_variables.field-0.0 c.in_err-put_variables.ensures))
+    passed_on c.from_residual.result c.from_residual.ensures.1 (λ fault same. subst (SaysCallsOfRun d d) (sym same) (calls_of_variables d c.args.words.mode (map pair_value c.as_slice.result.now) c.args.sandbox.now c.put_variables.new.sandbox c.in_err-put_variables.field-0.0 c.in_err-put_variables.ensures))
 
 pub returns-in_err-put_files-clause-fault : goal.returns-in_err-put_files-clause-fault
 returns-in_err-put_files-clause-fault g c =
