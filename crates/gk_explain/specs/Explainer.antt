@@ -1,5 +1,5 @@
 -- The effect of what an explainer is told.
-use Rattle.std.specs.Prelude.{◌≡◌, Bool, false}
+use Rattle.std.specs.Prelude.{◌≡◌, ◌≤◌, ℕ, Bool, false, List, length}
 use Rattle.gk_select.specs.Case.{CaseValue}
 use Rattle.gk_world.specs.State.{State}
 use Rattle.gk_run.specs.declared.results.Status.{Status}
@@ -10,7 +10,7 @@ use Rattle.gk_run.specs.Events.{Event as Told, Ended, of_case, of_rule}
 use Rattle.gk_run.specs.Section.{Cut, happened, in_order}
 use Rattle.gk_explain.specs.declared.explainer.Explainer.{Explainer}
 use Rattle.gk_explain.specs.SectionLines.{SectionValue, untold, after_events}
-use Rattle.gk_explain.specs.Explanation.{ExplanationValue, explanation_value, with_event, with_ended, with_case_of}
+use Rattle.gk_explain.specs.Explanation.{ExplanationValue, explanation_value, name_room, with_event, with_ended, with_case_of}
 
 -- Whether a growth was refused to an explainer.
 abbrev pub is_cut : Explainer → Bool
@@ -31,6 +31,10 @@ Hears old told new = Becomes old (with_event told) new
 -- An end that neither failed nor was refused memory cuts no explainer: memory is asked for only if there is something to explain.
 abbrev pub IsCutOnlyByBad : Status → Explainer → Explainer → Type 0
 IsCutOnlyByBad status old new = is_bad status ≡ false → is_cut new ≡ is_cut old
+
+-- A feature whose file's name fits the room that is kept for it cuts no explainer: memory is asked for only if the name is longer.
+abbrev pub IsCutOnlyByLongName : List ℕ → Explainer → Explainer → Type 0
+IsCutOnlyByLongName source old new = length source ≤ name_room old.explanation → is_cut new ≡ is_cut old
 
 -- The status with which a scenario, or the hooks and cleanups of a rule, ended.
 abbrev pub told_status : Ended → Status

@@ -1,5 +1,5 @@
 -- The state that explains a run.
-use Rattle.std.specs.Prelude.{ℕ, List, [], ◌∷◌, ◌++◌, map, string_bytes}
+use Rattle.std.specs.Prelude.{ℕ, List, [], ◌∷◌, ◌++◌, map, string_bytes, string_capacity}
 use Rattle.gk_select.specs.ExampleRows.{ExampleRowValue, example_row_value, row_lists}
 use Rattle.gk_steps.specs.Finding.{LibraryValue}
 use Rattle.gk_run.specs.declared.results.Status.{Status}
@@ -41,6 +41,10 @@ explanation_value e = record {
   ready = string_bytes e.explained.ready;
   failures = string_bytes e.explained.failures;
 }
+
+-- The room that is kept for the name of a feature's file. A name of at most this length needs no growth.
+abbrev pub name_room : Explanation → ℕ
+name_room e = string_capacity e.source
 
 -- Nothing was told yet, and no feature was begun. Each feature has a list of rows, in the order of the features.
 abbrev pub nothing_said : LibraryValue → List ℕ → List (List ExampleRowValue) → ExplanationValue

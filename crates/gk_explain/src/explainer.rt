@@ -7,7 +7,7 @@ ghost use Rattle.gk_explain.specs.Registrations.{CleanupsAreOfTheirSteps};
 ghost use Rattle.gk_explain.specs.Headings.{failures_text};
 ghost use Rattle.gk_explain.specs.Explanation.{nothing_said, with_source, with_feature, with_run, with_taken};
 ghost use Rattle.gk_explain.specs.Explainer as spec;
-ghost use Rattle.gk_explain.specs.Explainer.{said, Becomes, Hears, Ends, CasesAreExplained, IsCutOnlyByBad};
+ghost use Rattle.gk_explain.specs.Explainer.{said, Becomes, Hears, Ends, CasesAreExplained, IsCutOnlyByBad, IsCutOnlyByLongName};
 
 use crate::event::{CleanupEvent, Event, StepEvent};
 use crate::explanation::Explanation;
@@ -77,10 +77,11 @@ impl<'a> Explainer<'a> {
     }
 
     /// Begins a feature of the source with this name, and goes on to the next list of rows. Call it before the
-    /// feature's first event. If a growth is
-    /// refused, the explainer is cut.
+    /// feature's first event. If a growth is refused, the explainer is cut; none is asked for unless the name is
+    /// longer than the room that is kept for names.
     pub fn begin_feature(&mut self, source: &str)
-        ensures { Becomes self.old (with_source source.now) self.new }
+        ensures becomes { Becomes self.old (with_source source.now) self.new }
+        ensures kept { IsCutOnlyByLongName source.now self.old self.new }
     {
         if self.cut {
             return;

@@ -92,13 +92,13 @@ impl Explained {
 }
 
 impl<'a> Explanation<'a> {
-    ghost use Rattle.std.specs.Prelude.{◌≡◌, IfOk, OnOk, string_bytes};
+    ghost use Rattle.std.specs.Prelude.{◌≡◌, ◌≤◌, length, IfOk, OnOk, string_bytes};
     ghost use Rattle.gk_select.specs.ExampleRows.{row_lists};
     ghost use Rattle.gk_steps.specs.Finding.{library_value};
     ghost use Rattle.gk_run.specs.Results.{case_row, rule_row, feature_row};
     ghost use Rattle.gk_explain.specs.Event.{event_told};
     ghost use Rattle.gk_explain.specs.Headings.{failures_text};
-    ghost use Rattle.gk_explain.specs.Explanation.{explanation_value, nothing_said, with_event, with_case, with_rule, with_rows, with_source, with_feature, with_run, with_taken};
+    ghost use Rattle.gk_explain.specs.Explanation.{explanation_value, name_room, nothing_said, with_event, with_case, with_rule, with_rows, with_source, with_feature, with_run, with_taken};
 
     /// Returns an explanation that was told nothing, before any feature has begun. The run finds its steps in
     /// `library`, and `hooks` is the name of the hooks file. `rows` has the rows of each feature's outlines, in
@@ -132,8 +132,9 @@ impl<'a> Explanation<'a> {
 
     // Goes on to the rows of the next feature.
     fn begin_rows(&mut self)
-        ensures { let old = explanation_value self.old in
+        ensures rows { let old = explanation_value self.old in
             explanation_value self.new ≡ with_rows old.coming old }
+        ensures name { self.new.source ≡ self.old.source }
     {
         match self.coming.split_first() {
             Some((rows, others)) => {
@@ -147,8 +148,9 @@ impl<'a> Explanation<'a> {
     /// Begins a feature of a file with this name. An error comes only if a growth was refused; the source has
     /// no name then.
     pub fn begin_feature(&mut self, source: &str) -> Result<(), AllocError>
-        ensures { OnOk result (explanation_value self.new
+        ensures begun { OnOk result (explanation_value self.new
             ≡ with_source source.now (explanation_value self.old)) }
+        ensures free { length source.now ≤ name_room self.old → OnErr result ⊥ }
     {
         self.begin_rows();
         self.source.clear();
