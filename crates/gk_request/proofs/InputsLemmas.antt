@@ -2,7 +2,7 @@
 use Rattle.std.proofs.Common.{◌≡◌, ◌⊎◌, inl, inr, ℕ, suc, zero, ◌+◌, ◌<◌, Bool, true, false, List, [], ◌∷◌, ◌++◌, map, take, drop, length, get_or, Option, Some, None, Result, Ok, Err, refl, ap, sym, subst, ◌∙◌, arith, add-one, append_assoc}
 use Rattle.std.proofs.lemmas.Grind.{common_steps}
 use Rattle.std.proofs.lemmas.List.{append-nil}
-use Rattle.std.specs.Prelude.{option_map, slice_get, OnOk}
+use Rattle.std.specs.Prelude.{option_map, slice_get, zip, OnOk}
 use Rattle.std.specs.List.{AllByRecursion}
 use Rattle.gk_gherkin.specs.declared.read_fault.ReadFault.{ReadFault}
 use Rattle.gk_gherkin.specs.declared.read_fault.ReadFault.TheVariants as read_faults
@@ -18,6 +18,7 @@ use Rattle.gk_select.specs.declared.select_fault.SelectFault.{SelectFault}
 use Rattle.gk_select.specs.declared.select_fault.SelectFault.TheVariants as select_faults
 use Rattle.gk_select.specs.Case.{CaseValue, case_value}
 use Rattle.gk_select.specs.ExampleRows.{ExampleRowValue}
+use Rattle.gk_select.specs.OwnTags.{with_own_tags}
 use Rattle.gk_select.specs.TagGrammar.{Expression}
 use Rattle.gk_select.specs.TagRules.{ReadsTags}
 use Rattle.gk_select.specs.Choice.{is_chosen}
@@ -28,7 +29,7 @@ use Rattle.gk_steps.specs.DefaultFile.{default_text}
 use Rattle.gk_steps.specs.LibraryFile.{LibraryReadingIsUnique}
 use Rattle.gk_steps.specs.LibraryFault.{LibraryFaultSays}
 use Rattle.gk_run.specs.declared.chosen.Chosen.{Chosen}
-use Rattle.gk_run.specs.Chosen.{HeadValue, MemberValue, ChosenValue, chosen_value, members_of, IsFormed}
+use Rattle.gk_run.specs.Chosen.{HeadValue, MemberValue, ChosenValue, chosen_value, member_of, members_of, IsFormed}
 use Rattle.gk_request.specs.Source.{SourceValue}
 use Rattle.gk_request.specs.Inputs.{Inputs, InputsAreUnique, IsFirstBadText, AreRules, IsLibrary, AreHooks, member_by, chosen_of, with_reading, IsWithinLimit, AreRead, with_rows, AreRowsOf, AreRowsIf, rows_onto, AreRowsReadOnto, HasFault, IsReading, IsReadOnto}
 use Rattle.gk_request.specs.Request.{Request}
@@ -59,10 +60,23 @@ split_at [] i x is = let no : ⊥ = cc in absurd no
 split_at (y ∷ ys) zero x is = ap (λ z. z ∷ ys) (same_some y x is)
 split_at (y ∷ ys) (suc i) x is = ap (λ t. y ∷ t) (split_at ys i x is)
 
--- The cases of a feature, each with whether it is chosen.
-pub members_chosen : (chooses : CaseValue → Bool) (cs : List Case) → members_of cs (map (λ (c : Case). chooses (case_value c)) cs) ≡ map (member_by chooses) (map case_value cs)
-members_chosen chooses [] = refl
-members_chosen chooses (c ∷ cs) = ap (λ ms. member_by chooses (case_value c) ∷ ms) (members_chosen chooses cs)
+-- Cases, each with whether it is selected, by their values.
+abbrev paired : List CaseValue → List Bool → List MemberValue
+paired cs selected = map (λ (p : CaseValue × Bool). record { scenario = p.0; selected = p.1 }) (zip cs selected)
+
+members_paired : (cs : List Case) (selected : List Bool) → members_of cs selected ≡ paired (map case_value cs) selected
+members_paired [] [] = refl
+members_paired [] (b ∷ bs) = refl
+members_paired (c ∷ cs) [] = refl
+members_paired (c ∷ cs) (b ∷ bs) = ap (λ (ms : List MemberValue). member_of c b ∷ ms) (members_paired cs bs)
+
+paired_by : (chooses : CaseValue → Bool) (cs : List CaseValue) → paired (map with_own_tags cs) (map chooses cs) ≡ map (member_by chooses) cs
+paired_by chooses [] = refl
+paired_by chooses (c ∷ cs) = ap (λ (ms : List MemberValue). member_by chooses c ∷ ms) (paired_by chooses cs)
+
+-- The cases of a feature with their own tags, each with whether it is chosen.
+pub members_chosen : (chooses : CaseValue → Bool) (cs : List Case) (whole : List CaseValue) → map case_value cs ≡ map with_own_tags whole → members_of cs (map chooses whole) ≡ map (member_by chooses) whole
+members_chosen chooses cs whole are = members_paired cs (map chooses whole) ∙ ap (λ (vs : List CaseValue). paired vs (map chooses whole)) are ∙ paired_by chooses whole
 
 -- A feature, by its source and its members.
 pub chosen_again : {source source' name name' : List ℕ} {line : ℕ} {tags tags' : List (List ℕ)} {rules rules' : List HeadValue} {members members' : List MemberValue} → source ≡ source' → name ≡ name' → tags ≡ tags' → rules ≡ rules' → members ≡ members' →

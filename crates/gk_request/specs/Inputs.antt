@@ -11,6 +11,7 @@ use Rattle.gk_gherkin.specs.ReadFault.{FaultSays, FeatureFault}
 use Rattle.gk_select.specs.Case.{CaseValue}
 use Rattle.gk_select.specs.ExampleRows.{ExampleRowValue, outline_rows}
 use Rattle.gk_select.specs.Expansion.{cases, step_count, step_limit, HasTooManySteps, IsExpandable}
+use Rattle.gk_select.specs.OwnTags.{with_own_tags}
 use Rattle.gk_select.specs.TagGrammar.{Expression}
 use Rattle.gk_select.specs.TagRules.{ReadsTags, tag_rule_value}
 use Rattle.gk_select.specs.Choice.{is_chosen}
@@ -45,9 +46,9 @@ abbrev pub AreHooks : Option (List ℕ) → List HookValue → Type 0
 AreHooks None hooks = hooks ≡ []
 AreHooks (Some bytes) hooks = IsText bytes × ReadsHooks (lines_of bytes) hooks
 
--- A case, with whether it is chosen.
+-- A case that has only its own tags, with whether it is chosen by all of its tags. (behave's documentation: tag expressions)
 abbrev pub member_by : (CaseValue → Bool) → CaseValue → MemberValue
-member_by chooses case = record { scenario = case; selected = chooses case }
+member_by chooses case = record { scenario = with_own_tags case; selected = chooses case }
 
 -- The heading of a rule. (Cucumber's Gherkin reference: rule)
 abbrev pub head_of : RuleValue → HeadValue

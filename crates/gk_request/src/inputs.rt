@@ -4,10 +4,10 @@ ghost use Rattle.std.specs.Prelude.{◌≡◌, ◌++◌, ◌∷◌, [], map, opt
 ghost use Rattle.std.specs.List.{AllByRecursion};
 ghost use Rattle.gk_gherkin.specs.Feature.{feature_value, rule_value, texts};
 ghost use Rattle.gk_gherkin.specs.Hooks.{hooks_value};
-ghost use Rattle.gk_select.specs.Case.{case_value};
 ghost use Rattle.gk_select.specs.Choice.{chosen_by, is_chosen};
 ghost use Rattle.gk_select.specs.ExampleRows.{row_lists};
 ghost use Rattle.gk_select.specs.Expansion.{IsExpandable};
+ghost use Rattle.gk_select.specs.OwnTags.{untagged, untagged_rule};
 ghost use Rattle.gk_select.specs.TagRules.{tag_rule_value};
 ghost use Rattle.gk_steps.specs.Finding.{library_value};
 ghost use Rattle.gk_run.specs.Chosen.{chosen_value, head_value, IsFormed};
@@ -27,11 +27,13 @@ use gk_gherkin::{
 };
 use gk_run::{Chosen, RuleHead};
 use gk_select::{
-    Case, Choice, ExampleRow, SelectFault, TagRule, cases_fall_into_rules, copied_texts, has_room,
-    into_cases, outline_rows, read_features_are_expandable, read_tags, texts_have_one_rule,
+    Choice, ExampleRow, SelectFault, TagRule, cases_fall_into_rules, cases_keep_without_tags,
+    has_room, into_cases, outline_rows, read_features_are_expandable, read_tags, selected_cases,
+    texts_have_one_rule,
 };
 use gk_steps::{Library, LibraryFault, default_library, library_reading_is_unique, read_library};
 use std::alloc::{AllocError, Global};
+use std::mem::replace;
 
 /// The inputs of a run, as they were read.
 #[derive(Debug, Drop)]
@@ -141,59 +143,70 @@ fn choice_by(alloc: Global, rules: Vec<TagRule>, lines: &[u32]) -> Result<Choice
     Ok(Choice::new(rules, lines))
 }
 
-// Returns for each case whether it is chosen.
-fn selections(alloc: Global, choice: &Choice, cases: &[Case]) -> Result<Vec<bool>, AllocError>
-    ensures { IfOk result (λ selected. selected.items
-        ≡ map (λ c. chosen_by choice.now (case_value c)) cases.now) }
+// Takes the tags of a rule, and returns its heading with them.
+fn take_head(alloc: Global, rule: &mut Rule) -> RuleHead
+    ensures head { head_value result ≡ spec.head_of (rule_value rule.old) }
+    ensures taken { rule_value rule.new ≡ untagged_rule (rule_value rule.old) }
 {
-    let mut selected = Vec::new(alloc);
-    for case in cases {
-        selected.push(choice.chooses(case))?;
+    RuleHead {
+        line: rule.line,
+        tags: replace(&mut rule.tags, Vec::new(alloc)),
     }
-    Ok(selected)
 }
 
-// Copies the headings of rules.
-fn heads_of(alloc: Global, rules: &[Rule]) -> Result<Vec<RuleHead>, AllocError>
-    ensures { IfOk result (λ heads. map head_value heads.items
-        ≡ map spec.head_of (map rule_value rules.now)) }
+// Rules without tags, and their headings with the tags.
+#[derive(Drop)]
+struct TakenRules {
+    rules: Vec<Rule>,
+    heads: Vec<RuleHead>,
+}
+
+// Takes the tags of rules.
+fn take_heads(alloc: Global, rules: Vec<Rule>) -> Result<TakenRules, AllocError>
+    ensures heads { IfOk result (λ taken. map head_value taken.heads.items
+        ≡ map spec.head_of (map rule_value rules.items)) }
+    ensures rules { IfOk result (λ taken. map rule_value taken.rules.items
+        ≡ map untagged_rule (map rule_value rules.items)) }
 {
     let mut heads = Vec::new(alloc);
+    let mut kept = Vec::new(alloc);
     for rule in rules {
-        heads.push(RuleHead {
-            line: rule.line,
-            tags: copied_texts(alloc, rule.tags.as_slice())?,
-        })?;
+        let mut rule = rule;
+        heads.push(take_head(alloc, &mut rule))?;
+        kept.push(rule)?;
     }
-    Ok(heads)
+    Ok(TakenRules {
+        rules: kept,
+        heads,
+    })
 }
 
-// Copies of parts of a source and of its feature.
+// The tags of a feature, and the headings of its rules.
 #[derive(Drop)]
-struct Copies {
-    source: String,
-    name: String,
+struct Heads {
     tags: Vec<String>,
     rules: Vec<RuleHead>,
 }
 
-fn copies_of(alloc: Global, source: &str, feature: &Feature) -> Result<Copies, AllocError>
-    ensures source { IfOk result (λ copies. string_bytes copies.source ≡ source.now) }
-    ensures name { IfOk result (λ copies. string_bytes copies.name
-        ≡ string_bytes feature.now.name) }
-    ensures tags { IfOk result (λ copies. texts copies.tags.items
-        ≡ texts feature.now.tags.items) }
-    ensures rules { IfOk result (λ copies. map head_value copies.rules.items
-        ≡ map spec.head_of (map rule_value feature.now.rules.items)) }
+// Takes the tags of a feature and of its rules.
+fn take_tags(alloc: Global, feature: &mut Feature) -> Result<Heads, AllocError>
+    ensures tags { IfOk result (λ heads. texts heads.tags.items
+        ≡ (feature_value feature.old).tags) }
+    ensures rules { IfOk result (λ heads. map head_value heads.rules.items
+        ≡ map spec.head_of (feature_value feature.old).rules) }
+    ensures taken { OnOk result (feature_value feature.new
+        ≡ untagged (feature_value feature.old)) }
 {
-    Ok(Copies {
-        source: String::from_str(alloc, source)?,
-        name: String::from_str(alloc, feature.name.as_str())?,
-        tags: copied_texts(alloc, feature.tags.as_slice())?,
-        rules: heads_of(alloc, feature.rules.as_slice())?,
+    let rules = replace(&mut feature.rules, Vec::new(alloc));
+    let taken = take_heads(alloc, rules)?;
+    feature.rules = taken.rules;
+    Ok(Heads {
+        tags: replace(&mut feature.tags, Vec::new(alloc)),
+        rules: taken.heads,
     })
 }
 
+// Chooses among the cases of a feature before they are built, so that they need only their own tags.
 fn chosen_of(
     alloc: Global,
     choice: &Choice,
@@ -207,18 +220,17 @@ fn chosen_of(
     ensures fault { IfErr result (λ e. SaysExpansion (feature_value feature) e) }
     ensures limit { OnOk result (spec.IsWithinLimit (Some (feature_value feature))) }
 {
-    let copies = copies_of(alloc, source, &feature)?;
+    let mut feature = feature;
+    let source = String::from_str(alloc, source)?;
+    let name = String::from_str(alloc, feature.name.as_str())?;
     let line = feature.line;
-    let cases = into_cases(alloc, feature)?;
-    let selected = selections(alloc, choice, cases.as_slice())?;
-    // No code runs here: the law says that a feature's cases fall into its rules.
+    let selected = selected_cases(alloc, choice, &feature)?;
+    let heads = take_tags(alloc, &mut feature)?;
+    // No code runs here: the laws say what the cases are now, and that they fall into the rules.
+    cases_keep_without_tags();
     cases_fall_into_rules();
-    let Copies {
-        source,
-        name,
-        tags,
-        rules,
-    } = copies;
+    let cases = into_cases(alloc, feature)?;
+    let Heads { tags, rules } = heads;
     Ok(Chosen {
         source,
         name,

@@ -20,6 +20,8 @@ pub mod CaseLines
 pub mod RowLines
 pub mod RowOrder
 pub mod ChosenLines
+pub mod Selected
+pub mod Untagged
 pub mod WorkedOutlines
 pub mod WorkedChoices
 pub mod WorkedExpressions

@@ -10,6 +10,8 @@ pub mod RuleOrder
 pub mod FileOrder
 pub mod ExampleRows
 pub mod Counting
+pub mod OwnTags
+pub mod TagLists
 pub mod TagWords
 pub mod TagGrammar
 pub mod TagValues
@@ -17,6 +19,7 @@ pub mod Alternatives
 pub mod TagRules
 pub mod TagStops
 pub mod Choice
+pub mod Selecting
 pub mod SelectFault
 -- Proof machinery: what the words of an expression build, read from the last to the first, and how deep it is.
 pub mod TagTrees

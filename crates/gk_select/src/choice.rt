@@ -1,11 +1,12 @@
 //! The choice of cases by tags and lines.
-ghost use Rattle.std.specs.Prelude.{◌≡◌, map};
+ghost use Rattle.std.specs.Prelude.{◌≡◌, ◌&&◌, map};
 ghost use Rattle.std.specs.List.Sorted.{IsNonDecreasing};
-ghost use Rattle.gk_gherkin.specs.Feature.{texts};
 ghost use Rattle.gk_select.specs.Case.{case_value};
+ghost use Rattle.gk_select.specs.TagLists.{tags_of};
 ghost use Rattle.gk_select.specs.TagRules.{tag_rule_value};
 
 use crate::case::Case;
+use crate::tag_lists::TagLists;
 use crate::tag_values::TagRule;
 
 /// A condition by which cases are chosen: every rule holds for the case's tags, and its line is among the
@@ -33,13 +34,21 @@ impl Choice {
     pub fn chooses(&self, case: &Case) -> bool
         ensures { result ≡ chosen_by self.now (case_value case.now) }
     {
-        self.rules_hold(&case.tags) && self.has_line(case.line)
+        self.takes(self.rules_hold(&TagLists::of(&case.tags)), case.line)
     }
 
-    fn rules_hold(&self, tags: &[String]) -> bool
-        ensures { result ≡ all_hold (map tag_rule_value self.now.rules.items) (texts tags.now) }
+    /// Returns whether every rule holds for the tags of a case.
+    pub(crate) fn rules_hold(&self, tags: &TagLists<'_>) -> bool
+        ensures { result ≡ all_hold (map tag_rule_value self.now.rules.items) (tags_of tags.now) }
     {
-        self.rules.iter().all(|rule| rule.selects(tags))
+        self.rules.iter().all(|rule| rule.holds_for(tags))
+    }
+
+    /// Returns whether a case at a line is chosen, if the rules hold for its tags or don't.
+    pub(crate) fn takes(&self, hold: bool, line: u32) -> bool
+        ensures { result ≡ hold && is_at_lines self.now.lines.items line }
+    {
+        hold && self.has_line(line)
     }
 
     fn has_line(&self, line: u32) -> bool

@@ -7,6 +7,7 @@ ghost use Rattle.gk_gherkin.specs.Grammar.{Reads};
 ghost use Rattle.gk_select.specs.Filling.{FillsByCut};
 ghost use Rattle.gk_select.specs.Inherited.{InheritedValue};
 ghost use Rattle.gk_select.specs.Expansion.{cases, IsExpandable, HasNoOutline, plain_cases, case_count};
+ghost use Rattle.gk_select.specs.OwnTags.{HasSameCasesUntagged};
 ghost use Rattle.gk_select.specs.RuleOrder.{FallIntoRules};
 ghost use Rattle.gk_select.specs.FileOrder.{CasesAreInFileOrder};
 ghost use Rattle.gk_select.specs.ExampleRows.{RowsAreAtCases, RowsAreInFileOrder};
@@ -61,6 +62,12 @@ pub fn rows_are_in_file_order()
 /// case without a rule counts lowest. (Cucumber's Gherkin reference: rule)
 pub fn cases_fall_into_rules()
     ensures { (f : FeatureValue) → FallIntoRules (length f.rules) (map (λ c. c.rule) (cases f)) }
+{}
+
+/// Without the tags of a feature and of its rules, its cases are the same, except that each has only its own
+/// tags. (Cucumber's Gherkin reference: tag inheritance)
+pub fn cases_keep_without_tags()
+    ensures { (f : FeatureValue) → HasSameCasesUntagged f }
 {}
 
 /// In a feature that is read from a file, the lines of the rules rise, those of the cases rise, and both

@@ -19,6 +19,9 @@ mod counting;
 mod example_rows;
 mod expansion;
 
+// The lists of a case's tags.
+mod tag_lists;
+
 // The words of a text of tags.
 mod tag_words;
 
@@ -33,6 +36,7 @@ mod tag_stops;
 
 // The choice of cases.
 mod choice;
+mod selecting;
 
 // Faults and laws.
 mod laws;
@@ -46,11 +50,13 @@ pub use example_rows::{ExampleCell, ExampleRow, outline_rows};
 pub use expansion::{expand, into_cases};
 pub use laws::{
     alternatives_are_rules, cases_are_in_file_order, cases_fall_into_rules,
-    plain_scenarios_are_cases, read_features_are_expandable, rows_are_at_cases, rows_are_cases,
-    rows_are_in_file_order, texts_have_one_cut, texts_have_one_rule,
+    cases_keep_without_tags, plain_scenarios_are_cases, read_features_are_expandable,
+    rows_are_at_cases, rows_are_cases, rows_are_in_file_order, texts_have_one_cut,
+    texts_have_one_rule,
 };
 pub use outline::is_outline;
 pub use select_fault::SelectFault;
+pub use selecting::selected_cases;
 pub use tag_rules::read_tags;
 pub use tag_stops::{TagStop, Wanted, tag_stop};
 pub use tag_values::TagRule;

@@ -3,11 +3,13 @@ ghost use Rattle.std.specs.Prelude.{◌≡◌, ◌-◌, ◌<◌, ◌^◌, ◌++�
 ghost use Rattle.std.specs.List.{list_any};
 ghost use Rattle.std.specs.Str.{bytes_eq};
 ghost use Rattle.gk_gherkin.specs.Feature.{texts};
+ghost use Rattle.gk_select.specs.TagLists.{tags_of};
 ghost use Rattle.gk_select.specs.TagGrammar.{Expression, SpeltBy, spelling, tags_in};
 ghost use Rattle.gk_select.specs.TagTrees.{spelt_once};
 ghost use Rattle.gk_select.specs.TagValues.{holds, seen_before, seen_value, seen_depth};
 ghost use Rattle.gk_select.specs.TagWords.{word_value, tags_among};
 
+use crate::tag_lists::TagLists;
 use crate::tag_words::Word;
 use std::alloc::{AllocError, Global};
 
@@ -36,13 +38,13 @@ impl Seen {
     }
 
     // Returns the state once the word before those read so far is read too.
-    pub fn before(self, word: &Word, tags: &[String]) -> Seen
+    pub fn before(self, word: &Word, tags: &TagLists<'_>) -> Seen
         requires { seen_depth self < 2 ^ 64 - 1 }
-        ensures { result ≡ seen_before (texts tags.now) (word_value word.now) self }
+        ensures { result ≡ seen_before (tags_of tags.now) (word_value word.now) self }
     {
         match self {
             Seen::Value(value) => match word {
-                Word::Tag(tag) => Seen::Value(is_among(tag, tags)),
+                Word::Tag(tag) => Seen::Value(is_in_one(tag, tags)),
                 Word::Not => Seen::Value(!value),
                 Word::And => if value { self } else { Seen::Failed(0) },
                 Word::Or => if value { Seen::Held(0) } else { self },
@@ -75,6 +77,16 @@ fn is_among(tag: &str, tags: &[String]) -> bool
     ensures { result ≡ list_any (bytes_eq tag.now) (texts tags.now) }
 {
     tags.iter().any(|other| tag == other.as_str())
+}
+
+// Returns whether a tag is in one of the lists of a case's tags.
+fn is_in_one(tag: &str, tags: &TagLists<'_>) -> bool
+    ensures { result ≡ list_any (bytes_eq tag.now) (tags_of tags.now) }
+{
+    is_among(tag, tags.feature)
+        || is_among(tag, tags.rule)
+        || is_among(tag, tags.scenario)
+        || is_among(tag, tags.examples)
 }
 
 // Appends the tags among the words.
@@ -113,6 +125,13 @@ impl TagRule {
     /// documentation: tag expressions; Cucumber's tag expressions)
     pub fn selects(&self, tags: &[String]) -> bool
         ensures { result ≡ holds (tag_rule_value self.now) (texts tags.now) }
+    {
+        self.holds_for(&TagLists::of(tags))
+    }
+
+    /// Returns whether the rule holds for the tags of a case. Doesn't allocate.
+    pub(crate) fn holds_for(&self, tags: &TagLists<'_>) -> bool
+        ensures { result ≡ holds (tag_rule_value self.now) (tags_of tags.now) }
     {
         let words = self.words.as_slice();
         let mut seen = Seen::Value(false);

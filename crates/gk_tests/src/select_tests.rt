@@ -1,8 +1,8 @@
 use crate::run_tests::feature_of;
 use gk_gherkin::read_feature;
 use gk_select::{
-    TagRule, expand, has_room, into_cases, outline_rows, read_features_are_expandable, read_tags,
-    tag_stop,
+    Choice, TagRule, expand, has_room, into_cases, outline_rows, read_features_are_expandable,
+    read_tags, selected_cases, tag_stop,
 };
 use std::alloc::{AllocError, Global};
 use std::test::Fail;
@@ -38,6 +38,33 @@ fn features_are_expanded(rt: HostRuntime) -> Result<(), Fail> {
     let (kept, moved) = shown_cases(rt.alloc(), FEATURE)?;
     assert_eq!(rt; kept.as_str(), CASES);
     assert_eq!(rt; moved.as_str(), CASES);
+    Ok(())
+}
+
+// Shows for each case of a text's feature whether a text of tags chooses it.
+fn shown_choice(alloc: Global, text: &str, tags: &str) -> Result<String, Fail> {
+    let feature = match read_feature(alloc, text.as_bytes()) {
+        Ok(Some(feature)) => feature,
+        _ => return Err("no feature".into()),
+    };
+    let mut rules = Vec::new(alloc);
+    rules.push(read_tags(alloc, tags)?)?;
+    let choice = Choice::new(rules, Vec::new(alloc));
+    read_features_are_expandable();
+    let selected = selected_cases(alloc, &choice, &feature)?;
+    Ok(format!(in alloc; "{selected:?}")?)
+}
+
+#[test]
+fn cases_are_chosen_by_all_of_their_tags(rt: HostRuntime) -> Result<(), Fail> {
+    for (tags, wanted) in [
+        ("@f", "[true, true, true]"),
+        ("@s", "[true, false, false]"),
+        ("@o and @e", "[false, true, false]"),
+        ("~@e", "[true, false, true]"),
+    ] {
+        assert_eq!(rt; shown_choice(rt.alloc(), FEATURE, tags)?.as_str(), wanted);
+    }
     Ok(())
 }
 

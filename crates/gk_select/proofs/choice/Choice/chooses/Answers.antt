@@ -1,19 +1,12 @@
-use Rattle.std.proofs.Common.{◌≡◌, true, false, map, sym, ◌∙◌}
-use Rattle.std.specs.List.{list_all}
+use Rattle.std.proofs.Common.{◌≡◌, ◌&&◌, List, ℕ, Bool, map, ap, sym, ◌∙◌}
 use Rattle.gk_gherkin.specs.Feature.{texts}
-use Rattle.gk_select.specs.Choice.{is_chosen}
+use Rattle.gk_select.specs.Choice.{all_hold, is_at_lines, is_chosen}
 use Rattle.gk_select.specs.TagRules.{tag_rule_value}
-use Rattle.gk_select.specs.TagValues.{holds}
 use Rattle.gk_select.proofs.choice.Choice.chooses.Goals as goal
 
-pub returns-then-rules_hold : goal.returns-then-rules_hold
+pub returns : goal.returns
 unfolding is_chosen
-returns-then-rules_hold c =
-    let hold : list_all (λ rule. holds rule (texts c.args.case.now.tags.items)) (map tag_rule_value c.args.self.now.rules.items) ≡ true = rw c.deref.ensures.value at (sym c.rules_hold.ensures ∙ c.if-rules_hold.true) in
-    rw hold c.has_line.ensures
-
-pub returns-else-rules_hold : goal.returns-else-rules_hold
-unfolding is_chosen
-returns-else-rules_hold c =
-    let hold : list_all (λ rule. holds rule (texts c.args.case.now.tags.items)) (map tag_rule_value c.args.self.now.rules.items) ≡ false = rw c.deref.ensures.value at (sym c.rules_hold.ensures ∙ c.if-rules_hold.false) in
-    rw hold c.if-rules_hold.false
+returns c =
+    let rules = map tag_rule_value c.args.self.now.rules.items in
+    let tags = c.of.ensures ∙ ap texts c.deref.ensures.value in
+    c.takes.ensures ∙ ap (λ (b : Bool). b && is_at_lines c.args.self.now.lines.items c.args.case.now.line) (c.rules_hold.ensures ∙ ap (all_hold rules) tags)

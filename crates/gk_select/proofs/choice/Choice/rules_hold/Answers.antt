@@ -1,7 +1,7 @@
 use Rattle.std.proofs.Common.{◌∙◌, rules, tests}
 use Rattle.std.proofs.lemmas.Iterator.{YieldsList-from_slice}
 use Rattle.std.proofs.lemmas.Iterator.Search.{all_from_yields_List}
-use Rattle.gk_gherkin.specs.Feature.{texts}
+use Rattle.gk_select.specs.TagLists.{tags_of}
 use Rattle.gk_select.specs.TagRules.{tag_rule_value}
 use Rattle.gk_select.specs.TagValues.{holds}
 use Rattle.gk_select.proofs.ChosenLines.{list_all-map}
@@ -9,5 +9,5 @@ use Rattle.gk_select.proofs.choice.Choice.rules_hold.Goals as goal
 
 pub returns : goal.returns
 returns c =
-    all_from_yields_List (λ x. holds (tag_rule_value x) (texts c.args.tags.now)) _ _ c.all.result c.all.ensures.ran (YieldsList-from_slice c.args.self.now.rules.items cc) (λ x b q k. search (rules, tests))
-    ∙ list_all-map (λ rule. holds rule (texts c.args.tags.now)) tag_rule_value c.args.self.now.rules.items
+    all_from_yields_List (λ x. holds (tag_rule_value x) (tags_of c.args.tags.now)) _ _ c.all.result c.all.ensures.ran (YieldsList-from_slice c.args.self.now.rules.items cc) (λ x b q k. search (rules, tests))
+    ∙ list_all-map (λ rule. holds rule (tags_of c.args.tags.now)) tag_rule_value c.args.self.now.rules.items

@@ -1,11 +1,11 @@
 use Rattle.std.proofs.Common.{◌≡◌, ◌≤◌, length, map, drop}
-use Rattle.gk_gherkin.specs.Feature.{texts}
+use Rattle.gk_select.specs.TagLists.{tags_of}
 use Rattle.gk_select.specs.TagWords.{word_value}
 use Rattle.gk_select.specs.TagValues.{seen_of}
-use Rattle.gk_select.proofs.tag_values.TagRule.selects.Given as goal
+use Rattle.gk_select.proofs.tag_values.TagRule.holds_for.Given as goal
 
 abbrev pub invariant-loop-at : goal.invariant-loop-at
-invariant-loop-at l = record { within : l.at ≤ length l.words; seen : l.seen ≡ seen_of (texts l.tags) (map word_value (drop l.at l.words)) }
+invariant-loop-at l = record { within : l.at ≤ length l.words; seen : l.seen ≡ seen_of (tags_of l.tags) (map word_value (drop l.at l.words)) }
 
 abbrev pub decreases-loop-at : goal.decreases-loop-at
 decreases-loop-at l = l.at

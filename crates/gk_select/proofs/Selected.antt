@@ -1,0 +1,60 @@
+-- The choice among the cases of a feature, made without the cases.
+use Rattle.std.proofs.Common.{◌≡◌, ◌<◌, ℕ, ◌+◌, Bool, List, [], ◌∷◌, ◌++◌, ◌&&◌, length, drop, get_or, map, flat_map, refl, sym, ap, subst, ◌∙◌, inl, inr, arith, append_assoc}
+use Rattle.std.proofs.lemmas.Grind.{common_steps}
+use Rattle.std.proofs.lemmas.Bool.{cases_Bool}
+use Rattle.std.proofs.lemmas.List.{map-append}
+use Rattle.std.specs.List.{enumerate_from}
+use Rattle.gk_gherkin.specs.Feature.{RowValue, ExamplesValue, ScenarioValue, RuleValue, FeatureValue}
+use Rattle.gk_select.specs.declared.choice.Choice.{Choice}
+use Rattle.gk_select.specs.Choice.{is_chosen, is_at_lines, chosen_by}
+use Rattle.gk_select.specs.Inherited.{InheritedValue, inherited_in_feature, inherited_in_rule}
+use Rattle.gk_select.specs.Outline.{is_outline}
+use Rattle.gk_select.specs.Expansion.{row_case, examples_cases, scenario_cases, rule_cases, cases}
+use Rattle.gk_select.specs.Selecting.{rules_hold, rows_selected, examples_selected, scenario_selected, rules_selected}
+
+rows_are : (choice : Choice) (i : InheritedValue) (s : ScenarioValue) (k : ℕ) (e : ExamplesValue) (n : ℕ) (rows : List RowValue) →
+    rows_selected choice (rules_hold choice (i.tags ++ s.tags ++ e.tags)) rows ≡ map (chosen_by choice) (map (λ (r : ℕ × RowValue). row_case i s k e r.0 r.1) (enumerate_from n rows))
+unfolding is_chosen
+rows_are choice i s k e n [] = refl
+rows_are choice i s k e n (row ∷ rows) = ap (λ (bs : List Bool). (rules_hold choice (i.tags ++ s.tags ++ e.tags) && is_at_lines choice.lines.items row.line) ∷ bs) (rows_are choice i s k e (n + 1) rows)
+
+examples_are : (choice : Choice) (i : InheritedValue) (s : ScenarioValue) (k : ℕ) (es : List ExamplesValue) →
+    flat_map (examples_selected choice i s) es ≡ map (chosen_by choice) (flat_map (examples_cases i s) (enumerate_from k es))
+examples_are choice i s k [] = refl
+examples_are choice i s k (e ∷ es) =
+    rw (rows_are choice i s k e 1 e.rows, examples_are choice i s (k + 1) es) refl
+    ∙ sym (map-append (chosen_by choice) (examples_cases i s (k, e)) (flat_map (examples_cases i s) (enumerate_from (k + 1) es)))
+
+scenario_is : (choice : Choice) (i : InheritedValue) (s : ScenarioValue) → scenario_selected choice i s ≡ map (chosen_by choice) (scenario_cases i s)
+unfolding is_chosen
+scenario_is choice i s = elim (cases_Bool (is_outline s)) [
+  | inl t ↦ rw t (examples_are choice i s 1 s.examples)
+  | inr f ↦ rw f refl
+]
+
+scenarios_are : (choice : Choice) (i : InheritedValue) (ss : List ScenarioValue) → flat_map (scenario_selected choice i) ss ≡ map (chosen_by choice) (flat_map (scenario_cases i) ss)
+scenarios_are choice i [] = refl
+scenarios_are choice i (s ∷ ss) = rw (scenario_is choice i s, scenarios_are choice i ss) refl ∙ sym (map-append (chosen_by choice) (scenario_cases i s) (flat_map (scenario_cases i) ss))
+
+rules_are : (choice : Choice) (f : FeatureValue) (n : ℕ) (rules : List RuleValue) → rules_selected choice f n rules ≡ map (chosen_by choice) (flat_map (rule_cases f) (enumerate_from n rules))
+rules_are choice f n [] = refl
+rules_are choice f n (r ∷ rules) =
+    rw (scenarios_are choice (inherited_in_rule f n r) r.scenarios, rules_are choice f (n + 1) rules) refl
+    ∙ sym (map-append (chosen_by choice) (rule_cases f (n, r)) (flat_map (rule_cases f) (enumerate_from (n + 1) rules)))
+
+pub all_selected : (choice : Choice) (f : FeatureValue) → flat_map (scenario_selected choice (inherited_in_feature f)) f.scenarios ++ rules_selected choice f 0 f.rules ≡ map (chosen_by choice) (cases f)
+unfolding cases
+all_selected choice f =
+    rw (scenarios_are choice (inherited_in_feature f) f.scenarios, rules_are choice f 0 f.rules) refl
+    ∙ sym (map-append (chosen_by choice) (flat_map (scenario_cases (inherited_in_feature f)) f.scenarios) (flat_map (rule_cases f) (enumerate_from 0 f.rules)))
+
+-- The values of one part more.
+pub one_part : {A B C : Type 0} (F : B → List C) (v : A → B) (xs ys : List A) (i : ℕ) (x : A) → xs ≡ ys → i < length xs → x ≡ get_or xs i x → (old new whole : List C)
+    → new ≡ old ++ F (v x) → old ++ flat_map F (map v (drop i ys)) ≡ whole → new ++ flat_map F (map v (drop (i + 1) ys)) ≡ whole
+one_part {A} F v xs ys i x same less is old new whole grown before =
+    let split : drop i xs ≡ get_or xs i x ∷ drop (i + 1) xs = grind (arith, common_steps) in
+    let rest = flat_map F (map v (drop (i + 1) xs)) in
+    subst (λ (zs : List A). new ++ flat_map F (map v (drop (i + 1) zs)) ≡ whole) same (
+    ap (λ l. l ++ rest) grown ∙ append_assoc old (F (v x)) rest ∙ ap (λ (z : A). old ++ (F (v z) ++ rest)) is
+    ∙ ap (λ (l : List A). old ++ flat_map F (map v l)) (sym split) ∙ ap (λ (zs : List A). old ++ flat_map F (map v (drop i zs))) same ∙ before
+    )

@@ -1,0 +1,9 @@
+use Rattle.std.proofs.Common.{◌≡◌, ◌++◌, drop, flat_map, map}
+use Rattle.gk_gherkin.specs.Feature.{examples_value, scenario_value}
+use Rattle.gk_select.specs.Inherited.{inherited_value}
+use Rattle.gk_select.specs.Selecting.{examples_selected}
+use Rattle.gk_select.proofs.selecting.select_outline.Given as goal
+
+abbrev pub invariant-loop-examples : goal.invariant-loop-examples
+invariant-loop-examples l = l.selected.items ++ flat_map (examples_selected l.choice (inherited_value l.inherited) (scenario_value l.scenario)) (map examples_value (drop l.examples-index l.scenario.examples.items))
+    ≡ l.fn.selected.items ++ flat_map (examples_selected l.choice (inherited_value l.inherited) (scenario_value l.scenario)) (map examples_value l.scenario.examples.items)

@@ -1,0 +1,21 @@
+use Rattle.std.proofs.Common.{◌++◌, ◌∙◌, ap, List, Bool, map, flat_map}
+use Rattle.gk_gherkin.specs.declared.feature.Scenario.{Scenario}
+use Rattle.gk_gherkin.specs.Feature.{scenario_value, feature_value}
+use Rattle.gk_select.specs.Inherited.{InheritedValue, inherited_value, inherited_in_feature}
+use Rattle.gk_select.specs.Selecting.{scenario_selected, rules_selected}
+use Rattle.gk_select.proofs.Selected.{all_selected}
+use Rattle.gk_select.proofs.selecting.selected_cases.Goals as goal
+
+pub loop-index-init : goal.loop-index-init
+loop-index-init c =
+    let choice = c.args.choice.now in
+    let f = feature_value c.args.feature.now in
+    let own = map scenario_value c.deref.result.now in
+    let inherited = inherited_value c.inherited_in_feature-inherited.result in
+    ap (λ (bs : List Bool). bs ++ rules_selected choice f 0 f.rules) (
+    c.in_ok-select_scenarios.ensures
+    ∙ ap (λ (bs : List Bool). bs ++ flat_map (scenario_selected choice inherited) own) c.new-selected.ensures.items
+    ∙ ap (λ (i : InheritedValue). flat_map (scenario_selected choice i) own) c.inherited_in_feature-inherited.ensures
+    ∙ ap (λ (ss : List Scenario). flat_map (scenario_selected choice (inherited_in_feature f)) (map scenario_value ss)) c.deref.ensures.value
+    )
+    ∙ all_selected choice f

@@ -1,0 +1,10 @@
+use Rattle.std.proofs.Common.{◌≡◌, ◌++◌, drop, map}
+use Rattle.gk_gherkin.specs.Feature.{rule_value, feature_value}
+use Rattle.gk_select.specs.Choice.{chosen_by}
+use Rattle.gk_select.specs.Expansion.{cases}
+use Rattle.gk_select.specs.Selecting.{rules_selected}
+use Rattle.gk_select.proofs.selecting.selected_cases.Given as goal
+
+abbrev pub invariant-loop-index : goal.invariant-loop-index
+invariant-loop-index l = l.selected.items ++ rules_selected l.choice (feature_value l.feature) l.index (map rule_value (drop l.index l.feature.rules.items))
+    ≡ map (chosen_by l.choice) (cases (feature_value l.feature))
