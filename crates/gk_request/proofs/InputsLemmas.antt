@@ -1,7 +1,5 @@
 -- Inputs, one after another, and that they are determined.
-use Rattle.std.proofs.Common.{◌≡◌, ◌⊎◌, inl, inr, ℕ, suc, zero, ◌+◌, ◌<◌, Bool, true, false, List, [], ◌∷◌, ◌++◌, map, take, drop, length, get_or, Option, Some, None, Result, Ok, Err, refl, ap, sym, subst, ◌∙◌, arith, add-one, append_assoc}
-use Rattle.std.proofs.lemmas.Grind.{common_steps}
-use Rattle.std.proofs.lemmas.List.{append-nil}
+use Rattle.std.proofs.Common.{◌≡◌, ◌⊎◌, inl, inr, ℕ, suc, zero, ◌+◌, ◌<◌, Bool, true, false, List, [], ◌∷◌, ◌++◌, map, take, drop, length, get_or, Option, Some, None, Result, Ok, Err, refl, ap, sym, subst, ◌∙◌, arith, add-one}
 use Rattle.std.specs.Prelude.{option_map, slice_get, zip, OnOk}
 use Rattle.std.specs.List.{AllByRecursion}
 use Rattle.gk_gherkin.specs.declared.read_fault.ReadFault.{ReadFault}
@@ -12,7 +10,6 @@ use Rattle.gk_gherkin.specs.Feature.{FeatureValue, feature_value}
 use Rattle.gk_gherkin.specs.Grammar.{Reads, HasOneReading}
 use Rattle.gk_gherkin.specs.Hooks.{HookValue}
 use Rattle.gk_gherkin.specs.HooksGrammar.{HaveOneHooksReading}
-use Rattle.gk_gherkin.specs.ReadFault.{FaultSays, HooksFault}
 use Rattle.gk_select.specs.declared.case.Case.{Case}
 use Rattle.gk_select.specs.declared.select_fault.SelectFault.{SelectFault}
 use Rattle.gk_select.specs.declared.select_fault.SelectFault.TheVariants as select_faults
@@ -27,15 +24,14 @@ use Rattle.gk_steps.specs.declared.library_fault.LibraryFault.TheVariants as lib
 use Rattle.gk_steps.specs.Finding.{LibraryValue}
 use Rattle.gk_steps.specs.DefaultFile.{default_text}
 use Rattle.gk_steps.specs.LibraryFile.{LibraryReadingIsUnique}
-use Rattle.gk_steps.specs.LibraryFault.{LibraryFaultSays}
 use Rattle.gk_run.specs.declared.chosen.Chosen.{Chosen}
 use Rattle.gk_run.specs.Chosen.{HeadValue, MemberValue, ChosenValue, chosen_value, member_of, members_of, IsFormed}
 use Rattle.gk_request.specs.Source.{SourceValue}
-use Rattle.gk_request.specs.Inputs.{Inputs, InputsAreUnique, IsFirstBadText, AreRules, IsLibrary, AreHooks, member_by, chosen_of, with_reading, IsWithinLimit, AreRead, with_rows, AreRowsOf, AreRowsIf, rows_onto, AreRowsReadOnto, HasFault, IsReading, IsReadOnto}
+use Rattle.gk_request.specs.Inputs.{Inputs, InputsAreUnique, IsFirstBadText, AreRules, IsLibrary, AreHooks, member_by, chosen_of, with_reading, IsWithinLimit, AreRead, with_rows, AreRowsOf, AreRowsIf, AreRowsReadOnto, IsReading, IsReadOnto}
 use Rattle.gk_request.specs.Request.{Request}
 use Rattle.gk_request.specs.declared.run_fault.RunFault.{RunFault}
 use Rattle.gk_request.specs.declared.run_fault.RunFault.TheVariants.{Read, Library, Hooks, Select, Write, Memory}
-use Rattle.gk_request.specs.RunFault.{IsUnread, SaysTags, SaysLibrary, SaysHooks, SaysSourceAt, SaysSources, SaysTooMany, read_fault_at, select_fault_at, tags_fault, library_fault, hooks_fault, SaysExpansion}
+use Rattle.gk_request.specs.RunFault.{IsUnread, SaysTags, SaysLibrary, SaysHooks, SaysSourceAt, SaysSources, SaysTooMany, select_fault_at, tags_fault, library_fault, hooks_fault, SaysExpansion}
 
 -- The element at a place, as a loop has it.
 pub at_place : {A B : Type 0} (f : A → B) (xs : List A) (i : ℕ) (x : A) → i < length xs → x ≡ get_or xs i x → slice_get (map f xs) i ≡ Some (f x)
@@ -90,14 +86,6 @@ pub rules_said : (cs : List Case) → map (λ (c : CaseValue). c.rule) (map case
 rules_said [] = refl
 rules_said (c ∷ cs) = ap (λ rs. c.rule ∷ rs) (rules_said cs)
 
--- One value more.
-pub one_value : {X Y : Type 0} (f : X → Y) (done more : List Y) (y : Y) (xs : List X) (i : ℕ) (d : X) → i < length xs → more ≡ done ++ y ∷ [] → y ≡ f (get_or xs i d)
-    → (all : List Y) → done ++ map f (drop i xs) ≡ all → more ++ map f (drop (i + 1) xs) ≡ all
-one_value f done more y xs i d lt grown same all before =
-    let split : drop i xs ≡ get_or xs i d ∷ drop (i + 1) xs = grind (arith, common_steps) in
-    let rest = map f (drop (i + 1) xs) in
-    ap (λ l. l ++ rest) grown ∙ append_assoc done (y ∷ []) rest ∙ ap (λ x. done ++ x ∷ rest) same ∙ ap (λ l. done ++ map f l) (sym split) ∙ before
-
 -- One element more, of which it holds.
 pub all_push : {X : Type 0} (P : X → Type 0) (xs : List X) (x : X) → AllByRecursion P xs → P x → AllByRecursion P (xs ++ x ∷ [])
 all_push P [] x all h = (h, tt)
@@ -145,11 +133,6 @@ rows_of_one (x ∷ ss) rows s reading h reads = (
 pub rows_one : (wanted : Bool) (ss : List SourceValue) (old new : List (List ExampleRowValue)) (s : SourceValue) → AreRowsIf wanted ss old → AreRowsReadOnto wanted s old new → AreRowsIf wanted (ss ++ s ∷ []) new
 rows_one true ss old new s rows onto = subst (AreRowsOf (ss ++ s ∷ [])) (sym onto.added) (rows_of_one ss old s onto.reading rows onto.reads)
 rows_one false ss old new s rows onto = onto.added ∙ rows
-
--- A source without a feature adds no list.
-pub no_rows_more : (wanted : Bool) (rows : List (List ExampleRowValue)) → rows ≡ rows_onto wanted None rows
-no_rows_more true rows = sym (append-nil rows)
-no_rows_more false rows = refl
 
 -- The fault of a feature's cases, named as it is.
 pub too_many_at : (input : ℕ) (f : FeatureValue) (fault : SelectFault) → SaysExpansion f fault → SaysTooMany input f (select_fault_at input fault)

@@ -91,9 +91,6 @@ pub record ReadSo (texts : List (List ℕ)) (words : List WordValue) : Type 0 wh
   pub says : map alternative texts ≡ map Some read
   pub pushed : words ≡ joined read
 
-pub read_none : ReadSo [] []
-read_none = record { read = []; says = refl; pushed = refl }
-
 pub read_more : (texts longer : List (List ℕ)) (words pushed : List WordValue) (piece : List ℕ) (a : AlternativeValue) → ReadSo texts words → longer ≡ texts ++ piece ∷ [] → alternative piece ≡ Some a → pushed ≡ words_with words a → ReadSo longer pushed
 read_more texts longer words pushed piece a r is said with_it =
     record {

@@ -7,11 +7,11 @@ use Rattle.gk_select.specs.declared.tag_values.TagRule.{TagRule}
 use Rattle.gk_select.specs.Alternatives.{AlternativeValue, alternative, alternative_holds, pieces, or_of, ReadsAlternatives}
 use Rattle.gk_select.specs.SelectFault.{AnswersOrLacksMemory}
 use Rattle.gk_select.specs.TagGrammar.{Expression, spelling, depth, depth_limit}
-use Rattle.gk_select.specs.TagRules.{tag_rule_value, ReadsTags, ReadsOldForm, ReadsNewForm, SpellsNone}
+use Rattle.gk_select.specs.TagRules.{tag_rule_value, ReadsTags, ReadsNewForm, SpellsNone}
 use Rattle.gk_select.specs.TagTrees.{one_expression}
 use Rattle.gk_select.specs.TagValues.{holds}
 use Rattle.gk_select.specs.TagWords.{WordValue, AreWords, is_of_new_form, words_of_text, word_said}
-use Rattle.gk_select.proofs.AlternativeWords.{Said, no_pieces, one_list, or_value}
+use Rattle.gk_select.proofs.AlternativeWords.{no_pieces, one_list, or_value}
 use Rattle.gk_select.proofs.TagTextWords.{one_words}
 
 abbrev or_all : List AlternativeValue → Expression → Expression
@@ -35,10 +35,6 @@ only_from text (Err BadTagText) found (inr bad) rule reads = absurd (bad.1 rule 
 only_from text (Err TooMany) found (inl m) rule reads = let no : ⊥ = cc m in absurd no
 only_from text (Err TooMany) found (inr bad) rule reads = let no : ⊥ = cc (bad.0) in absurd no
 
--- The old form: the rule is what the words of the alternatives spell.
-pub or_read : (text : List ℕ) (words : List WordValue) (rule : Expression) → list_any is_of_new_form text ≡ false → Said text words → ((e : Expression) → spelling e ≡ words → rule ≡ e) → ReadsOldForm text rule
-or_read text words rule old said is = record { first = said.0; others = said.1; reads = record { old_form = old; says = said.2 }; is = is (or_of said.0 said.1) said.3 }
-
 pub no_alternatives : (text : List ℕ) → list_any is_of_new_form text ≡ false → (e : SelectFault) → (e ≡ Memory) ⊎ ((e ≡ BadTagText) × ((alternatives : List AlternativeValue) → map alternative (pieces text) ≡ map Some alternatives → ⊥))
     → (e ≡ Memory) ⊎ ((e ≡ BadTagText) × SpellsNone text)
 no_alternatives text old e (inl m) = inl m
@@ -51,18 +47,9 @@ no_alternatives text old e (inr b) = inr (
       ],
 )
 
--- The new form: what the words spell is the rule; where they spell none, there is no rule.
-pub rule_read : (text : List ℕ) (words : List WordValue) (rule e : Expression) → list_any is_of_new_form text ≡ true → AreWords text words → spelling e ≡ words → depth e ≤ depth_limit → rule ≡ e → ReadsNewForm text rule
-rule_read text words rule e new are says low is =
-    subst (ReadsNewForm text) (sym is) (record { new_form = new; says = subst (AreWords text) (sym says) are; shallow = low })
-
 pub spells_none : (text : List ℕ) → list_any is_of_new_form text ≡ true → ((rule : Expression) → ReadsNewForm text rule → ⊥) → SpellsNone text
 spells_none text new none rule (inl x) = let no : ⊥ = cc (sym x.reads.old_form ∙ new) in no
 spells_none text new none rule (inr y) = none rule y
-
-pub no_words : (text : List ℕ) → list_any is_of_new_form text ≡ true → (e : SelectFault) → (e ≡ Memory) ⊎ ((e ≡ BadTagText) × ((words : List WordValue) → AreWords text words → ⊥)) → (e ≡ Memory) ⊎ ((e ≡ BadTagText) × SpellsNone text)
-no_words text new e (inl m) = inl m
-no_words text new e (inr b) = inr (b.0, spells_none text new (λ rule r. b.1 (spelling rule) r.says))
 
 pub no_rule : (text : List ℕ) (words : List WordValue) → list_any is_of_new_form text ≡ true → AreWords text words → (e : SelectFault) → (e ≡ Memory) ⊎ ((e ≡ BadTagText) × ((x : Expression) → spelling x ≡ words → depth x ≤ depth_limit → ⊥))
     → (e ≡ Memory) ⊎ ((e ≡ BadTagText) × SpellsNone text)

@@ -2,9 +2,8 @@
 use Rattle.gk_select.specs.declared.select_fault.SelectFault.{SelectFault}
 use Rattle.gk_select.specs.declared.select_fault.SelectFault.TheVariants.{TooMany, BadTagText, Memory}
 use Rattle.gk_select.specs.SelectFault.{AnswersOrLacksMemory}
-use Rattle.std.proofs.Common.{Err, inl, inr, ◌≡◌, ◌⊎◌, ℕ, zero, suc, ◌<◌, ◌≤◌, Bool, true, false, ◌||◌, ◌==◌, if◌then◌else◌, List, [], ◌∷◌, ◌++◌, length, map, take, drop, get_or, Option, Some, None, IsSome, refl, ap, sym, subst, ◌∙◌, arith, append_assoc, append-nil}
+use Rattle.std.proofs.Common.{Err, inl, inr, ◌≡◌, ◌⊎◌, ℕ, zero, suc, ◌<◌, ◌≤◌, Bool, true, false, ◌||◌, ◌==◌, if◌then◌else◌, List, [], ◌∷◌, ◌++◌, length, map, take, drop, get_or, Option, Some, None, IsSome, refl, ap, sym, subst, ◌∙◌, arith, append-nil}
 use Rattle.std.proofs.lemmas.Bool.Decides.{nat_tests}
-use Rattle.std.proofs.lemmas.List.{map-append}
 use Rattle.std.proofs.lemmas.Str.{IsCharBoundary-after_ascii}
 use Rattle.std.specs.Str.{IsUtf8, IsCharBoundary}
 use Rattle.gk_gherkin.specs.Text.{is_blank}
@@ -73,15 +72,6 @@ byte_is (b ∷ t) some at = one_byte (is_blank b) (is_parenthesis b) b (cut_of t
 abbrev pub Reads : List ℕ → List WordValue → List ℕ → Type 0
 Reads text read rest = map word_said (words_of_text text) ≡ map Some read ++ map word_said (words_of_text rest)
 
-pub reads_blank : (text : List ℕ) (read : List WordValue) (rest after word : List ℕ) → Reads text read rest → words_of_text rest ≡ (if true then [] else word ∷ []) ++ words_of_text after → Reads text read after
-reads_blank text read rest after word r e = r ∙ ap (λ (ws : List (List ℕ)). map Some read ++ map word_said ws) e
-
-pub reads_word : (text : List ℕ) (read : List WordValue) (rest after word : List ℕ) (w : WordValue) → Reads text read rest → words_of_text rest ≡ (if false then [] else word ∷ []) ++ words_of_text after → word_said word ≡ Some w
-    → Reads text (read ++ w ∷ []) after
-reads_word text read rest after word w r e said =
-    r ∙ ap (λ (ws : List (List ℕ)). map Some read ++ map word_said ws) e ∙ ap (λ (o : Option WordValue). map Some read ++ o ∷ map word_said (words_of_text after)) said
-    ∙ sym (append_assoc (map Some read) (Some w ∷ []) (map word_said (words_of_text after))) ∙ ap (λ (os : List (Option WordValue)). os ++ map word_said (words_of_text after)) (sym (map-append Some read (w ∷ [])))
-
 pub no_word : (read words : List WordValue) (others : List (Option WordValue)) → map Some read ++ None ∷ others ≡ map Some words → ⊥
 no_word [] [] others e = let no : ⊥ = cc e in no
 no_word [] (w ∷ words) others e = let no : ⊥ = cc e in no
@@ -129,15 +119,6 @@ pub turned : (rest bytes again word : List ℕ) (n : ℕ) (blank : Bool) → Tur
 turned rest bytes again word n blank t =
     subst (λ (bs : List ℕ). words_of_text bs ≡ (if is_blank (get_or bs 0 0) then [] else take n bs ∷ []) ++ words_of_text (drop n bs)) t.bytes_are t.cut
     ∙ ap (λ (x : Bool). (if x then [] else take n rest ∷ []) ++ words_of_text (drop n rest)) (sym (t.tested ∙ ap (λ (bs : List ℕ). is_blank (get_or bs 0 0)) t.again_are))
-
-pub passes_blank : (text : List ℕ) (read : List WordValue) (rest bytes again word : List ℕ) (n : ℕ) (blank : Bool) → Turn rest bytes again word n blank → blank ≡ true → Reads text read rest → Reads text read (drop n rest)
-passes_blank text read rest bytes again word n blank t is r =
-    reads_blank text read rest (drop n rest) (take n rest) r (turned rest bytes again word n blank t ∙ ap (λ (x : Bool). (if x then [] else take n rest ∷ []) ++ words_of_text (drop n rest)) is)
-
-pub takes_word : (text : List ℕ) (read : List WordValue) (rest bytes again word : List ℕ) (n : ℕ) (blank : Bool) (w : WordValue) → Turn rest bytes again word n blank → blank ≡ false → word ≡ take n rest → word_said word ≡ Some w → Reads text read rest
-    → Reads text (read ++ w ∷ []) (drop n rest)
-takes_word text read rest bytes again word n blank w t is same said r =
-    reads_word text read rest (drop n rest) (take n rest) w r (turned rest bytes again word n blank t ∙ ap (λ (x : Bool). (if x then [] else take n rest ∷ []) ++ words_of_text (drop n rest)) is) (ap word_said (sym same) ∙ said)
 
 pub word_fails : (text : List ℕ) (read : List WordValue) (rest bytes again word : List ℕ) (n : ℕ) (blank : Bool) → Turn rest bytes again word n blank → blank ≡ false → word ≡ take n rest → Reads text read rest
     → (e : SelectFault) → AnswersOrLacksMemory word_value (Err e) (word_said word) → (e ≡ Memory) ⊎ ((e ≡ BadTagText) × ((words : List WordValue) → AreWords text words → ⊥))

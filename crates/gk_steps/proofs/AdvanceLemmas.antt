@@ -1,8 +1,7 @@
 -- The steps that the code takes.
-use Rattle.std.proofs.Common.{◌≡◌, ℕ, zero, suc, ◌+◌, ◌-◌, ◌<◌, ◌≤◌, inl, inr, Bool, true, false, List, [], ◌∷◌, ◌++◌, length, take, drop, get_or, Option, Some, None, ap, sym, ◌∙◌, arith, length-append, length-drop}
+use Rattle.std.proofs.Common.{◌≡◌, ℕ, zero, suc, ◌+◌, ◌-◌, ◌<◌, ◌≤◌, inl, inr, Bool, true, false, List, [], ◌∷◌, ◌++◌, length, drop, get_or, Option, Some, None, ap, ◌∙◌, arith}
 use Rattle.std.specs.Prelude.{IsUtf8}
 use Rattle.std.proofs.Math.Nat.{eq-or-lt_of_le}
-use Rattle.std.proofs.Math.Seq.{take-append_seam}
 use Rattle.std.proofs.lemmas.Str.{IsUtf8-between, IsUtf8-string_bytes}
 use Rattle.gk_steps.specs.declared.pattern.FieldKind.TheVariants.{Plain, Decimal}
 use Rattle.std.specs.Prelude.{String, string_bytes}
@@ -19,39 +18,9 @@ use Rattle.gk_steps.specs.CharBoundaries.{AreBoundaries}
 use Rattle.gk_steps.specs.Advances.{part, IsAdvanceTo, IsAdvance, IsNearest}
 use Rattle.gk_steps.proofs.TableLemmas.{IsTextPiece, cut_at, part_size}
 
-one_column : (text boundaries : List ℕ) (d e : ℕ) → AreBoundaries text boundaries → d < length boundaries → e < length boundaries → get_or boundaries d 0 ≡ get_or boundaries e 0 → d ≡ e
-one_column text boundaries d e h ld le same =
-    let not_less : d < e → ⊥ = λ less. let lower = h.falling d e less le in absurd (omega arith) in
-    let not_more : e < d → ⊥ = λ more. let lower = h.falling e d more ld in absurd (omega arith) in
-    omega (arith, not_less, not_more)
-
 -- a step over a literal
 pub literal_cut : (literal text boundaries : List ℕ) (row : List Bool) (c d : ℕ) → AreBoundaries text boundaries → c < length boundaries → IsAdvanceTo (Literal literal) text boundaries row c d → drop (get_or boundaries c 0) text ≡ literal ++ drop (get_or boundaries d 0) text
 literal_cut literal text boundaries row c d h l s = cut_at text boundaries c d h l s.within ∙ ap (λ f. f ++ drop (get_or boundaries d 0) text) s.takes
-
-literal_position : (literal text boundaries : List ℕ) (row : List Bool) (c d : ℕ) → AreBoundaries text boundaries → c < length boundaries → IsAdvanceTo (Literal literal) text boundaries row c d → get_or boundaries d 0 ≡ get_or boundaries c 0 + length literal
-literal_position literal text boundaries row c d h l s = part_size text boundaries c d h l s.within ∙ ap (λ n. get_or boundaries c 0 + n) (ap length s.takes)
-
--- the end of a literal, from the rest after it
-pub literal_end : (literal text rest : List ℕ) (p : ℕ) → p ≤ length text → drop p text ≡ literal ++ rest → length text - length rest ≡ p + length literal
-literal_end literal text rest p within e = let size : length (drop p text) ≡ length literal + length rest = ap length e ∙ length-append literal rest in omega (arith, length-drop p text)
-
-pub literal_some : (literal text rest boundaries : List ℕ) (row : List Bool) (c d : ℕ) → AreBoundaries text boundaries → c < length boundaries → drop (get_or boundaries c 0) text ≡ literal ++ rest → d ≤ c → get_or boundaries d 0 ≡ length text - length rest → get_or row d false ≡ true → IsAdvance (Literal literal) text boundaries row c (Some d)
-literal_some literal text rest boundaries row c d h l e within at yes_below =
-    let end = literal_end literal text rest (get_or boundaries c 0) (h.cuts c l).0 e in
-    let size : get_or boundaries d 0 - get_or boundaries c 0 ≡ length literal = omega arith in
-    (record { within = within; rest = yes_below; takes = ap (λ n. take n (drop (get_or boundaries c 0) text)) size ∙ ap (take (length literal)) e ∙ take-append_seam literal rest }, λ other s. tt)
-
-pub literal_none_at : (literal text rest boundaries : List ℕ) (row : List Bool) (c d : ℕ) → AreBoundaries text boundaries → c < length boundaries → drop (get_or boundaries c 0) text ≡ literal ++ rest → d ≤ c → get_or boundaries d 0 ≡ length text - length rest → get_or row d false ≡ false → IsAdvance (Literal literal) text boundaries row c None
-literal_none_at literal text rest boundaries row c d h l e within at no_below = λ other s.
-    let end = literal_end literal text rest (get_or boundaries c 0) (h.cuts c l).0 e in
-    let there = literal_position literal text boundaries row c other h l s in
-    let same : other ≡ d = one_column text boundaries other d h (let w = s.within in omega arith) (omega arith) (omega arith) in
-    let is_true : get_or row d false ≡ true = ap (λ k. get_or row k false) (sym same) ∙ s.rest in
-    let bad : ⊥ = cc in bad
-
-pub literal_none : (literal text rest boundaries : List ℕ) (row : List Bool) (c : ℕ) → AreBoundaries text boundaries → c < length boundaries → drop (get_or boundaries c 0) text ≡ literal ++ rest → ((d : ℕ) → d ≤ c → get_or boundaries d 0 ≡ length text - length rest → ⊥) → IsAdvance (Literal literal) text boundaries row c None
-literal_none literal text rest boundaries row c h l e none = λ other s. none other s.within (literal_position literal text boundaries row c other h l s ∙ sym (literal_end literal text rest (get_or boundaries c 0) (h.cuts c l).0 e))
 
 -- a step over a plain field
 pub plain_takes : (name text boundaries : List ℕ) (row : List Bool) (c d : ℕ) → IsUtf8 text → AreBoundaries text boundaries → c < length boundaries → d < c → get_or row d false ≡ true → IsAdvanceTo (FieldPiece name Plain) text boundaries row c d

@@ -59,13 +59,6 @@ prefix_of text boundaries c d e h l down within =
 pub part_none : (text boundaries : List ℕ) (c : ℕ) → part text boundaries c c ≡ []
 part_none text boundaries c = let none : get_or boundaries c 0 - get_or boundaries c 0 ≡ 0 = omega arith in ap (λ n. take n (drop (get_or boundaries c 0) text)) none
 
-pub run_start : (most : ℕ) (text boundaries : List ℕ) (below : List Bool) (c : ℕ) → IsRunTo c most text boundaries below c 0
-run_start most text boundaries below c = record {
-  digits = subst (AllDigits 10) (sym (part_none text boundaries c)) tt;
-  value_is = sym (ap (digits_value 10) (part_none text boundaries c));
-  none = λ d least s. let same : d ≡ c = let w = s.within in omega arith in let none : length (part text boundaries c d) ≡ 0 = ap (λ k. length (part text boundaries c k)) same ∙ ap length (part_none text boundaries c) in absurd (omega (arith, s.numeral.0));
-}
-
 -- one digit more
 pub one_digit : (text boundaries : List ℕ) (c d b value value' : ℕ) → AreBoundaries text boundaries → c < length boundaries → d + 1 ≤ c → get_or boundaries d 0 ≡ get_or boundaries (d + 1) 0 + 1 → b ≡ get_or text (get_or boundaries (d + 1) 0) 0 → 48 ≤ b → b < 58 → value' ≡ value * 10 + (b - 48) → AllDigits 10 (part text boundaries c (d + 1)) → value ≡ digits_value 10 (part text boundaries c (d + 1))
     → AllDigits 10 (part text boundaries c d) × (value' ≡ digits_value 10 (part text boundaries c d))
@@ -75,10 +68,6 @@ one_digit text boundaries c d b value value' h l within next is low high sum dig
     let pushed = digits_value_push 10 (part text boundaries c (d + 1)) b in
     let whole : digits_value 10 (part text boundaries c d) ≡ digits_value 10 (part text boundaries c (d + 1)) * 10 + digit_value b = ap (digits_value 10) more ∙ pushed in
     (subst (AllDigits 10) (sym more) (all_more (part text boundaries c (d + 1)) b digits (omega arith)), omega arith)
-
-pub run_digits : (most : ℕ) (text boundaries : List ℕ) (below : List Bool) (c d b value value' : ℕ) → AreBoundaries text boundaries → c < length boundaries → d + 1 ≤ c → get_or boundaries d 0 ≡ get_or boundaries (d + 1) 0 + 1 → b ≡ get_or text (get_or boundaries (d + 1) 0) 0 → 48 ≤ b → b < 58 → value' ≡ value * 10 + (b - 48) → IsRunTo (d + 1) most text boundaries below c value
-    → AllDigits 10 (part text boundaries c d) × (value' ≡ digits_value 10 (part text boundaries c d))
-run_digits most text boundaries below c d b value value' h l within next is low high sum r = one_digit text boundaries c d b value value' h l within next is low high sum r.digits r.value_is
 
 pub run_more : (most : ℕ) (text boundaries : List ℕ) (below : List Bool) (c d value value' : ℕ) → AllDigits 10 (part text boundaries c d) × (value' ≡ digits_value 10 (part text boundaries c d)) → get_or below d false ≡ false → IsRunTo (d + 1) most text boundaries below c value → IsRunTo d most text boundaries below c value'
 run_more most text boundaries below c d value value' now not_here r = record {

@@ -59,9 +59,6 @@ literal_cut literal ps text rest whole part e = record {
   goes_on = λ found h. literal_goes_on literal ps text rest e found (subst (λ r. IsMatchResult ps r found) (left text literal rest e) h);
 }
 
-pub literal_nowhere : (literal : List ℕ) (ps : List PieceValue) (text : List ℕ) → ((rest : List ℕ) → text ≡ literal ++ rest → ⊥) → MatchesNot (Literal literal ∷ ps) text
-literal_nowhere literal ps text never = λ spans m. let s = split (Literal literal) ps text spans m in never s.rest (s.whole ∙ ap (λ x. x ++ s.rest) s.takes)
-
 -- a plain field that takes x: with whatever else it can take, x is no longer, and the rest of the pattern matches after x, too
 abbrev IsLeast : List PieceValue → List ℕ → List ℕ → List ℕ → Type 0
 IsLeast ps text x rest = (y other : List ℕ) (ys : List (List ℕ)) → IsSpan Plain y → text ≡ y ++ other → Matches ps other ys → (length x ≤ length y) × ((zs : List (List ℕ)) × Matches ps rest zs)
@@ -110,13 +107,6 @@ all_cut name text whole some = plain_cut name [] text text [] whole (sym (append
     let same : length text ≡ length y = ap length (e ∙ ap (λ o. y ++ o) none ∙ append-nil y) in
     (omega arith, ([], (best_nothing [] refl).matches)))
 
-pub all_nowhere : (name : List ℕ) (text : List ℕ) → length text ≡ 0 → MatchesNot (FieldPiece name Plain ∷ []) text
-all_nowhere name text none = λ spans m.
-    let s = split (FieldPiece name Plain) [] text spans m in
-    let some : 0 < length s.x = s.takes.1 in
-    let size : length text ≡ length s.x + length s.rest = ap length s.whole ∙ length-append s.x s.rest in
-    omega arith
-
 -- before the last literal
 only_literal : (literal other : List ℕ) (ys : List (List ℕ)) → Matches (Literal literal ∷ []) other ys → other ≡ literal
 only_literal literal other ys m = m.whole ∙ append-nil literal
@@ -127,13 +117,6 @@ last_cut name literal text x whole part less e =
     plain_cut name (Literal literal ∷ []) text x literal whole e (utf8_front x literal (subst IsUtf8 e whole) part, some) (λ y other ys fit cut m.
     let same : length x + length literal ≡ length y + length literal = sym (length-append x literal) ∙ ap length (sym e ∙ cut ∙ ap (λ o. y ++ o) (only_literal literal other ys m)) ∙ length-append y literal in
     (omega arith, ([], record { spans_fit = tt; whole = sym (append-nil literal) })))
-
-pub last_nowhere : (name literal text : List ℕ) → (length literal < length text → (x : List ℕ) → text ≡ x ++ literal → ⊥) → MatchesNot (FieldPiece name Plain ∷ Literal literal ∷ []) text
-last_nowhere name literal text never = λ spans m.
-    let s = split (FieldPiece name Plain) (Literal literal ∷ []) text spans m in
-    let some : 0 < length s.x = s.takes.1 in
-    let e : text ≡ s.x ++ literal = s.whole ∙ ap (λ o. s.x ++ o) (only_literal literal s.rest s.xs s.after) in
-    never (omega (arith, ap length e, length-append s.x literal)) s.x e
 
 -- before a literal that a plain field comes after
 stands_after : (literal text y other : List ℕ) (ps : List PieceValue) (ys : List (List ℕ)) → IsUtf8 text → text ≡ y ++ other → IsUtf8 y → Matches (Literal literal ∷ ps) other ys → CanStandAt literal text (length y)
@@ -185,10 +168,6 @@ field_nowhere name literal ps text whole none = λ spans m.
     let s = split (FieldPiece name Plain) (Literal literal ∷ ps) text spans m in
     let within : length s.x < length text + 1 = omega (arith, ap length s.whole, length-append s.x s.rest) in
     none (length s.x) s.takes.1 within (stands_after literal text s.x s.rest ps s.xs whole s.whole s.takes.0 s.after)
-
--- the search for the first position
-pub first_start : (literal text : List ℕ) → StandsNowhereBefore literal text 1
-first_start literal text = λ position some less here. omega arith
 
 pub first_more : (literal text : List ℕ) (position : ℕ) → StandsNowhereBefore literal text position → (CanStandAt literal text position → ⊥) → StandsNowhereBefore literal text (position + 1)
 first_more literal text position before never = λ other some less here. elim (cases_lt other position) [

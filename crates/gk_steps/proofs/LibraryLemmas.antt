@@ -1,10 +1,8 @@
 -- What is found among entries of which those from a position on are for steps of each type.
-use Rattle.std.proofs.Common.{◌≡◌, ℕ, zero, suc, ◌<◌, ◌≤◌, inl, inr, Bool, true, false, ◌&&◌, List, [], ◌∷◌, length, take, map, Option, Some, None, refl, ap, sym, subst, ◌∙◌, arith}
+use Rattle.std.proofs.Common.{◌≡◌, ℕ, zero, suc, ◌<◌, ◌≤◌, inl, inr, Bool, true, false, ◌&&◌, List, [], ◌∷◌, take, map, Option, Some, None, refl, ap, sym, subst, ◌∙◌, arith}
 use Rattle.std.specs.Prelude.{slice_get, is_none}
-use Rattle.std.specs.List.{list_all}
 use Rattle.std.proofs.lemmas.Bool.{cases_lt}
 use Rattle.std.proofs.lemmas.List.{take-map}
-use Rattle.std.proofs.Math.Seq.{drop-length}
 use Rattle.gk_gherkin.specs.declared.feature.StepType.{StepType}
 use Rattle.gk_steps.specs.declared.library.Entry.{Entry}
 use Rattle.gk_steps.specs.Finding.{EntryValue, LibraryValue, FoundValue, HasCandidate, IsFoundOf, entry_value}
@@ -77,10 +75,6 @@ candidate_before es n step_type text h = record {
 
 pub typed_candidate : (entries : List Entry) (typed : ℕ) (t : StepType) (text : List ℕ) → HasCandidate (map entry_value (take typed entries)) (Some t) text → HasCandidate (map entry_value entries) (Some t) text
 typed_candidate entries typed t text h = candidate_before (map entry_value entries) typed (Some t) text (subst (λ es. HasCandidate es (Some t) text) (sym (take-map entry_value typed entries)) h)
-
--- counting the entries up to the last for steps of one type
-pub none_from_end : (entries : List Entry) → are_for_each_from (length entries) entries ≡ true
-none_from_end entries = ap (list_all (λ (e : Entry). is_none e.step_type)) (drop-length entries)
 
 both_true : (a b : Bool) → a ≡ true → b ≡ true → (a && b) ≡ true
 both_true true b e f = f

@@ -20,7 +20,7 @@ use Rattle.gk_steps.specs.Pattern.{PieceValue, SpellsPattern, field_kind}
 use Rattle.gk_steps.specs.Action.{ActionRowValue, action_row, kind_of_field, words_said}
 use Rattle.gk_steps.specs.Finding.{EntryValue, LibraryValue, FoundValue, NoneFound, IsFirstFound, IsFoundOf}
 use Rattle.gk_steps.specs.LibraryFile.{Sides, into_sides, last_arrow, NoneMatches, SpellsEntry, HasPattern, IsAmbiguous, EntryNeedsMemory}
-use Rattle.gk_steps.specs.LibraryLine.{is_same_kind, is_none_or_kind, has_needed, has_right_kinds, FitsAction, LacksField, HasOtherKind, ActionFaultSays, PatternFaultSays, IsEntryText, EntryTextFaultSays, EntryFaultSays}
+use Rattle.gk_steps.specs.LibraryLine.{is_same_kind, is_none_or_kind, has_needed, has_right_kinds, FitsAction, LacksField, HasOtherKind, IsEntryText, EntryTextFaultSays, EntryFaultSays}
 use Rattle.gk_steps.proofs.SpellingLemmas.{pattern_begins}
 
 -- the last arrow
@@ -118,10 +118,6 @@ lacks_field name ps row e needs = record { row = row; is_action = e; bad = λ h.
 pub other_kind : (name : List ℕ) (ps : List PieceValue) (row : ActionRowValue) → action_row name ≡ Some row → has_needed row.needs ps ≡ true → has_right_kinds row.uses ps ≡ false → HasOtherKind name ps
 other_kind name ps row e needs kinds = record { row = row; is_action = e; needs = needed_so ps row.needs needs; bad = λ h. true_not_false (has_right_kinds row.uses ps) (kinds_test ps row.uses h) kinds }
 
--- faults of a line
-same_sides : (a b : Sides) → ◌≡◌ {A = Option Sides} (Some a) (Some b) → a ≡ b
-same_sides a b e = cc
-
 no_sides : (a : Sides) → ◌≡◌ {A = Option Sides} None (Some a) → ⊥
 no_sides a e = let bad : ⊥ = cc in bad
 
@@ -136,31 +132,8 @@ cut_fault (faults.Ambiguous n) earlier line h = absurd h
 cut_fault faults.TooLong earlier line h = absurd h
 cut_fault faults.Memory earlier line h = absurd h
 
-pub pattern_fault : (f : LibraryFault) (earlier : LibraryValue) (line : LineValue) (step_type : Option StepType) (text name : List ℕ) → IsEntryText line step_type text name → PatternFaultSays f line.line text → EntryFaultSays f earlier line
-pattern_fault (faults.BadPattern n) earlier line step_type text name c h =
-    (h.0, record { step_type = step_type; is_type = c.is_type; bad = λ sides ps cut s. h.1 ps (subst (λ (t : Sides). SpellsPattern t.pattern ps) (same_sides sides (record { pattern = text; action = name }) (sym cut ∙ c.is_cut)) s) })
-pattern_fault (faults.BadType n) earlier line step_type text name c h = absurd h
-pattern_fault (faults.NotUtf8 n) earlier line step_type text name c h = absurd h
-pattern_fault (faults.UnknownAction n) earlier line step_type text name c h = absurd h
-pattern_fault (faults.MissingField n) earlier line step_type text name c h = absurd h
-pattern_fault (faults.FieldKind n) earlier line step_type text name c h = absurd h
-pattern_fault (faults.Ambiguous n) earlier line step_type text name c h = absurd h
-pattern_fault faults.TooLong earlier line step_type text name c h = absurd h
-pattern_fault faults.Memory earlier line step_type text name c h = record { step_type = step_type; sides = record { pattern = text; action = name }; is_type = c.is_type; is_cut = c.is_cut; needs = h }
-
 good_so : (line : LineValue) (step_type : Option StepType) (text name : List ℕ) (ps : List PieceValue) → IsEntryText line step_type text name → SpellsPattern text ps → HasPattern line step_type (record { pattern = text; action = name }) ps
 good_so line step_type text name ps c s = record { is_type = c.is_type; is_cut = c.is_cut; is_pattern = s }
-
-pub action_fault : (f : LibraryFault) (earlier : LibraryValue) (line : LineValue) (step_type : Option StepType) (text name : List ℕ) (ps : List PieceValue) → IsEntryText line step_type text name → SpellsPattern text ps → ActionFaultSays f line.line name ps → EntryFaultSays f earlier line
-action_fault (faults.UnknownAction n) earlier line step_type text name ps c s h = (h.0, record { step_type = step_type; sides = record { pattern = text; action = name }; ps = ps; good = good_so line step_type text name ps c s; bad = h.1 })
-action_fault (faults.MissingField n) earlier line step_type text name ps c s h = (h.0, record { step_type = step_type; sides = record { pattern = text; action = name }; ps = ps; row = h.1.row; good = good_so line step_type text name ps c s; is_action = h.1.is_action; bad = h.1.bad })
-action_fault (faults.FieldKind n) earlier line step_type text name ps c s h = (h.0, record { step_type = step_type; sides = record { pattern = text; action = name }; ps = ps; row = h.1.row; good = good_so line step_type text name ps c s; is_action = h.1.is_action; needs = h.1.needs; bad = h.1.bad })
-action_fault (faults.BadType n) earlier line step_type text name ps c s h = absurd h
-action_fault (faults.BadPattern n) earlier line step_type text name ps c s h = absurd h
-action_fault (faults.NotUtf8 n) earlier line step_type text name ps c s h = absurd h
-action_fault (faults.Ambiguous n) earlier line step_type text name ps c s h = absurd h
-action_fault faults.TooLong earlier line step_type text name ps c s h = absurd h
-action_fault faults.Memory earlier line step_type text name ps c s h = absurd h
 
 -- an earlier entry
 pub record IsAt (xs : LibraryValue) (x : EntryValue) : Type 0 where

@@ -1,6 +1,6 @@
 -- What a text spells, taken apart from its start.
 use Rattle.std.proofs.Common.{◌≡◌, ℕ, zero, suc, ◌+◌, ◌-◌, ◌<◌, ◌≤◌, ◌⊎◌, inl, inr, Bool, true, false, cond, not, ◌||◌, ◌&&◌, List, [], ◌∷◌, ◌++◌, length, take, drop, get_or, codes, flat_map, IsTrue, Option, Some, None, refl, ap, sym, subst, ◌∙◌, arith, append_assoc}
-use Rattle.std.specs.Prelude.{is_some, Result, Err, nat_lt, nat_eq}
+use Rattle.std.specs.Prelude.{is_some, nat_lt, nat_eq}
 use Rattle.std.specs.Str.{bytes_eq}
 use Rattle.std.proofs.lemmas.Slice.Eq.{bytes_eq-Decides}
 use Rattle.std.specs.List.{AllByRecursion, list_all, prefix_len, position_or_len}
@@ -14,9 +14,6 @@ use Rattle.gk_steps.specs.declared.pattern.FieldKind.{FieldKind}
 use Rattle.gk_steps.specs.declared.pattern.FieldKind.TheVariants.{Plain, Decimal}
 use Rattle.gk_steps.specs.Pattern.{PieceValue, Literal, FieldPiece, spelled_literal, spelled_piece, is_name_letter, is_name_byte, is_field_name, BeginsWithPiece, field_names, AreDistinctNames, AreLongestRuns, SpellsPattern, field_kind}
 use Rattle.gk_steps.specs.Spelling.{is_brace, BeginsAtBrace, EndsLiteral, EndsName, field_tail, literal_pieces, IsSpelled, HasLiteral, HasField, HasNoField, AddsLiteral, AddsField, BeginWithField, ArePiecesLeft, IsReadTo, are_distinct, is_pattern}
-use Rattle.gk_steps.specs.declared.pattern.Pattern.{Pattern}
-use Rattle.gk_steps.specs.declared.pattern.PatternFault.{PatternFault}
-use Rattle.gk_steps.specs.declared.pattern.PatternFault.TheVariants.{BadPattern, Memory}
 
 -- where a text may be cut
 brace_ascii : (b : ℕ) → is_brace b ≡ true → b < 128
@@ -59,21 +56,6 @@ brace_drop false b n bs h e = let one : 1 + n ≡ suc n = omega arith in subst (
 pub begins_at : (bs : List ℕ) → BeginsAtBrace (drop (position_or_len is_brace bs) bs)
 begins_at [] = tt
 begins_at (b ∷ bs) = brace_drop (is_brace b) b (position_or_len is_brace bs) bs (begins_at bs) refl
-
--- before which a literal ends
-brace_is : (b : ℕ) → is_brace b ≡ true → (b ≡ 123) ⊎ (b ≡ 125)
-brace_is b h = grind (arith, nat_tests)
-
-pub ends_literal : (text : List ℕ) → ((rest : List ℕ) → text ≡ codes "{{" ++ rest → ⊥) → ((rest : List ℕ) → text ≡ codes "}}" ++ rest → ⊥) → BeginsAtBrace text → EndsLiteral text
-ends_literal [] no_open no_close h = tt
-ends_literal (b ∷ []) no_open no_close h = h
-ends_literal (b ∷ c ∷ bs) no_open no_close h = (
-  h,
-  λ same. elim (brace_is b h) [
-    | inl e ↦ no_open bs (ap (λ x. b ∷ x ∷ bs) same ∙ ap (λ x. x ∷ x ∷ bs) e)
-    | inr e ↦ no_close bs (ap (λ x. b ∷ x ∷ bs) same ∙ ap (λ x. x ∷ x ∷ bs) e)
-  ],
-)
 
 -- a literal is determined by the text
 not_plain : (b : ℕ) (bs rest : List ℕ) → is_brace b ≡ false → rest ≡ b ∷ bs → EndsLiteral rest → ⊥
@@ -295,32 +277,12 @@ read_more text rest middle last done with_one all r a b = record { build = built
         field = third.field;
       }
 
--- the end of a text
-nothing_spelled : (ps : List PieceValue) → IsSpelled [] ps → BeginWithField ps → ps ≡ []
-nothing_spelled [] s f = refl
-nothing_spelled (Literal l ∷ ps) s f = absurd f
-nothing_spelled (FieldPiece name kind ∷ ps) s f = absurd (not_nothing [] (flat_map spelled_piece ps) name kind (first_field [] name kind ps s) refl)
-
 all_of : (done : List PieceValue) → done ++ [] ≡ done
 all_of [] = refl
 all_of (p ∷ ps) = ap (λ (q : List PieceValue). p ∷ q) (all_of ps)
 
 pub read_whole : (text rest : List ℕ) (done : List PieceValue) → IsReadTo text done rest → rest ≡ [] → IsSpelled text done
 read_whole text rest done r e = subst (IsSpelled text) (all_of done) (r.build [] (record { spelled = e; names = tt; runs = tt }) tt)
-
-pub read_only : (text rest : List ℕ) (done : List PieceValue) → IsReadTo text done rest → rest ≡ [] → (ps : List PieceValue) → IsSpelled text ps → done ≡ ps
-read_only text rest done r e ps s =
-    let l = r.take ps s in
-    let nothing : l.left ≡ [] = nothing_spelled l.left (subst (λ t. IsSpelled t l.left) e l.spelled) l.field in
-    sym (l.whole ∙ ap (λ (q : List PieceValue). done ++ q) nothing ∙ all_of done)
-
-no_field_spelled : (rest : List ℕ) (ps : List PieceValue) → HasNoField rest → (rest ≡ [] → ⊥) → IsSpelled rest ps → BeginWithField ps → ⊥
-no_field_spelled rest [] none some s f = some s.spelled
-no_field_spelled rest (Literal l ∷ ps) none some s f = f
-no_field_spelled rest (FieldPiece name kind ∷ ps) none some s f = none name kind (flat_map spelled_piece ps) (first_field rest name kind ps s)
-
-pub read_never : (text rest : List ℕ) (done : List PieceValue) → IsReadTo text done rest → HasNoField rest → (rest ≡ [] → ⊥) → (ps : List PieceValue) → IsSpelled text ps → ⊥
-read_never text rest done r none some ps s = let l = r.take ps s in no_field_spelled rest l.left none some l.spelled l.field
 
 -- what a text spells is determined
 pub spelled_of : (text : List ℕ) (ps : List PieceValue) → SpellsPattern text ps → IsSpelled text ps
@@ -410,9 +372,6 @@ spells_test text ps s = and_both (nat_lt 0 (length ps)) (are_distinct ps) (less_
 
 pub not_pattern : (text : List ℕ) (qs ps : List PieceValue) → is_pattern qs ≡ false → qs ≡ ps → SpellsPattern text ps → ⊥
 not_pattern text qs ps e same s = let no : true ≡ false = sym (spells_test text ps s) ∙ ap is_pattern (sym same) ∙ e in let bad : ⊥ = cc in bad
-
-pub not_bad : (fault : PatternFault) → fault ≡ Memory → ◌≡◌ {A = Result Pattern PatternFault} (Err fault) (Err BadPattern) → ⊥
-not_bad fault e is = let f : Memory ≡ BadPattern = cc in let bad : ⊥ = cc in bad
 
 -- what stands before a position that is given by a number
 pub plain_of : (text part : List ℕ) (n : ℕ) → n ≡ position_or_len is_brace text → part ≡ take (n - 0) text → flat_map spelled_literal part ≡ part

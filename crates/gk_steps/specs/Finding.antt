@@ -88,10 +88,6 @@ abbrev pub IsFoundAny : LibraryValue → List ℕ → Option FoundValue → Type
 IsFoundAny entries text None = NoneFound entries None text
 IsFoundAny entries text (Some found) = IsFirstFound entries None text found
 
--- A step that finds an entry.
-abbrev pub IsKnown : LibraryValue → StepType → List ℕ → Type 0
-IsKnown entries step_type text = (found : FoundValue) × IsFound entries step_type text (Some found)
-
 -- Whether two step types are equal.
 abbrev pub is_same_type : StepType → StepType → Bool
 is_same_type types.Given types.Given = true

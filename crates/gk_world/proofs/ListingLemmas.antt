@@ -70,16 +70,9 @@ named_next q (w ∷ s) (suc i) lt =
     swap true false c = refl
     swap false b c = refl
 
-same_both : (b : Bool) (o : Option (List ℕ)) → o ≡ cond b o o
-same_both true o = refl
-same_both false o = refl
-
 -- a name with its text, if it has one
 pub put_notes : {Y Z : Type 0} (m n : BTreeMap (String Y) (String Z)) (name : String Y) (text : String Z) (a b : List ℕ) → string_bytes name ≡ a → string_bytes text ≡ b → tree.Updates string_cmp m n name (Some text) → Notes a (Some b) m n
 put_notes m n name text a b e f h = λ q. get-put m n name text h q ∙ (λ k. cond (bytes_eq q (e k)) (Some (f k)) (finite.get (texts_of m.entries) q))
-
-pub nothing_notes : {Y Z : Type 0} (m : BTreeMap (String Y) (String Z)) (a : List ℕ) → Notes a None m m
-nothing_notes m a = λ q. same_both (bytes_eq q a) (finite.get (texts_of m.entries) q)
 
 noted : (b c : Bool) (t o : Option (List ℕ)) → (b ≡ true → o ≡ t) → cond b (option_or t (cond c o None)) (cond c o None) ≡ cond (b || c) o None
 noted false c t o h = refl
