@@ -10,7 +10,7 @@ use Rattle.gk_program.specs.Ended.{IsEnded}
 use Rattle.gk_program.specs.Files.{Reading}
 use Rattle.gk_program.specs.declared.asked.ArgumentsFault.{ArgumentsFault}
 use Rattle.gk_program.specs.declared.asked.ArgumentsFault.TheVariants as arguments
-use Rattle.gk_program.specs.declared.ended.Ended.{Ended}
+use Rattle.gk_program.specs.declared.ended.ProgramEnd.{ProgramEnd}
 
 -- Some file gave this result. If it is known what that file holds, it holds exactly these bytes, or, at `TooLong`, more bytes than a source may have. Nothing is said of other faults.
 abbrev pub IsOfSomeFile : {F : Type 0} → (F → Option (List ℕ)) → Result (List ℕ) SourceFault → Type 0
@@ -35,6 +35,6 @@ fault_of_arguments kind = arguments.NotUtf8
 -- The program ended with this status, for some arguments: nothing says which they are.
 pub record IsRunOn {S : Type 0} (reads : Reading S) (before after : S) (old new errors_old errors_new : Device) (status : ℕ) : Type 0 where
   pub arguments : Result (List (List ℕ)) ArgumentsFault
-  pub ended : Ended
+  pub ended : ProgramEnd
   pub ended_so : IsEnded reads arguments before after old new errors_old errors_new ended
   pub status_is : status ≡ ended.status

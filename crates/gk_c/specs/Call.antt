@@ -5,7 +5,7 @@ use Rattle.gk_cli.specs.Writing.{Device}
 use Rattle.gk_program.specs.Asked.{AreNamesAsked}
 use Rattle.gk_program.specs.Ended.{IsEnded}
 use Rattle.gk_program.specs.declared.asked.ArgumentsFault.{ArgumentsFault}
-use Rattle.gk_program.specs.declared.ended.Ended.{Ended}
+use Rattle.gk_program.specs.declared.ended.ProgramEnd.{ProgramEnd}
 use Rattle.gk_c.specs.Answer.{IsPut}
 use Rattle.gk_c.specs.CallerFiles.{files_in, reads_first}
 use Rattle.gk_c.specs.Words.{SaysWords}
@@ -17,7 +17,7 @@ abbrev pub fresh : Device
 fresh = record { bytes = Some []; calls = 0; flushes = 0; failures = 0; idle = 0 }
 
 -- The program ended so with these arguments over these files, and so it used its standard output and its standard error.
-pub record IsRunOver (files : List SourceValue) (arguments : List (List ℕ)) (out errors : Device) (ended : Ended) : Type 0 where
+pub record IsRunOver (files : List SourceValue) (arguments : List (List ℕ)) (out errors : Device) (ended : ProgramEnd) : Type 0 where
   pub words : Result (List (List ℕ)) ArgumentsFault
   pub given : SaysWords arguments words
   pub before : InMemory
@@ -31,7 +31,7 @@ pub record AreTaken (out errors : Device) : Type 0 where
   pub errors_failures : errors.failures ≡ 0
 
 -- The `Answer` has the program's status and the place of its fault.
-pub record IsAnsweredBy (ended : Ended) (answer : Answer) : Type 0 where
+pub record IsAnsweredBy (ended : ProgramEnd) (answer : Answer) : Type 0 where
   pub status : answer.status ≡ ended.status
   pub name_length : answer.name_length ≡ ended.place.name_length
   pub line : answer.line ≡ ended.place.line
@@ -47,7 +47,7 @@ abbrev pub refusal : List ℕ
 refusal = codes "gherkin_run: out of memory\n"
 
 -- The `Answer` is the program's, and the errors are what it wrote. Or a buffer didn't take all that the program wrote: then memory was refused, and the answer says so.
-abbrev pub IsAnsweredWith : Device → Device → Ended → List ℕ → List ℕ → List ℕ → Answer → Type 0
+abbrev pub IsAnsweredWith : Device → Device → ProgramEnd → List ℕ → List ℕ → List ℕ → Answer → Type 0
 IsAnsweredWith out errors ended told errors_old errors_new answer =
     (AreTaken out errors × IsPut told errors_old errors_new answer.errors_length × IsAnsweredBy ended answer)
     ⊎ ((AreTaken out errors → ⊥) × IsPut refusal errors_old errors_new answer.errors_length × IsRefusal answer)
@@ -56,7 +56,7 @@ IsAnsweredWith out errors ended told errors_old errors_new answer =
 pub record IsAnswer (arguments : List (List ℕ)) (files : List SourceValue) (out_old out_new errors_old errors_new : List ℕ) (answer : Answer) : Type 0 where
   pub out : Device
   pub errors : Device
-  pub ended : Ended
+  pub ended : ProgramEnd
   pub run : IsRunOver files arguments out errors ended
   pub said : List ℕ
   pub said_is : out.bytes ≡ Some said

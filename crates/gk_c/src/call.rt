@@ -10,7 +10,7 @@ ghost use Rattle.gk_c.specs.Words.{text_value};
 use crate::answer::{Answer, put_out};
 use crate::caller_files::{File, InMemory};
 use crate::words::{Text, words_from};
-use gk_program::{Ended, files_asked, run};
+use gk_program::{ProgramEnd, files_asked, run};
 use gk_request::Counted;
 use std::alloc::{AllocError, Global};
 
@@ -32,7 +32,7 @@ fn run_over(
     files: &[File],
     out: &mut Counted<Vec<u8>>,
     errors: &mut Counted<Vec<u8>>,
-) -> Ended
+) -> ProgramEnd
     requires out { device_of (λ buffer. Some buffer.items) out.old ≡ fresh }
     requires errors { device_of (λ buffer. Some buffer.items) errors.old ≡ fresh }
     ensures { IsRunOver (map file_value files.now) (map text_value arguments.now)
@@ -47,7 +47,7 @@ fn run_over(
 // Answers with what the program wrote to standard error, and how it ended; or that memory was refused, if a buffer
 // didn't take all that it wrote.
 fn answer_with(
-    ended: Ended,
+    ended: ProgramEnd,
     out: &Counted<Vec<u8>>,
     out_length: usize,
     errors: &Counted<Vec<u8>>,

@@ -17,8 +17,8 @@ use Rattle.clap.specs.declared.builder.command.Command.TheViews.{out-Command as 
 use Rattle.clap.specs.declared.error.Error.{Error}
 use Rattle.clap.specs.declared.error.kind.ErrorKind.TheVariants.{ArgumentConflict, InvalidValue, OutOfMemory}
 use Rattle.gk_cli.specs.OptionTable.{OptionValue, options, rule_of_option}
-use Rattle.gk_cli.specs.declared.option_table.Takes.{Takes}
-use Rattle.gk_cli.specs.declared.option_table.Takes.TheVariants.{Nothing as Flag}
+use Rattle.gk_cli.specs.declared.option_table.OptionTakes.{OptionTakes}
+use Rattle.gk_cli.specs.declared.option_table.OptionTakes.TheVariants.{Nothing as Flag}
 use Rattle.gk_report.specs.Report.{format_name, format_named}
 use Rattle.gk_cli.specs.declared.arguments.Mode.{Mode}
 use Rattle.gk_cli.specs.declared.arguments.Mode.TheVariants.{Report, Explanation, Findings}
@@ -72,7 +72,7 @@ mode_asked rows = if is_set (codes "explain") rows then Explanation else (if is_
 abbrev pub is_given : Text → List Row → Bool
 is_given name rows = is_some (first_of name rows)
 
-abbrev is_among_by : Takes → Text → List Row → Bool
+abbrev is_among_by : OptionTakes → Text → List Row → Bool
 is_among_by Flag name rows = is_set name rows
 is_among_by _ name rows = is_given name rows
 

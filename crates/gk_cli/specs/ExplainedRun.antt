@@ -14,7 +14,7 @@ use Rattle.gk_report.specs.Summary.{status}
 use Rattle.gk_explain.specs.declared.explainer.Explainer.{Explainer}
 use Rattle.gk_explain.specs.Headings.{failures_text}
 use Rattle.gk_explain.specs.Explanation.{ExplanationValue, nothing_said, with_source, with_feature, with_run, with_taken}
-use Rattle.gk_explain.specs.Explainer.{is_cut, said, Becomes, Hears, Ends}
+use Rattle.gk_explain.specs.Explainer.{is_cut, said, Becomes, Hears, HearsEnd}
 use Rattle.gk_request.specs.declared.run_fault.RunFault.{RunFault}
 use Rattle.gk_cli.specs.Writing.{Device, IsWritten, IsStopped}
 use Rattle.gk_cli.specs.ToldRun.{TellsFeature, IsFirstText, IsWholeText}
@@ -45,7 +45,7 @@ Closes e results text = (is_cut e ≡ false) × (text ≡ last_text (said e) res
 
 -- A feature of a run in this state was told to an explainer, and this is the text that it has ready of the feature.
 abbrev pub Explains : Run → State → Bool → ChosenValue → FeatureRow → List ℕ → Explainer → Explainer → Type 0
-Explains = TellsFeature Hears Ends Begins Adds
+Explains = TellsFeature Hears HearsEnd Begins Adds
 
 -- The explanation of a run with judged results was written, and their status is returned. At the beginning the explainer, with the run's library, a hooks file of this name and the rows of each feature's outlines, has said nothing.
 pub record IsExplained (run : Run) (hooks : List ℕ) (rows : List (List ExampleRowValue)) (contents : Contents) (features : List ChosenValue) (old new : Device) (answer : ℕ) : Type 0 where

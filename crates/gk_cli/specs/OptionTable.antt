@@ -4,13 +4,13 @@ use Rattle.clap.specs.Words.{Rule, Text, new_rule}
 use Rattle.clap.specs.declared.builder.action.ArgAction.TheVariants.{Append, Set, SetTrue}
 use Rattle.clap.specs.declared.builder.value_parser.ValueParser.TheVariants.{Unsigned}
 use Rattle.gk_cli.specs.declared.option_table.OptionRow.{OptionRow}
-use Rattle.gk_cli.specs.declared.option_table.Takes.{Takes}
-use Rattle.gk_cli.specs.declared.option_table.Takes.TheVariants.{Nothing as Flag, Text as OneText, Texts, Lines}
+use Rattle.gk_cli.specs.declared.option_table.OptionTakes.{OptionTakes}
+use Rattle.gk_cli.specs.declared.option_table.OptionTakes.TheVariants.{Nothing as Flag, Text as OneText, Texts, Lines}
 
 -- An option: its name, what it takes, and whether a report accepts it, and `--explain`, `--lint` and `--lint --no-steps` do beside themselves.
 pub record OptionValue : Type 0 where
   pub name : Text
-  pub takes : Takes
+  pub takes : OptionTakes
   pub beside_report : Bool
   pub beside_explain : Bool
   pub beside_lint : Bool
@@ -21,7 +21,7 @@ abbrev pub option_value : OptionRow → OptionValue
 option_value row = record { name = row.name.now; takes = row.takes; beside_report = row.beside_report; beside_explain = row.beside_explain; beside_lint = row.beside_lint; beside_no_steps = row.beside_no_steps }
 
 -- What clap is told of an option. It finds `true` for a flag that is among the arguments, and `false` otherwise. N of `--line N` fits a `u32` and isn't 0.
-abbrev pub rule_by : Text → Takes → Rule
+abbrev pub rule_by : Text → OptionTakes → Rule
 rule_by name Flag = record (new_rule name) { long = Some name; action = Some SetTrue }
 rule_by name OneText = record (new_rule name) { long = Some name; action = Some Set; value_names = 1 }
 rule_by name Texts = record (new_rule name) { long = Some name; action = Some Append; value_names = 1 }
@@ -32,23 +32,23 @@ abbrev pub rule_of_option : OptionValue → Rule
 rule_of_option o = rule_by o.name o.takes
 
 -- An option that all accept.
-abbrev anywhere : Text → Takes → OptionValue
+abbrev anywhere : Text → OptionTakes → OptionValue
 anywhere name takes = record { name = name; takes = takes; beside_report = true; beside_explain = true; beside_lint = true; beside_no_steps = true }
 
 -- An option that all accept where steps are looked up.
-abbrev with_steps : Text → Takes → OptionValue
+abbrev with_steps : Text → OptionTakes → OptionValue
 with_steps name takes = record (anywhere name takes) { beside_no_steps = false }
 
 -- An option that a report and `--explain` accept.
-abbrev in_a_run : Text → Takes → OptionValue
+abbrev in_a_run : Text → OptionTakes → OptionValue
 in_a_run name takes = record (with_steps name takes) { beside_lint = false }
 
 -- An option that a report alone accepts.
-abbrev in_a_report : Text → Takes → OptionValue
+abbrev in_a_report : Text → OptionTakes → OptionValue
 in_a_report name takes = record (in_a_run name takes) { beside_explain = false }
 
 -- An option that only `--lint` accepts, or is.
-abbrev in_findings : Text → Takes → OptionValue
+abbrev in_findings : Text → OptionTakes → OptionValue
 in_findings name takes = record (anywhere name takes) { beside_explain = false }
 
 -- The options. `--tags`, `--format`, `--dry-run`, `--stop` and `--no-skipped` are behave's. (behave's documentation: command line arguments)

@@ -8,7 +8,7 @@ ghost use Rattle.gk_cli.specs.OptionTable.{option_value, rule_of_option};
 ghost use Rattle.gk_report.specs.Report.{format_name};
 ghost use Rattle.gk_cli.specs.Arguments.{is_clash, mode_asked, files_rule, command, HasRule, IsCommand, is_set, IsLineNumber, line_number, format_asked, SaysPair, SaysPairs, AreAsked, SaysMatches, SaysArguments};
 
-use crate::option_table::{OPTIONS, OptionRow, Takes};
+use crate::option_table::{OPTIONS, OptionRow, OptionTakes};
 use clap::builder::ValueParser;
 use clap::error::ErrorKind;
 use clap::{Arg, ArgAction, ArgMatches, Command};
@@ -133,10 +133,10 @@ fn arg_of<'a>(alloc: Global, row: &OptionRow) -> Arg<'a>
         .help(row.help)
         .help_heading(row.heading);
     match row.takes {
-        Takes::Nothing => arg.action(ArgAction::SetTrue),
-        Takes::Text => arg.value_name(row.value_name).action(ArgAction::Set),
-        Takes::Texts => arg.value_name(row.value_name).action(ArgAction::Append),
-        Takes::Lines => arg
+        OptionTakes::Nothing => arg.action(ArgAction::SetTrue),
+        OptionTakes::Text => arg.value_name(row.value_name).action(ArgAction::Set),
+        OptionTakes::Texts => arg.value_name(row.value_name).action(ArgAction::Append),
+        OptionTakes::Lines => arg
             .value_name(row.value_name)
             .action(ArgAction::Append)
             .value_parser(ValueParser::unsigned(1, 4_294_967_295)),
@@ -218,10 +218,7 @@ fn pair(alloc: Global, text: &str) -> Result<Option<(String, String)>, AllocErro
 }
 
 // Splits each text at its first `=`. If a text has no `=`, the first such text is the error.
-fn pairs(
-    alloc: Global,
-    texts: &[&str],
-) -> Result<Result<Vec<(String, String)>, String>, AllocError>
+fn pairs(alloc: Global, texts: &[&str]) -> Result<Result<Vec<(String, String)>, String>, AllocError>
     ensures { IfOk result (SaysPairs (map (λ text. text.now) texts.now)) }
 {
     let mut pairs = Vec::new(alloc);
@@ -299,7 +296,7 @@ fn is_among(matches: &ArgMatches, row: &OptionRow) -> bool
     ensures { result ≡ spec.is_among (rows_of (found_of matches.now)) (option_value row.now) }
 {
     match row.takes {
-        Takes::Nothing => flag(matches, row.name),
+        OptionTakes::Nothing => flag(matches, row.name),
         _ => is_given(matches, row.name),
     }
 }

@@ -2,7 +2,7 @@
 
 /// What is given with an option, and how often.
 #[derive(Clone, Copy, Debug, PartialEq, Eq)]
-pub enum Takes {
+pub enum OptionTakes {
     /// No value: a flag, given at most once.
     Nothing,
     /// One value, given at most once.
@@ -18,7 +18,7 @@ pub enum Takes {
 pub struct OptionRow {
     /// The name without its dashes.
     pub name: &'static str,
-    pub takes: Takes,
+    pub takes: OptionTakes,
     /// What the help calls the value; empty for a flag.
     pub value_name: &'static str,
     /// The heading of the help that lists the option.
@@ -45,7 +45,7 @@ pub static OPTIONS: [OptionRow; 13] = [
     // A comma means or, and ~ means not.
     OptionRow {
         name: "tags",
-        takes: Takes::Texts,
+        takes: OptionTakes::Texts,
         value_name: "T",
         heading: CHOICE,
         help: "Run only scenarios whose tags fit T, as @a,~@b or '@a or not @b'; each --tags has to fit",
@@ -57,7 +57,7 @@ pub static OPTIONS: [OptionRow; 13] = [
     // N is the line of a scenario's heading, or of a row of an outline's examples.
     OptionRow {
         name: "line",
-        takes: Takes::Lines,
+        takes: OptionTakes::Lines,
         value_name: "N",
         heading: CHOICE,
         help: "Run only the scenarios at line N of a file; of several lines, one has to fit",
@@ -68,7 +68,7 @@ pub static OPTIONS: [OptionRow; 13] = [
     },
     OptionRow {
         name: "library",
-        takes: Takes::Text,
+        takes: OptionTakes::Text,
         value_name: "FILE",
         heading: RUN,
         help: "Take the steps from FILE in place of the default library",
@@ -79,7 +79,7 @@ pub static OPTIONS: [OptionRow; 13] = [
     },
     OptionRow {
         name: "hooks",
-        takes: Takes::Text,
+        takes: OptionTakes::Text,
         value_name: "FILE",
         heading: RUN,
         help: "Run the hooks in FILE around the run, its features, rules and scenarios",
@@ -91,7 +91,7 @@ pub static OPTIONS: [OptionRow; 13] = [
     // Steps see no variable of the real environment.
     OptionRow {
         name: "env",
-        takes: Takes::Texts,
+        takes: OptionTakes::Texts,
         value_name: "NAME=VALUE",
         heading: RUN,
         help: "Set a variable before the run; of equal names the last counts",
@@ -103,7 +103,7 @@ pub static OPTIONS: [OptionRow; 13] = [
     // PATH is read before the run, and never written. Its text is UTF-8 and has at most 1048576 bytes.
     OptionRow {
         name: "file",
-        takes: Takes::Texts,
+        takes: OptionTakes::Texts,
         value_name: "NAME=PATH",
         heading: RUN,
         help: "Put the text of PATH into the world as file NAME; of equal names the last counts",
@@ -114,7 +114,7 @@ pub static OPTIONS: [OptionRow; 13] = [
     },
     OptionRow {
         name: "dry-run",
-        takes: Takes::Nothing,
+        takes: OptionTakes::Nothing,
         value_name: "",
         heading: RUN,
         help: "Look up the steps in the library, and run no step, hook or cleanup",
@@ -125,7 +125,7 @@ pub static OPTIONS: [OptionRow; 13] = [
     },
     OptionRow {
         name: "stop",
-        takes: Takes::Nothing,
+        takes: OptionTakes::Nothing,
         value_name: "",
         heading: RUN,
         help: "Stop at the first failure, and leave later scenarios untested",
@@ -136,7 +136,7 @@ pub static OPTIONS: [OptionRow; 13] = [
     },
     OptionRow {
         name: "format",
-        takes: Takes::Text,
+        takes: OptionTakes::Text,
         value_name: "F",
         heading: REPORT,
         help: "Write the report as plain, progress or json [default: plain]",
@@ -147,7 +147,7 @@ pub static OPTIONS: [OptionRow; 13] = [
     },
     OptionRow {
         name: "no-skipped",
-        takes: Takes::Nothing,
+        takes: OptionTakes::Nothing,
         value_name: "",
         heading: REPORT,
         help: "Leave skipped features and scenarios out of the report",
@@ -159,7 +159,7 @@ pub static OPTIONS: [OptionRow; 13] = [
     // Failed hooks and cleanups are explained, too.
     OptionRow {
         name: "explain",
-        takes: Takes::Nothing,
+        takes: OptionTakes::Nothing,
         value_name: "",
         heading: REPORT,
         help: "In place of the report, say what happened in each scenario that failed",
@@ -173,7 +173,7 @@ pub static OPTIONS: [OptionRow; 13] = [
     // file, the faulty line and a fix.
     OptionRow {
         name: "lint",
-        takes: Takes::Nothing,
+        takes: OptionTakes::Nothing,
         value_name: "",
         heading: REPORT,
         help: "In place of a run, list ignored lines, steps that can't work and unused entries",
@@ -185,7 +185,7 @@ pub static OPTIONS: [OptionRow; 13] = [
     // No step is looked up, so neither a library nor a hooks file is read. What is found goes by the grammar alone.
     OptionRow {
         name: "no-steps",
-        takes: Takes::Nothing,
+        takes: OptionTakes::Nothing,
         value_name: "",
         heading: REPORT,
         help: "With --lint: look no step up, for a suite of another runner",

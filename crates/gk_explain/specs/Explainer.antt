@@ -42,8 +42,8 @@ told_status (of_case c) = c.status
 told_status (of_rule r) = r.around
 
 -- An explainer was told that a scenario or a rule has ended.
-abbrev pub Ends : Explainer → Ended → Explainer → Type 0
-Ends old ended new = Becomes old (with_ended ended) new × IsCutOnlyByBad (told_status ended) old new
+abbrev pub HearsEnd : Explainer → Ended → Explainer → Type 0
+HearsEnd old ended new = Becomes old (with_ended ended) new × IsCutOnlyByBad (told_status ended) old new
 
 -- What is kept of a case after its events, in order, with these cut at one of them.
 abbrev pub case_told : Explainer → Run → State → CaseValue → Cut → SectionValue
@@ -52,6 +52,6 @@ case_told e run section c cut = let s = said e in after_events s.library s.names
 -- A case that was told is explained by an explainer that kept nothing of a scenario before and isn't cut now. It says what it said before and, if the case's result failed or was refused memory, the explanation of this case by the lines of all its events.
 abbrev pub CasesAreExplained : Type 0
 CasesAreExplained = (run : Run) (section : State) (c : CaseValue) (row : CaseRow) (old new : Explainer) →
-    IsCaseTold Hears Ends run section c row old new → is_cut new ≡ false → (said old).scenario ≡ untold →
+    IsCaseTold Hears HearsEnd run section c row old new → is_cut new ≡ false → (said old).scenario ≡ untold →
     (cut : Cut) × (row ≡ reached_row run section cut c)
     × (is_cut old ≡ false) × (said new ≡ with_case_of (case_told old run section c cut).lines row (said old))

@@ -5,8 +5,8 @@ use Rattle.gk_run.specs.Results.{CaseRow, RuleRow, FeatureRow, case_row, rule_ro
 use Rattle.gk_run.specs.Running.{is_bad}
 use Rattle.gk_report.specs.ReportTexts.{status_text, line_feed}
 use Rattle.gk_report.specs.PlainReport.{status_line}
-use Rattle.gk_explain.specs.declared.headings.Ended.{Ended}
-use Rattle.gk_explain.specs.declared.headings.Ended.TheVariants as variants
+use Rattle.gk_explain.specs.declared.headings.ExplainedEnd.{ExplainedEnd}
+use Rattle.gk_explain.specs.declared.headings.ExplainedEnd.TheVariants as variants
 use Rattle.gk_explain.specs.EventLines.{place_text}
 use Rattle.gk_explain.specs.Shown.{escaped}
 
@@ -31,14 +31,14 @@ unfoldable pub run_heading : List ℕ
 run_heading = codes "Run: (hooks and cleanups)"
 
 -- The heading of what has ended, in a file.
-abbrev pub heading_of : List ℕ → Ended → List ℕ
+abbrev pub heading_of : List ℕ → ExplainedEnd → List ℕ
 heading_of source (variants.Scenario c) = case_heading source (case_row c.now)
 heading_of source (variants.Rule r) = rule_heading source (rule_row r.now)
 heading_of source (variants.Feature f) = feature_heading source (feature_row f.now)
 heading_of source (variants.Run around) = run_heading
 
 -- The status with which it ended.
-abbrev pub ended_status : Ended → Status
+abbrev pub ended_status : ExplainedEnd → Status
 ended_status (variants.Scenario c) = c.now.status
 ended_status (variants.Rule r) = r.now.around
 ended_status (variants.Feature f) = f.now.around

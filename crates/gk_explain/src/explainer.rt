@@ -7,7 +7,7 @@ ghost use Rattle.gk_explain.specs.Registrations.{CleanupsAreOfTheirSteps};
 ghost use Rattle.gk_explain.specs.Headings.{failures_text};
 ghost use Rattle.gk_explain.specs.Explanation.{nothing_said, with_source, with_feature, with_run, with_taken};
 ghost use Rattle.gk_explain.specs.Explainer as spec;
-ghost use Rattle.gk_explain.specs.Explainer.{said, Becomes, Hears, Ends, CasesAreExplained, IsCutOnlyByBad, IsCutOnlyByLongName};
+ghost use Rattle.gk_explain.specs.Explainer.{said, Becomes, Hears, HearsEnd, CasesAreExplained, IsCutOnlyByBad, IsCutOnlyByLongName};
 
 use crate::event::{CleanupEvent, Event, StepEvent};
 use crate::explanation::Explanation;
@@ -153,7 +153,7 @@ impl<'a> Explainer<'a> {
 impl Observer for Explainer<'_> {
     ghost hears = { Hears };
 
-    ghost ends = { Ends };
+    ghost ends = { HearsEnd };
 
     fn step(&mut self, place: Stage, step: &Step, mark: Mark, sandbox: &Sandbox) {
         if self.cut {

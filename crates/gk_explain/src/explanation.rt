@@ -9,7 +9,7 @@ ghost use Rattle.gk_explain.specs.SectionLines.{section_value, untold};
 
 use crate::event::{Event, level_of};
 use crate::event_lines::Names;
-use crate::headings::{Ended, ended_status, push_explanation, push_heading};
+use crate::headings::{ExplainedEnd, ended_status, push_explanation, push_heading};
 use crate::nearest_lines::NearestLines;
 use crate::row_lines::{row_at, rows_from};
 use crate::section_lines::SectionLines;
@@ -47,7 +47,7 @@ impl Explained {
     fn add(
         &mut self,
         source: &str,
-        ended: Ended<'_>,
+        ended: ExplainedEnd<'_>,
         row: Option<&ExampleRow>,
         lines: &str,
     ) -> Result<(), AllocError>
@@ -68,7 +68,7 @@ impl Explained {
     fn end(
         &mut self,
         source: &str,
-        ended: Ended<'_>,
+        ended: ExplainedEnd<'_>,
         row: Option<&ExampleRow>,
         section: &mut SectionLines,
     ) -> Result<(), AllocError>
@@ -164,8 +164,12 @@ impl<'a> Explanation<'a> {
         ensures free { cases.is_bad feature.now.around ≡ false → OnErr result ⊥ }
     {
         let source = self.source.as_str();
-        self.explained
-            .end(source, Ended::Feature(feature), None, &mut self.feature)
+        self.explained.end(
+            source,
+            ExplainedEnd::Feature(feature),
+            None,
+            &mut self.feature,
+        )
     }
 
     /// Adds an event to what is kept of its section. An error comes only if a growth was refused; the section
@@ -198,8 +202,12 @@ impl<'a> Explanation<'a> {
         self.rows = rows_from(self.rows, case.line);
         let row = row_at(self.rows, case.line);
         let source = self.source.as_str();
-        self.explained
-            .end(source, Ended::Scenario(case), row, &mut self.scenario)
+        self.explained.end(
+            source,
+            ExplainedEnd::Scenario(case),
+            row,
+            &mut self.scenario,
+        )
     }
 
     /// Ends the open rule with this result. Errors are those of `end_case`.
@@ -210,7 +218,7 @@ impl<'a> Explanation<'a> {
     {
         let source = self.source.as_str();
         self.explained
-            .end(source, Ended::Rule(rule), None, &mut self.rule)
+            .end(source, ExplainedEnd::Rule(rule), None, &mut self.rule)
     }
 
     /// Ends the run. `around` is the status of the run's hooks and cleanups. Errors are those of `end_case`.
@@ -221,7 +229,7 @@ impl<'a> Explanation<'a> {
     {
         let source = self.source.as_str();
         self.explained
-            .end(source, Ended::Run(around), None, &mut self.run)
+            .end(source, ExplainedEnd::Run(around), None, &mut self.run)
     }
 
     /// Returns what is ready; after that, nothing is ready. Doesn't allocate.

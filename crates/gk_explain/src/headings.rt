@@ -16,7 +16,7 @@ use std::alloc::AllocError;
 /// A scenario that has ended, or the hooks and cleanups of a rule, of a feature or of the run, and how they
 /// ended.
 #[derive(Clone, Copy)]
-pub enum Ended<'a> {
+pub enum ExplainedEnd<'a> {
     Scenario(&'a CaseResult),
     Rule(&'a RuleResult),
     Feature(&'a FeatureResult),
@@ -24,14 +24,14 @@ pub enum Ended<'a> {
 }
 
 /// Returns the status with which it ended. Doesn't allocate.
-pub fn ended_status(ended: Ended<'_>) -> Status
+pub fn ended_status(ended: ExplainedEnd<'_>) -> Status
     ensures { result ≡ spec.ended_status ended.entry }
 {
     match ended {
-        Ended::Scenario(case) => case.status,
-        Ended::Rule(rule) => rule.around,
-        Ended::Feature(feature) => feature.around,
-        Ended::Run(around) => around,
+        ExplainedEnd::Scenario(case) => case.status,
+        ExplainedEnd::Rule(rule) => rule.around,
+        ExplainedEnd::Feature(feature) => feature.around,
+        ExplainedEnd::Run(around) => around,
     }
 }
 
@@ -89,14 +89,18 @@ fn push_run_heading(out: &mut String) -> Result<(), AllocError>
 
 /// Appends the heading of what has ended, in the file with this name. An error comes only if a growth was
 /// refused; a part of the heading may have been appended then.
-pub fn push_heading(out: &mut String, source: &str, ended: Ended<'_>) -> Result<(), AllocError>
+pub fn push_heading(
+    out: &mut String,
+    source: &str,
+    ended: ExplainedEnd<'_>,
+) -> Result<(), AllocError>
     ensures { Pushes out.old (spec.heading_of source.now ended.entry) result out.new }
 {
     match ended {
-        Ended::Scenario(case) => push_case_heading(out, source, case),
-        Ended::Rule(rule) => push_rule_heading(out, source, rule),
-        Ended::Feature(feature) => push_feature_heading(out, source, feature),
-        Ended::Run(_) => push_run_heading(out),
+        ExplainedEnd::Scenario(case) => push_case_heading(out, source, case),
+        ExplainedEnd::Rule(rule) => push_rule_heading(out, source, rule),
+        ExplainedEnd::Feature(feature) => push_feature_heading(out, source, feature),
+        ExplainedEnd::Run(_) => push_run_heading(out),
     }
 }
 
@@ -107,7 +111,7 @@ pub fn push_heading(out: &mut String, source: &str, ended: Ended<'_>) -> Result<
 pub fn push_explanation(
     out: &mut String,
     source: &str,
-    ended: Ended<'_>,
+    ended: ExplainedEnd<'_>,
     row: Option<&ExampleRow>,
     lines: &str,
 ) -> Result<(), AllocError>

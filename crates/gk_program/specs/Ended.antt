@@ -9,7 +9,7 @@ use Rattle.gk_program.specs.FaultPlace.{nowhere}
 use Rattle.gk_program.specs.Files.{Reading}
 use Rattle.gk_program.specs.Program.{IsDoneFor, IsFaultFor, SaysCallsOfRun}
 use Rattle.gk_program.specs.declared.asked.ArgumentsFault.{ArgumentsFault}
-use Rattle.gk_program.specs.declared.ended.Ended.{Ended}
+use Rattle.gk_program.specs.declared.ended.ProgramEnd.{ProgramEnd}
 use Rattle.gk_program.specs.declared.fault.Fault.{Fault}
 use Rattle.gk_program.specs.declared.fault_place.FaultPlace.{FaultPlace}
 
@@ -39,7 +39,7 @@ IsTold (Ok status) old new = new ≡ old
 IsTold (Err fault) old new = IsTextTold (text_of fault) old new ⊎ (new.failures ≡ one_more old.failures)
 
 -- The program ended so with these arguments: its status and the place of its fault, what it wrote to standard output, and what it wrote to standard error.
-pub record IsEnded {S : Type 0} (reads : Reading S) (arguments : Result (List Text) ArgumentsFault) (before after : S) (old new errors_old errors_new : Device) (ended : Ended) : Type 0 where
+pub record IsEnded {S : Type 0} (reads : Reading S) (arguments : Result (List Text) ArgumentsFault) (before after : S) (old new errors_old errors_new : Device) (ended : ProgramEnd) : Type 0 where
   pub done : Result ℕ Fault
   pub says : SaysDone reads arguments before after old new done
   pub status : ended.status ≡ status_of done

@@ -14,7 +14,7 @@ use std::io::Write;
 
 /// How the program ended.
 #[derive(Clone, Copy, Debug, PartialEq, Eq)]
-pub struct Ended {
+pub struct ProgramEnd {
     /// The status to end with: 0 to 4.
     pub status: u8,
     /// The place of the fault that ended it, if that is a fault of a file. With `--lint` and several invalid files, it
@@ -38,20 +38,24 @@ fn tell<E: Write>(alloc: Global, fault: &Fault, errors: &mut Counted<E>) -> Resu
 
 /// Writes the fault that ended the program, if there is one, and returns how the program ended. If the writer fails,
 /// there is nothing left to write to.
-pub fn ending<E: Write>(alloc: Global, done: &Result<u8, Fault>, errors: &mut Counted<E>) -> Ended
+pub fn ending<E: Write>(
+    alloc: Global,
+    done: &Result<u8, Fault>,
+    errors: &mut Counted<E>,
+) -> ProgramEnd
     ensures status { result.status ≡ status_of done.now }
     ensures place { result.place ≡ place_of_done done.now }
     ensures said { IsTold done.now
         (device_of E.contents errors.old) (device_of E.contents errors.new) }
 {
     match done {
-        Ok(status) => Ended {
+        Ok(status) => ProgramEnd {
             status: *status,
             place: NOWHERE,
         },
         Err(fault) => {
             let _ = tell(alloc, fault, errors);
-            Ended {
+            ProgramEnd {
                 status: fault.status(),
                 place: fault.place(),
             }

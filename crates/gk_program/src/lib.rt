@@ -14,7 +14,7 @@ mod program;
 mod world_files;
 
 pub use asked::{ArgumentsFault, files_asked};
-pub use ended::Ended;
+pub use ended::ProgramEnd;
 pub use fault_place::FaultPlace;
 pub use files::System;
 pub use program::run;

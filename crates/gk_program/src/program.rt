@@ -15,7 +15,7 @@ ghost use Rattle.gk_program.specs.Program as spec;
 ghost use Rattle.gk_program.specs.Program.{IsTextFault, SaysVariables, IsFaultOfRun, IsFaultAs, IsFlushedRun, SaysSuite, SaysCalls, SaysCallsOfRun, SaysProgram, SaysRunFrom, IsRun, IsRunFrom, IsShown, IsDoneFor, IsFaultFor};
 
 use crate::asked::{ArgumentsFault, Asked, asked_with};
-use crate::ended::{Ended, ending};
+use crate::ended::{ProgramEnd, ending};
 use crate::env_fault::{fault_of_variable, is_lint};
 use crate::fault::Fault;
 use crate::fault_listing::fault_listed;
@@ -311,7 +311,7 @@ pub fn run<S: System, W: Write, E: Write>(
     arguments: Result<Vec<String>, ArgumentsFault>,
     out: &mut Counted<W>,
     errors: &mut Counted<E>,
-) -> Ended
+) -> ProgramEnd
     requires room { FailuresCanRise out.old }
     ensures { IsEnded S.reads (given_value arguments) system.old system.new
         (device_of W.contents out.old) (device_of W.contents out.new)

@@ -175,10 +175,7 @@ fn take_heads(alloc: Global, rules: Vec<Rule>) -> Result<TakenRules, AllocError>
         heads.push(take_head(alloc, &mut rule))?;
         kept.push(rule)?;
     }
-    Ok(TakenRules {
-        rules: kept,
-        heads,
-    })
+    Ok(TakenRules { rules: kept, heads })
 }
 
 // The tags of a feature, and the headings of its rules.

@@ -1,7 +1,7 @@
 //! A run that was begun and isn't finished.
 ghost use Rattle.std.specs.Prelude.{◌≡◌, ◌<◌, suc, IfOk, OnErr};
 ghost use Rattle.gk_world.specs.State.{state_of, layers};
-ghost use Rattle.gk_world.specs.Sandbox.{depth, Ends, IsSame};
+ghost use Rattle.gk_world.specs.Sandbox.{depth, EndsLayer, IsSame};
 ghost use Rattle.gk_run.specs.Results.{feature_row};
 ghost use Rattle.gk_run.specs.OpenSection.{run_of};
 ghost use Rattle.gk_run.specs.Chosen.{chosen_value, IsFormed};
@@ -185,7 +185,7 @@ impl Suite {
         requires innermost { self.layer ≡ depth sandbox.old }
         ensures around { IsFinished (run_of library.now hooks.now self.stop) self
             sandbox.old result }
-        ensures ends { Ends sandbox.old sandbox.new }
+        ensures ends { EndsLayer sandbox.old sandbox.new }
     {
         self.finish_watched(alloc, sandbox, library, hooks, &mut Unwatched)
     }
@@ -203,7 +203,7 @@ impl Suite {
         requires innermost { self.layer ≡ depth sandbox.old }
         ensures told { IsFinishTold O.hears (run_of library.now hooks.now self.stop) self
             sandbox.old result observer.old observer.new }
-        ensures ends { Ends sandbox.old sandbox.new }
+        ensures ends { EndsLayer sandbox.old sandbox.new }
     {
         let Suite {
             section: opened,

@@ -3,7 +3,7 @@
 ghost use Rattle.std.specs.Prelude.{◌≡◌, ◌<◌};
 ghost use Rattle.gk_gherkin.specs.Feature.{texts};
 ghost use Rattle.gk_world.specs.State.{layers};
-ghost use Rattle.gk_world.specs.Sandbox.{depth, Ends};
+ghost use Rattle.gk_world.specs.Sandbox.{depth, EndsLayer};
 ghost use Rattle.gk_run.specs.Events.{stand_of};
 ghost use Rattle.gk_run.specs.OpenSection.{EndsAround, run_value};
 ghost use Rattle.gk_run.specs.PrivateContracts.{Closes, Opens};
@@ -62,7 +62,7 @@ pub fn end_section<O: Observer>(
     requires innermost { opened.layer ≡ depth sandbox.old }
     ensures closed { Closes O.hears ending run.now section.now opened.cleanups
         sandbox.old result observer.old observer.new }
-    ensures ends { Ends sandbox.old sandbox.new }
+    ensures ends { EndsLayer sandbox.old sandbox.new }
 {
     let OpenSection {
         layer,
@@ -86,7 +86,7 @@ pub fn end_around<O: Observer>(
     ensures around { EndsAround O.hears (run_value run.now) section.now.level
         (texts section.now.tags.now) opened.before (stand_of sandbox.old opened.cleanups)
         result observer.old observer.new }
-    ensures ends { Ends sandbox.old sandbox.new }
+    ensures ends { EndsLayer sandbox.old sandbox.new }
 {
     let before = opened.before;
     let closed = end_section(run, sandbox, section, opened, before, observer);
@@ -96,7 +96,7 @@ pub fn end_around<O: Observer>(
 /// Ends the layer of a section in which results couldn't be reserved. Nothing more runs in the section.
 pub fn leave_section(sandbox: &mut Sandbox, opened: OpenSection)
     requires innermost { opened.layer ≡ depth sandbox.old }
-    ensures ends { Ends sandbox.old sandbox.new }
+    ensures ends { EndsLayer sandbox.old sandbox.new }
 {
     let OpenSection {
         layer,

@@ -17,7 +17,7 @@ use Rattle.gk_world.specs.State.{state_of, layers}
 use Rattle.gk_world.specs.Values.{state_at, IsLayer}
 use Rattle.gk_world.specs.World.{contents_of, Fits, undone, Steps, Refuses, CanApply, IsHere, changed, refusal, IsClear, NamesDiffer}
 use Rattle.gk_world.proofs.WorldLemmas.{contents_changed, contents_allow, contents_refuse, clear_still, here_applies}
-use Rattle.gk_world.specs.Sandbox.{SandboxValue, depth, begun, Ends, EndsByUndos, Becomes, Records, NoneTooLong, HasShortTexts, TextsAreShort, seen_undo, seen_undos, open_marks, saved_of, value_of, AreMarks, IsSound}
+use Rattle.gk_world.specs.Sandbox.{SandboxValue, depth, begun, EndsLayer, EndsByUndos, Becomes, Records, NoneTooLong, HasShortTexts, TextsAreShort, seen_undo, seen_undos, open_marks, saved_of, value_of, AreMarks, IsSound}
 use Rattle.gk_world.proofs.TextsLemmas.{short_empty, short_changed, short_begun, short_ended}
 use Rattle.gk_world.proofs.ReversibleLemmas.{contents_undone, contents_rewound, seen_undos-append}
 
@@ -123,7 +123,7 @@ module _ (w : World) (us : List WorldUndo) (m : ℕ) (ms : List ℕ) (h : IsSoun
   left_are : length vs ≡ m
   left_are = ap length left ∙ length-take-le m us h.ordered.0
 
-  ends_outside : Ends (value_of w us (m ∷ ms)) (value_of t vs ms)
+  ends_outside : EndsLayer (value_of w us (m ∷ ms)) (value_of t vs ms)
   ends_outside = record {
     given_back = λ i. contents_of (length ms) (sym back i) ∷ sym (saved_of-same ms m us vs w t h.ordered.2 same) i;
     forgotten = λ i. (sym left_are ∙ sym (length-seen_undos t vs)) i ∷ ms;
@@ -175,8 +175,8 @@ module _ (w : World) (us : List WorldUndo) (d number : ℕ) (marks : List ℕ) (
     pub ended_sound : IsSound t vs (open_marks (number - 1) marks)
     ended_sound = sound_outside w us _ _ sound_here t vs back left same older
 
-    pub ended : Ends v (value_of t vs (open_marks (number - 1) marks))
-    ended = subst (λ v. Ends v (value_of t vs (open_marks (number - 1) marks))) (ap (λ d. value_of w us (open_marks d marks)) (sym outer_is) ∙ is) (ends_outside w us _ _ sound_here t vs back left same older)
+    pub ended : EndsLayer v (value_of t vs (open_marks (number - 1) marks))
+    ended = subst (λ v. EndsLayer v (value_of t vs (open_marks (number - 1) marks))) (ap (λ d. value_of w us (open_marks d marks)) (sym outer_is) ∙ is) (ends_outside w us _ _ sound_here t vs back left same older)
 
     pub ended_undone : NamesDiffer w → EndsByUndos v (value_of t vs (open_marks (number - 1) marks))
     ended_undone names = subst (λ v. EndsByUndos v (value_of t vs (open_marks (number - 1) marks))) (ap (λ d. value_of w us (open_marks d marks)) (sym outer_is) ∙ is) (undone_outside w us _ _ sound_here t vs back left same older names)

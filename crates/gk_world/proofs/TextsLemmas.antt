@@ -15,7 +15,7 @@ use Rattle.gk_world.specs.declared.world.WorldChange.TheVariants as changes
 use Rattle.gk_world.specs.Table as table
 use Rattle.gk_world.specs.Values as value
 use Rattle.gk_world.specs.World.{changed, refusal}
-use Rattle.gk_world.specs.Sandbox.{SandboxValue, NoneTooLong, HasShortTexts, TextsAreShort, begun, Ends}
+use Rattle.gk_world.specs.Sandbox.{SandboxValue, NoneTooLong, HasShortTexts, TextsAreShort, begun, EndsLayer}
 use Rattle.gk_world.proofs.SlotsLemmas.{get-with_entry}
 
 -- ---- what a change that isn't refused puts in is short
@@ -77,5 +77,5 @@ short_begun s h = record {
   saved = (h.now, h.saved);
 }
 
-pub short_ended : (s t : SandboxValue) → Ends s t → TextsAreShort s → TextsAreShort t
+pub short_ended : (s t : SandboxValue) → EndsLayer s t → TextsAreShort s → TextsAreShort t
 short_ended s t e h = let all = subst (AllByRecursion HasShortTexts) e.given_back h.saved in record { now = all.0; saved = all.1 }

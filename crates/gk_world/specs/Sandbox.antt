@@ -35,7 +35,7 @@ abbrev pub begun : SandboxValue → SandboxValue
 begun s = record { now = with_layer s.now; saved = s.now ∷ s.saved; entries = s.entries; marks = length s.entries ∷ s.marks }
 
 -- The end of a layer: the contents that it saved are restored, and what was recorded since its beginning is forgotten. (behave's documentation: context layers)
-pub record Ends (old new : SandboxValue) : Type 0 where
+pub record EndsLayer (old new : SandboxValue) : Type 0 where
   pub given_back : old.saved ≡ new.now ∷ new.saved
   pub forgotten : old.marks ≡ length new.entries ∷ new.marks
 
@@ -66,7 +66,7 @@ pub record KeepsLayers (old new : SandboxValue) : Type 0 where
 pub data Works : SandboxValue → SandboxValue → Type 0 where
   done : {s : SandboxValue} → Works s s
   change : {s t u : SandboxValue} → KeepsLayers s t → Works t u → Works s u
-  layer : {s t u v : SandboxValue} → Works (begun s) t → Ends t u → Works u v → Works s v
+  layer : {s t u v : SandboxValue} → Works (begun s) t → EndsLayer t u → Works u v → Works s v
 
 -- The contents, what each open layer's end restores, the marks and the number of entries are the same. (behave's documentation: context layers)
 pub record IsSame (old new : SandboxValue) : Type 0 where
@@ -77,7 +77,7 @@ pub record IsSame (old new : SandboxValue) : Type 0 where
 
 -- Whatever is done in a layer, its end restores what was there at its beginning. (behave's documentation: context layers)
 abbrev pub LayersGiveBack : Type 0
-LayersGiveBack = (s t u : SandboxValue) → Works (begun s) t → Ends t u → IsSame s u
+LayersGiveBack = (s t u : SandboxValue) → Works (begun s) t → EndsLayer t u → IsSame s u
 
 -- The contents with the given number of further layers, which have no values. (behave's documentation: context layers)
 abbrev pub with_layers : ℕ → Contents → Contents
@@ -182,8 +182,8 @@ abbrev pub RemovesFile : SandboxValue → List ℕ → SandboxValue → Type 0
 RemovesFile old name new = Becomes (without_file old.now name) old new
 
 -- One change sets a variable, and what each layer's end restores stays.
-abbrev pub SetsEnv : SandboxValue → List ℕ → List ℕ → SandboxValue → Type 0
-SetsEnv old name text new = Becomes (with_env old.now name text) old new
+abbrev pub PutsEnv : SandboxValue → List ℕ → List ℕ → SandboxValue → Type 0
+PutsEnv old name text new = Becomes (with_env old.now name text) old new
 
 -- One change removes a variable, and what each layer's end restores stays.
 abbrev pub RemovesEnv : SandboxValue → List ℕ → SandboxValue → Type 0

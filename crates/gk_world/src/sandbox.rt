@@ -6,7 +6,7 @@ ghost use Rattle.gk_world.specs.State.{see, state_of, layers};
 ghost use Rattle.gk_world.specs.Refusals as refusals;
 ghost use Rattle.gk_world.specs.Refusals.{append_refusal, remove_refusal, delete_refusal, IsAnswer};
 ghost use Rattle.gk_world.specs.World.{IsHere, changed, refusal};
-ghost use Rattle.gk_world.specs.Sandbox.{PutsFile, AppendsToFile, RemovesFile, SetsEnv, RemovesEnv, SetsValue, DeletesValue, new_sandbox, depth, begun, Ends, EndsByUndos, Becomes, UndosGiveBack, TextsAreShort, LayersGiveBack, ChangesAreOfState};
+ghost use Rattle.gk_world.specs.Sandbox.{PutsFile, AppendsToFile, RemovesFile, PutsEnv, RemovesEnv, SetsValue, DeletesValue, new_sandbox, depth, begun, EndsLayer, EndsByUndos, Becomes, UndosGiveBack, TextsAreShort, LayersGiveBack, ChangesAreOfState};
 
 use crate::cells::LAYERS;
 use crate::journal::Journal;
@@ -121,7 +121,7 @@ impl Sandbox {
     /// those at its beginning. It doesn't allocate. (behave's documentation: context layers)
     pub fn end(&mut self, layer: Layer)
         requires { layer ≡ depth self.old }
-        ensures ends { Ends self.old self.new }
+        ensures ends { EndsLayer self.old self.new }
         ensures undone { EndsByUndos self.old self.new }
     {
         // A layer can't be dropped; destructuring consumes it.
@@ -184,7 +184,7 @@ impl Sandbox {
     /// Sets a variable. Refusals are checked in the order `BadName`, `TextTooLong`. A refusal changes nothing; `Memory`
     /// is returned only if there is no other reason.
     pub fn put_env(&mut self, name: &str, text: &str) -> Result<(), WorldFault>
-        ensures ok { OnOk result (SetsEnv self.old name.now text.now self.new) }
+        ensures ok { OnOk result (PutsEnv self.old name.now text.now self.new) }
         ensures answer { IsAnswer (refusals.put_refusal name.now text.now) result }
         ensures err { OnErr result (self.new ≡ self.old) }
     {
