@@ -50,11 +50,17 @@ first_cells [] (suc n) step_type text = omega arith
 first_cells (e ∷ es) (suc n) step_type text = omega (arith, first_cells es n step_type text)
 
 -- what a match of the last pieces filled
-pub rest_most : (pieces : List Piece) (rest boundaries slice : List ℕ) (old new : ℕ) → IsUtf8 rest → AreBoundaries rest boundaries → slice ≡ boundaries → new ≤ old + (length pieces + 1) * length slice → new ≤ old + table_cells (map piece_value pieces) rest
-rest_most pieces rest boundaries slice old new u h same most =
+rest_cells : (pieces : List Piece) (rest boundaries slice : List ℕ) → IsUtf8 rest → AreBoundaries rest boundaries → slice ≡ boundaries → (length pieces + 1) * length slice ≡ table_cells (map piece_value pieces) rest
+rest_cells pieces rest boundaries slice u h same =
     let width : length slice ≡ length (chars rest) + 1 = ap length same ∙ width_is rest boundaries u h in
     let rows : length pieces ≡ length (map piece_value pieces) = sym (length-map pieces piece_value) in
-    subst (λ n. new ≤ old + n) (ap (λ n. (length pieces + 1) * n) width ∙ ap (λ n. (n + 1) * (length (chars rest) + 1)) rows) most
+    ap (λ n. (length pieces + 1) * n) width ∙ ap (λ n. (n + 1) * (length (chars rest) + 1)) rows
+
+pub rest_most : (pieces : List Piece) (rest boundaries slice : List ℕ) (old new : ℕ) → IsUtf8 rest → AreBoundaries rest boundaries → slice ≡ boundaries → new ≤ old + (length pieces + 1) * length slice → new ≤ old + table_cells (map piece_value pieces) rest
+rest_most pieces rest boundaries slice old new u h same most = subst (λ n. new ≤ old + n) (rest_cells pieces rest boundaries slice u h same) most
+
+pub rest_filled : (pieces : List Piece) (rest boundaries slice : List ℕ) (old new : ℕ) → IsUtf8 rest → AreBoundaries rest boundaries → slice ≡ boundaries → GoesOnBy ((length pieces + 1) * length slice) old new → GoesOnBy (table_cells (map piece_value pieces) rest) old new
+rest_filled pieces rest boundaries slice old new u h same goes = subst (λ n. GoesOnBy n old new) (rest_cells pieces rest boundaries slice u h same) goes
 
 pub left_most : (left pieces : List Piece) (rest text : List ℕ) (start old new : ℕ) → length left ≤ length pieces → length (chars rest) ≤ length (chars text) → old ≡ start → new ≤ old + table_cells (map piece_value left) rest → new ≤ start + table_cells (map piece_value pieces) text
 left_most left pieces rest text start old new l c same most =

@@ -152,6 +152,8 @@ fn match_rest<'t, K: Captures<'t>>(
     ensures most { cells.new.filled
         ≤ cells.old.filled + table_cells (pieces_said left.now) rest.now }
     ensures least { cells.old.filled ≤ cells.new.filled }
+    ensures filled { OnOk result (GoesOnBy (table_cells (pieces_said left.now) rest.now)
+        cells.old.filled cells.new.filled) }
 {
     let boundaries = boundaries_of(alloc, rest)?;
     match match_pieces(cells, alloc, left, rest, &boundaries)? {

@@ -2,7 +2,7 @@ use Rattle.std.proofs.Common.{map, subst}
 use Rattle.gk_steps.specs.Pattern.{piece_value}
 use Rattle.gk_steps.specs.Captures.{IsKeptResult}
 use Rattle.gk_steps.proofs.CaptureLemmas.{rest_some, rest_none}
-use Rattle.gk_steps.proofs.FilledCellsLemmas.{rest_most}
+use Rattle.gk_steps.proofs.FilledCellsLemmas.{rest_most, rest_filled}
 use Rattle.gk_steps.proofs.matching.match_rest.Goals as goal
 
 pub returns-in_err-later-clause-most : goal.returns-in_err-later-clause-most
@@ -24,3 +24,9 @@ returns-in_ok-join-in-Some-clause-found g c = λ done before is. rest_some g.K.C
 pub returns-in-None-clause-found : goal.returns-in-None-clause-found
 returns-in-None-clause-found g c = λ done before is. rest_none g.K.Captures.keeps done before (map piece_value c.args.left.now) c.args.rest.now
     (subst (IsKeptResult g.K.Captures.keeps (map piece_value c.args.left.now) c.args.rest.now) c.in-None.is c.in_ok-later.ensures.found)
+
+pub returns-in_ok-join-in-Some-clause-filled : goal.returns-in_ok-join-in-Some-clause-filled
+returns-in_ok-join-in-Some-clause-filled g c = rest_filled c.args.left.now c.args.rest.now c.in_ok-boundaries.boundaries.items c.deref.result.now c.args.cells.now.filled c.match_pieces.new.cells.filled c.utf8.rest c.in_ok-boundaries.ensures c.deref.ensures.value c.in_ok-later.ensures.filled
+
+pub returns-in-None-clause-filled : goal.returns-in-None-clause-filled
+returns-in-None-clause-filled g c = rest_filled c.args.left.now c.args.rest.now c.in_ok-boundaries.boundaries.items c.deref.result.now c.args.cells.now.filled c.match_pieces.new.cells.filled c.utf8.rest c.in_ok-boundaries.ensures c.deref.ensures.value c.in_ok-later.ensures.filled
