@@ -1,5 +1,5 @@
 //! A run that is told to a reporter, and written as each feature ends.
-ghost use Rattle.std.specs.Prelude.{◌≡◌, true, map, IfOk, IfErr, OnOk};
+ghost use Rattle.std.specs.Prelude.{◌≡◌, true, map, IfOk, IfErr, OnOk, OnErr};
 ghost use Rattle.std.specs.List.{AllByRecursion};
 ghost use Rattle.gk_world.specs.Sandbox.{depth, IsSame};
 ghost use Rattle.gk_world.specs.State.{state_of};
@@ -61,7 +61,8 @@ impl<R> Told<R> {
     }
 }
 
-// Tells a reporter the end of a feature, and counts the feature.
+// Tells a reporter the end of a feature, and counts the feature. If its text wasn't written whole, the counts stay as
+// they were.
 fn add_feature<R: Reporter, W: Write>(
     alloc: Global,
     told: &mut Told<R>,
@@ -75,13 +76,14 @@ fn add_feature<R: Reporter, W: Write>(
         (CountsOneMore told.old.summary (feature_row feature.now) told.new.summary) }
     ensures err { IfErr result (StopsAdding R.adds (feature_row feature.now) told.old.reporter
         (device_of W.contents out.old) (device_of W.contents out.new)) }
+    ensures uncounted { OnErr result (told.new.summary ≡ told.old.summary) }
 {
     told.reporter.feature_ended(alloc, feature, out)?;
     told.summary.add(feature);
     Ok(())
 }
 
-// Runs the next feature of a run, and tells it.
+// Runs the next feature of a run, and tells it. On an error it isn't counted.
 fn tell_next<R: Reporter, W: Write>(
     parts: &RunParts<'_>,
     sandbox: &mut Sandbox,
@@ -106,6 +108,7 @@ fn tell_next<R: Reporter, W: Write>(
         (opens_features suite.old) (chosen_value feature))
         (opens_features suite.old) (chosen_value feature)
         (device_of W.contents out.old) told.old (device_of W.contents out.new)) }
+    ensures uncounted { OnErr result (told.new.summary ≡ told.old.summary) }
     ensures kept { IsKept suite.old suite.new }
     ensures same { IsSame sandbox.old sandbox.new }
 {
@@ -123,7 +126,8 @@ fn tell_next<R: Reporter, W: Write>(
     }
 }
 
-// Runs the features of a run that has begun, one after another, and tells each.
+// Runs the features of a run that has begun, one after another, and tells each. After an error, use `told` only to tell
+// it the end of the run: its reporter may have been told a feature that isn't counted.
 fn tell_features<R: Reporter, W: Write>(
     parts: &RunParts<'_>,
     sandbox: &mut Sandbox,
@@ -155,7 +159,7 @@ fn tell_features<R: Reporter, W: Write>(
     Ok(())
 }
 
-// Looks up the steps of the next feature, and tells it.
+// Looks up the steps of the next feature, and tells it. On an error it isn't counted.
 fn tell_dry_next<R: Reporter, W: Write>(
     alloc: Global,
     library: &Library,
@@ -172,6 +176,7 @@ fn tell_dry_next<R: Reporter, W: Write>(
         (IsDryResult (library_value library.now) (chosen_value feature))
         true (chosen_value feature)
         (device_of W.contents out.old) told.old (device_of W.contents out.new)) }
+    ensures uncounted { OnErr result (told.new.summary ≡ told.old.summary) }
 {
     told.reporter.feature_begun(feature.source.as_str());
     match dry_feature(alloc, library, feature) {
@@ -181,6 +186,7 @@ fn tell_dry_next<R: Reporter, W: Write>(
 }
 
 /// Looks up the steps of features, one after another, and tells each to a reporter. The errors are those of `tell_run`.
+/// Drop `told` after one: its reporter may have been told a feature that isn't counted.
 pub fn tell_dry_features<R: Reporter, W: Write>(
     alloc: Global,
     library: &Library,
