@@ -11,13 +11,15 @@ use Rattle.gk_run.specs.declared.results.Mark.TheVariants.{Skipped, Untested}
 use Rattle.gk_run.specs.declared.results.Status.{Status}
 use Rattle.gk_run.specs.declared.results.Status.TheVariants as statuses
 use Rattle.gk_run.specs.OpenSection.{Run}
-use Rattle.gk_run.specs.Running.{AreEventsTold, alone, reached_row, unrun_row, unreached_row, unselected_row, same_marks, all_stay_open, case_events, case_of, cases_of, stays_open}
+use Rattle.gk_run.specs.Running.{AreEventsTold, alone, reached_row, unrun_row, unreached_row, unselected_row, same_marks, all_stay_open, case_events, case_of, cases_of, first_or, later, stays_open}
 use Rattle.gk_run.specs.Walk.{row_of_step, rows_of_steps}
 use Rattle.gk_run.specs.Chosen.{MemberValue, has_selected, member_of, members_of, falls_from, members_of_rank}
-use Rattle.gk_run.specs.Events.{Event, Ended, IsRan, Told, happens, has_ended, of_case, tells}
-use Rattle.gk_run.specs.PrivateContracts.{AreCases, IsMember, RunsCases, TakesMember, members_in}
+use Rattle.gk_run.specs.Events.{Event, Ended, IsRan, Ran, Told, happens, has_ended, of_case, tells}
+use Rattle.gk_run.specs.Features.{StopsBeforeCase}
+use Rattle.gk_run.specs.PrivateContracts.{AreCases, AreCasesInPart, IsMember, RunsCases, TakesMember, members_in}
 use Rattle.gk_run.proofs.EventLemmas.{heard_both}
 use Rattle.gk_run.proofs.ToldLemmas.{heard_told}
+use Rattle.gk_run.proofs.PartLemmas.{GoesFrom, ran_of, ran_whole, stops_behind, stops_both, told_so_far}
 use Rattle.gk_run.proofs.GroupingLemmas.{and_left, first_of_rank, none_of_rank, not_of_rank}
 use Rattle.gk_run.specs.declared.cases.Cases.{Cases}
 use Rattle.gk_run.specs.declared.cases.Member.{Member}
@@ -109,36 +111,70 @@ of_ok Q (Err e) h f = h
 
 -- ---- cases, one after another
 
--- however what is left is cut and told, the whole has cuts with these rows before the others, and was told so
+-- however what is left is cut, the whole has cuts with these rows before the others, and what was told of them
 abbrev pub GoesCases : {S : Type 0} → (S → Told → S → Type 0) → Run → State → Bool → List MemberValue → List CaseRow → Bool → List MemberValue → S → S → Type 0
-GoesCases {S} told run first first_open all rows is_open left begin here =
-    (section : State) → (first_open ≡ true → first ≡ section) → (cuts : List Cut) (more : List CaseRow) (last : S) → IsRan told (cases_of run section is_open cuts left) more here last →
-    (whole : List Cut) × IsRan told (cases_of run section first_open whole all) (rows ++ more) begin last
+GoesCases told run first first_open all rows is_open left begin here =
+    (section : State) → (first_open ≡ true → first ≡ section) → GoesFrom told (λ (cuts : List Cut). cases_of run section first_open cuts all) (λ (cuts : List Cut). cases_of run section is_open cuts left) (λ (more : List CaseRow). rows ++ more) begin here
+
+-- the rows and the telling of one case more
+push_case : (rows : List CaseRow) (row : CaseRow) (front events : List Told) (ended : Told) (next : Ran (List CaseRow)) →
+    ran_of (rows ++ row ∷ next.result) (front ++ (events ++ ended ∷ next.told)) ≡ ran_of ((rows ++ row ∷ []) ++ next.result) ((front ++ (events ++ ended ∷ [])) ++ next.told)
+push_case rows row front events ended next =
+    let with_rows : List CaseRow → Ran (List CaseRow) = λ rs. ran_of rs (front ++ (events ++ ended ∷ next.told)) in
+    let with_told : List Told → Ran (List CaseRow) = λ told. ran_of ((rows ++ row ∷ []) ++ next.result) told in
+    ap with_rows (sym (append_assoc rows (row ∷ []) next.result))
+    ∙ ap with_told (ap (λ xs. front ++ xs) (sym (append_assoc events (ended ∷ []) next.told)) ∙ sym (append_assoc front (events ++ ended ∷ []) next.told))
 
 pub cases_on : {S : Type 0} (hears : S → Event → S → Type 0) (ends : S → Ended → S → Type 0) (run : Run) (first now : State) (first_open : Bool) (all : List MemberValue) (rows : List CaseRow) (row : CaseRow) (is_open next : Bool) (m : MemberValue) (left : List MemberValue) (begin here ran after : S) →
     now ≡ first → (is_open ≡ true → first_open ≡ true) → IsMember hears run now is_open m row here ran → ends ran (of_case row) after → next ≡ (is_open && stays_open run row.status) →
     GoesCases (tells hears ends) run first first_open all rows is_open (m ∷ left) begin here → GoesCases (tells hears ends) run first first_open all (rows ++ row ∷ []) next left begin after
-cases_on hears ends run first now first_open all rows row is_open next m left begin here ran after same earlier one ended nexts goes section opens cuts more last rest =
+cases_on hears ends run first now first_open all rows row is_open next m left begin here ran after same earlier one ended nexts goes section opens =
     let told_by = tells hears ends in
     let this = one section (λ o. same ∙ opens (earlier o)) in
     let events = case_events run section is_open this.0 m in
     let of_row = case_of run section is_open this.0 m in
     let stays : next ≡ (is_open && stays_open run of_row.status) = nexts ∙ ap (λ (x : CaseRow). is_open && stays_open run x.status) this.1 in
-    let others = cases_of run section (is_open && stays_open run of_row.status) cuts left in
-    let later : IsRan told_by others more after last = subst (λ (b : Bool). IsRan told_by (cases_of run section b cuts left) more after last) stays rest in
     let ends_so : ends ran (of_case of_row) after = subst (λ (x : CaseRow). ends ran (of_case x) after) this.1 ended in
-    let whole = goes section opens (this.0 ∷ cuts) (row ∷ more) last (record {
-      is = ap (λ x. x ∷ more) this.1 ∙ ap (λ xs. of_row ∷ xs) later.is;
-      heard = heard_both told_by here (map happens events) ran (has_ended (of_case of_row) ∷ others.told) last (heard_told hears ends here events ran this.2) (after, ends_so, later.heard);
-    }) in
-    (whole.0, subst (λ xs. IsRan told_by (cases_of run section first_open whole.0 all) xs begin last) (sym (append_assoc rows (row ∷ []) more)) whole.1)
+    let so_far = goes section opens in
+    let tail = map happens events ++ has_ended (of_case of_row) ∷ [] in
+    let front = so_far.front ++ tail in
+    record {
+      front = front;
+      heard = heard_both told_by begin so_far.front here tail after so_far.heard
+          (heard_both told_by here (map happens events) ran (has_ended (of_case of_row) ∷ []) after (heard_told hears ends here events ran this.2) (after, ends_so, refl));
+      stops = stops_both so_far.front tail so_far.stops (stops_behind (map happens events) (has_ended (of_case of_row)) [] tt tt);
+      cuts = λ cuts.
+          let whole = so_far.cuts (this.0 ∷ cuts) in
+          let others : Bool → Ran (List CaseRow) = λ b. cases_of run section b cuts left in
+          let put : CaseRow → Ran (List CaseRow) → Ran (List CaseRow) = λ x more. ran_of ((rows ++ x ∷ []) ++ more.result) (front ++ more.told) in (
+            whole.0,
+            whole.1 ∙ push_case rows of_row so_far.front (map happens events) (has_ended (of_case of_row)) (others (is_open && stays_open run of_row.status))
+                ∙ ap (λ x. put x (others (is_open && stays_open run of_row.status))) (sym this.1)
+                ∙ ap (λ b. put row (others b)) (sym stays),
+          );
+    }
 
 pub cases_last : {S : Type 0} (told : S → Told → S → Type 0) (run : Run) (first : State) (first_open : Bool) (all : List MemberValue) (rows : List CaseRow) (is_open : Bool) (left : List MemberValue) (begin here : S) → left ≡ [] →
     GoesCases told run first first_open all rows is_open left begin here → AreCases told run first first_open all rows begin here
 cases_last told run first first_open all rows is_open [] begin here none goes section opens =
-    let whole = goes section opens [] [] here (record { is = refl; heard = refl }) in
+    let whole = ran_whole told (λ (cuts : List Cut). cases_of run section first_open cuts all) (λ (cuts : List Cut). cases_of run section is_open cuts []) (λ (more : List CaseRow). rows ++ more) [] begin here (λ cuts. refl) (goes section opens) in
     (whole.0, subst (λ xs. IsRan told (cases_of run section first_open whole.0 all) xs begin here) (append-nil rows) whole.1)
 cases_last told run first first_open all rows is_open (m ∷ left) begin here none goes section opens = let no : ⊥ = cc in absurd no
+
+-- cases of which some are left
+pub cases_stopped : {S : Type 0} (told : S → Told → S → Type 0) (run : Run) (first : State) (first_open : Bool) (all : List MemberValue) (rows : List CaseRow) (is_open : Bool) (left : List MemberValue) (begin here : S) →
+    GoesCases told run first first_open all rows is_open left begin here → AreCasesInPart told run first first_open all begin here
+cases_stopped told run first first_open all rows is_open left begin here goes section opens =
+    told_so_far told (λ (cuts : List Cut). cases_of run section first_open cuts all) (λ (cuts : List Cut). cases_of run section is_open cuts left) (λ (more : List CaseRow). rows ++ more) begin here (goes section opens)
+
+-- cases end where another may begin
+pub stops_cases : (run : Run) (section : State) (is_open : Bool) (cuts : List Cut) (members : List MemberValue) → (let ran = cases_of run section is_open cuts members in StopsBeforeCase ran.told)
+stops_cases run section is_open cuts [] = tt
+stops_cases run section is_open cuts (m ∷ ms) =
+    let cut = first_or nowhere cuts in
+    let row = case_of run section is_open cut m in
+    let next = cases_of run section (is_open && stays_open run row.status) (later cuts) ms in
+    stops_behind (map happens (case_events run section is_open cut m)) (has_ended (of_case row)) next.told tt (stops_cases run section (is_open && stays_open run row.status) (later cuts) ms)
 
 -- ---- the cases of a rank
 
@@ -168,7 +204,7 @@ goes_first hears ends run first is_open old begin =
     record {
       rows = [];
       told = sym (append-nil (map case_row old.results.items));
-      goes = subst (λ (b : Bool). GoesCases (tells hears ends) run first is_open all [] b all begin begin) (sym (and_true is_open)) (λ section opens cuts more last h. (cuts, h));
+      goes = subst (λ (b : Bool). GoesCases (tells hears ends) run first is_open all [] b all begin begin) (sym (and_true is_open)) (λ section opens. record { front = []; heard = refl; stops = tt; cuts = λ cuts. (cuts, refl) });
       stay = refl;
       rank = refl;
       others = λ other lt. refl;
@@ -228,3 +264,12 @@ goes_last hears ends run first is_open old now last all_stay begin here so_far n
         others = λ other lt. ap (λ (c : Cases). members_of_rank other (members_in c)) none.0 ∙ so_far.others other lt;
       };
     }
+
+-- the case that would have been next told nothing
+pub goes_stopped : {S : Type 0} (hears : S → Event → S → Type 0) (ends : S → Ended → S → Type 0) (run : Run) (first : State) (is_open : Bool) (old now : Cases) (all_stay : Bool) (begin here last : S) → last ≡ here → GoesOn hears ends run first is_open old now all_stay begin here →
+    AreCasesInPart (tells hears ends) run first is_open (members_of_rank old.rank (members_in old)) begin last
+goes_stopped {S} hears ends run first is_open old now all_stay begin here last same so_far =
+    let r = old.rank in
+    let all = members_of_rank r (members_in old) in
+    subst (λ (s : S). AreCasesInPart (tells hears ends) run first is_open all begin s) (sym same)
+    (cases_stopped (tells hears ends) run first is_open all so_far.rows (is_open && all_stay) (members_of_rank r (members_in now)) begin here so_far.goes)

@@ -1,5 +1,5 @@
 -- What is inside of a feature, and what it comes to.
-use Rattle.std.proofs.Common.{Bool, List, [], ap, arith, false, flat_map, map, subst, suc, sym, true, zero, ℕ, ◌&&◌, ◌++◌, ◌<◌, ◌≤◌, ◌∙◌, ◌≡◌, append-nil}
+use Rattle.std.proofs.Common.{Bool, List, [], ap, arith, false, flat_map, map, refl, subst, suc, sym, true, zero, ℕ, ◌&&◌, ◌++◌, ◌<◌, ◌≤◌, ◌∙◌, ◌≡◌, append-nil}
 use Rattle.gk_world.specs.State.{State}
 use Rattle.gk_run.specs.declared.cases.Cases.{Cases}
 use Rattle.gk_run.specs.declared.results.RuleResult.{RuleResult}
@@ -9,10 +9,12 @@ use Rattle.gk_run.specs.declared.section.Level.TheVariants as levels
 use Rattle.std.specs.List.{FoldsTo}
 use Rattle.gk_run.specs.Running.{all_stay_open, case_statuses, cases_of}
 use Rattle.gk_run.specs.Events.{Event, Ended, IsRan, Ran, Told, happens, tells}
-use Rattle.gk_run.specs.PrivateContracts.{IsFeatureEnd, IsInside, RunsCases, RunsFeature, RunsRules, members_in}
+use Rattle.gk_run.specs.PrivateContracts.{AreCasesInPart, AreRulesInPart, IsFeatureEnd, IsFeatureEndInPart, IsInside, IsInsideInPart, RunsCases, RunsFeature, RunsRules, StopsFeature, members_in}
+use Rattle.gk_run.proofs.CasesLemmas.{stops_cases}
+use Rattle.gk_run.proofs.PartLemmas.{told_between}
 use Rattle.gk_run.proofs.EventLemmas.{heard_both}
 use Rattle.gk_run.specs.Chosen.{ChosenValue, HeadValue, MemberValue, has_selected, CasesFallIntoRules, Group, groups_from, members_of_rank, own_members, rule_groups}
-use Rattle.gk_run.specs.Features.{FeatureCuts, FeaturesWithoutRulesHaveTheirCases, feature_row_of, feature_verdict, inside_by, inside_of, rule_statuses, Inside, rules_of}
+use Rattle.gk_run.specs.Features.{FeatureCuts, FeaturesWithoutRulesHaveTheirCases, feature_row_of, feature_verdict, inside_by, inside_of, rule_statuses, Inside, IsToldInPart, feature_of, rules_of, uncut_feature}
 use Rattle.gk_run.specs.OpenSection.{SectionRow, happened_in, section_of, section_state, Run}
 use Rattle.gk_run.specs.Results.{CaseRow, FeatureRow, case_row, rule_row}
 use Rattle.gk_run.specs.Section.{around_of, before_passed, nowhere}
@@ -73,6 +75,61 @@ feature_is hears ends run now is_open is_begun f status end first last begins ve
     let by_end : SectionRow Inside → FeatureRow = λ e. feature_row_of f e.around e.inside in
     let here = subst (λ (b : Bool). IsRan (tells hears ends) (section_of run levels.Feature f.tags outside b known.0 inside) end first last) begins known.3 in
     (record { own = known.0; cases = known.1; rules = known.2 }, record { is = ap row verdict ∙ ap by_end here.is; heard = here.heard })
+
+-- ---- a feature that is told in part
+
+-- of what is inside, its own cases are told in part
+pub own_in_part : {S : Type 0} (told : S → Told → S → Type 0) (run : Run) (now : State) (is_open : Bool) (rank : ℕ) (members : List MemberValue) (groups : List Group) (first last : S) → rank ≡ 0 → AreCasesInPart told run now is_open (members_of_rank rank members) first last →
+    IsInsideInPart told run now is_open (members_of_rank 0 members) groups first last
+own_in_part told run now is_open rank members groups first last is cases section open_at =
+    let own = members_of_rank 0 members in
+    let own_stopped : AreCasesInPart told run now is_open own first last = subst (λ (r : ℕ). AreCasesInPart told run now is_open (members_of_rank r members) first last) is cases in
+    let part = own_stopped section open_at in
+    let mine = cases_of run section is_open part.0 own in
+    let next = rules_of run section (is_open && all_stay_open run mine.result) [] groups in
+    (part.0, [], told_between told mine (inside_by run section is_open part.0 [] own groups) [] next.told first first last refl refl tt part.1)
+
+-- of what is inside, the rules are told in part
+pub rules_in_part : {S : Type 0} (hears : S → Event → S → Type 0) (ends : S → Ended → S → Type 0) (run : Run) (now then : State) (is_open all_stay opens : Bool) (heads : List HeadValue) (old mid : Cases) (begin here last : S) → old.rank ≡ 0 → then ≡ now → opens ≡ (is_open && all_stay) →
+    RunsCases hears ends run now is_open old mid begin here all_stay → AreRulesInPart (tells hears ends) run then opens (groups_from (suc mid.rank) heads (members_in mid)) here last →
+    IsInsideInPart (tells hears ends) run now is_open (members_of_rank 0 (members_in old)) (groups_from 1 heads (members_in old)) begin last
+rules_in_part hears ends run now then is_open all_stay opens heads old mid begin here last first same open_is cases rules section open_at =
+    let told_by = tells hears ends in
+    let own = members_of_rank 0 (members_in old) in
+    let groups = groups_from 1 heads (members_in old) in
+    let own_is : members_of_rank old.rank (members_in old) ≡ own = ap (λ (r : ℕ). members_of_rank r (members_in old)) first in
+    let mine = cases.are section open_at in
+    let theirs = rules section (λ o. same ∙ open_at (and_left is_open all_stay (sym open_is ∙ o))) in
+    let first_ran = cases_of run section is_open mine.0 own in
+    let mine_are : IsRan told_by first_ran cases.rows begin here = subst (λ (ms : List MemberValue). IsRan told_by (cases_of run section is_open mine.0 ms) cases.rows begin here) own_is mine.1 in
+    let groups_are : groups_from (suc mid.rank) heads (members_in mid) ≡ groups =
+    ap (λ (r : ℕ). groups_from (suc r) heads (members_in mid)) (cases.left.rank ∙ first) ∙ groups_same 1 heads (members_in mid) (members_in old) (λ other le. cases.left.others other (later_rank old.rank other first le)) in
+    let opens_so : opens ≡ (is_open && all_stay_open run first_ran.result) = open_is ∙ ap (λ (b : Bool). is_open && b) (cases.stay ∙ ap (all_stay_open run) mine_are.is) in
+    let next = rules_of run section (is_open && all_stay_open run first_ran.result) theirs.0 groups in
+    let theirs_are : IsToldInPart told_by next here last = subst (λ (b : Bool). IsToldInPart told_by (rules_of run section b theirs.0 groups) here last) opens_so (subst (λ (gs : List Group). IsToldInPart told_by (rules_of run section opens theirs.0 gs) here last) groups_are theirs.1) in
+    (mine.0, theirs.0, told_between told_by next (inside_by run section is_open mine.0 theirs.0 own groups) first_ran.told [] begin here last (ap (λ xs. first_ran.told ++ xs) (sym (append-nil next.told))) mine_are.heard (stops_cases run section is_open mine.0 own) theirs_are)
+
+-- a feature that isn't begun
+pub unbegun_in_part : {S : Type 0} (told : S → Told → S → Type 0) (run : Run) (now : State) (is_begun : Bool) (tags : List (List ℕ)) (own : List MemberValue) (groups : List Group) (first last : S) → is_begun ≡ false → IsInsideInPart told run now false own groups first last →
+    IsFeatureEndInPart told run now is_begun tags own groups first last
+unbegun_in_part told run now true tags own groups first last unbegun is outside opens = let no : ⊥ = cc in absurd no
+unbegun_in_part told run now false tags own groups first last unbegun is outside opens =
+    let section = section_state run levels.Feature tags outside in
+    let known = is section (λ o. let no : ⊥ = cc in absurd no) in
+    let inside : State → Bool → Ran Inside = λ section is_ready. inside_by run section is_ready known.0 known.1 own groups in
+    (nowhere, known.0, known.1, told_between told (inside section false) (section_of run levels.Feature tags outside false nowhere inside) [] [] first first last refl refl tt known.2)
+
+pub feature_in_part : {S : Type 0} (hears : S → Event → S → Type 0) (ends : S → Ended → S → Type 0) (run : Run) (now : State) (is_open is_begun : Bool) (f : ChosenValue) (first last : S) → is_begun ≡ (is_open && has_selected f.members) →
+    IsFeatureEndInPart (tells hears ends) run now is_begun f.tags (own_members f) (rule_groups f) first last → StopsFeature hears ends run now is_open f first last
+feature_in_part hears ends run now is_open is_begun f first last begins stops outside opens =
+    let known = stops outside (λ b. opens (and_left is_open (has_selected f.members) (sym begins ∙ b))) in
+    let inside : State → Bool → Ran Inside = λ section is_ready. inside_by run section is_ready known.1 known.2 (own_members f) (rule_groups f) in
+    let here = subst (λ (b : Bool). IsToldInPart (tells hears ends) (section_of run levels.Feature f.tags outside b known.0 inside) first last) begins known.3 in
+    (record { own = known.0; cases = known.1; rules = known.2 }, record { front = here.front; rest = here.rest; whole = here.whole; heard = here.heard; stops = here.stops })
+
+-- a feature of which nothing is told
+pub feature_untold : {S : Type 0} (hears : S → Event → S → Type 0) (ends : S → Ended → S → Type 0) (run : Run) (now : State) (is_open : Bool) (f : ChosenValue) (here : S) → StopsFeature hears ends run now is_open f here here
+feature_untold hears ends run now is_open f here outside opens = let ran = feature_of run outside is_open uncut_feature f in (uncut_feature, record { front = []; rest = ran.told; whole = refl; heard = refl; stops = tt })
 
 -- ---- a feature without rules
 

@@ -10,6 +10,7 @@ pub mod WordsLemmas
 pub mod CleanLemmas
 pub mod SectionLemmas
 pub mod ToldLemmas
+pub mod PartLemmas
 pub mod GroupingLemmas
 pub mod CasesLemmas
 pub mod RulesLemmas

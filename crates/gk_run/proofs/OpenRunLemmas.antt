@@ -32,13 +32,13 @@ next_opens true false failed bad = refl
 next_opens true true true bad = refl
 next_opens true true false bad = refl
 
--- a feature that was run is so by the run's own hooks and stop, and by whether it is open
-pub run_so : {S : Type 0} (hears : S → Event → S → Type 0) (ends : S → Ended → S → Type 0) (library : Library) (file hooks : HookFile) (stop stops is_open opens : Bool) (now : State) (f : ChosenValue) (row : FeatureRow) (first last : S) → file ≡ hooks → stop ≡ stops → is_open ≡ opens →
-    RunsFeature hears ends (run_of library file stop) now is_open f first last row → RunsFeature hears ends (run_of library hooks stops) now opens f first last row
-run_so hears ends library file hooks stop stops is_open opens now f row first last by_hooks by_stop by_open ran =
-    subst (λ (b : Bool). RunsFeature hears ends (run_of library hooks stops) now b f first last row) by_open
-    (subst (λ (b : Bool). RunsFeature hears ends (run_of library hooks b) now is_open f first last row) by_stop
-    (subst (λ (x : HookFile). RunsFeature hears ends (run_of library x stop) now is_open f first last row) by_hooks ran))
+-- what is so of a run's feature is so by the run's own hooks and stop, and by whether it is open
+pub run_so : (Is : Run → Bool → Type 0) (library : Library) (file hooks : HookFile) (stop stops is_open opens : Bool) → file ≡ hooks → stop ≡ stops → is_open ≡ opens →
+    Is (run_of library file stop) is_open → Is (run_of library hooks stops) opens
+run_so Is library file hooks stop stops is_open opens by_hooks by_stop by_open is =
+    subst (λ (b : Bool). Is (run_of library hooks stops) b) by_open
+    (subst (λ (b : Bool). Is (run_of library hooks b) is_open) by_stop
+    (subst (λ (x : HookFile). Is (run_of library x stop) is_open) by_hooks is))
 
 -- a run that was started, whose features were run, and that was finished
 pub judged_all : FinishedRunsAreJudged

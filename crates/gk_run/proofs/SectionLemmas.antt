@@ -30,7 +30,7 @@ use Rattle.gk_run.proofs.WalkLemmas.{at}
 cut_place : (all told : List Event) (c : IsCutOff all told) → has_event (length c.front) all ≡ true
 cut_place all told c = ap (has_event (length c.front)) c.whole ∙ place_there c.front c.event c.rest
 
-cut_told : (all told : List Event) (c : IsCutOff all told) → told ≡ cut_at (length c.front) c.left all
+pub cut_told : (all told : List Event) (c : IsCutOff all told) → told ≡ cut_at (length c.front) c.left all
 cut_told all told c = c.cut ∙ cut_there c.left c.front c.event c.rest ∙ ap (cut_at (length c.front) c.left) (sym c.whole)
 
 -- the cut of events that there are

@@ -1,16 +1,16 @@
 -- The results of features, of their rules and of their cases.
-use Rattle.std.specs.List.{list_any}
-use Rattle.std.specs.Prelude.{Bool, true, cond, List, [], ◌∷◌, ◌++◌, map, ◌≡◌, ◌&&◌, ◌||◌}
+use Rattle.std.specs.List.{FoldsTo, list_any}
+use Rattle.std.specs.Prelude.{Bool, true, cond, List, [], ◌∷◌, ◌++◌, map, ◌≡◌, ◌&&◌, ◌||◌, ◌⊎◌, ⊤}
 use Rattle.gk_world.specs.State.{State}
 use Rattle.gk_run.specs.declared.results.Status.{Status}
 use Rattle.gk_run.specs.declared.results.Status.TheVariants as statuses
 use Rattle.gk_run.specs.declared.section.Level.TheVariants as levels
 use Rattle.gk_run.specs.Running.{all_stay_open, case_statuses, cases_of, first_or, later, stays_open}
 use Rattle.gk_run.specs.Chosen.{HeadValue, MemberValue, ChosenValue, has_selected, CasesFallIntoRules, Group, own_members, rule_groups}
-use Rattle.gk_run.specs.Events.{Event, Ended, IsRan, Ran, result_of, tells, has_ended, of_rule}
+use Rattle.gk_run.specs.Events.{Event, of_step, of_cleanup, Ended, IsRan, Ran, Told, result_of, tells, happens, has_ended, of_rule}
 use Rattle.gk_run.specs.OpenSection.{section_of, SectionRow, Run}
 use Rattle.gk_run.specs.Results.{CaseRow, RuleRow, FeatureRow, is_passed, is_failed, is_untested, is_memory}
-use Rattle.gk_run.specs.Section.{Cut, nowhere}
+use Rattle.gk_run.specs.Section.{Cut, before_of, nowhere}
 
 -- The cuts of a rule: in its own hooks and cleanups, and in each of its cases. What a list doesn't name isn't cut, and a cut of what isn't reached has no effect.
 pub record RuleCuts : Type 0 where
@@ -107,6 +107,30 @@ IsFeatureResult run now is_open f row = (outside : State) → (is_open ≡ true 
 -- An observer was told what happens in a feature with this result, for some cuts.
 abbrev pub IsFeatureTold : {S : Type 0} → (S → Event → S → Type 0) → (S → Ended → S → Type 0) → Run → State → Bool → ChosenValue → FeatureRow → S → S → Type 0
 IsFeatureTold hears ends run outside is_open f row old new = (cuts : FeatureCuts) × IsRan (tells hears ends) (feature_of run outside is_open cuts f) row old new
+
+-- A case may begin right after this: a step of the before hooks of a feature or a rule, or the end of a case or a rule.
+abbrev pub PrecedesCase : Told → Type 0
+PrecedesCase (happens (of_step stage step mark registered s)) = (stage ≡ before_of levels.Feature) ⊎ (stage ≡ before_of levels.Rule)
+PrecedesCase (happens (of_cleanup level cleanup outcome s)) = ⊥
+PrecedesCase (has_ended ended) = ⊤
+
+-- A case may begin right after the last of these, if there is any.
+abbrev pub StopsBeforeCase : List Told → Type 0
+StopsBeforeCase [] = ⊤
+StopsBeforeCase (last ∷ []) = PrecedesCase last
+StopsBeforeCase (first ∷ next ∷ others) = StopsBeforeCase (next ∷ others)
+
+-- An observer was told a beginning of what a part of a run tells, up to a point at which a case may begin. So each case was told whole, and no after hook or cleanup of a rule or a feature that hasn't ended was told.
+pub record IsToldInPart {S A : Type 0} (told : S → Told → S → Type 0) (ran : Ran A) (first last : S) : Type 0 where
+  pub front : List Told
+  pub rest : List Told
+  pub whole : ran.told ≡ front ++ rest
+  pub heard : FoldsTo told first front last
+  pub stops : StopsBeforeCase front
+
+-- An observer was told a beginning of what happens in a feature, for some cuts, up to a point at which a case may begin.
+abbrev pub IsFeatureToldInPart : {S : Type 0} → (S → Event → S → Type 0) → (S → Ended → S → Type 0) → Run → State → Bool → ChosenValue → S → S → Type 0
+IsFeatureToldInPart hears ends run outside is_open f old new = (cuts : FeatureCuts) × IsToldInPart (tells hears ends) (feature_of run outside is_open cuts f) old new
 
 -- The result of a feature without rules: its cases run one after another, each from the feature's state.
 abbrev pub feature_without_rules : Run → State → Bool → FeatureCuts → ChosenValue → Ran FeatureRow

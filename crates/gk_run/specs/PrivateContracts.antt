@@ -44,7 +44,7 @@ use Rattle.gk_run.specs.declared.rules.RuleEnd.{RuleEnd}
 use Rattle.gk_run.specs.declared.section.Level.TheVariants as levels
 use Rattle.gk_run.specs.Running.{all_stay_open, case_events, case_of, cases_of}
 use Rattle.gk_run.specs.Chosen.{ChosenValue, HeadValue, MemberValue, head_value, member_of, members_of, Group, falls_from, groups_from, members_of_rank}
-use Rattle.gk_run.specs.Features.{IsFeatureTold, inside_by, Inside, RuleCuts, rule_of, rule_stays_open, rules_of}
+use Rattle.gk_run.specs.Features.{IsFeatureTold, IsFeatureToldInPart, IsToldInPart, inside_by, Inside, RuleCuts, rule_of, rule_stays_open, rules_of}
 
 -- Events of a section happened and were told, with `rest` left. `before` is how the section had ended before them, `ended` how it has ended now, and `now` its state and cleanups.
 pub record Goes {S : Type 0} (hears : S → Event → S → Type 0) (before : Ending) (all rest : List Event) (start now : Stand) (ended : Ending) (first last : S) : Type 0 where
@@ -167,6 +167,11 @@ abbrev pub AreCases : {S : Type 0} → (S → Told → S → Type 0) → Run →
 AreCases told run now is_open members rows first last =
     (section : State) → (is_open ≡ true → now ≡ section) → (cuts : List Cut) × IsRan told (cases_of run section is_open cuts members) rows first last
 
+-- Cases were told in part, for some cuts, from the section's state if they are reached.
+abbrev pub AreCasesInPart : {S : Type 0} → (S → Told → S → Type 0) → Run → State → Bool → List MemberValue → S → S → Type 0
+AreCasesInPart told run now is_open members first last =
+    (section : State) → (is_open ≡ true → now ≡ section) → (cuts : List Cut) × IsToldInPart told (cases_of run section is_open cuts members) first last
+
 -- The cases that are still to come, each with whether it is selected.
 abbrev pub members_in : Cases → List MemberValue
 members_in cases = members_of cases.waiting.items cases.selected.items
@@ -198,6 +203,16 @@ abbrev pub IsRule : {S : Type 0} → (S → Told → S → Type 0) → Run → S
 IsRule told run now is_open g end first last =
     (outside : State) → (is_open ≡ true → now ≡ outside) → (cuts : RuleCuts) × IsRan told (rule_of run outside is_open cuts g) end first last
 
+-- A rule was told in part, for some cuts, from its feature's state if the feature is open.
+abbrev pub IsRuleInPart : {S : Type 0} → (S → Told → S → Type 0) → Run → State → Bool → Group → S → S → Type 0
+IsRuleInPart told run now is_open g first last =
+    (outside : State) → (is_open ≡ true → now ≡ outside) → (cuts : RuleCuts) × IsToldInPart told (rule_of run outside is_open cuts g) first last
+
+-- Rules were told in part, for some cuts, from their feature's state if the feature is open.
+abbrev pub AreRulesInPart : {S : Type 0} → (S → Told → S → Type 0) → Run → State → Bool → List Group → S → S → Type 0
+AreRulesInPart told run now is_open groups first last =
+    (outside : State) → (is_open ≡ true → now ≡ outside) → (cuts : List RuleCuts) × IsToldInPart told (rules_of run outside is_open cuts groups) first last
+
 -- The next rule was run in a feature, with the next cases, those of one rank. `is_open` says whether the feature is open.
 pub record RunsRule {S : Type 0} (hears : S → Event → S → Type 0) (ends : S → Ended → S → Type 0) (run : Run) (now : State) (is_open : Bool) (head : HeadValue) (old new : Cases) (first last : S) (end : RuleEnd) : Type 0 where
   pub rows : List CaseRow
@@ -226,6 +241,17 @@ IsFeatureEnd told run now is_begun tags own groups end first last =
     (outside : State) → (is_begun ≡ true → now ≡ outside) → (cut : Cut) × (cuts : List Cut) × (rule_cuts : List RuleCuts)
     × IsRan told (section_of run levels.Feature tags outside is_begun cut (λ section is_open. inside_by run section is_open cuts rule_cuts own groups)) end first last
 
+-- What is inside a section was told in part, for some cuts, from the section's state if the section is open.
+abbrev pub IsInsideInPart : {S : Type 0} → (S → Told → S → Type 0) → Run → State → Bool → List MemberValue → List Group → S → S → Type 0
+IsInsideInPart told run now is_open own groups first last =
+    (section : State) → (is_open ≡ true → now ≡ section) → (cuts : List Cut) × (rule_cuts : List RuleCuts) × IsToldInPart told (inside_by run section is_open cuts rule_cuts own groups) first last
+
+-- A feature's section was told in part, for some cuts, from the run's state if the feature is begun.
+abbrev pub IsFeatureEndInPart : {S : Type 0} → (S → Told → S → Type 0) → Run → State → Bool → List (List ℕ) → List MemberValue → List Group → S → S → Type 0
+IsFeatureEndInPart told run now is_begun tags own groups first last =
+    (outside : State) → (is_begun ≡ true → now ≡ outside) → (cut : Cut) × (cuts : List Cut) × (rule_cuts : List RuleCuts)
+    × IsToldInPart told (section_of run levels.Feature tags outside is_begun cut (λ section is_open. inside_by run section is_open cuts rule_cuts own groups)) first last
+
 -- The value of an `InsideResults`.
 abbrev pub inside_value : InsideResults → Inside
 inside_value i = record { rules = map rule_row i.rules.items; cases = map case_row i.cases.items }
@@ -235,11 +261,25 @@ abbrev pub RunsInside : {S : Type 0} → (S → Event → S → Type 0) → (S �
 RunsInside hears ends run now is_open content first last inside =
     IsInside (tells hears ends) (run_value run) now is_open (members_of_rank 0 (members_in content.cases)) (groups_from 1 (map head_value content.rules.list.items) (members_in content.cases)) (inside_value inside) first last
 
+-- What is inside a feature was told in part.
+abbrev pub StopsInside : {S : Type 0} → (S → Event → S → Type 0) → (S → Ended → S → Type 0) → shared.Run → State → Bool → Content → S → S → Type 0
+StopsInside hears ends run now is_open content first last =
+    IsInsideInPart (tells hears ends) (run_value run) now is_open (members_of_rank 0 (members_in content.cases)) (groups_from 1 (map head_value content.rules.list.items) (members_in content.cases)) first last
+
 -- A feature ran, or wasn't begun, and ended like this.
 abbrev pub EndsFeature : {S : Type 0} → (S → Event → S → Type 0) → (S → Ended → S → Type 0) → shared.Run → State → Bool → List (String Global) → Content → S → S → FeatureEnd → Type 0
 EndsFeature hears ends run now is_begun tags content first last end =
     IsFeatureEnd (tells hears ends) (run_value run) now is_begun (texts tags) (members_of_rank 0 (members_in content.cases)) (groups_from 1 (map head_value content.rules.list.items) (members_in content.cases)) (record { around = end.around; inside = inside_value end.inside }) first last
 
+-- A feature that ran, or wasn't begun, was told in part.
+abbrev pub StopsFeatureEnd : {S : Type 0} → (S → Event → S → Type 0) → (S → Ended → S → Type 0) → shared.Run → State → Bool → List (String Global) → Content → S → S → Type 0
+StopsFeatureEnd hears ends run now is_begun tags content first last =
+    IsFeatureEndInPart (tells hears ends) (run_value run) now is_begun (texts tags) (members_of_rank 0 (members_in content.cases)) (groups_from 1 (map head_value content.rules.list.items) (members_in content.cases)) first last
+
 -- The result of a feature, and what was told of it, are those of some cuts, from the run's state if the run is open.
 abbrev pub RunsFeature : {S : Type 0} → (S → Event → S → Type 0) → (S → Ended → S → Type 0) → Run → State → Bool → ChosenValue → S → S → FeatureRow → Type 0
 RunsFeature hears ends run now is_open f first last row = (outside : State) → (is_open ≡ true → now ≡ outside) → IsFeatureTold hears ends run outside is_open f row first last
+
+-- A feature was told in part, for some cuts, from the run's state if the run is open.
+abbrev pub StopsFeature : {S : Type 0} → (S → Event → S → Type 0) → (S → Ended → S → Type 0) → Run → State → Bool → ChosenValue → S → S → Type 0
+StopsFeature hears ends run now is_open f first last = (outside : State) → (is_open ≡ true → now ≡ outside) → IsFeatureToldInPart hears ends run outside is_open f first last

@@ -1,5 +1,5 @@
 //! Running a feature.
-ghost use Rattle.std.specs.Prelude.{◌≡◌, ◌<◌, ◌∷◌, ◌||◌, true, suc, map, IfOk};
+ghost use Rattle.std.specs.Prelude.{◌≡◌, ◌<◌, ◌∷◌, ◌||◌, true, suc, map, IfOk, OnErr};
 ghost use Rattle.std.specs.List.{list_any};
 ghost use Rattle.gk_world.specs.State.{state_of, layers};
 ghost use Rattle.gk_world.specs.Sandbox.{depth, IsSame};
@@ -11,6 +11,7 @@ ghost use Rattle.gk_run.specs.Chosen.{chosen_value, IsFormed};
 ghost use Rattle.gk_run.specs.Features as spec;
 ghost use Rattle.gk_run.specs.Features.{IsFeatureResult, rule_statuses, feature_verdict};
 ghost use Rattle.gk_run.specs.PrivateContracts.{EndsFeature, RunsFeature, RunsInside};
+ghost use Rattle.gk_run.specs.PrivateContracts.{StopsFeature, StopsFeatureEnd, StopsInside};
 
 use crate::cases::{Cases, Content, both, either, run_cases};
 use crate::chosen::Chosen;
@@ -44,6 +45,8 @@ fn run_inside<O: Observer>(
     requires layer { suc (depth sandbox.old) < layers }
     ensures inside { IfOk result (RunsInside O.hears O.ends run.now
         (state_of sandbox.old.now) is_open content observer.old observer.new) }
+    ensures stopped { OnErr result (StopsInside O.hears O.ends run.now
+        (state_of sandbox.old.now) is_open content observer.old observer.new) }
     ensures same { IsSame sandbox.old sandbox.new }
 {
     let Content { rules, mut cases } = content;
@@ -75,6 +78,8 @@ fn feature_end<O: Observer>(
     requires layer { suc (suc (depth sandbox.old)) < layers }
     ensures end { IfOk result (EndsFeature O.hears O.ends run.now (state_of sandbox.old.now)
         is_begun tags.now content observer.old observer.new) }
+    ensures stopped { OnErr result (StopsFeatureEnd O.hears O.ends run.now
+        (state_of sandbox.old.now) is_begun tags.now content observer.old observer.new) }
     ensures same { IsSame sandbox.old sandbox.new }
 {
     if !is_begun {
@@ -178,6 +183,8 @@ pub(crate) fn feature_in<O: Observer>(
     ensures ran { IfOk result (λ r. RunsFeature O.hears O.ends (run_value run.now)
         (state_of sandbox.old.now) is_open (chosen_value chosen) observer.old observer.new
         (feature_row r)) }
+    ensures stopped { OnErr result (StopsFeature O.hears O.ends (run_value run.now)
+        (state_of sandbox.old.now) is_open (chosen_value chosen) observer.old observer.new) }
     ensures same { IsSame sandbox.old sandbox.new }
 {
     let Chosen {

@@ -5,7 +5,7 @@ ghost use Rattle.gk_world.specs.Sandbox.{depth, EndsLayer, IsSame};
 ghost use Rattle.gk_run.specs.Results.{feature_row};
 ghost use Rattle.gk_run.specs.OpenSection.{run_of};
 ghost use Rattle.gk_run.specs.Chosen.{chosen_value, IsFormed};
-ghost use Rattle.gk_run.specs.Features.{IsFeatureTold};
+ghost use Rattle.gk_run.specs.Features.{IsFeatureTold, IsFeatureToldInPart};
 ghost use Rattle.gk_run.specs.OpenRun as spec;
 ghost use Rattle.gk_run.specs.OpenRun.{IsStarted, IsStartTold, IsKept, IsNextRun, IsFinished, IsFinishTold};
 
@@ -137,7 +137,9 @@ impl Suite {
     /// the events of its after hooks and its cleanups. Of a scenario it tells the events and then the
     /// result; of a rule its hooks, its scenarios and its cleanups and then the result. If memory is
     /// refused in the hooks or the cleanups of a scenario, a rule or the feature, these are told up to
-    /// that event. After `NoRoom` some of it was told.
+    /// that event. After `NoRoom` a beginning of this was told, up to a point at which a scenario may
+    /// begin: each scenario was told whole, and no after hook or cleanup of a rule or a feature that
+    /// hasn't ended was told.
     pub fn feature_watched<O: Observer>(
         &mut self,
         alloc: Global,
@@ -155,6 +157,9 @@ impl Suite {
             (run_of library.now hooks.now self.old.stop) (state_of sandbox.old.now)
             (spec.opens_features self.old) (chosen_value chosen) (feature_row r)
             observer.old observer.new) }
+        ensures told_in_part { OnErr result (IsFeatureToldInPart O.hears O.ends
+            (run_of library.now hooks.now self.old.stop) (state_of sandbox.old.now)
+            (spec.opens_features self.old) (chosen_value chosen) observer.old observer.new) }
         ensures kept { IsKept self.old self.new }
         ensures no_room { OnErr result (self.new ≡ self.old) }
         ensures same { IsSame sandbox.old sandbox.new }

@@ -1,9 +1,10 @@
 //! Running the rules of a feature.
-ghost use Rattle.std.specs.Prelude.{◌≡◌, true, ◌<◌, suc, map, IfOk};
+ghost use Rattle.std.specs.Prelude.{◌≡◌, true, ◌<◌, suc, map, IfOk, OnErr};
 ghost use Rattle.gk_world.specs.State.{state_of, layers};
 ghost use Rattle.gk_world.specs.Sandbox.{depth, IsSame};
-ghost use Rattle.gk_run.specs.Chosen.{falls_from, head_value};
-ghost use Rattle.gk_run.specs.PrivateContracts.{RunsRule, RunsRules};
+ghost use Rattle.gk_run.specs.Chosen.{falls_from, groups_from, head_value, members_of_rank};
+ghost use Rattle.gk_run.specs.Events.{tells};
+ghost use Rattle.gk_run.specs.PrivateContracts.{AreRulesInPart, IsRuleInPart, RunsRule, RunsRules, members_in};
 ghost use Rattle.gk_run.specs.OpenSection.{run_value};
 
 use crate::cases::{Cases, both, run_cases, stays_open};
@@ -36,6 +37,11 @@ fn run_rule<O: Observer>(
     ensures rule { IfOk result (RunsRule O.hears O.ends (run_value run.now)
         (state_of sandbox.old.now) is_open (head_value head.now)
         cases.old cases.new observer.old observer.new) }
+    ensures stopped { OnErr result (IsRuleInPart (tells O.hears O.ends) (run_value run.now)
+        (state_of sandbox.old.now) is_open (record {
+          head = head_value head.now;
+          members = members_of_rank cases.old.rank (members_in cases.old);
+        }) observer.old observer.new) }
     ensures same { IsSame sandbox.old sandbox.new }
 {
     if !both(is_open, cases.has_selected()) {
@@ -81,6 +87,9 @@ pub fn run_rules<O: Observer>(
     ensures rules { IfOk result (λ results. RunsRules O.hears O.ends (run_value run.now)
         (state_of sandbox.old.now) is_open (map head_value rules.list.items)
         cases.old cases.new results.items observer.old observer.new) }
+    ensures stopped { OnErr result (AreRulesInPart (tells O.hears O.ends) (run_value run.now)
+        (state_of sandbox.old.now) is_open (groups_from (suc cases.old.rank)
+        (map head_value rules.list.items) (members_in cases.old)) observer.old observer.new) }
     ensures same { IsSame sandbox.old sandbox.new }
 {
     let Reserved {

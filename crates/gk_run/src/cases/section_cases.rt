@@ -1,10 +1,11 @@
 //! Running the cases of a section, one after another.
-ghost use Rattle.std.specs.Prelude.{◌≡◌, true, ◌+◌, ◌≤◌, ◌<◌, ◌^◌, suc, length, nat_eq, false, ◌&&◌, ◌||◌, vec_capacity, MatchOption, IfOk, IfSome};
+ghost use Rattle.std.specs.Prelude.{◌≡◌, true, ◌+◌, ◌≤◌, ◌<◌, ◌^◌, suc, length, nat_eq, false, ◌&&◌, ◌||◌, vec_capacity, MatchOption, IfOk, OnErr, IfSome};
 ghost use Rattle.gk_select.specs.RuleOrder as order;
 ghost use Rattle.gk_world.specs.State.{state_of, layers};
 ghost use Rattle.gk_world.specs.Sandbox.{depth, IsSame};
 ghost use Rattle.gk_run.specs.Running as spec;
-ghost use Rattle.gk_run.specs.PrivateContracts.{IsMember, RunsCases, TakesMember, members_in};
+ghost use Rattle.gk_run.specs.Events.{tells};
+ghost use Rattle.gk_run.specs.PrivateContracts.{AreCasesInPart, IsMember, RunsCases, TakesMember, members_in};
 ghost use Rattle.gk_run.specs.Chosen.{has_selected, member_of, falls_from, members_of_rank};
 ghost use Rattle.gk_run.specs.Results.{case_row};
 ghost use Rattle.gk_run.specs.OpenSection.{run_value};
@@ -120,6 +121,7 @@ fn run_member<O: Observer>(
     ensures ran { IfOk result (λ r. IsMember O.hears (run_value run.now)
         (state_of sandbox.old.now) is_open (member_of member.case member.selected) (case_row r)
         observer.old observer.new) }
+    ensures untold { OnErr result (observer.new ≡ observer.old) }
     ensures same { IsSame sandbox.old sandbox.new }
 {
     let Member { case, selected } = member;
@@ -172,6 +174,9 @@ pub fn run_cases<O: Observer>(
     requires layer { depth sandbox.old < layers }
     ensures cases { IfOk result (RunsCases O.hears O.ends (run_value run.now)
         (state_of sandbox.old.now) is_open cases.old cases.new observer.old observer.new) }
+    ensures stopped { OnErr result (AreCasesInPart (tells O.hears O.ends) (run_value run.now)
+        (state_of sandbox.old.now) is_open (members_of_rank cases.old.rank (members_in cases.old))
+        observer.old observer.new) }
     ensures same { IsSame sandbox.old sandbox.new }
 {
     let mut all_stay = true;

@@ -1,13 +1,14 @@
-use Rattle.std.proofs.Common.{◌∙◌, Bool, map, subst, sym}
+use Rattle.std.proofs.Common.{◌∙◌, Bool, inl, map, refl, subst, sym}
 use Rattle.gk_gherkin.specs.Feature.{texts}
 use Rattle.gk_world.specs.State.{State, state_of}
 use Rattle.gk_run.specs.declared.section.Level.TheVariants as levels
 use Rattle.gk_run.specs.Chosen.{head_value, groups_from, members_of_rank}
 use Rattle.gk_run.specs.PrivateContracts.{inside_value, members_in}
-use Rattle.gk_run.specs.Features.{inside_by, Inside}
+use Rattle.gk_run.specs.Features.{inside_by, Inside, IsToldInPart}
 use Rattle.gk_run.specs.Events.{stand_of, IsRan, Ran, tells}
 use Rattle.gk_run.specs.OpenSection.{IsBegun, section_of, section_state, run_value}
-use Rattle.gk_run.proofs.FeaturesLemmas.{feature_unbegun}
+use Rattle.gk_run.proofs.FeaturesLemmas.{feature_unbegun, unbegun_in_part}
+use Rattle.gk_run.proofs.PartLemmas.{at_err, section_in_part}
 use Rattle.gk_run.proofs.SectionLemmas.{begun_still, passed_state, ready}
 use Rattle.gk_run.proofs.ToldLemmas.{section_ran}
 use Rattle.gk_run.proofs.features.feature_end.Goals as goal
@@ -44,4 +45,33 @@ returns-in-Ok-clause-end g c = λ there open_at.
       known.1,
       subst (λ (b : Bool). IsRan (tells hears ends) (section_of run levels.Feature tags there b end.2.cut inside) (record { around = around; inside = end_inside }) c.args.observer.now c.end_around.new.observer) (sym c.if-not-is_begun.false)
           (section_ran hears ends run levels.Feature tags there c.has_passed.result around first end.0 end_inside inside c.args.observer.now c.open_section-opened.new.observer c.run_inside-2.new.observer c.end_around.new.observer end.2 passes opens.1 known.2 end.1),
+    )
+
+pub returns-in_err-inside-clause-stopped : goal.returns-in_err-inside-clause-stopped
+returns-in_err-inside-clause-stopped g c =
+    let members = members_in c.args.content.cases in
+    at_err _ (unbegun_in_part (tells g.O.Observer.hears g.O.Observer.ends) (run_value c.args.run.now) (state_of c.args.sandbox.now.now) c.args.is_begun (texts c.args.tags.now) (members_of_rank 0 members) (groups_from 1 (map head_value c.args.content.rules.list.items) members)
+    c.args.observer.now c.run_inside.new.observer c.if-not-is_begun.true c.in_err-inside.ensures.stopped)
+
+pub returns-in-Err-clause-stopped : goal.returns-in-Err-clause-stopped
+returns-in-Err-clause-stopped g c = λ there open_at.
+    let run = run_value c.args.run.now in
+    let tags = texts c.args.tags.now in
+    let opened = c.open_section-opened.result in
+    let now = stand_of c.open_section-opened.new.sandbox opened.cleanups in
+    let opens = c.open_section-opened.ensures in
+    let first = opens.0.first in
+    let own = members_of_rank 0 (members_in c.args.content.cases) in
+    let groups = groups_from 1 (map head_value c.args.content.rules.list.items) (members_in c.args.content.cases) in
+    let before = opened.before in
+    let begin = c.args.observer.now in
+    let last = c.run_inside-2.new.observer in
+    let begins : IsBegun run levels.Feature tags there first before now = subst (λ (x : State). IsBegun run levels.Feature tags x first before now) (open_at c.if-not-is_begun.false) opens.0.begins in
+    let known = c.in-Err.ensures.stopped (section_state run levels.Feature tags there) (λ o. passed_state run levels.Feature tags there first before now begins (sym c.has_passed.ensures ∙ o)) in
+    let inside : State → Bool → Ran Inside = λ section is_ready. inside_by run section is_ready known.0 known.1 own groups in
+    let part = section_in_part g.O.Observer.hears g.O.Observer.ends run levels.Feature tags there first before now c.has_passed.result inside begin c.open_section-opened.new.observer last (inl refl) begins c.has_passed.ensures opens.1 known.2 in (
+      part.0,
+      known.0,
+      known.1,
+      subst (λ (b : Bool). IsToldInPart (tells g.O.Observer.hears g.O.Observer.ends) (section_of run levels.Feature tags there b part.0 inside) begin last) (sym c.if-not-is_begun.false) part.1,
     )

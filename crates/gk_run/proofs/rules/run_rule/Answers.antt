@@ -1,4 +1,4 @@
-use Rattle.std.proofs.Common.{◌∙◌, ◌&&◌, Bool, List, ap, sym}
+use Rattle.std.proofs.Common.{◌∙◌, ◌&&◌, Bool, List, ap, inr, refl, sym}
 use Rattle.gk_gherkin.specs.Feature.{texts}
 use Rattle.gk_world.specs.State.{State, state_of}
 use Rattle.gk_run.specs.declared.section.Level.TheVariants as levels
@@ -8,7 +8,8 @@ use Rattle.gk_run.specs.PrivateContracts.{members_in}
 use Rattle.gk_run.specs.Events.{stand_of, Ran, tells}
 use Rattle.gk_run.specs.OpenSection.{section_state, run_value}
 use Rattle.gk_run.specs.Results.{CaseRow}
-use Rattle.gk_run.proofs.RulesLemmas.{passed_stays, rule_begun, rule_unbegun}
+use Rattle.gk_run.proofs.PartLemmas.{at_err, section_in_part}
+use Rattle.gk_run.proofs.RulesLemmas.{passed_stays, rule_begun, rule_begun_in_part, rule_unbegun, rule_unbegun_in_part}
 use Rattle.gk_run.proofs.SectionLemmas.{begun_still, passed_state, ready}
 use Rattle.gk_run.proofs.ToldLemmas.{section_ran}
 use Rattle.gk_run.proofs.rules.run_rule.Goals as goal
@@ -59,3 +60,32 @@ returns-in-Ok-clause-rule g c =
       stay = c.both-in-Ok.ensures ∙ ap (λ (x : Bool). x && c.in-Ok.all_stay) c.stays_open.ensures ∙ ap (λ (x : Bool). stays_open run around && x) ran.stay;
       left = ran.left;
     }
+
+pub returns-in_err-all_stay-clause-stopped : goal.returns-in_err-all_stay-clause-stopped
+returns-in_err-all_stay-clause-stopped g c =
+    let old = c.args.cases.now in
+    let group : Group = record { head = head_value c.args.head.now; members = members_of_rank old.rank (members_in old) } in
+    let begins = c.both.ensures ∙ ap (λ (b : Bool). c.args.is_open && b) c.has_selected.ensures in
+    at_err _ (rule_unbegun_in_part (tells g.O.Observer.hears g.O.Observer.ends) (run_value c.args.run.now) (state_of c.args.sandbox.now.now) c.args.is_open c.both.result group c.args.observer.now c.run_cases.new.observer begins c.if-not-both.true c.in_err-all_stay.ensures.stopped)
+
+pub returns-in-Err-clause-stopped : goal.returns-in-Err-clause-stopped
+returns-in-Err-clause-stopped g c =
+    let hears = g.O.Observer.hears in
+    let ends = g.O.Observer.ends in
+    let run = run_value c.args.run.now in
+    let outside = state_of c.args.sandbox.now.now in
+    let head = head_value c.args.head.now in
+    let tags = texts c.as_slice.result.now in
+    let opened = c.open_section-opened.result in
+    let now = stand_of c.open_section-opened.new.sandbox opened.cleanups in
+    let opens = c.open_section-opened.ensures in
+    let first = opens.0.first in
+    let begins = opens.0.begins in
+    let members = members_of_rank c.args.cases.now.rank (members_in c.args.cases.now) in
+    let group : Group = record { head = head; members = members } in
+    let begin = c.args.observer.now in
+    let last = c.run_cases-2.new.observer in
+    let known = c.in-Err.ensures.stopped (section_state run levels.Rule tags outside) (λ o. passed_state run levels.Rule tags outside first opened.before now begins (sym c.has_passed.ensures ∙ o)) in
+    let inside : State → Bool → Ran (List CaseRow) = λ section is_ready. cases_of run section is_ready known.0 members in
+    let part = section_in_part hears ends run levels.Rule tags outside first opened.before now c.has_passed.result inside begin c.open_section-opened.new.observer last (inr refl) begins c.has_passed.ensures opens.1 known.1 in
+    rule_begun_in_part (tells hears ends) run outside c.args.is_open c.both.result tags group begin last (c.both.ensures ∙ ap (λ (b : Bool). c.args.is_open && b) c.has_selected.ensures) c.if-not-both.false (ap texts c.as_slice.ensures.value) (part.0, known.0, part.1)

@@ -6,7 +6,8 @@ use Rattle.gk_run.specs.declared.results.RuleResult.{RuleResult}
 use Rattle.gk_run.specs.Chosen.{head_value, members_of}
 use Rattle.gk_run.specs.OpenSection.{run_of}
 use Rattle.gk_run.proofs.Nothing.{nothing_in}
-use Rattle.gk_run.proofs.RulesLemmas.{GoesRules, rules_first, rules_last, rules_on}
+use Rattle.gk_run.proofs.PartLemmas.{at_err}
+use Rattle.gk_run.proofs.RulesLemmas.{GoesRules, rules_first, rules_last, rules_on, rules_stopped}
 use Rattle.gk_run.proofs.rules.run_rules.Goals as goal
 
 pub loop-head-init : goal.loop-head-init
@@ -63,3 +64,21 @@ returns-clause-rules g c =
     let none : into_iter_items c.loop-head.head-iterator ≡ [] = nothing_in (into_iter_items c.loop-head.head-iterator) (c.loop-head.invariant.counted ∙ c.in-None.ensures.steps.0) in
     rules_last g.O.Observer.hears g.O.Observer.ends run first c.args.is_open heads c.args.cases.now c.loop-head.cases c.loop-head.is_open c.loop-head.results.items c.args.observer.now c.loop-head.observer
     (subst (λ (hs : List RuleHead). GoesRules g.O.Observer.hears g.O.Observer.ends run first c.args.is_open heads c.args.cases.now c.loop-head.cases c.loop-head.is_open c.loop-head.results.items (map head_value hs) c.args.observer.now c.loop-head.observer) none c.loop-head.invariant.goes)
+
+pub returns-in_err-end-clause-stopped : goal.returns-in_err-end-clause-stopped
+returns-in_err-end-clause-stopped g c =
+    let run = run_of c.args.run.now.library.now c.args.run.now.hooks.now.file.now c.args.run.now.stop in
+    let first = state_of c.args.sandbox.now.now in
+    let heads = map head_value c.args.rules.list.items in
+    let old = c.args.cases.now in
+    let now = c.loop-head.cases in
+    let taken = c.next_rank.new.self in
+    let left = into_iter_items c.next.new.self in
+    let head = head_value c.in-Some.head in
+    let taken_first : into_iter_items c.loop-head.head-iterator ≡ c.in-Some.head ∷ left = c.in-Some.ensures.steps.0 in
+    let so_far : GoesRules g.O.Observer.hears g.O.Observer.ends run first c.args.is_open heads old now c.loop-head.is_open c.loop-head.results.items (head ∷ map head_value left) c.args.observer.now c.loop-head.observer =
+    subst (λ (hs : List RuleHead). GoesRules g.O.Observer.hears g.O.Observer.ends run first c.args.is_open heads old now c.loop-head.is_open c.loop-head.results.items (map head_value hs) c.args.observer.now c.loop-head.observer) taken_first c.loop-head.invariant.goes in
+    at_err _ (rules_stopped g.O.Observer.hears g.O.Observer.ends run first (state_of c.loop-head.sandbox.now) c.args.is_open heads old now taken c.loop-head.is_open c.loop-head.results.items head (map head_value left) c.args.observer.now c.loop-head.observer c.run_rule.new.observer
+    so_far (ap state_of c.loop-head.invariant.same.contents) c.next_rank.ensures.rank
+    (ap (λ q. members_of q.items taken.selected.items) c.next_rank.ensures.waiting ∙ ap (λ q. members_of now.waiting.items q.items) c.next_rank.ensures.selected)
+    c.in_err-end.ensures.stopped)

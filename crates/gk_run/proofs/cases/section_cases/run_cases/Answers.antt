@@ -1,7 +1,8 @@
 use Rattle.std.proofs.Common.{◌∙◌, ◌&&◌, Bool, refl, ap}
 use Rattle.gk_world.specs.State.{state_of}
 use Rattle.gk_run.specs.OpenSection.{run_of}
-use Rattle.gk_run.proofs.CasesLemmas.{goes_first, goes_last, goes_on}
+use Rattle.gk_run.proofs.CasesLemmas.{goes_first, goes_last, goes_on, goes_stopped}
+use Rattle.gk_run.proofs.PartLemmas.{at_err}
 use Rattle.gk_run.proofs.cases.section_cases.run_cases.Goals as goal
 
 pub loop-member-init : goal.loop-member-init
@@ -27,3 +28,9 @@ pub returns-clause-cases : goal.returns-clause-cases
 returns-clause-cases g c =
     goes_last g.O.Observer.hears g.O.Observer.ends (run_of c.args.run.now.library.now c.args.run.now.hooks.now.file.now c.args.run.now.stop) (state_of c.args.sandbox.now.now) c.args.is_open c.args.cases.now c.loop-member.cases c.next_member.new.self c.loop-member.all_stay
     c.args.observer.now c.loop-member.observer c.loop-member.invariant.goes c.in_default.ensures.taken
+
+pub returns-in_err-row-clause-stopped : goal.returns-in_err-row-clause-stopped
+returns-in_err-row-clause-stopped g c =
+    let run = run_of c.args.run.now.library.now c.args.run.now.hooks.now.file.now c.args.run.now.stop in
+    at_err _ (goes_stopped g.O.Observer.hears g.O.Observer.ends run (state_of c.args.sandbox.now.now) c.args.is_open c.args.cases.now c.loop-member.cases c.loop-member.all_stay c.args.observer.now c.loop-member.observer c.run_member.new.observer
+    c.in_err-row.ensures.untold c.loop-member.invariant.goes)

@@ -4,15 +4,17 @@ use Rattle.gk_run.specs.Running.{is_bad, stays_open_by}
 use Rattle.gk_run.specs.Chosen.{chosen_value}
 use Rattle.gk_run.specs.Ending.{has_passed}
 use Rattle.gk_run.specs.OpenRun.{SuiteValue, opens_features}
+use Rattle.gk_run.specs.PrivateContracts.{RunsFeature, StopsFeature}
 use Rattle.gk_run.specs.Results.{feature_row}
 use Rattle.gk_run.proofs.OpenRunLemmas.{next_opens, run_so}
+use Rattle.gk_run.proofs.PartLemmas.{at_err}
 use Rattle.gk_run.proofs.open_run.Suite.feature_watched.Goals as goal
 
 pub returns-clause-ran : goal.returns-clause-ran
 returns-clause-ran g c =
     let status = c.in_ok-result.result.status in
     let before = c.self.inside in
-    let told = run_so g.O.Observer.hears g.O.Observer.ends c.args.library.now _ c.args.hooks.now before.stop c.args.self.now.stop c.opens_features-is_open.result (opens_features c.args.self.now) (state_of c.args.sandbox.now.now) (chosen_value c.args.chosen) (feature_row c.in_ok-result.result) c.args.observer.now c.feature_in.new.observer
+    let told = run_so (λ run b. RunsFeature g.O.Observer.hears g.O.Observer.ends run (state_of c.args.sandbox.now.now) b (chosen_value c.args.chosen) c.args.observer.now c.feature_in.new.observer (feature_row c.in_ok-result.result)) c.args.library.now _ c.args.hooks.now before.stop c.args.self.now.stop c.opens_features-is_open.result (opens_features c.args.self.now)
     c.new-hooks.ensures (ap (λ (s : SuiteValue). s.stop) c.self.view_is) c.opens_features-is_open.ensures c.in_ok-result.ensures.ran in
     let failed = c.either-self-inside.ensures ∙ ap (λ (b : Bool). before.has_failed || b) c.is_bad.ensures in
     record {
@@ -25,5 +27,10 @@ returns-clause-ran g c =
 
 pub returns-clause-told : goal.returns-clause-told
 returns-clause-told g c =
-    run_so g.O.Observer.hears g.O.Observer.ends c.args.library.now _ c.args.hooks.now c.self.inside.stop c.args.self.now.stop c.opens_features-is_open.result (opens_features c.args.self.now) (state_of c.args.sandbox.now.now) (chosen_value c.args.chosen) (feature_row c.in_ok-result.result) c.args.observer.now c.feature_in.new.observer
+    run_so (λ run b. RunsFeature g.O.Observer.hears g.O.Observer.ends run (state_of c.args.sandbox.now.now) b (chosen_value c.args.chosen) c.args.observer.now c.feature_in.new.observer (feature_row c.in_ok-result.result)) c.args.library.now _ c.args.hooks.now c.self.inside.stop c.args.self.now.stop c.opens_features-is_open.result (opens_features c.args.self.now)
     c.new-hooks.ensures (ap (λ (s : SuiteValue). s.stop) c.self.view_is) c.opens_features-is_open.ensures c.in_ok-result.ensures.ran (state_of c.args.sandbox.now.now) (λ _. refl)
+
+pub returns-in_err-result-clause-told_in_part : goal.returns-in_err-result-clause-told_in_part
+returns-in_err-result-clause-told_in_part g c =
+    at_err _ (run_so (λ run b. StopsFeature g.O.Observer.hears g.O.Observer.ends run (state_of c.args.sandbox.now.now) b (chosen_value c.args.chosen) c.args.observer.now c.feature_in.new.observer) c.args.library.now _ c.args.hooks.now c.self.inside.stop c.args.self.now.stop c.opens_features-is_open.result (opens_features c.args.self.now)
+    c.new-hooks.ensures (ap (λ (s : SuiteValue). s.stop) c.self.view_is) c.opens_features-is_open.ensures c.in_err-result.ensures.stopped (state_of c.args.sandbox.now.now) (λ _. refl))

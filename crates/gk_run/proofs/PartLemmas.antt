@@ -1,0 +1,152 @@
+-- What was told of a part of a run that didn't come to its end.
+use Rattle.std.specs.List.{FoldsTo}
+use Rattle.std.proofs.Common.{◌⊎◌, Bool, Err, List, Ok, OnErr, Result, [], ap, append_assoc, cond, false, length, map, refl, subst, suc, sym, true, zero, ℕ, ◌++◌, ◌∙◌, ◌∷◌, ◌≡◌, append-nil}
+use Rattle.gk_gherkin.specs.Feature.{StepValue}
+use Rattle.gk_steps.specs.Finding.{LibraryValue}
+use Rattle.gk_world.specs.State.{State, enter}
+use Rattle.gk_run.specs.declared.ending.Ending.{Ending}
+use Rattle.gk_run.specs.declared.section.Level.{Level}
+use Rattle.gk_run.specs.declared.section.Level.TheVariants as levels
+use Rattle.gk_run.specs.declared.section.Stage.{Stage}
+use Rattle.gk_run.specs.Ending.{ending_of, has_passed, is_memory_ending}
+use Rattle.gk_run.specs.Events.{Event, Ended, IsRan, Ran, SoFar, Stand, Told, cut_at, ended_in, happens, tells}
+use Rattle.gk_run.specs.Features.{IsToldInPart, PrecedesCase, StopsBeforeCase}
+use Rattle.gk_run.specs.OpenSection.{IsBegun, section_events, section_of, section_state, Run}
+use Rattle.gk_run.specs.Section.{Cut, before_of, before_passed, happened, site_of}
+use Rattle.gk_run.specs.SectionHooks.{before_list}
+use Rattle.gk_run.specs.Walk.{event_of, one_step, walk}
+use Rattle.gk_run.proofs.EventLemmas.{heard_both}
+use Rattle.gk_run.proofs.GoesLemmas.{all_told}
+use Rattle.gk_run.proofs.SectionLemmas.{cut_told, opened_cut}
+use Rattle.gk_run.proofs.ToldLemmas.{heard_told}
+
+-- what is so at an error, whatever is returned
+pub at_err : {A E P : Type 0} (x : Result A E) → P → OnErr x P
+at_err (Ok a) h = tt
+at_err (Err e) h = h
+
+-- ---- where a case may begin
+
+stops_on : (x : Told) (xs : List Told) → PrecedesCase x → StopsBeforeCase xs → StopsBeforeCase (x ∷ xs)
+stops_on x [] p h = p
+stops_on x (y ∷ ys) p h = h
+
+pub stops_behind : (xs : List Told) (x : Told) (ys : List Told) → PrecedesCase x → StopsBeforeCase ys → StopsBeforeCase (xs ++ x ∷ ys)
+stops_behind [] x ys p h = stops_on x ys p h
+stops_behind (y ∷ []) x ys p h = stops_on x ys p h
+stops_behind (y ∷ z ∷ zs) x ys p h = stops_behind (z ∷ zs) x ys p h
+
+pub stops_both : (xs ys : List Told) → StopsBeforeCase xs → StopsBeforeCase ys → StopsBeforeCase (xs ++ ys)
+stops_both [] ys p q = q
+stops_both (x ∷ []) ys p q = stops_on x ys p q
+stops_both (x ∷ y ∷ xs) ys p q = stops_both (y ∷ xs) ys p q
+
+-- a stage after whose steps a case may begin
+abbrev pub OpensCases : Stage → Type 0
+OpensCases stage = (stage ≡ before_of levels.Feature) ⊎ (stage ≡ before_of levels.Rule)
+
+abbrev events_stop : List Event → Type 0
+events_stop events = StopsBeforeCase (map happens events)
+
+stops_if : (b : Bool) (events : List Event) → events_stop events → events_stop (cond b events [])
+stops_if true events h = h
+stops_if false events h = tt
+
+stops_walk : (library : LibraryValue) (stage : Stage) (s : State) (steps : List StepValue) → OpensCases stage → events_stop (walk library stage s steps)
+stops_walk library stage s [] o = tt
+stops_walk library stage s (step ∷ steps) o =
+    let this = one_step library (site_of stage) s step in
+    let rest = walk library stage this.state steps in
+    let passes = has_passed (ending_of this.mark) in
+    stops_on (happens (event_of stage step this)) (map happens (cond passes rest [])) o (stops_if passes rest (stops_walk library stage this.state steps o))
+
+cut_if : (b : Bool) (n : ℕ) (left : State) (events : List Event) → events_stop (cut_at n left events) → events_stop (cut_at n left (cond b events []))
+cut_if true n left events h = h
+cut_if false zero left events h = tt
+cut_if false (suc n) left events h = tt
+
+stops_cut : (library : LibraryValue) (stage : Stage) (s : State) (steps : List StepValue) (n : ℕ) (left : State) → OpensCases stage → events_stop (cut_at n left (walk library stage s steps))
+stops_cut library stage s [] zero left o = tt
+stops_cut library stage s [] (suc n) left o = tt
+stops_cut library stage s (step ∷ steps) zero left o = o
+stops_cut library stage s (step ∷ steps) (suc n) left o =
+    let this = one_step library (site_of stage) s step in
+    let rest = walk library stage this.state steps in
+    let passes = has_passed (ending_of this.mark) in
+    stops_on (happens (event_of stage step this)) (map happens (cut_at n left (cond passes rest []))) o (cut_if passes n left rest (stops_cut library stage this.state steps n left o))
+
+-- the events of a walk, up to one in which memory was refused
+stops_told : (library : LibraryValue) (stage : Stage) (s : State) (steps : List StepValue) (b : Bool) (told : List Event) → OpensCases stage → SoFar false b (walk library stage s steps) [] told → events_stop told
+stops_told library stage s steps true told o h = subst events_stop (sym (cut_told (walk library stage s steps) told h)) (stops_cut library stage s steps (length h.front) h.left o)
+stops_told library stage s steps false told o h = subst events_stop (sym (all_told false (walk library stage s steps) told refl h)) (stops_walk library stage s steps o)
+
+-- ---- parts of a run, one after another
+
+-- a part of a run with this result and this telling
+abbrev pub ran_of : {A : Type 0} → A → List Told → Ran A
+ran_of result told = record { result = result; told = told }
+
+-- this was told so far, and however what is left is cut, the whole has cuts whose telling begins so
+pub record GoesFrom {S C A : Type 0} (told : S → Told → S → Type 0) (whole rest : List C → Ran A) (behind : A → A) (begin here : S) : Type 0 where
+  pub front : List Told
+  pub heard : FoldsTo told begin front here
+  pub stops : StopsBeforeCase front
+  pub cuts : (left : List C) → (all : List C) × (whole all ≡ (let next = rest left in ran_of (behind next.result) (front ++ next.told)))
+
+-- with nothing left
+pub ran_whole : {S C A : Type 0} (told : S → Told → S → Type 0) (whole rest : List C → Ran A) (behind : A → A) (row : A) (begin here : S) → ((left : List C) → rest left ≡ ran_of row []) →
+    GoesFrom told whole rest behind begin here → (all : List C) × IsRan told (whole all) (behind row) begin here
+ran_whole {S} {C} {A} told whole rest behind row begin here none goes =
+    let all = goes.cuts [] in
+    let put : Ran A → Ran A = λ next. ran_of (behind next.result) (goes.front ++ next.told) in
+    let is : whole all.0 ≡ ran_of (behind row) (goes.front ++ []) = all.1 ∙ ap put (none []) in
+    (all.0, record { is = sym (ap (λ (r : Ran A). r.result) is); heard = subst (λ xs. FoldsTo told begin xs here) (sym (ap (λ (r : Ran A). r.told) is ∙ append-nil goes.front)) goes.heard })
+
+-- what is left isn't told
+pub told_so_far : {S C A : Type 0} (told : S → Told → S → Type 0) (whole rest : List C → Ran A) (behind : A → A) (begin here : S) → GoesFrom told whole rest behind begin here → (all : List C) × IsToldInPart told (whole all) begin here
+told_so_far {S} {C} {A} told whole rest behind begin here goes =
+    let all = goes.cuts [] in
+    let next = rest [] in
+    (all.0, record { front = goes.front; rest = next.told; whole = ap (λ (r : Ran A). r.told) all.1; heard = goes.heard; stops = goes.stops })
+
+-- a part between others
+pub told_between : {S A B : Type 0} (told : S → Told → S → Type 0) (part : Ran A) (whole : Ran B) (before behind : List Told) (begin here last : S) → whole.told ≡ before ++ (part.told ++ behind) → FoldsTo told begin before here → StopsBeforeCase before →
+    IsToldInPart told part here last → IsToldInPart told whole begin last
+told_between told part whole before behind begin here last is heard stops in_part = record {
+  front = before ++ in_part.front;
+  rest = in_part.rest ++ behind;
+  whole = is ∙ ap (λ xs. before ++ (xs ++ behind)) in_part.whole ∙ ap (λ xs. before ++ xs) (append_assoc in_part.front in_part.rest behind) ∙ sym (append_assoc before in_part.front (in_part.rest ++ behind));
+  heard = heard_both told begin before here in_part.front last heard in_part.heard;
+  stops = stops_both before in_part.front stops in_part.stops;
+}
+
+-- of what is left a part is told
+pub told_further : {S C A B : Type 0} (told : S → Told → S → Type 0) (whole rest : List C → Ran A) (behind : A → A) (begin here last : S) (left : List C) (part : Ran B) (others : List Told) → (let next = rest left in next.told ≡ part.told ++ others) →
+    GoesFrom told whole rest behind begin here → IsToldInPart told part here last → (all : List C) × IsToldInPart told (whole all) begin last
+told_further {S} {C} {A} told whole rest behind begin here last left part others is goes in_part =
+    let all = goes.cuts left in
+    let next = ap (λ (r : Ran A). r.told) all.1 ∙ ap (λ xs. goes.front ++ xs) is in
+    (all.0, told_between told part (whole all.0) goes.front others begin here last next goes.heard goes.stops in_part)
+
+-- ---- a section
+
+-- a section that was begun and didn't come to its end
+pub section_in_part : {S A : Type 0} (hears : S → Event → S → Type 0) (ends : S → Ended → S → Type 0) (run : Run) (level : Level) (tags : List (List ℕ)) (outside : State) (first : List Event) (ended : Ending) (now : Stand) (passed : Bool) (inside : State → Bool → Ran A) (begin opened last : S) →
+    OpensCases (before_of level) → IsBegun run level tags outside first ended now → passed ≡ has_passed ended → FoldsTo hears begin first opened →
+    IsToldInPart (tells hears ends) (inside (section_state run level tags outside) passed) opened last →
+    (cut : Cut) × IsToldInPart (tells hears ends) (section_of run level tags outside true cut inside) begin last
+section_in_part {S} {A} hears ends run level tags outside first ended now passed inside begin opened last opens begins passes heard within =
+    let told_by = tells hears ends in
+    let section = section_state run level tags outside in
+    let es = section_events run level tags outside in
+    let cut = opened_cut es first (is_memory_ending ended) begins.so_far in
+    let events = happened cut.0 es in
+    let closing = map happens (events.after ++ events.cleanups) in
+    let ready : passed ≡ before_passed events = passes ∙ ap has_passed begins.ends ∙ ap (λ xs. has_passed (ended_in xs)) cut.1 in
+    let here : IsToldInPart told_by (inside section (before_passed events)) opened last = subst (λ b. IsToldInPart told_by (inside section b) opened last) ready within in
+    let stops = stops_told run.library (before_of level) (enter outside) (before_list run.hooks level tags) (is_memory_ending ended) first opens begins.so_far in (
+      cut.0,
+      told_between told_by (inside section (before_passed events)) (section_of run level tags outside true cut.0 inside) (map happens events.before) closing begin opened last refl
+          (heard_told hears ends begin events.before opened (subst (λ xs. FoldsTo hears begin xs opened) cut.1 heard))
+          (subst events_stop cut.1 stops) here,
+    )
