@@ -18,7 +18,7 @@ use Rattle.gk_world.specs.State.{State, Contents, state_of}
 use Rattle.gk_run.specs.Events.{result_of}
 use Rattle.gk_run.specs.declared.section.Level.TheVariants as levels
 use Rattle.gk_run.specs.OpenSection.{happened_in, section_state, Run}
-use Rattle.gk_run.specs.Running.{first_or, later, stays_open}
+use Rattle.gk_run.specs.Running.{first_or, without_first, stays_open}
 use Rattle.gk_run.specs.Chosen.{HeadValue, MemberValue, ChosenValue, CasesFallIntoRules}
 use Rattle.gk_run.specs.DryRun.{dry_case_of, dry_cases_of, dry_feature_of, dry_features_of, dry_rules_of}
 use Rattle.gk_run.specs.Features.{FeatureCuts, uncut_feature, feature_of, features_of, StandsInFileOrder, ResultsStandInFileOrder}
@@ -92,7 +92,7 @@ rows_ordered : ResultsStandInFileOrder → (run : Run) (outside : State) (is_ope
 rows_ordered stand run outside is_open cuts [] o = tt
 rows_ordered stand run outside is_open cuts (f ∷ fs) o =
     let row = result_of (feature_of run outside is_open (first_or uncut_feature cuts) f) in
-    (row_ordered f row o.0 (stand run outside is_open (first_or uncut_feature cuts) f o.0.falls), rows_ordered stand run outside (is_open && stays_open run row.status) (later cuts) fs o.1)
+    (row_ordered f row o.0 (stand run outside is_open (first_or uncut_feature cuts) f o.0.falls), rows_ordered stand run outside (is_open && stays_open run row.status) (without_first cuts) fs o.1)
 
 -- In a dry run too there is a result for each rule and each case.
 dry_case_line : (library : LibraryValue) (cut : Cut) (m : MemberValue) → (let row = dry_case_of library cut m in row.line) ≡ m.scenario.line
@@ -104,8 +104,8 @@ dry_case_line library cut m = elim (cases_Bool m.selected) [
 dry_case_lines : (library : LibraryValue) (cuts : List Cut) (ms : List MemberValue) → map (λ (c : CaseRow). c.line) (dry_cases_of library cuts ms) ≡ map (λ (m : MemberValue). m.scenario.line) ms
 dry_case_lines library cuts [] = refl
 dry_case_lines library cuts (m ∷ ms) =
-    ap (λ (line : ℕ). line ∷ map (λ (c : CaseRow). c.line) (dry_cases_of library (later cuts) ms)) (dry_case_line library (first_or nowhere cuts) m)
-    ∙ ap (λ (lines : List ℕ). m.scenario.line ∷ lines) (dry_case_lines library (later cuts) ms)
+    ap (λ (line : ℕ). line ∷ map (λ (c : CaseRow). c.line) (dry_cases_of library (without_first cuts) ms)) (dry_case_line library (first_or nowhere cuts) m)
+    ∙ ap (λ (lines : List ℕ). m.scenario.line ∷ lines) (dry_case_lines library (without_first cuts) ms)
 
 dry_rule_lines : (heads : List HeadValue) → map (λ (r : RuleRow). r.line) (dry_rules_of heads) ≡ map (λ (head : HeadValue). head.line) heads
 dry_rule_lines [] = refl
@@ -115,7 +115,7 @@ dry_rows_ordered : (library : LibraryValue) (cuts : List FeatureCuts) (fs : List
 dry_rows_ordered library cuts [] o = tt
 dry_rows_ordered library cuts (f ∷ fs) o =
     let these = first_or uncut_feature cuts in
-    (row_ordered f (dry_feature_of library these f) o.0 (record { rules = dry_rule_lines f.rules; cases = dry_case_lines library these.cases f.members }), dry_rows_ordered library (later cuts) fs o.1)
+    (row_ordered f (dry_feature_of library these f) o.0 (record { rules = dry_rule_lines f.rules; cases = dry_case_lines library these.cases f.members }), dry_rows_ordered library (without_first cuts) fs o.1)
 
 either_ordered : (b : Bool) (x y : Results) → RowsAreInFileOrder x.features → RowsAreInFileOrder y.features → (let results = cond b x y in RowsAreInFileOrder results.features)
 either_ordered true x y this that = this

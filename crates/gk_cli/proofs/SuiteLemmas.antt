@@ -12,7 +12,7 @@ use Rattle.gk_run.specs.Events.{Stand, stand_of, result_of}
 use Rattle.gk_run.specs.Section.{happened, before_passed}
 use Rattle.gk_run.specs.OpenSection.{Run, IsBegun, section_state, section_events}
 use Rattle.gk_run.specs.Chosen.{ChosenValue}
-use Rattle.gk_run.specs.Running.{case_statuses, first_or, later, stays_open}
+use Rattle.gk_run.specs.Running.{case_statuses, first_or, without_first, stays_open}
 use Rattle.gk_run.specs.Features.{FeatureCuts, uncut_feature, rule_statuses, verdict_by, feature_verdict, feature_of, features_of}
 use Rattle.gk_run.specs.Judged.{Cuts, dry_results, results_from, Judged, plain_results, is_memory_case, is_memory_feature, is_memory_rule, has_memory, OneList}
 use Rattle.gk_run.specs.OpenRun.{AreFeatures, FinishedRunsAreJudged, IsFinished, IsKept, IsStarted, SuiteValue, opens_features}
@@ -46,18 +46,18 @@ pub same_through : (a b d : SandboxValue) → IsSame a b → IsSame b d → IsSa
 same_through a b d p q = record { contents = q.contents ∙ p.contents; saved = q.saved ∙ p.saved; marks = q.marks ∙ p.marks; recorded = q.recorded ∙ p.recorded }
 
 -- A run that was begun is so still after features that leave the sandbox as it was.
-pub begun_still : (run : Run) (old started later : SandboxValue) (suite left : SuiteValue) → (start : IsStarted run old started suite) → IsKept suite left → IsSame started later → IsBegun run levels.Run [] (state_of old.now) start.opened.first left.before (stand_of later left.cleanups)
-begun_still run old started later suite left start kept same =
+pub begun_still : (run : Run) (old started without_first : SandboxValue) (suite left : SuiteValue) → (start : IsStarted run old started suite) → IsKept suite left → IsSame started without_first → IsBegun run levels.Run [] (state_of old.now) start.opened.first left.before (stand_of without_first left.cleanups)
+begun_still run old started without_first suite left start kept same =
     let begins = start.opened.begins in
     let stand : Contents → Stand = λ x. record { state = state_of x; cleanups = suite.cleanups } in
-    subst (λ (x : SuiteValue). IsBegun run levels.Run [] (state_of old.now) start.opened.first x.before (stand_of later x.cleanups)) (sym kept) (record { so_far = begins.so_far; ends = begins.ends; stands = ap stand same.contents ∙ begins.stands })
+    subst (λ (x : SuiteValue). IsBegun run levels.Run [] (state_of old.now) start.opened.first x.before (stand_of without_first x.cleanups)) (sym kept) (record { so_far = begins.so_far; ends = begins.ends; stands = ap stand same.contents ∙ begins.stands })
 
 -- A run that was begun, whose features were run, and that was finished.
-pub judged_by : FinishedRunsAreJudged → (run : Run) (old started later : SandboxValue) (suite left : SuiteValue) (around : Status) (features : List ChosenValue) (rows : List FeatureRow) →
-    IsStarted run old started suite → IsKept suite left → IsSame started later → AreFeatures run (state_of started.now) (opens_features suite) features rows → IsFinished run left later around →
+pub judged_by : FinishedRunsAreJudged → (run : Run) (old started without_first : SandboxValue) (suite left : SuiteValue) (around : Status) (features : List ChosenValue) (rows : List FeatureRow) →
+    IsStarted run old started suite → IsKept suite left → IsSame started without_first → AreFeatures run (state_of started.now) (opens_features suite) features rows → IsFinished run left without_first around →
     Judged run old.now features (record { features = rows; around = around })
-judged_by law run old started later suite left around features rows start kept same are finish =
-    let end = finish (state_of old.now) start.opened.first (begun_still run old started later suite left start kept same) in
+judged_by law run old started without_first suite left around features rows start kept same are finish =
+    let end = finish (state_of old.now) start.opened.first (begun_still run old started without_first suite left start kept same) in
     law run old started suite features rows around start are end.0 end.1
 
 -- A feature's status is its verdict, by how its hooks and cleanups and those of its rules ended and by its cases.
@@ -68,11 +68,11 @@ all_verdicts : (run : Run) (outside : State) (is_open : Bool) (cuts : List Featu
 all_verdicts run outside is_open cuts [] = tt
 all_verdicts run outside is_open cuts (f ∷ fs) =
     let row = result_of (feature_of run outside is_open (first_or uncut_feature cuts) f) in
-    (refl, all_verdicts run outside (is_open && stays_open run row.status) (later cuts) fs)
+    (refl, all_verdicts run outside (is_open && stays_open run row.status) (without_first cuts) fs)
 
 all_dry_verdicts : (library : LibraryValue) (cuts : List FeatureCuts) (fs : List ChosenValue) → AllByRecursion HasVerdict (dry_features_of library cuts fs)
 all_dry_verdicts library cuts [] = tt
-all_dry_verdicts library cuts (f ∷ fs) = (refl, all_dry_verdicts library (later cuts) fs)
+all_dry_verdicts library cuts (f ∷ fs) = (refl, all_dry_verdicts library (without_first cuts) fs)
 
 either_verdicts : (b : Bool) (x y : Results) → AllByRecursion HasVerdict x.features → AllByRecursion HasVerdict y.features → (let r : Results = cond b x y in AllByRecursion HasVerdict r.features)
 either_verdicts true x y p q = p

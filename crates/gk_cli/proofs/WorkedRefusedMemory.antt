@@ -16,7 +16,7 @@ use Rattle.gk_run.specs.declared.section.Level.TheVariants as levels
 use Rattle.gk_run.specs.Results.{StepRow, CaseRow, Results}
 use Rattle.gk_run.specs.Section.{Cut, nowhere, in_before, in_steps, in_after, in_cleanups}
 use Rattle.gk_run.specs.OpenSection.{Run, section_state}
-use Rattle.gk_run.specs.Running.{reached_row, first_or, later}
+use Rattle.gk_run.specs.Running.{reached_row, first_or, without_first}
 use Rattle.gk_run.specs.Chosen.{MemberValue, ChosenValue}
 use Rattle.gk_run.specs.Features.{FeatureCuts, uncut_feature, feature_verdict, RuleCuts}
 use Rattle.gk_run.specs.Judged.{Cuts, Judged}
@@ -206,7 +206,7 @@ unfolding cases
 two_by_cuts cuts =
     let own = (first_or uncut_feature cuts.features).cases in
     let a = first_or nowhere own in
-    let b = first_or nowhere (later own) in
+    let b = first_or nowhere (without_first own) in
     let run = run_with two_request two_inputs in
     let same = scenarios_cut two_inputs.library cuts (codes "two.feature") (codes "two") 1 (map (member_by (is_chosen [] [])) (cases two_feature)) in
     subst (λ (results : Results). IsOneOfFour results) (sym (same ∙ two_by_rows a b)) (one_of_four (reached_row run two_section a case_A) (reached_row run two_section b case_B) (A_by_cut a) (B_by_cut b))

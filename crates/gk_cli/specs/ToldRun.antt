@@ -11,7 +11,7 @@ use Rattle.gk_run.specs.Chosen.{ChosenValue}
 use Rattle.gk_run.specs.Running.{stays_open}
 use Rattle.gk_run.specs.DryRun.{dry_feature_of}
 use Rattle.gk_run.specs.Ending.{has_passed}
-use Rattle.gk_run.specs.Events.{Event, ended_in, Ended}
+use Rattle.gk_run.specs.Events.{Event, ended_in, EndTold}
 use Rattle.gk_run.specs.Features.{FeatureCuts, IsFeatureResult, IsFeatureTold}
 use Rattle.gk_run.specs.Judged.{Judged, BeginsJudged}
 use Rattle.gk_report.specs.declared.summary.Summary.{Summary}
@@ -23,7 +23,7 @@ use Rattle.gk_cli.specs.GrowingReport.{results_with}
 use Rattle.gk_cli.specs.Writing.{Device, IsWritten, IsStopped}
 
 -- A feature of a run in this state was told to a reporter: its beginning, what happened in it, and its end with this result. This is the reporter's text of it.
-pub record TellsFeature {S : Type 0} (hears : S → Event → S → Type 0) (ends : S → Ended → S → Type 0) (begins : S → List ℕ → S → Type 0) (adds : S → FeatureRow → List ℕ → S → Type 0) (run : Run) (now : State) (is_open : Bool) (f : ChosenValue) (row : FeatureRow) (text : List ℕ) (old new : S) : Type 0 where
+pub record TellsFeature {S : Type 0} (hears : S → Event → S → Type 0) (ends : S → EndTold → S → Type 0) (begins : S → List ℕ → S → Type 0) (adds : S → FeatureRow → List ℕ → S → Type 0) (run : Run) (now : State) (is_open : Bool) (f : ChosenValue) (row : FeatureRow) (text : List ℕ) (old new : S) : Type 0 where
   pub begun : S
   pub start : begins old f.source begun
   pub heard : S

@@ -23,7 +23,7 @@ use Rattle.gk_run.specs.declared.section.Level.{Level}
 use Rattle.gk_run.specs.declared.section.Level.TheVariants as levels
 use Rattle.gk_run.specs.declared.section.Part.TheVariants as parts
 use Rattle.gk_run.specs.declared.section.Stage.{Stage}
-use Rattle.gk_run.specs.Acting.{Acted as Result, CleanupValue, ArgumentsValue, act, does_at_site, table, skip_outcome, done_of, fails, arguments_of, is_pass, may_register, registers as registers_found, without_cleanups}
+use Rattle.gk_run.specs.Acting.{ActionEffect as Result, CleanupValue, ArgumentsValue, act, does_at_site, table, skip_outcome, done_of, fails, arguments_of, is_pass, may_register, registers as registers_found, without_cleanups}
 use Rattle.gk_run.specs.SectionHooks.{clean_each, after_lists, before_list, entered, walk_each}
 use Rattle.gk_run.specs.Ending.{ending_of, has_passed}
 use Rattle.gk_run.specs.Events.{Event as Told, of_step, Stand, after_event, ended_in, left_by}

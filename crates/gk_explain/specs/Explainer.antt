@@ -6,7 +6,7 @@ use Rattle.gk_run.specs.declared.results.Status.{Status}
 use Rattle.gk_run.specs.Running.{is_bad, IsCaseTold, alone, reached_row}
 use Rattle.gk_run.specs.Results.{CaseRow}
 use Rattle.gk_run.specs.OpenSection.{Run}
-use Rattle.gk_run.specs.Events.{Event as Told, Ended, of_case, of_rule}
+use Rattle.gk_run.specs.Events.{Event as Told, EndTold, of_case, of_rule}
 use Rattle.gk_run.specs.Section.{Cut, happened, in_order}
 use Rattle.gk_explain.specs.declared.explainer.Explainer.{Explainer}
 use Rattle.gk_explain.specs.SectionLines.{SectionValue, untold, after_events}
@@ -37,12 +37,12 @@ abbrev pub IsCutOnlyByLongName : List ℕ → Explainer → Explainer → Type 0
 IsCutOnlyByLongName source old new = length source ≤ name_room old.explanation → is_cut new ≡ is_cut old
 
 -- The status with which a scenario, or the hooks and cleanups of a rule, ended.
-abbrev pub told_status : Ended → Status
+abbrev pub told_status : EndTold → Status
 told_status (of_case c) = c.status
 told_status (of_rule r) = r.around
 
 -- An explainer was told that a scenario or a rule has ended.
-abbrev pub HearsEnd : Explainer → Ended → Explainer → Type 0
+abbrev pub HearsEnd : Explainer → EndTold → Explainer → Type 0
 HearsEnd old ended new = Becomes old (with_ended ended) new × IsCutOnlyByBad (told_status ended) old new
 
 -- What is kept of a case after its events, in order, with these cut at one of them.

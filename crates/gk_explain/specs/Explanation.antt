@@ -6,7 +6,7 @@ use Rattle.gk_run.specs.declared.results.Status.{Status}
 use Rattle.gk_run.specs.declared.section.Level.{Level}
 use Rattle.gk_run.specs.declared.section.Level.TheVariants as levels
 use Rattle.gk_run.specs.Results.{CaseRow, RuleRow, FeatureRow}
-use Rattle.gk_run.specs.Events.{Event as Told, Ended, of_case, of_rule}
+use Rattle.gk_run.specs.Events.{Event as Told, EndTold, of_case, of_rule}
 use Rattle.gk_explain.specs.declared.explanation.Explanation.{Explanation}
 use Rattle.gk_explain.specs.Event.{level_of}
 use Rattle.gk_explain.specs.EventLines.{NamesValue}
@@ -78,7 +78,7 @@ abbrev pub with_rule : RuleRow → ExplanationValue → ExplanationValue
 with_rule r e = let ended = with_end (rule_heading e.names.source r) r.around e.rule.lines e in record ended { rule = untold }
 
 -- The end of a scenario or a rule was told.
-abbrev pub with_ended : Ended → ExplanationValue → ExplanationValue
+abbrev pub with_ended : EndTold → ExplanationValue → ExplanationValue
 with_ended (of_case c) e = with_case c e
 with_ended (of_rule r) e = with_rule r e
 

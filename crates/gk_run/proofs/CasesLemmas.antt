@@ -11,10 +11,10 @@ use Rattle.gk_run.specs.declared.results.Mark.TheVariants.{Skipped, Untested}
 use Rattle.gk_run.specs.declared.results.Status.{Status}
 use Rattle.gk_run.specs.declared.results.Status.TheVariants as statuses
 use Rattle.gk_run.specs.OpenSection.{Run}
-use Rattle.gk_run.specs.Running.{AreEventsTold, alone, reached_row, unrun_row, unreached_row, unselected_row, same_marks, all_stay_open, case_events, case_of, cases_of, first_or, later, stays_open}
+use Rattle.gk_run.specs.Running.{AreEventsTold, alone, reached_row, unrun_row, unreached_row, unselected_row, same_marks, all_stay_open, case_events, case_of, cases_of, first_or, without_first, stays_open}
 use Rattle.gk_run.specs.Walk.{row_of_step, rows_of_steps}
 use Rattle.gk_run.specs.Chosen.{MemberValue, has_selected, member_of, members_of, falls_from, members_of_rank}
-use Rattle.gk_run.specs.Events.{Event, Ended, IsRan, Ran, Told, happens, has_ended, of_case, tells}
+use Rattle.gk_run.specs.Events.{Event, EndTold, IsRan, Ran, Told, happens, has_ended, of_case, tells}
 use Rattle.gk_run.specs.Features.{StopsBeforeCase}
 use Rattle.gk_run.specs.PrivateContracts.{AreCases, AreCasesInPart, IsMember, RunsCases, TakesMember, members_in}
 use Rattle.gk_run.proofs.EventLemmas.{heard_both}
@@ -125,7 +125,7 @@ push_case rows row front events ended next =
     ap with_rows (sym (append_assoc rows (row ∷ []) next.result))
     ∙ ap with_told (ap (λ xs. front ++ xs) (sym (append_assoc events (ended ∷ []) next.told)) ∙ sym (append_assoc front (events ++ ended ∷ []) next.told))
 
-pub cases_on : {S : Type 0} (hears : S → Event → S → Type 0) (ends : S → Ended → S → Type 0) (run : Run) (first now : State) (first_open : Bool) (all : List MemberValue) (rows : List CaseRow) (row : CaseRow) (is_open next : Bool) (m : MemberValue) (left : List MemberValue) (begin here ran after : S) →
+pub cases_on : {S : Type 0} (hears : S → Event → S → Type 0) (ends : S → EndTold → S → Type 0) (run : Run) (first now : State) (first_open : Bool) (all : List MemberValue) (rows : List CaseRow) (row : CaseRow) (is_open next : Bool) (m : MemberValue) (left : List MemberValue) (begin here ran after : S) →
     now ≡ first → (is_open ≡ true → first_open ≡ true) → IsMember hears run now is_open m row here ran → ends ran (of_case row) after → next ≡ (is_open && stays_open run row.status) →
     GoesCases (tells hears ends) run first first_open all rows is_open (m ∷ left) begin here → GoesCases (tells hears ends) run first first_open all (rows ++ row ∷ []) next left begin after
 cases_on hears ends run first now first_open all rows row is_open next m left begin here ran after same earlier one ended nexts goes section opens =
@@ -173,13 +173,13 @@ stops_cases run section is_open cuts [] = tt
 stops_cases run section is_open cuts (m ∷ ms) =
     let cut = first_or nowhere cuts in
     let row = case_of run section is_open cut m in
-    let next = cases_of run section (is_open && stays_open run row.status) (later cuts) ms in
-    stops_behind (map happens (case_events run section is_open cut m)) (has_ended (of_case row)) next.told tt (stops_cases run section (is_open && stays_open run row.status) (later cuts) ms)
+    let next = cases_of run section (is_open && stays_open run row.status) (without_first cuts) ms in
+    stops_behind (map happens (case_events run section is_open cut m)) (has_ended (of_case row)) next.told tt (stops_cases run section (is_open && stays_open run row.status) (without_first cuts) ms)
 
 -- ---- the cases of a rank
 
 -- the cases that were taken so far, and those of the rank that are left
-pub record GoesOn {S : Type 0} (hears : S → Event → S → Type 0) (ends : S → Ended → S → Type 0) (run : Run) (first : State) (is_open : Bool) (old now : Cases) (all_stay : Bool) (begin here : S) : Type 0 where
+pub record GoesOn {S : Type 0} (hears : S → Event → S → Type 0) (ends : S → EndTold → S → Type 0) (run : Run) (first : State) (is_open : Bool) (old now : Cases) (all_stay : Bool) (begin here : S) : Type 0 where
   pub rows : List CaseRow
   pub told : map case_row now.results.items ≡ map case_row old.results.items ++ rows
   pub goes : GoesCases (tells hears ends) run first is_open (members_of_rank old.rank (members_in old)) rows (is_open && all_stay) (members_of_rank old.rank (members_in now)) begin here
@@ -198,7 +198,7 @@ pub and_assoc : (a b c : Bool) → ((a && b) && c) ≡ (a && (b && c))
 and_assoc true b c = refl
 and_assoc false b c = refl
 
-pub goes_first : {S : Type 0} (hears : S → Event → S → Type 0) (ends : S → Ended → S → Type 0) (run : Run) (first : State) (is_open : Bool) (old : Cases) (begin : S) → GoesOn hears ends run first is_open old old true begin begin
+pub goes_first : {S : Type 0} (hears : S → Event → S → Type 0) (ends : S → EndTold → S → Type 0) (run : Run) (first : State) (is_open : Bool) (old : Cases) (begin : S) → GoesOn hears ends run first is_open old old true begin begin
 goes_first hears ends run first is_open old begin =
     let all = members_of_rank old.rank (members_in old) in
     record {
@@ -214,7 +214,7 @@ pub all_stay_push : (run : Run) (rows : List CaseRow) (row : CaseRow) → all_st
 all_stay_push run [] row = and_true (stays_open run row.status)
 all_stay_push run (r ∷ rows) row = ap (λ b. stays_open run r.status && b) (all_stay_push run rows row) ∙ sym (and_assoc (stays_open run r.status) (all_stay_open run rows) (stays_open run row.status))
 
-pub goes_on : {S : Type 0} (hears : S → Event → S → Type 0) (ends : S → Ended → S → Type 0) (run : Run) (first now_state : State) (is_open : Bool) (old now taken next : Cases) (m : Member) (row : CaseResult) (all_stay opens stays : Bool) (begin here ran after : S) →
+pub goes_on : {S : Type 0} (hears : S → Event → S → Type 0) (ends : S → EndTold → S → Type 0) (run : Run) (first now_state : State) (is_open : Bool) (old now taken next : Cases) (m : Member) (row : CaseResult) (all_stay opens stays : Bool) (begin here ran after : S) →
     GoesOn hears ends run first is_open old now all_stay begin here → TakesMember now (Some m) taken → opens ≡ (is_open && all_stay) → now_state ≡ first →
     IsMember hears run now_state opens (member_of m.case m.selected) (case_row row) here ran → ends ran (of_case (case_row row)) after → stays ≡ (all_stay && stays_open run row.status) →
     next.rank ≡ taken.rank → members_in next ≡ members_in taken → next.results.items ≡ taken.results.items ++ row ∷ [] → GoesOn hears ends run first is_open old next stays begin after
@@ -233,20 +233,20 @@ goes_on hears ends run first now_state is_open old now taken next m row all_stay
     let before : GoesCases told_by run first is_open all rows (is_open && all_stay) (this ∷ members_of_rank r behind) begin here =
     subst (λ (left : List MemberValue). GoesCases told_by run first is_open all rows (is_open && all_stay) left begin here) first_is so_far.goes in
     let there : IsMember hears run now_state (is_open && all_stay) this (case_row row) here ran = subst (λ (b : Bool). IsMember hears run now_state b this (case_row row) here ran) open_is one in
-    let later : GoesCases told_by run first is_open all (rows ++ case_row row ∷ []) (is_open && stays) (members_of_rank r behind) begin after =
+    let without_first : GoesCases told_by run first is_open all (rows ++ case_row row ∷ []) (is_open && stays) (members_of_rank r behind) begin after =
     cases_on hears ends run first now_state is_open all rows (case_row row) (is_open && all_stay) (is_open && stays) this (members_of_rank r behind) begin here ran after same (and_left is_open all_stay) there ended
     (ap (λ b. is_open && b) stays_is ∙ sym (and_assoc is_open all_stay (stays_open run row.status))) before in
     record {
       rows = rows ++ case_row row ∷ [];
       told = told;
-      goes = subst (λ (ms : List MemberValue). GoesCases told_by run first is_open all (rows ++ case_row row ∷ []) (is_open && stays) (members_of_rank r ms) begin after) (sym members_is) later;
+      goes = subst (λ (ms : List MemberValue). GoesCases told_by run first is_open all (rows ++ case_row row ∷ []) (is_open && stays) (members_of_rank r ms) begin after) (sym members_is) without_first;
       stay = stays_is ∙ ap (λ b. b && stays_open run row.status) so_far.stay ∙ sym (all_stay_push run rows (case_row row));
       rank = rank_is ∙ takes.2 ∙ so_far.rank;
       others = λ other lt.
           ap (members_of_rank other) members_is ∙ sym (not_of_rank other this behind (λ is. let no : ⊥ = apart r other (order.rank m.case.rule) lt of_rank is in no)) ∙ ap (members_of_rank other) (sym takes.0) ∙ so_far.others other lt;
     }
 
-pub goes_last : {S : Type 0} (hears : S → Event → S → Type 0) (ends : S → Ended → S → Type 0) (run : Run) (first : State) (is_open : Bool) (old now last : Cases) (all_stay : Bool) (begin here : S) → GoesOn hears ends run first is_open old now all_stay begin here → TakesMember now None last →
+pub goes_last : {S : Type 0} (hears : S → Event → S → Type 0) (ends : S → EndTold → S → Type 0) (run : Run) (first : State) (is_open : Bool) (old now last : Cases) (all_stay : Bool) (begin here : S) → GoesOn hears ends run first is_open old now all_stay begin here → TakesMember now None last →
     RunsCases hears ends run first is_open old last begin here all_stay
 goes_last hears ends run first is_open old now last all_stay begin here so_far none =
     let r = old.rank in
@@ -266,7 +266,7 @@ goes_last hears ends run first is_open old now last all_stay begin here so_far n
     }
 
 -- the case that would have been next told nothing
-pub goes_stopped : {S : Type 0} (hears : S → Event → S → Type 0) (ends : S → Ended → S → Type 0) (run : Run) (first : State) (is_open : Bool) (old now : Cases) (all_stay : Bool) (begin here last : S) → last ≡ here → GoesOn hears ends run first is_open old now all_stay begin here →
+pub goes_stopped : {S : Type 0} (hears : S → Event → S → Type 0) (ends : S → EndTold → S → Type 0) (run : Run) (first : State) (is_open : Bool) (old now : Cases) (all_stay : Bool) (begin here last : S) → last ≡ here → GoesOn hears ends run first is_open old now all_stay begin here →
     AreCasesInPart (tells hears ends) run first is_open (members_of_rank old.rank (members_in old)) begin last
 goes_stopped {S} hears ends run first is_open old now all_stay begin here last same so_far =
     let r = old.rank in

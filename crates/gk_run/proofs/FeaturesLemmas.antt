@@ -8,7 +8,7 @@ use Rattle.gk_run.specs.declared.results.Status.TheVariants as statuses
 use Rattle.gk_run.specs.declared.section.Level.TheVariants as levels
 use Rattle.std.specs.List.{FoldsTo}
 use Rattle.gk_run.specs.Running.{all_stay_open, case_statuses, cases_of}
-use Rattle.gk_run.specs.Events.{Event, Ended, IsRan, Ran, Told, happens, tells}
+use Rattle.gk_run.specs.Events.{Event, EndTold, IsRan, Ran, Told, happens, tells}
 use Rattle.gk_run.specs.PrivateContracts.{AreCasesInPart, AreRulesInPart, IsFeatureEnd, IsFeatureEndInPart, IsInside, IsInsideInPart, RunsCases, RunsFeature, RunsRules, StopsFeature, members_in}
 use Rattle.gk_run.proofs.CasesLemmas.{stops_cases}
 use Rattle.gk_run.proofs.PartLemmas.{told_between}
@@ -24,7 +24,7 @@ pub later_rank : (first other : ℕ) → first ≡ 0 → suc zero ≤ other → 
 later_rank first other is le = omega (arith, is, le)
 
 -- what is inside, from its own cases and its rules
-pub inside_is : {S : Type 0} (hears : S → Event → S → Type 0) (ends : S → Ended → S → Type 0) (run : Run) (now then : State) (is_open all_stay opens : Bool) (heads : List HeadValue) (old mid new : Cases) (results : List RuleResult) (begin here last : S) → old.rank ≡ 0 → old.results.items ≡ [] → then ≡ now → opens ≡ (is_open && all_stay) →
+pub inside_is : {S : Type 0} (hears : S → Event → S → Type 0) (ends : S → EndTold → S → Type 0) (run : Run) (now then : State) (is_open all_stay opens : Bool) (heads : List HeadValue) (old mid new : Cases) (results : List RuleResult) (begin here last : S) → old.rank ≡ 0 → old.results.items ≡ [] → then ≡ now → opens ≡ (is_open && all_stay) →
     RunsCases hears ends run now is_open old mid begin here all_stay → RunsRules hears ends run then opens heads mid new results here last →
     IsInside (tells hears ends) run now is_open (members_of_rank 0 (members_in old)) (groups_from 1 heads (members_in old)) (record { rules = map rule_row results; cases = map case_row new.results.items }) begin last
 inside_is hears ends run now then is_open all_stay opens heads old mid new results begin here last first nothing same open_is cases rules section open_at =
@@ -65,7 +65,7 @@ feature_unbegun told run now false tags own groups inside first last unbegun is 
     (nowhere, known.0, known.1, record { is = ap with_inside known.2.is; heard = subst (λ xs. FoldsTo told first xs last) (sym (append-nil ran.told)) known.2.heard })
 
 -- the row of a feature, from what it came to
-pub feature_is : {S : Type 0} (hears : S → Event → S → Type 0) (ends : S → Ended → S → Type 0) (run : Run) (now : State) (is_open is_begun : Bool) (f : ChosenValue) (status : Status) (end : SectionRow Inside) (first last : S) → is_begun ≡ (is_open && has_selected f.members) →
+pub feature_is : {S : Type 0} (hears : S → Event → S → Type 0) (ends : S → EndTold → S → Type 0) (run : Run) (now : State) (is_open is_begun : Bool) (f : ChosenValue) (status : Status) (end : SectionRow Inside) (first last : S) → is_begun ≡ (is_open && has_selected f.members) →
     status ≡ feature_verdict end.around (rule_statuses end.inside.rules) (case_statuses end.inside.cases) → IsFeatureEnd (tells hears ends) run now is_begun f.tags (own_members f) (rule_groups f) end first last →
     RunsFeature hears ends run now is_open f first last (record { source = f.source; name = f.name; line = f.line; status = status; around = end.around; rules = end.inside.rules; cases = end.inside.cases })
 feature_is hears ends run now is_open is_begun f status end first last begins verdict comes outside opens =
@@ -90,7 +90,7 @@ own_in_part told run now is_open rank members groups first last is cases section
     (part.0, [], told_between told mine (inside_by run section is_open part.0 [] own groups) [] next.told first first last refl refl tt part.1)
 
 -- of what is inside, the rules are told in part
-pub rules_in_part : {S : Type 0} (hears : S → Event → S → Type 0) (ends : S → Ended → S → Type 0) (run : Run) (now then : State) (is_open all_stay opens : Bool) (heads : List HeadValue) (old mid : Cases) (begin here last : S) → old.rank ≡ 0 → then ≡ now → opens ≡ (is_open && all_stay) →
+pub rules_in_part : {S : Type 0} (hears : S → Event → S → Type 0) (ends : S → EndTold → S → Type 0) (run : Run) (now then : State) (is_open all_stay opens : Bool) (heads : List HeadValue) (old mid : Cases) (begin here last : S) → old.rank ≡ 0 → then ≡ now → opens ≡ (is_open && all_stay) →
     RunsCases hears ends run now is_open old mid begin here all_stay → AreRulesInPart (tells hears ends) run then opens (groups_from (suc mid.rank) heads (members_in mid)) here last →
     IsInsideInPart (tells hears ends) run now is_open (members_of_rank 0 (members_in old)) (groups_from 1 heads (members_in old)) begin last
 rules_in_part hears ends run now then is_open all_stay opens heads old mid begin here last first same open_is cases rules section open_at =
@@ -119,7 +119,7 @@ unbegun_in_part told run now false tags own groups first last unbegun is outside
     let inside : State → Bool → Ran Inside = λ section is_ready. inside_by run section is_ready known.0 known.1 own groups in
     (nowhere, known.0, known.1, told_between told (inside section false) (section_of run levels.Feature tags outside false nowhere inside) [] [] first first last refl refl tt known.2)
 
-pub feature_in_part : {S : Type 0} (hears : S → Event → S → Type 0) (ends : S → Ended → S → Type 0) (run : Run) (now : State) (is_open is_begun : Bool) (f : ChosenValue) (first last : S) → is_begun ≡ (is_open && has_selected f.members) →
+pub feature_in_part : {S : Type 0} (hears : S → Event → S → Type 0) (ends : S → EndTold → S → Type 0) (run : Run) (now : State) (is_open is_begun : Bool) (f : ChosenValue) (first last : S) → is_begun ≡ (is_open && has_selected f.members) →
     IsFeatureEndInPart (tells hears ends) run now is_begun f.tags (own_members f) (rule_groups f) first last → StopsFeature hears ends run now is_open f first last
 feature_in_part hears ends run now is_open is_begun f first last begins stops outside opens =
     let known = stops outside (λ b. opens (and_left is_open (has_selected f.members) (sym begins ∙ b))) in
@@ -128,7 +128,7 @@ feature_in_part hears ends run now is_open is_begun f first last begins stops ou
     (record { own = known.0; cases = known.1; rules = known.2 }, record { front = here.front; rest = here.rest; whole = here.whole; heard = here.heard; stops = here.stops })
 
 -- a feature of which nothing is told
-pub feature_untold : {S : Type 0} (hears : S → Event → S → Type 0) (ends : S → Ended → S → Type 0) (run : Run) (now : State) (is_open : Bool) (f : ChosenValue) (here : S) → StopsFeature hears ends run now is_open f here here
+pub feature_untold : {S : Type 0} (hears : S → Event → S → Type 0) (ends : S → EndTold → S → Type 0) (run : Run) (now : State) (is_open : Bool) (f : ChosenValue) (here : S) → StopsFeature hears ends run now is_open f here here
 feature_untold hears ends run now is_open f here outside opens = let ran = feature_of run outside is_open uncut_feature f in (uncut_feature, record { front = []; rest = ran.told; whole = refl; heard = refl; stops = tt })
 
 -- ---- a feature without rules

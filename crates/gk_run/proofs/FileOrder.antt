@@ -3,7 +3,7 @@ use Rattle.std.proofs.Common.{Bool, List, [], ap, cond, false, flat_map, map, re
 use Rattle.std.proofs.lemmas.List.{map-append}
 use Rattle.gk_world.specs.State.{State}
 use Rattle.gk_run.specs.declared.section.Level.TheVariants as levels
-use Rattle.gk_run.specs.Running.{all_stay_open, case_of, cases_of, first_or, later, stays_open, reached_row, unreached_row, unselected_row}
+use Rattle.gk_run.specs.Running.{all_stay_open, case_of, cases_of, first_or, without_first, stays_open, reached_row, unreached_row, unselected_row}
 use Rattle.gk_run.specs.Chosen.{HeadValue, MemberValue, has_selected, Group, groups_from, own_members, rule_groups}
 use Rattle.gk_run.specs.Features.{ResultsStandInFileOrder, RuleCuts, rule_of, rule_stays_open, rules_of, uncut_rule}
 use Rattle.gk_run.specs.Events.{result_of}
@@ -35,8 +35,8 @@ case_lines run section is_open cuts [] = refl
 case_lines run section is_open cuts (m ∷ ms) =
     let row = case_of run section is_open (first_or nowhere cuts) m in
     let opens = is_open && stays_open run row.status in
-    ap (λ (line : ℕ). line ∷ lines_told (result_of (cases_of run section opens (later cuts) ms))) (case_line run section is_open (first_or nowhere cuts) m)
-    ∙ ap (λ (lines : List ℕ). m.scenario.line ∷ lines) (case_lines run section opens (later cuts) ms)
+    ap (λ (line : ℕ). line ∷ lines_told (result_of (cases_of run section opens (without_first cuts) ms))) (case_line run section is_open (first_or nowhere cuts) m)
+    ∙ ap (λ (lines : List ℕ). m.scenario.line ∷ lines) (case_lines run section opens (without_first cuts) ms)
 
 -- the lines of cases that come one after another
 lines_joined : (rows more : List CaseRow) (ms others : List MemberValue) → lines_told rows ≡ lines_in ms → lines_told more ≡ lines_in others → lines_told (rows ++ more) ≡ lines_in (ms ++ others)
@@ -56,17 +56,17 @@ lines_in_rules run outside is_open cuts (g ∷ gs) =
     let these = first_or uncut_rule cuts in
     let is_begun = is_open && has_selected g.members in
     let end = result_of (rule_of run outside is_open these g) in
-    let next = result_of (rules_of run outside (is_open && rule_stays_open run end) (later cuts) gs) in
+    let next = result_of (rules_of run outside (is_open && rule_stays_open run end) (without_first cuts) gs) in
     lines_joined end.inside next.cases g.members (members_of_groups gs)
     (case_lines run (section_state run levels.Rule g.head.tags outside) (is_begun && before_passed (happened_in run levels.Rule g.head.tags outside is_begun these.own)) these.cases g.members)
-    (lines_in_rules run outside (is_open && rule_stays_open run end) (later cuts) gs)
+    (lines_in_rules run outside (is_open && rule_stays_open run end) (without_first cuts) gs)
 
 rule_lines : (run : Run) (outside : State) (is_open : Bool) (cuts : List RuleCuts) (gs : List Group) →
     (let inside = result_of (rules_of run outside is_open cuts gs) in map (λ (rule : RuleRow). rule.line) inside.rules) ≡ map (λ (g : Group). g.head.line) gs
 rule_lines run outside is_open cuts [] = refl
 rule_lines run outside is_open cuts (g ∷ gs) =
     let end = result_of (rule_of run outside is_open (first_or uncut_rule cuts) g) in
-    ap (λ (lines : List ℕ). g.head.line ∷ lines) (rule_lines run outside (is_open && rule_stays_open run end) (later cuts) gs)
+    ap (λ (lines : List ℕ). g.head.line ∷ lines) (rule_lines run outside (is_open && rule_stays_open run end) (without_first cuts) gs)
 
 head_lines : (r : ℕ) (heads : List HeadValue) (ms : List MemberValue) → map (λ (g : Group). g.head.line) (groups_from r heads ms) ≡ map (λ (head : HeadValue). head.line) heads
 head_lines r [] ms = refl

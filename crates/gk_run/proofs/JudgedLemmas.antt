@@ -6,7 +6,7 @@ use Rattle.gk_run.specs.declared.results.Status.TheVariants as statuses
 use Rattle.gk_run.specs.OpenSection.{Run}
 use Rattle.gk_run.specs.Chosen.{ChosenValue}
 use Rattle.gk_run.specs.DryRun.{dry_feature_of, dry_features_of}
-use Rattle.gk_run.specs.Running.{first_or, later}
+use Rattle.gk_run.specs.Running.{first_or, without_first}
 use Rattle.gk_run.specs.Features.{FeatureCuts, uncut_feature}
 use Rattle.gk_run.specs.Judged.{Cuts, DryRunsAreJudged, UnfinishedDryRunsAreJudged, dry_results, results_from, results_of}
 use Rattle.gk_run.specs.Results.{FeatureRow, Results}
@@ -28,12 +28,12 @@ dry_judged run contents features rows is_dry known =
 -- the cuts of these features, and no others
 abbrev pub cuts_of_all : List FeatureCuts → List ChosenValue → List FeatureCuts
 cuts_of_all cuts [] = []
-cuts_of_all cuts (f ∷ fs) = first_or uncut_feature cuts ∷ cuts_of_all (later cuts) fs
+cuts_of_all cuts (f ∷ fs) = first_or uncut_feature cuts ∷ cuts_of_all (without_first cuts) fs
 
 dry_features_begin : (library : LibraryValue) (cuts : List FeatureCuts) (fs others : List ChosenValue) →
     dry_features_of library (cuts_of_all cuts fs) (fs ++ others) ≡ dry_features_of library cuts fs ++ dry_features_of library [] others
 dry_features_begin library cuts [] others = refl
-dry_features_begin library cuts (f ∷ fs) others = ap (λ (rows : List FeatureRow). dry_feature_of library (first_or uncut_feature cuts) f ∷ rows) (dry_features_begin library (later cuts) fs others)
+dry_features_begin library cuts (f ∷ fs) others = ap (λ (rows : List FeatureRow). dry_feature_of library (first_or uncut_feature cuts) f ∷ rows) (dry_features_begin library (without_first cuts) fs others)
 
 pub dry_judged_so_far : UnfinishedDryRunsAreJudged
 dry_judged_so_far run contents features others rows is_dry known =

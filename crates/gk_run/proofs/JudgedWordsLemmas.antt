@@ -10,7 +10,7 @@ use Rattle.gk_run.specs.declared.results.Status.{Status}
 use Rattle.gk_run.specs.declared.results.Status.TheVariants as statuses
 use Rattle.gk_run.specs.declared.section.Level.{Level}
 use Rattle.gk_run.specs.declared.section.Level.TheVariants as levels
-use Rattle.gk_run.specs.Running.{all_stay_open, case_of, cases_of, first_or, is_bad, later, stays_open, reached_row, unreached_row, unselected_row}
+use Rattle.gk_run.specs.Running.{all_stay_open, case_of, cases_of, first_or, is_bad, without_first, stays_open, reached_row, unreached_row, unselected_row}
 use Rattle.gk_run.specs.Chosen.{ChosenValue, MemberValue, has_selected, Group, own_members, rule_groups}
 use Rattle.gk_run.specs.DryRun.{dry_case_of, dry_cases_of, dry_feature_of, dry_features_of, dry_row, dry_rules_of}
 use Rattle.gk_run.specs.Features.{FeatureCuts, feature_of, feature_row_of, features_of, inside_by, uncut_feature, Inside, RuleCuts, rule_of, rule_stays_open, rules_of, uncut_rule}
@@ -83,13 +83,13 @@ uneven x xs e = cc
 -- what comes of each element with the flag there and a cut, what comes of all, and the words of which the flag is a premise
 module _ {A C R : Type 0} (of : Bool → C → A → R) (keeps : R → Bool) (uncut : C) (all : Bool → List C → List A → List R) (Words : Type 0 → A → R → Type 0)
     (none : (b : Bool) (cuts : List C) → all b cuts [] ≡ [])
-    (more : (b : Bool) (cuts : List C) (x : A) (xs : List A) → (let row = of b (first_or uncut cuts) x in all b cuts (x ∷ xs) ≡ row ∷ all (b && keeps row) (later cuts) xs))
+    (more : (b : Bool) (cuts : List C) (x : A) (xs : List A) → (let row = of b (first_or uncut cuts) x in all b cuts (x ∷ xs) ≡ row ∷ all (b && keeps row) (without_first cuts) xs))
     (one : (b : Bool) (P : Type 0) (x : A) (row : R) → Decides b P → Words P x row ↔ ((cut : C) × (row ≡ of b cut x))) where
   walked : (b : Bool) (xs : List A) (rows : List R) (Held : ℕ → Type 0) → ((k : ℕ) → Decides (flag_at keeps b k rows) (Held k)) → Each (λ k x row. Words (Held k) x row) xs rows ↔ ((cuts : List C) × (rows ≡ all b cuts xs))
   walked b [] [] Held says = (λ h. ([], sym (none b [])), λ c. record { count = refl; each = λ k x row at that. absurd (none-some x at) })
   walked b [] (row ∷ rows) Held says = (λ h. (let e = h.count in absurd (omega (arith, e))), λ c. absurd (uneven row rows (c.1 ∙ none b c.0)))
   walked b (x ∷ xs) [] Held says =
-      (λ h. (let e = h.count in absurd (omega (arith, e))), λ c. (let first = of b (first_or uncut c.0) x in absurd (uneven first (all (b && keeps first) (later c.0) xs) (sym (c.1 ∙ more b c.0 x xs)))))
+      (λ h. (let e = h.count in absurd (omega (arith, e))), λ c. (let first = of b (first_or uncut c.0) x in absurd (uneven first (all (b && keeps first) (without_first c.0) xs) (sym (c.1 ∙ more b c.0 x xs)))))
   walked b (x ∷ xs) (row ∷ rows) Held says =
       let Holds : ℕ → A → R → Type 0 = λ k y r. Words (Held k) y r in
       let first = one b (Held 0) x row (says 0) in
@@ -104,7 +104,7 @@ module _ {A C R : Type 0} (of : Bool → C → A → R) (keeps : R → Bool) (un
         λ c. (
             let e = c.1 ∙ more b c.0 x xs in
             let is : row ≡ of b (first_or uncut c.0) x = ap (first_or row) e in
-            let are = ap later e ∙ sym (ap (λ (r : R). all (b && keeps r) (later c.0) xs) is) in each_first Holds x xs row rows (first.1 (first_or uncut c.0, is)) (rest.1 (later c.0, are))
+            let are = ap without_first e ∙ sym (ap (λ (r : R). all (b && keeps r) (without_first c.0) xs) is) in each_first Holds x xs row rows (first.1 (first_or uncut c.0, is)) (rest.1 (without_first c.0, are))
             ),
       )
 
@@ -193,7 +193,7 @@ abbrev ends_of : Run → State → Bool → List RuleCuts → List Group → Rul
 ends_of run outside b cuts [] = []
 ends_of run outside b cuts (g ∷ gs) =
     let end = result_of (rule_of run outside b (first_or uncut_rule cuts) g) in
-    end ∷ ends_of run outside (b && rule_stays_open run end) (later cuts) gs
+    end ∷ ends_of run outside (b && rule_stays_open run end) (without_first cuts) gs
 
 abbrev told_of : List Group → RuleEnds → Inside
 told_of groups ends = record { rules = rule_rows groups ends; cases = flat_map (λ (end : SectionRow (List CaseRow)). end.inside) ends }
@@ -203,7 +203,7 @@ rules_told run outside b cuts [] = refl
 rules_told run outside b cuts (g ∷ gs) =
     let end = result_of (rule_of run outside b (first_or uncut_rule cuts) g) in
     let before : Inside → Inside = λ next. record { rules = record { line = g.head.line; around = end.around } ∷ next.rules; cases = end.inside ++ next.cases } in
-    ap before (rules_told run outside (b && rule_stays_open run end) (later cuts) gs)
+    ap before (rules_told run outside (b && rule_stays_open run end) (without_first cuts) gs)
 
 stays_rule_is : (run : Run) (end : SectionRow (List CaseRow)) → Decides (rule_stays_open run end) (run.stop ≡ true → IsGoodRule end)
 stays_rule_is run end =

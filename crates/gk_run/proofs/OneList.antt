@@ -12,7 +12,7 @@ use Rattle.gk_run.specs.declared.results.Status.TheVariants as statuses
 use Rattle.gk_run.specs.declared.section.Level.{Level}
 use Rattle.gk_run.specs.declared.section.Level.TheVariants as levels
 use Rattle.gk_run.specs.OpenSection.{Run, SectionRow, happened_in, section_events, section_of, section_state}
-use Rattle.gk_run.specs.Running.{alone, reached_row, row_of_case, unreached_row, unselected_row, verdict_of, all_stay_open, case_of, cases_of, first_or, later, stays_open}
+use Rattle.gk_run.specs.Running.{alone, reached_row, row_of_case, unreached_row, unselected_row, verdict_of, all_stay_open, case_of, cases_of, first_or, without_first, stays_open}
 use Rattle.gk_run.specs.Chosen.{ChosenValue, MemberValue, has_selected, Group, own_members, rule_groups}
 use Rattle.gk_run.specs.DryRun.{dry_case_of, dry_cases_of, dry_events, dry_feature_of, dry_features_of, dry_row, dry_rules_of, dry_step, dry_verdict}
 use Rattle.gk_run.specs.Ending.{around_status, is_memory_mark, verdict_status}
@@ -94,8 +94,8 @@ cases_kept : (run : Run) (section : State) (is_open : Bool) (cuts : List Cut) (m
 cases_kept run section is_open cuts [] h = refl
 cases_kept run section is_open cuts (m ∷ ms) h =
     let row = case_of run section is_open (first_or nowhere cuts) m in
-    let rest = result_of (cases_of run section (is_open && stays_open run row.status) (later cuts) ms) in
-    ap (λ rows. row ∷ rows) (cases_kept run section (is_open && stays_open run row.status) (later cuts) ms (or_right (is_memory_case row) (list_any is_memory_case rest) h))
+    let rest = result_of (cases_of run section (is_open && stays_open run row.status) (without_first cuts) ms) in
+    ap (λ rows. row ∷ rows) (cases_kept run section (is_open && stays_open run row.status) (without_first cuts) ms (or_right (is_memory_case row) (list_any is_memory_case rest) h))
     ∙ ap (λ (r : CaseRow). r ∷ result_of (cases_of run section (is_open && stays_open run r.status) [] ms))
     (case_kept run section is_open (first_or nowhere cuts) m (or_left (is_memory_case row) (list_any is_memory_case rest) h))
 
@@ -143,10 +143,10 @@ rules_kept run outside is_open cuts [] h k = refl
 rules_kept run outside is_open cuts (g ∷ gs) h k =
     let end = result_of (rule_of run outside is_open (first_or uncut_rule cuts) g) in
     let opens : SectionRow (List CaseRow) → Bool = λ e. is_open && rule_stays_open run e in
-    let next = result_of (rules_of run outside (opens end) (later cuts) gs) in
+    let next = result_of (rules_of run outside (opens end) (without_first cuts) gs) in
     let row : SectionRow (List CaseRow) → RuleRow = λ e. record { line = g.head.line; around = e.around } in
     let both : SectionRow (List CaseRow) → Inside → Inside = λ e n. record { rules = row e ∷ n.rules; cases = e.inside ++ n.cases } in
-    ap (both end) (rules_kept run outside (opens end) (later cuts) gs (or_right (is_memory end.around) (list_any is_memory_rule next.rules) h) (append_right end.inside next.cases k))
+    ap (both end) (rules_kept run outside (opens end) (without_first cuts) gs (or_right (is_memory end.around) (list_any is_memory_rule next.rules) h) (append_right end.inside next.cases k))
     ∙ ap (λ e. both e (result_of (rules_of run outside (opens e) [] gs)))
     (rule_kept run outside is_open (first_or uncut_rule cuts) g (or_left (is_memory end.around) (list_any is_memory_rule next.rules) h) (append_left end.inside next.cases k))
 
@@ -182,8 +182,8 @@ features_kept run outside is_open cuts [] h = refl
 features_kept run outside is_open cuts (f ∷ fs) h =
     let row = result_of (feature_of run outside is_open (first_or uncut_feature cuts) f) in
     let next : FeatureRow → Bool = λ r. is_open && stays_open run r.status in
-    let rest = result_of (features_of run outside (next row) (later cuts) fs) in
-    ap (λ rows. row ∷ rows) (features_kept run outside (next row) (later cuts) fs (or_right (is_memory_feature row) (list_any is_memory_feature rest) h))
+    let rest = result_of (features_of run outside (next row) (without_first cuts) fs) in
+    ap (λ rows. row ∷ rows) (features_kept run outside (next row) (without_first cuts) fs (or_right (is_memory_feature row) (list_any is_memory_feature rest) h))
     ∙ ap (λ r. r ∷ result_of (features_of run outside (next r) [] fs))
     (feature_kept run outside is_open (first_or uncut_feature cuts) f (or_left (is_memory_feature row) (list_any is_memory_feature rest) h))
 
@@ -231,8 +231,8 @@ dry_cases_kept : (library : LibraryValue) (cuts : List Cut) (ms : List MemberVal
 dry_cases_kept library cuts [] h = refl
 dry_cases_kept library cuts (m ∷ ms) h =
     let row = dry_case_of library (first_or nowhere cuts) m in
-    let rest = dry_cases_of library (later cuts) ms in
-    ap (λ rows. row ∷ rows) (dry_cases_kept library (later cuts) ms (or_right (is_memory_case row) (list_any is_memory_case rest) h))
+    let rest = dry_cases_of library (without_first cuts) ms in
+    ap (λ rows. row ∷ rows) (dry_cases_kept library (without_first cuts) ms (or_right (is_memory_case row) (list_any is_memory_case rest) h))
     ∙ ap (λ (r : CaseRow). r ∷ dry_cases_of library [] ms) (dry_case_kept library (first_or nowhere cuts) m (or_left (is_memory_case row) (list_any is_memory_case rest) h))
 
 dry_feature_kept : (library : LibraryValue) (cuts : FeatureCuts) (f : ChosenValue) → is_memory_feature (dry_feature_of library cuts f) ≡ false → dry_feature_of library cuts f ≡ dry_feature_of library uncut_feature f
@@ -245,8 +245,8 @@ dry_features_kept : (library : LibraryValue) (cuts : List FeatureCuts) (fs : Lis
 dry_features_kept library cuts [] h = refl
 dry_features_kept library cuts (f ∷ fs) h =
     let row = dry_feature_of library (first_or uncut_feature cuts) f in
-    let rest = dry_features_of library (later cuts) fs in
-    ap (λ rows. row ∷ rows) (dry_features_kept library (later cuts) fs (or_right (is_memory_feature row) (list_any is_memory_feature rest) h))
+    let rest = dry_features_of library (without_first cuts) fs in
+    ap (λ rows. row ∷ rows) (dry_features_kept library (without_first cuts) fs (or_right (is_memory_feature row) (list_any is_memory_feature rest) h))
     ∙ ap (λ (r : FeatureRow). r ∷ dry_features_of library [] fs) (dry_feature_kept library (first_or uncut_feature cuts) f (or_left (is_memory_feature row) (list_any is_memory_feature rest) h))
 
 dry_run_kept : (run : Run) (cuts : Cuts) (fs : List ChosenValue) → has_memory (dry_results run cuts fs) ≡ false → dry_results run cuts fs ≡ dry_results run uncut fs

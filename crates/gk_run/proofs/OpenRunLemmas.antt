@@ -9,8 +9,8 @@ use Rattle.gk_gherkin.specs.declared.hooks.HookFile.{HookFile}
 use Rattle.gk_steps.specs.declared.library.Library.{Library}
 use Rattle.gk_run.specs.Chosen.{ChosenValue}
 use Rattle.gk_run.specs.Ending.{has_passed, is_memory_ending}
-use Rattle.gk_run.specs.Events.{Event, ended_in, stand_of, Ended, result_of}
-use Rattle.gk_run.specs.Running.{first_or, later, stays_open}
+use Rattle.gk_run.specs.Events.{Event, ended_in, stand_of, EndTold, result_of}
+use Rattle.gk_run.specs.Running.{first_or, without_first, stays_open}
 use Rattle.gk_run.specs.Features.{FeatureCuts, feature_of, features_of, uncut_feature}
 use Rattle.gk_run.specs.Judged.{Cuts, results_of}
 use Rattle.gk_run.specs.OpenRun.{FinishedRunsAreJudged, UnfinishedRunsAreJudged, opens_features}
@@ -60,7 +60,7 @@ features_begin : (run : Run) (outside : State) (is_open : Bool) (cuts : List Fea
 features_begin run outside is_open cuts [] others = (result_of (features_of run outside is_open [] others), refl)
 features_begin run outside is_open cuts (f ∷ fs) others =
     let row = result_of (feature_of run outside is_open (first_or uncut_feature cuts) f) in
-    let rest = features_begin run outside (is_open && stays_open run row.status) (later cuts) fs others in
+    let rest = features_begin run outside (is_open && stays_open run row.status) (without_first cuts) fs others in
     (rest.0, ap (λ (rows : List FeatureRow). row ∷ rows) rest.1)
 
 -- a run that was started, some of whose features were run

@@ -9,7 +9,7 @@ use Rattle.gk_run.specs.declared.rules.RuleEnd.{RuleEnd}
 use Rattle.gk_run.specs.declared.section.Level.TheVariants as levels
 use Rattle.std.specs.List.{FoldsTo}
 use Rattle.gk_run.specs.Running.{cases_of, stays_open, stays_open_by}
-use Rattle.gk_run.specs.Events.{Event, Ended, IsRan, Ran, Told, has_ended, of_rule, tells}
+use Rattle.gk_run.specs.Events.{Event, EndTold, IsRan, Ran, Told, has_ended, of_rule, tells}
 use Rattle.gk_run.specs.PrivateContracts.{AreCases, AreCasesInPart, AreRulesInPart, IsRule, IsRuleInPart, RunsRule, RunsRules, members_in}
 use Rattle.gk_run.proofs.PartLemmas.{GoesFrom, ran_of, ran_whole, stops_behind, stops_both, told_between, told_further}
 use Rattle.gk_run.proofs.EventLemmas.{heard_both}
@@ -79,7 +79,7 @@ abbrev pub joined : Inside → Inside → Inside
 joined these those = record { rules = these.rules ++ those.rules; cases = these.cases ++ those.cases }
 
 -- the rules that were run so far, and those that are left: however these are cut, all have cuts with these results before the others, and what was told of them
-pub record GoesRules {S : Type 0} (hears : S → Event → S → Type 0) (ends : S → Ended → S → Type 0) (run : Run) (first : State) (first_open : Bool) (heads : List HeadValue) (old now : Cases) (is_open : Bool) (results : List RuleResult) (left : List HeadValue) (begin here : S) : Type 0 where
+pub record GoesRules {S : Type 0} (hears : S → Event → S → Type 0) (ends : S → EndTold → S → Type 0) (run : Run) (first : State) (first_open : Bool) (heads : List HeadValue) (old now : Cases) (is_open : Bool) (results : List RuleResult) (left : List HeadValue) (begin here : S) : Type 0 where
   pub rows : List CaseRow
   pub told : map case_row now.results.items ≡ map case_row old.results.items ++ rows
   pub falls : falls_from (suc now.rank) now.waiting.items ≡ true
@@ -87,7 +87,7 @@ pub record GoesRules {S : Type 0} (hears : S → Event → S → Type 0) (ends :
   pub goes : (outside : State) → (first_open ≡ true → first ≡ outside) →
       GoesFrom (tells hears ends) (λ (cuts : List RuleCuts). rules_of run outside first_open cuts (groups_from (suc old.rank) heads (members_in old))) (λ (cuts : List RuleCuts). rules_of run outside is_open cuts (groups_from (suc now.rank) left (members_in now))) (joined (record { rules = map rule_row results; cases = rows })) begin here
 
-pub rules_first : {S : Type 0} (hears : S → Event → S → Type 0) (ends : S → Ended → S → Type 0) (run : Run) (first : State) (first_open : Bool) (heads : List HeadValue) (old : Cases) (begin : S) → falls_from (suc old.rank) old.waiting.items ≡ true →
+pub rules_first : {S : Type 0} (hears : S → Event → S → Type 0) (ends : S → EndTold → S → Type 0) (run : Run) (first : State) (first_open : Bool) (heads : List HeadValue) (old : Cases) (begin : S) → falls_from (suc old.rank) old.waiting.items ≡ true →
     GoesRules hears ends run first first_open heads old old first_open [] heads begin begin
 rules_first hears ends run first first_open heads old begin falls = record {
   rows = [];
@@ -115,7 +115,7 @@ push_rule rules rows rule inside front events ended next =
 pub above : (a r other : ℕ) → a ≡ r → suc r ≤ other → a < other
 above a r other is le = omega (arith, is, le)
 
-pub rules_on : {S : Type 0} (hears : S → Event → S → Type 0) (ends : S → Ended → S → Type 0) (run : Run) (first now_state : State) (first_open : Bool) (heads : List HeadValue) (old now taken next : Cases) (is_open opens : Bool) (results pushed : List RuleResult) (head : HeadValue) (left : List HeadValue) (end : RuleEnd) (result : RuleResult) (begin here there after : S) →
+pub rules_on : {S : Type 0} (hears : S → Event → S → Type 0) (ends : S → EndTold → S → Type 0) (run : Run) (first now_state : State) (first_open : Bool) (heads : List HeadValue) (old now taken next : Cases) (is_open opens : Bool) (results pushed : List RuleResult) (head : HeadValue) (left : List HeadValue) (end : RuleEnd) (result : RuleResult) (begin here there after : S) →
     GoesRules hears ends run first first_open heads old now is_open results (head ∷ left) begin here → now_state ≡ first →
     taken.rank ≡ suc now.rank → members_in taken ≡ members_in now → taken.results ≡ now.results →
     RunsRule hears ends run now_state is_open head taken next here there end → ends there (of_rule (rule_row result)) after → opens ≡ (is_open && end.stays_open) → pushed ≡ results ++ result ∷ [] → rule_row result ≡ record { line = head.line; around = end.around } →
@@ -177,7 +177,7 @@ rules_on hears ends run first now_state first_open heads old now taken next is_o
     }
 
 -- rules of which the next one is told in part
-pub rules_stopped : {S : Type 0} (hears : S → Event → S → Type 0) (ends : S → Ended → S → Type 0) (run : Run) (first now_state : State) (first_open : Bool) (heads : List HeadValue) (old now taken : Cases) (is_open : Bool) (results : List RuleResult) (head : HeadValue) (left : List HeadValue) (begin here last : S) →
+pub rules_stopped : {S : Type 0} (hears : S → Event → S → Type 0) (ends : S → EndTold → S → Type 0) (run : Run) (first now_state : State) (first_open : Bool) (heads : List HeadValue) (old now taken : Cases) (is_open : Bool) (results : List RuleResult) (head : HeadValue) (left : List HeadValue) (begin here last : S) →
     GoesRules hears ends run first first_open heads old now is_open results (head ∷ left) begin here → now_state ≡ first → taken.rank ≡ suc now.rank → members_in taken ≡ members_in now →
     IsRuleInPart (tells hears ends) run now_state is_open (record { head = head; members = members_of_rank taken.rank (members_in taken) }) here last → AreRulesInPart (tells hears ends) run first first_open (groups_from (suc old.rank) heads (members_in old)) begin last
 rules_stopped hears ends run first now_state first_open heads old now taken is_open results head left begin here last so_far same rank_is members_is stopped outside open_at =
@@ -196,7 +196,7 @@ rules_stopped hears ends run first now_state first_open heads old now taken is_o
 pub joined_nil : (i : Inside) → joined i (record { rules = []; cases = [] }) ≡ i
 joined_nil i = ap (λ (rs : List RuleRow). record { rules = rs; cases = i.cases ++ [] }) (append-nil i.rules) ∙ ap (λ (cs : List CaseRow). record { rules = i.rules; cases = cs }) (append-nil i.cases)
 
-pub rules_last : {S : Type 0} (hears : S → Event → S → Type 0) (ends : S → Ended → S → Type 0) (run : Run) (first : State) (first_open : Bool) (heads : List HeadValue) (old now : Cases) (is_open : Bool) (results : List RuleResult) (begin here : S) →
+pub rules_last : {S : Type 0} (hears : S → Event → S → Type 0) (ends : S → EndTold → S → Type 0) (run : Run) (first : State) (first_open : Bool) (heads : List HeadValue) (old now : Cases) (is_open : Bool) (results : List RuleResult) (begin here : S) →
     GoesRules hears ends run first first_open heads old now is_open results [] begin here → RunsRules hears ends run first first_open heads old now results begin here
 rules_last hears ends run first first_open heads old now is_open results begin here so_far = record {
   rows = so_far.rows;

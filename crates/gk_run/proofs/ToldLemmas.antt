@@ -4,18 +4,18 @@ use Rattle.std.proofs.Common.{Bool, List, [], ap, map, subst, true, ℕ, ◌++�
 use Rattle.gk_world.specs.State.{State}
 use Rattle.gk_run.specs.declared.results.Status.{Status}
 use Rattle.gk_run.specs.declared.section.Level.{Level}
-use Rattle.gk_run.specs.Events.{Event, Ended, IsRan, Ran, happens, tells}
+use Rattle.gk_run.specs.Events.{Event, EndTold, IsRan, Ran, happens, tells}
 use Rattle.gk_run.specs.OpenSection.{IsSectionEnd, SectionRow, section_events, section_of, section_state, Run}
 use Rattle.gk_run.specs.Section.{around_of, before_passed, happened}
 use Rattle.gk_run.proofs.EventLemmas.{heard_both}
 
 -- events that were heard were told
-pub heard_told : {S : Type 0} (hears : S → Event → S → Type 0) (ends : S → Ended → S → Type 0) (a : S) (events : List Event) (b : S) → FoldsTo hears a events b → FoldsTo (tells hears ends) a (map happens events) b
+pub heard_told : {S : Type 0} (hears : S → Event → S → Type 0) (ends : S → EndTold → S → Type 0) (a : S) (events : List Event) (b : S) → FoldsTo hears a events b → FoldsTo (tells hears ends) a (map happens events) b
 heard_told hears ends a [] b h = h
 heard_told hears ends a (e ∷ es) b h = (h.0, h.1, heard_told hears ends h.0 es b h.2)
 
 -- a section that was begun
-pub section_ran : {S A : Type 0} (hears : S → Event → S → Type 0) (ends : S → Ended → S → Type 0) (run : Run) (level : Level) (tags : List (List ℕ)) (outside : State) (passed : Bool) (around : Status) (first last : List Event) (row : A) (inside : State → Bool → Ran A) (begin opened mid end : S) →
+pub section_ran : {S A : Type 0} (hears : S → Event → S → Type 0) (ends : S → EndTold → S → Type 0) (run : Run) (level : Level) (tags : List (List ℕ)) (outside : State) (passed : Bool) (around : Status) (first last : List Event) (row : A) (inside : State → Bool → Ran A) (begin opened mid end : S) →
     (is : IsSectionEnd run level tags outside around first last) → passed ≡ before_passed (happened is.cut (section_events run level tags outside)) → FoldsTo hears begin first opened →
     IsRan (tells hears ends) (inside (section_state run level tags outside) passed) row opened mid → FoldsTo hears mid last end →
     IsRan (tells hears ends) (section_of run level tags outside true is.cut inside) (record { around = around; inside = row }) begin end

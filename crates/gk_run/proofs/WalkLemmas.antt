@@ -20,7 +20,7 @@ use Rattle.gk_run.specs.declared.results.Outcome.{Outcome}
 use Rattle.gk_run.specs.declared.results.Outcome.TheVariants as outcomes
 use Rattle.gk_run.specs.declared.section.Level.{Level}
 use Rattle.gk_run.specs.declared.section.Stage.{Stage}
-use Rattle.gk_run.specs.Acting.{Acted as ActedValue, CleanupValue, ArgumentsValue, arguments_by_uses, act, at_site, done_of, IsDone, HasRegistered, WritesFirst}
+use Rattle.gk_run.specs.Acting.{ActionEffect as ActedValue, CleanupValue, ArgumentsValue, arguments_by_uses, act, at_site, done_of, IsDone, HasRegistered, WritesFirst}
 use Rattle.gk_run.specs.Ending.{ending_of, has_passed, is_memory_ending, is_memory_mark, worse}
 use Rattle.gk_run.specs.Events.{Event, SoFar, Stand, ended_in, event_marks, left_by, mark_of, of_step}
 use Rattle.gk_run.specs.Results.{StepRow}

@@ -17,7 +17,7 @@ use Rattle.gk_run.specs.Acting.{CleanupValue}
 use Rattle.gk_run.specs.Ending.{ending_of, has_passed}
 use Rattle.gk_run.specs.Events.{Event, Stand, event_marks, left_by}
 use Rattle.gk_run.specs.Section.{site_of, steps_of_case}
-use Rattle.gk_run.specs.Walk.{event_of, looked_up, one_step, stepped, steps_from, unrun_step, walk, Above, CarriesOut, EndsAt, EndsAtTheLeastStop, HasNoStop, IsStop, StepsEndAtTheLeastStop, StoppedCasesRunNoStep, Stops, StopsAt, WalksEndAtTheLeastStop, after, carried_on, event_at, outcome_from, unrun_steps}
+use Rattle.gk_run.specs.Walk.{event_of, looked_up, one_step, stepped, steps_from, unrun_step, walk, LaterSteps, CarriesOut, EndsAt, EndsAtTheLeastStop, HasNoStop, IsStop, StepsEndAtTheLeastStop, StoppedCasesRunNoStep, Stops, StopsAt, WalksEndAtTheLeastStop, after, carried_on, event_at, outcome_from, unrun_steps}
 
 -- ---- one step
 
@@ -130,7 +130,7 @@ module _ (library : LibraryValue) (place : Stage) (start : Stand) (step : StepVa
       passes_later (suc i) l = e.passes i (omega (arith, l))
 
   -- the first step stops
-  when_stopped : (above : Above) (events : List Event) → Stops library site start.state step → EndsAt library place start (step ∷ steps) above events 0 → EndsAtTheLeastStop library place start (step ∷ steps) above events
+  when_stopped : (above : LaterSteps) (events : List Event) → Stops library site start.state step → EndsAt library place start (step ∷ steps) above events 0 → EndsAtTheLeastStop library place start (step ∷ steps) above events
   when_stopped above events st at = record { ends = only_first; passes = λ n. absurd (n 0 (step, refl, st)); either = inl (0, ((step, refl, st), λ i l h. absurd (omega (arith, l)))) }
     where
       only_first : (stop : ℕ) → IsStop library site start (step ∷ steps) stop → EndsAt library place start (step ∷ steps) above events stop
@@ -138,7 +138,7 @@ module _ (library : LibraryValue) (place : Stage) (start : Stand) (step : StepVa
       only_first (suc k) h = absurd (h.1 0 (omega arith) (step, refl, st))
 
   -- the first step passed
-  when_passed : (above : Above) (events : List Event) → GoesOn library site start.state step → EndsAtTheLeastStop library place onward steps above events → EndsAtTheLeastStop library place start (step ∷ steps) above (first ∷ events)
+  when_passed : (above : LaterSteps) (events : List Event) → GoesOn library site start.state step → EndsAtTheLeastStop library place onward steps above events → EndsAtTheLeastStop library place start (step ∷ steps) above (first ∷ events)
   when_passed above events go later = record {
     ends = ends_later;
     passes = λ n. carries_later events (length steps) (length steps) [] go.0 (later.passes (λ i st. n (suc i) (out_of_rest library site start step steps i st)));
@@ -155,7 +155,7 @@ module _ (library : LibraryValue) (place : Stage) (start : Stand) (step : StepVa
 
 -- ---- events that are found step by step, and whose last are those above the stop
 
-module _ (library : LibraryValue) (place : Stage) (above : Above) (events_of : State → List StepValue → List Event)
+module _ (library : LibraryValue) (place : Stage) (above : LaterSteps) (events_of : State → List StepValue → List Event)
     (none : (s : State) → events_of s [] ≡ [])
     (more : (s : State) (step : StepValue) (steps : List StepValue) →
     (let this = one_step library (site_of place) s step in events_of s (step ∷ steps) ≡ event_of place step this ∷ cond (has_passed (ending_of this.mark)) (events_of this.state steps) (above (ending_of this.mark) this.state steps)))

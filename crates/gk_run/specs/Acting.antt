@@ -264,16 +264,16 @@ abbrev pub cleanup_value : Cleanup → CleanupValue
 cleanup_value c = record { found = found_value c.found; block = block_value c.block }
 
 -- What an action leaves, and the cleanups that it registers.
-pub record Acted : Type 0 where
+pub record ActionEffect : Type 0 where
   pub done : Done
   pub registered : List CleanupValue
 
 -- What an action leaves, without what it registers.
-abbrev pub done_of : Acted → Done
+abbrev pub done_of : ActionEffect → Done
 done_of acted = acted.done
 
 -- An action that registers nothing.
-abbrev pub without_cleanups : Done → Acted
+abbrev pub without_cleanups : Done → ActionEffect
 without_cleanups done = record { done = done; registered = [] }
 
 -- The outcome of skip_scenario: a step, or a before hook of a scenario, may skip the scenario. (behave's documentation: skipping scenarios)
@@ -288,26 +288,26 @@ may_register sites.Cleanup = false
 may_register _ = true
 
 -- What a look-up found is registered with a block. If it found nothing, there is no such step, but memory may be refused in the look-up. (behave's documentation: cleanups)
-abbrev pub registers : State → BlockValue → Option FoundValue → Acted
+abbrev pub registers : State → BlockValue → Option FoundValue → ActionEffect
 registers s block None = without_cleanups (record (fails s reasons.NoStep) { takes_memory = true })
 registers s block (Some f) = record { done = passes s; registered = record { found = f; block = block } ∷ [] }
 
 -- A text is looked up and registered, if the site allows this.
-abbrev pub registers_at : Site → State → LibraryValue → ArgumentsValue → Acted
+abbrev pub registers_at : Site → State → LibraryValue → ArgumentsValue → ActionEffect
 registers_at site s library g = cond (may_register site) (registers s g.block (found_any library g.step)) (without_cleanups (fails s reasons.NotHere))
 
 -- What becomes of an action at a site, by what it does. An action that registers looks up the field `step` among the entries of type `step`, and one that skips ends the scenario. At a site that doesn't allow them, they fail, as their rows of the table say. Every other action does what its row says.
-abbrev pub does_at_site : Does → Action → Site → LibraryValue → ArgumentsValue → State → Acted
+abbrev pub does_at_site : Does → Action → Site → LibraryValue → ArgumentsValue → State → ActionEffect
 does_at_site Registers action site library g s = registers_at site s library g
 does_at_site Skips action site library g s = without_cleanups (stays s (skip_outcome site))
 does_at_site _ action site library g s = without_cleanups (table action g s)
 
 -- What an action does at a site.
-abbrev pub at_site : Action → Site → LibraryValue → ArgumentsValue → State → Acted
+abbrev pub at_site : Action → Site → LibraryValue → ArgumentsValue → State → ActionEffect
 at_site action = does_at_site (row_of action).does action
 
 -- What the action of a found step leaves and registers.
-unfoldable pub act : LibraryValue → Site → FoundValue → BlockValue → State → Acted
+unfoldable pub act : LibraryValue → Site → FoundValue → BlockValue → State → ActionEffect
 act library site found block s = at_site (action_of library found) site library (arguments_of library found block) s
 
 -- An action was carried out, or memory was refused in it, which requires `takes_memory`.
@@ -316,11 +316,11 @@ IsDone done outcomes.Memory new = done.takes_memory ≡ true
 IsDone done outcome new = (outcome ≡ done.outcome) × (new ≡ done.state)
 
 -- What the action of a found step leaves and registers, for the program's `Library`, `Found` and `Block`.
-abbrev pub act_of : Library → Site → Found → Block → State → Acted
+abbrev pub act_of : Library → Site → Found → Block → State → ActionEffect
 act_of library site found block s = act (library_value library) site (found_value found) (block_value block) s
 
 -- The cleanups after an action: those before it, and then what it registers. If memory was refused, they are only those before it.
-abbrev pub HasRegistered : Acted → List CleanupValue → Outcome → List CleanupValue → Type 0
+abbrev pub HasRegistered : ActionEffect → List CleanupValue → Outcome → List CleanupValue → Type 0
 HasRegistered acted before outcomes.Memory after = after ≡ before
 HasRegistered acted before outcome after = after ≡ before ++ acted.registered
 
@@ -374,5 +374,5 @@ abbrev pub arguments_by_uses : UsedFields → BlockValue → ArgumentsValue
 arguments_by_uses used = arguments_with (lent_text used.name) (lent_text used.to) (lent_text used.step) used.number (lent_text used.text)
 
 -- What an action leaves and registers at a site with these arguments.
-abbrev pub called : Library → Site → Action → Arguments → State → Acted
+abbrev pub called : Library → Site → Action → Arguments → State → ActionEffect
 called library site action arguments s = at_site action site (library_value library) (arguments_value arguments) s

@@ -14,7 +14,7 @@ use Rattle.gk_run.specs.Ending.{is_memory_mark}
 use Rattle.gk_run.specs.Events.{Event, cut_at, event_marks}
 use Rattle.gk_run.specs.Section.{Events, Cut, has_event, nowhere, happened}
 use Rattle.gk_run.specs.Walk.{IsLookedUp, looked_up, rows_of_steps, unrun_step}
-use Rattle.gk_run.specs.Running.{row_of_case, unselected_row, first_or, later}
+use Rattle.gk_run.specs.Running.{row_of_case, unselected_row, first_or, without_first}
 use Rattle.gk_run.specs.Chosen.{HeadValue, MemberValue, ChosenValue}
 use Rattle.gk_run.specs.Features.{FeatureCuts, uncut_feature, feature_row_of}
 
@@ -41,7 +41,7 @@ dry_case_of library cut m = cond m.selected (dry_row library cut m.scenario) (un
 -- The results of a feature's cases in order.
 abbrev pub dry_cases_of : LibraryValue → List Cut → List MemberValue → List CaseRow
 dry_cases_of library cuts [] = []
-dry_cases_of library cuts (m ∷ ms) = dry_case_of library (first_or nowhere cuts) m ∷ dry_cases_of library (later cuts) ms
+dry_cases_of library cuts (m ∷ ms) = dry_case_of library (first_or nowhere cuts) m ∷ dry_cases_of library (without_first cuts) ms
 
 -- The results of rules that aren't begun.
 abbrev pub dry_rules_of : List HeadValue → List RuleRow
@@ -54,7 +54,7 @@ dry_feature_of library cuts f = feature_row_of f statuses.Passed (record { rules
 -- The results of features in order, whatever the ones before them are.
 abbrev pub dry_features_of : LibraryValue → List FeatureCuts → List ChosenValue → List FeatureRow
 dry_features_of library cuts [] = []
-dry_features_of library cuts (f ∷ fs) = dry_feature_of library (first_or uncut_feature cuts) f ∷ dry_features_of library (later cuts) fs
+dry_features_of library cuts (f ∷ fs) = dry_feature_of library (first_or uncut_feature cuts) f ∷ dry_features_of library (without_first cuts) fs
 
 -- The results of features are those of some cuts.
 abbrev pub AreDryFeatures : LibraryValue → List ChosenValue → List FeatureRow → Type 0

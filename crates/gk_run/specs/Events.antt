@@ -85,14 +85,14 @@ SoFar false true all rest told = IsCutOff all told
 SoFar false false all rest told = all ≡ told ++ rest
 
 -- The end of a case or a rule, with its result.
-pub data Ended : Type 0 where
-  of_case : CaseRow → Ended
-  of_rule : RuleRow → Ended
+pub data EndTold : Type 0 where
+  of_case : CaseRow → EndTold
+  of_rule : RuleRow → EndTold
 
 -- What an observer is told: an event, or that a case or a rule has ended.
 pub data Told : Type 0 where
   happens : Event → Told
-  has_ended : Ended → Told
+  has_ended : EndTold → Told
 
 -- The result of a part of a run, and what is told of it, in order.
 pub record Ran (A : Type 0) : Type 0 where
@@ -104,7 +104,7 @@ abbrev pub result_of : {A : Type 0} → Ran A → A
 result_of ran = ran.result
 
 -- What an observer may become when it is told this, given what it may become when it is told an event or an end.
-abbrev pub tells : {S : Type 0} → (S → Event → S → Type 0) → (S → Ended → S → Type 0) → S → Told → S → Type 0
+abbrev pub tells : {S : Type 0} → (S → Event → S → Type 0) → (S → EndTold → S → Type 0) → S → Told → S → Type 0
 tells hears ends old (happens event) new = hears old event new
 tells hears ends old (has_ended ended) new = ends old ended new
 

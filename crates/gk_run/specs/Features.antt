@@ -5,9 +5,9 @@ use Rattle.gk_world.specs.State.{State}
 use Rattle.gk_run.specs.declared.results.Status.{Status}
 use Rattle.gk_run.specs.declared.results.Status.TheVariants as statuses
 use Rattle.gk_run.specs.declared.section.Level.TheVariants as levels
-use Rattle.gk_run.specs.Running.{all_stay_open, case_statuses, cases_of, first_or, later, stays_open}
+use Rattle.gk_run.specs.Running.{all_stay_open, case_statuses, cases_of, first_or, without_first, stays_open}
 use Rattle.gk_run.specs.Chosen.{HeadValue, MemberValue, ChosenValue, has_selected, CasesFallIntoRules, Group, own_members, rule_groups}
-use Rattle.gk_run.specs.Events.{Event, of_step, of_cleanup, Ended, IsRan, Ran, Told, result_of, tells, happens, has_ended, of_rule}
+use Rattle.gk_run.specs.Events.{Event, of_step, of_cleanup, EndTold, IsRan, Ran, Told, result_of, tells, happens, has_ended, of_rule}
 use Rattle.gk_run.specs.OpenSection.{section_of, SectionRow, Run}
 use Rattle.gk_run.specs.Results.{CaseRow, RuleRow, FeatureRow, is_passed, is_failed, is_untested, is_memory}
 use Rattle.gk_run.specs.Section.{Cut, before_of, nowhere}
@@ -42,7 +42,7 @@ rules_of run outside is_open cuts (g ∷ gs) =
     let ran = rule_of run outside is_open (first_or uncut_rule cuts) g in
     let end = ran.result in
     let row : RuleRow = record { line = g.head.line; around = end.around } in
-    let next = rules_of run outside (is_open && rule_stays_open run end) (later cuts) gs in
+    let next = rules_of run outside (is_open && rule_stays_open run end) (without_first cuts) gs in
     record {
       result = record { rules = row ∷ next.result.rules; cases = end.inside ++ next.result.cases };
       told = ran.told ++ has_ended (of_rule row) ∷ next.told;
@@ -97,7 +97,7 @@ abbrev pub features_of : Run → State → Bool → List FeatureCuts → List Ch
 features_of run outside is_open cuts [] = record { result = []; told = [] }
 features_of run outside is_open cuts (f ∷ fs) =
     let ran = feature_of run outside is_open (first_or uncut_feature cuts) f in
-    let next = features_of run outside (is_open && stays_open run ran.result.status) (later cuts) fs in
+    let next = features_of run outside (is_open && stays_open run ran.result.status) (without_first cuts) fs in
     record { result = ran.result ∷ next.result; told = ran.told ++ next.told }
 
 -- A feature's result is that of some cuts, from the run's state if the run is open.
@@ -105,7 +105,7 @@ abbrev pub IsFeatureResult : Run → State → Bool → ChosenValue → FeatureR
 IsFeatureResult run now is_open f row = (outside : State) → (is_open ≡ true → now ≡ outside) → (cuts : FeatureCuts) × (row ≡ result_of (feature_of run outside is_open cuts f))
 
 -- An observer was told what happens in a feature with this result, for some cuts.
-abbrev pub IsFeatureTold : {S : Type 0} → (S → Event → S → Type 0) → (S → Ended → S → Type 0) → Run → State → Bool → ChosenValue → FeatureRow → S → S → Type 0
+abbrev pub IsFeatureTold : {S : Type 0} → (S → Event → S → Type 0) → (S → EndTold → S → Type 0) → Run → State → Bool → ChosenValue → FeatureRow → S → S → Type 0
 IsFeatureTold hears ends run outside is_open f row old new = (cuts : FeatureCuts) × IsRan (tells hears ends) (feature_of run outside is_open cuts f) row old new
 
 -- A case may begin right after this: a step of the before hooks of a feature or a rule, or the end of a case or a rule.
@@ -129,7 +129,7 @@ pub record IsToldInPart {S A : Type 0} (told : S → Told → S → Type 0) (ran
   pub stops : StopsBeforeCase front
 
 -- An observer was told a beginning of what happens in a feature, for some cuts, up to a point at which a case may begin.
-abbrev pub IsFeatureToldInPart : {S : Type 0} → (S → Event → S → Type 0) → (S → Ended → S → Type 0) → Run → State → Bool → ChosenValue → S → S → Type 0
+abbrev pub IsFeatureToldInPart : {S : Type 0} → (S → Event → S → Type 0) → (S → EndTold → S → Type 0) → Run → State → Bool → ChosenValue → S → S → Type 0
 IsFeatureToldInPart hears ends run outside is_open f old new = (cuts : FeatureCuts) × IsToldInPart (tells hears ends) (feature_of run outside is_open cuts f) old new
 
 -- The result of a feature without rules: its cases run one after another, each from the feature's state.

@@ -27,7 +27,7 @@ use Rattle.gk_run.specs.declared.walk.StepsEnd.{StepsEnd}
 use Rattle.gk_run.specs.Acting.{CleanupValue, WritesFirst}
 use Rattle.gk_run.specs.SectionHooks.{cleaned, after_lists, before_list, walk_each}
 use Rattle.gk_run.specs.Ending.{is_memory_ending, worse}
-use Rattle.gk_run.specs.Events.{Event, SoFar, of_step, Stand, ended_in, event_marks, left_by, outcomes_of, stand_of, Ended, IsRan, Told, tells}
+use Rattle.gk_run.specs.Events.{Event, SoFar, of_step, Stand, ended_in, event_marks, left_by, outcomes_of, stand_of, EndTold, IsRan, Told, tells}
 use Rattle.gk_run.specs.OpenSection.{IsOpened, SectionRow, section_of, run_value, Run}
 use Rattle.gk_run.specs.Results.{step_row, CaseRow, FeatureRow, case_row, rule_row}
 use Rattle.gk_run.specs.Section.{steps_of_case, before_of, Cut}
@@ -189,7 +189,7 @@ pub record IsLeft (old new : Cases) : Type 0 where
   pub others : (other : ℕ) → old.rank < other → members_of_rank other (members_in new) ≡ members_of_rank other (members_in old)
 
 -- The next cases, those of one rank, were run in a section. `is_open` says whether the section is open, `stays_open` whether what comes after them is still reached.
-pub record RunsCases {S : Type 0} (hears : S → Event → S → Type 0) (ends : S → Ended → S → Type 0) (run : Run) (now : State) (is_open : Bool) (old new : Cases) (first last : S) (stays_open : Bool) : Type 0 where
+pub record RunsCases {S : Type 0} (hears : S → Event → S → Type 0) (ends : S → EndTold → S → Type 0) (run : Run) (now : State) (is_open : Bool) (old new : Cases) (first last : S) (stays_open : Bool) : Type 0 where
   pub rows : List CaseRow
   pub told : map case_row new.results.items ≡ map case_row old.results.items ++ rows
   pub are : AreCases (tells hears ends) run now is_open (members_of_rank old.rank (members_in old)) rows first last
@@ -214,7 +214,7 @@ AreRulesInPart told run now is_open groups first last =
     (outside : State) → (is_open ≡ true → now ≡ outside) → (cuts : List RuleCuts) × IsToldInPart told (rules_of run outside is_open cuts groups) first last
 
 -- The next rule was run in a feature, with the next cases, those of one rank. `is_open` says whether the feature is open.
-pub record RunsRule {S : Type 0} (hears : S → Event → S → Type 0) (ends : S → Ended → S → Type 0) (run : Run) (now : State) (is_open : Bool) (head : HeadValue) (old new : Cases) (first last : S) (end : RuleEnd) : Type 0 where
+pub record RunsRule {S : Type 0} (hears : S → Event → S → Type 0) (ends : S → EndTold → S → Type 0) (run : Run) (now : State) (is_open : Bool) (head : HeadValue) (old new : Cases) (first last : S) (end : RuleEnd) : Type 0 where
   pub rows : List CaseRow
   pub told : map case_row new.results.items ≡ map case_row old.results.items ++ rows
   pub is : IsRule (tells hears ends) run now is_open (record { head = head; members = members_of_rank old.rank (members_in old) }) (record { around = end.around; inside = rows }) first last
@@ -222,7 +222,7 @@ pub record RunsRule {S : Type 0} (hears : S → Event → S → Type 0) (ends : 
   pub left : IsLeft old new
 
 -- The next rules were run in a feature. Their results, and what was told of them, are those of some cuts, from the feature's state if it is open.
-pub record RunsRules {S : Type 0} (hears : S → Event → S → Type 0) (ends : S → Ended → S → Type 0) (run : Run) (now : State) (is_open : Bool) (heads : List HeadValue) (old new : Cases) (results : List RuleResult) (first last : S) : Type 0 where
+pub record RunsRules {S : Type 0} (hears : S → Event → S → Type 0) (ends : S → EndTold → S → Type 0) (run : Run) (now : State) (is_open : Bool) (heads : List HeadValue) (old new : Cases) (results : List RuleResult) (first last : S) : Type 0 where
   pub rows : List CaseRow
   pub told : map case_row new.results.items ≡ map case_row old.results.items ++ rows
   pub are : (outside : State) → (is_open ≡ true → now ≡ outside) → (cuts : List RuleCuts)
@@ -257,29 +257,29 @@ abbrev pub inside_value : InsideResults → Inside
 inside_value i = record { rules = map rule_row i.rules.items; cases = map case_row i.cases.items }
 
 -- What is inside a feature was run. `is_open` says whether the feature is open.
-abbrev pub RunsInside : {S : Type 0} → (S → Event → S → Type 0) → (S → Ended → S → Type 0) → shared.Run → State → Bool → Content → S → S → InsideResults → Type 0
+abbrev pub RunsInside : {S : Type 0} → (S → Event → S → Type 0) → (S → EndTold → S → Type 0) → shared.Run → State → Bool → Content → S → S → InsideResults → Type 0
 RunsInside hears ends run now is_open content first last inside =
     IsInside (tells hears ends) (run_value run) now is_open (members_of_rank 0 (members_in content.cases)) (groups_from 1 (map head_value content.rules.list.items) (members_in content.cases)) (inside_value inside) first last
 
 -- What is inside a feature was told in part.
-abbrev pub StopsInside : {S : Type 0} → (S → Event → S → Type 0) → (S → Ended → S → Type 0) → shared.Run → State → Bool → Content → S → S → Type 0
+abbrev pub StopsInside : {S : Type 0} → (S → Event → S → Type 0) → (S → EndTold → S → Type 0) → shared.Run → State → Bool → Content → S → S → Type 0
 StopsInside hears ends run now is_open content first last =
     IsInsideInPart (tells hears ends) (run_value run) now is_open (members_of_rank 0 (members_in content.cases)) (groups_from 1 (map head_value content.rules.list.items) (members_in content.cases)) first last
 
 -- A feature ran, or wasn't begun, and ended like this.
-abbrev pub EndsFeature : {S : Type 0} → (S → Event → S → Type 0) → (S → Ended → S → Type 0) → shared.Run → State → Bool → List (String Global) → Content → S → S → FeatureEnd → Type 0
+abbrev pub EndsFeature : {S : Type 0} → (S → Event → S → Type 0) → (S → EndTold → S → Type 0) → shared.Run → State → Bool → List (String Global) → Content → S → S → FeatureEnd → Type 0
 EndsFeature hears ends run now is_begun tags content first last end =
     IsFeatureEnd (tells hears ends) (run_value run) now is_begun (texts tags) (members_of_rank 0 (members_in content.cases)) (groups_from 1 (map head_value content.rules.list.items) (members_in content.cases)) (record { around = end.around; inside = inside_value end.inside }) first last
 
 -- A feature that ran, or wasn't begun, was told in part.
-abbrev pub StopsFeatureEnd : {S : Type 0} → (S → Event → S → Type 0) → (S → Ended → S → Type 0) → shared.Run → State → Bool → List (String Global) → Content → S → S → Type 0
+abbrev pub StopsFeatureEnd : {S : Type 0} → (S → Event → S → Type 0) → (S → EndTold → S → Type 0) → shared.Run → State → Bool → List (String Global) → Content → S → S → Type 0
 StopsFeatureEnd hears ends run now is_begun tags content first last =
     IsFeatureEndInPart (tells hears ends) (run_value run) now is_begun (texts tags) (members_of_rank 0 (members_in content.cases)) (groups_from 1 (map head_value content.rules.list.items) (members_in content.cases)) first last
 
 -- The result of a feature, and what was told of it, are those of some cuts, from the run's state if the run is open.
-abbrev pub RunsFeature : {S : Type 0} → (S → Event → S → Type 0) → (S → Ended → S → Type 0) → Run → State → Bool → ChosenValue → S → S → FeatureRow → Type 0
+abbrev pub RunsFeature : {S : Type 0} → (S → Event → S → Type 0) → (S → EndTold → S → Type 0) → Run → State → Bool → ChosenValue → S → S → FeatureRow → Type 0
 RunsFeature hears ends run now is_open f first last row = (outside : State) → (is_open ≡ true → now ≡ outside) → IsFeatureTold hears ends run outside is_open f row first last
 
 -- A feature was told in part, for some cuts, from the run's state if the run is open.
-abbrev pub StopsFeature : {S : Type 0} → (S → Event → S → Type 0) → (S → Ended → S → Type 0) → Run → State → Bool → ChosenValue → S → S → Type 0
+abbrev pub StopsFeature : {S : Type 0} → (S → Event → S → Type 0) → (S → EndTold → S → Type 0) → Run → State → Bool → ChosenValue → S → S → Type 0
 StopsFeature hears ends run now is_open f first last = (outside : State) → (is_open ≡ true → now ≡ outside) → IsFeatureToldInPart hears ends run outside is_open f first last

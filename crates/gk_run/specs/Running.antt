@@ -9,7 +9,7 @@ use Rattle.gk_run.specs.declared.results.Status.{Status}
 use Rattle.gk_run.specs.declared.results.Status.TheVariants as statuses
 use Rattle.gk_run.specs.declared.section.Level.TheVariants as levels
 use Rattle.gk_run.specs.Ending.{verdict_status}
-use Rattle.gk_run.specs.Events.{Event, ended_in, event_marks, outcomes_of, Ended, of_case, Ran, happens, has_ended}
+use Rattle.gk_run.specs.Events.{Event, ended_in, event_marks, outcomes_of, EndTold, of_case, Ran, happens, has_ended}
 use Rattle.gk_run.specs.Results.{CaseRow, is_failed, is_memory}
 use Rattle.gk_run.specs.OpenSection.{Run, events_with}
 use Rattle.gk_run.specs.Section.{Events, Cut, around_of, happened, in_order, nowhere}
@@ -59,7 +59,7 @@ pub record AreEventsTold {S : Type 0} (hears : S → Event → S → Type 0) (ru
   pub told : FoldsTo hears old (in_order (happened cut (alone run section c))) new
 
 -- An observer was told of a case with this result: its events, and then that it has ended.
-abbrev pub IsCaseTold : {S : Type 0} → (S → Event → S → Type 0) → (S → Ended → S → Type 0) → Run → State → CaseValue → CaseRow → S → S → Type 0
+abbrev pub IsCaseTold : {S : Type 0} → (S → Event → S → Type 0) → (S → EndTold → S → Type 0) → Run → State → CaseValue → CaseRow → S → S → Type 0
 IsCaseTold {S} hears ends run section c row old new = (ran : S) × AreEventsTold hears run section c row old ran × ends ran (of_case row) new
 
 -- The first element of a list, or another if the list is empty.
@@ -68,9 +68,9 @@ first_or other [] = other
 first_or other (x ∷ xs) = x
 
 -- A list without its first element.
-abbrev pub later : {A : Type 0} → List A → List A
-later [] = []
-later (x ∷ xs) = xs
+abbrev pub without_first : {A : Type 0} → List A → List A
+without_first [] = []
+without_first (x ∷ xs) = xs
 
 -- Whether a status is failed or memory.
 abbrev pub is_bad : Status → Bool
@@ -102,7 +102,7 @@ cases_of run section is_open cuts [] = record { result = []; told = [] }
 cases_of run section is_open cuts (m ∷ ms) =
     let cut = first_or nowhere cuts in
     let row = case_of run section is_open cut m in
-    let next = cases_of run section (is_open && stays_open run row.status) (later cuts) ms in
+    let next = cases_of run section (is_open && stays_open run row.status) (without_first cuts) ms in
     record { result = row ∷ next.result; told = map happens (case_events run section is_open cut m) ++ has_ended (of_case row) ∷ next.told }
 
 -- The verdicts of cases.

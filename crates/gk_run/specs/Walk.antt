@@ -121,17 +121,17 @@ pub record CarriesOut (library : LibraryValue) (stage : Stage) (start : Stand) (
   pub rest : drop count events ≡ others
 
 -- The events of the steps after one that ended like this and left this state.
-abbrev pub Above : Type 0
-Above = Ending → State → List StepValue → List Event
+abbrev pub LaterSteps : Type 0
+LaterSteps = Ending → State → List StepValue → List Event
 
 -- A list ends at a step, counted from 0. The steps up to it are carried out, the earlier ones passed, and the events of the later ones follow from how it ended.
-abbrev pub EndsAt : LibraryValue → Stage → Stand → List StepValue → Above → List Event → ℕ → Type 0
+abbrev pub EndsAt : LibraryValue → Stage → Stand → List StepValue → LaterSteps → List Event → ℕ → Type 0
 EndsAt library stage start steps above events stop =
     let left = after library (site_of stage) start steps (suc stop) in
     (mark : Mark) × (slice_get (event_marks events) stop ≡ Some mark) × CarriesOut library stage start steps events (suc stop) stop (above (ending_of mark) left.state (drop (suc stop) steps))
 
 -- A list of steps ends at the least one that isn't found or whose outcome isn't Passed. If there is none, it passes whole: all steps are carried out, and passed. (behave's documentation: a failed step ends its scenario)
-pub record EndsAtTheLeastStop (library : LibraryValue) (stage : Stage) (start : Stand) (steps : List StepValue) (above : Above) (events : List Event) : Type 0 where
+pub record EndsAtTheLeastStop (library : LibraryValue) (stage : Stage) (start : Stand) (steps : List StepValue) (above : LaterSteps) (events : List Event) : Type 0 where
   pub ends : (stop : ℕ) → IsStop library (site_of stage) start steps stop → EndsAt library stage start steps above events stop
   pub passes : HasNoStop library (site_of stage) start steps → CarriesOut library stage start steps events (length steps) (length steps) []
   pub either : ((stop : ℕ) × IsStop library (site_of stage) start steps stop) ⊎ HasNoStop library (site_of stage) start steps
@@ -146,7 +146,7 @@ mark_above library endings.Skipped step = Skipped
 mark_above library ended step = looked_up library Skipped step
 
 -- The events of the steps of a case that aren't carried out: they change nothing.
-abbrev pub unrun_steps : LibraryValue → Above
+abbrev pub unrun_steps : LibraryValue → LaterSteps
 unrun_steps library ended s steps = map (λ step. unrun_step step (mark_above library ended step) s) steps
 
 -- The steps of each case whose before list passed whole end like this.

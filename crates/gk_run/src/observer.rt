@@ -5,7 +5,7 @@ ghost use Rattle.gk_steps.specs.Finding.{found_value};
 ghost use Rattle.gk_world.specs.State.{state_of};
 ghost use Rattle.gk_run.specs.Acting.{CleanupValue};
 ghost use Rattle.gk_run.specs.Results.{case_row, rule_row};
-ghost use Rattle.gk_run.specs.Events.{Event, of_step, of_cleanup, Ended, of_case, of_rule};
+ghost use Rattle.gk_run.specs.Events.{Event, of_step, of_cleanup, EndTold, of_case, of_rule};
 
 use crate::results::{CaseResult, Mark, Outcome, RuleResult};
 use crate::section::{Level, Stage};
@@ -22,7 +22,7 @@ pub trait Observer {
     ghost hears: { Self → Event → Self → Type 0 };
 
     /// What it may become when it is told that a scenario or a rule has ended.
-    ghost ends: { Self → Ended → Self → Type 0 };
+    ghost ends: { Self → EndTold → Self → Type 0 };
 
     /// Receives a step of a scenario or of a hook, with its stage and its mark. The cleanups that the
     /// step registered aren't told.
