@@ -60,7 +60,7 @@ pub record AreEventsTold {S : Type 0} (hears : S → Event → S → Type 0) (ru
 
 -- An observer was told of a case with this result: its events, and then that it has ended.
 abbrev pub IsCaseTold : {S : Type 0} → (S → Event → S → Type 0) → (S → EndTold → S → Type 0) → Run → State → CaseValue → CaseRow → S → S → Type 0
-IsCaseTold {S} hears ends run section c row old new = (ran : S) × AreEventsTold hears run section c row old ran × ends ran (of_case row) new
+IsCaseTold {S} hears ends run section c row old new = (heard : S) × AreEventsTold hears run section c row old heard × ends heard (of_case row) new
 
 -- The first element of a list, or another if the list is empty.
 abbrev pub first_or : {A : Type 0} → A → List A → A
