@@ -142,6 +142,9 @@ fn push_source_findings(
       scenarios = of_notes.scenarios_in (option_map feature_value feature.now);
     }) findings.now) result out.new }
 {
+    if findings.is_empty() {
+        return Ok(());
+    }
     let file = NotedFile {
         name,
         lines: text_lines(alloc, text)?,
