@@ -1,3 +1,4 @@
+use Rattle.std.proofs.Common.{refl}
 use Rattle.gk_world.specs.State.{state_of}
 use Rattle.gk_run.specs.declared.results.CaseResult.{CaseResult}
 use Rattle.gk_run.specs.Chosen.{member_of}
@@ -5,6 +6,7 @@ use Rattle.gk_run.specs.PrivateContracts.{IsMember}
 use Rattle.gk_run.specs.Results.{case_row}
 use Rattle.gk_run.specs.OpenSection.{run_value}
 use Rattle.gk_run.proofs.CasesLemmas.{member_reached, member_unreached, member_unselected, of_ok}
+use Rattle.gk_run.proofs.PartLemmas.{at_err}
 use Rattle.gk_run.proofs.cases.section_cases.run_member.Goals as goal
 
 pub returns-then-not-selected-clause-ran : goal.returns-then-not-selected-clause-ran
@@ -34,3 +36,12 @@ returns-clause-ran g c =
     let last = c.case_in.new.observer in
     of_ok (λ (r : CaseResult). IsMember g.O.Observer.hears run now c.args.is_open m (case_row r) first last) c.case_in.result c.case_in.ensures.told
     (λ r told. member_reached g.O.Observer.hears run now c.args.is_open m (case_row r) first last c.if-not-selected.false c.if-not-is_open.false told)
+
+pub returns-then-not-selected-clause-untold : goal.returns-then-not-selected-clause-untold
+returns-then-not-selected-clause-untold g c = at_err c.unrun_case.result refl
+
+pub returns-then-not-is_open-clause-untold : goal.returns-then-not-is_open-clause-untold
+returns-then-not-is_open-clause-untold g c = at_err c.unrun_case-then-not-is_open.result refl
+
+pub returns-clause-untold : goal.returns-clause-untold
+returns-clause-untold g c = c.case_in.ensures.untold
