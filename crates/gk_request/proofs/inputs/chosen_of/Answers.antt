@@ -19,7 +19,7 @@ returns-clause-chosen c =
     let cs = c.in_ok-cases.cases.items in
     let built = c.in_ok-cases.ensures.ok ∙ ap cases c.in_ok-heads.ensures.taken ∙ (c.cases_keep_without_tags.ensures feature).cases in
     let members = ap (members_of cs) c.in_ok-selected.ensures ∙ members_chosen chooses cs (cases feature) built in
-    chosen_again c.in_ok-source.ensures.ok c.in_ok-name.ensures.ok c.in_ok-heads.ensures.tags c.in_ok-heads.ensures.rules members
+    chosen_again c.in_ok-source.ensures.ok (c.in_ok-name.ensures.ok ∙ c.as_str.ensures.value) c.in_ok-heads.ensures.tags c.in_ok-heads.ensures.rules members
 
 pub returns-clause-formed : goal.returns-clause-formed
 returns-clause-formed c =
