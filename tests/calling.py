@@ -1,4 +1,4 @@
-"""The library of the program, called in this process with the types of python/, and rooms of any size.
+"""The library of the program, called in this process with the types of bindings/python/, and rooms of any size.
 
 It is built from the static library that GHERKIN_ARCHIVE names, from that of `rt lib`, or from that of dist/.
 """
@@ -13,7 +13,7 @@ import sys
 import driver
 
 DIST = os.path.join(driver.HOME, "dist")
-PACKAGE = os.path.join(driver.HOME, "python")
+PACKAGE = os.path.join(driver.HOME, "bindings", "python")
 BUILT = os.path.join(driver.HOME, "crates", "gk_c", "out", "libgk_c.a")
 # What this process and those that it starts import.
 sys.path.insert(0, PACKAGE)

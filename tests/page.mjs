@@ -1,6 +1,6 @@
-// Runs web/gherkin_run.wasm in Node: page.mjs CALLER MODULE CASES
+// Runs bindings/web/gherkin_run.wasm in Node: page.mjs CALLER MODULE CASES
 //
-// CALLER is web/source/gherkin_run.js, CASES a file of JSON: a list of pairs of arguments and files, all bytes as base64. Prints
+// CALLER is bindings/web/source/gherkin_run.js, CASES a file of JSON: a list of pairs of arguments and files, all bytes as base64. Prints
 // four values: the results, with their texts as base64 and the time of each run in milliseconds; the results of the first case when
 // little memory is left, from none on; how many instances of the module the results took; and the exception of a text that is
 // too large for the memory.

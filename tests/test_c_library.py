@@ -16,7 +16,7 @@ from checks import Checks
 from driver import HOME
 from generator import Maker
 
-INCLUDE = os.path.join(HOME, "include")
+INCLUDE = os.path.join(HOME, "bindings", "c")
 MAIN = os.path.join(HOME, "examples", "c", "main.c")
 # Fewer files may be open at once than some runs name.
 OPEN_FILES = 256

@@ -52,7 +52,7 @@ def code_names():
     for path in FILES:
         name, ending = os.path.splitext(os.path.basename(path))
         names.add(name)
-        if path.startswith(("include/", "python/", "web/source/")) and ending in (".h", ".py", ".js"):
+        if path.startswith(("bindings/c/", "bindings/python/", "bindings/web/source/")) and ending in (".h", ".py", ".js"):
             names.update(callers.findall(driver.text(path)))
         if path.startswith("crates/") and ending in patterns:
             text = driver.text(path)

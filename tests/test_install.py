@@ -33,12 +33,12 @@ READING = ["awk", "cat", "dirname", "find", "flock", "grep", "readlink", "sed", 
 STEPS = {"fails": "all", "ends": "changing", "dies": "changing"}
 # The files that are installed, and where the repository has them.
 INSTALLED = {
-    "include/gherkin_run.h": "include/gherkin_run.h", "lib/libgherkin_run.so": "dist/libgherkin_run.so",
-    "lib/libgherkin_run.a": "dist/libgherkin_run.a", "lib/pkgconfig/gherkin_run.pc": "share/gherkin_run.pc",
-    "share/man/man1/gherkin_run.1": "share/gherkin_run.1",
-    "share/bash-completion/completions/gherkin_run": "share/gherkin_run.bash",
-    "share/zsh/site-functions/_gherkin_run": "share/_gherkin_run",
-    "share/fish/vendor_completions.d/gherkin_run.fish": "share/gherkin_run.fish",
+    "include/gherkin_run.h": "bindings/c/gherkin_run.h", "lib/libgherkin_run.so": "dist/libgherkin_run.so",
+    "lib/libgherkin_run.a": "dist/libgherkin_run.a", "lib/pkgconfig/gherkin_run.pc": "packaging/gherkin_run.pc",
+    "share/man/man1/gherkin_run.1": "packaging/gherkin_run.1",
+    "share/bash-completion/completions/gherkin_run": "packaging/gherkin_run.bash",
+    "share/zsh/site-functions/_gherkin_run": "packaging/_gherkin_run",
+    "share/fish/vendor_completions.d/gherkin_run.fish": "packaging/gherkin_run.fish",
     **{f"{DOC}/{it}": it for it in ("LICENSE-MIT", "LICENSE-APACHE", "docs/FAULTS.md")},
 }
 Ended = collections.namedtuple("Ended", "status out said calls left")

@@ -1,6 +1,6 @@
-"""The page of web/: its parts, its module in Node, and what a user does on it with mouse and keyboard in headless Chromium.
+"""The page of bindings/web/: its parts, its module in Node, and what a user does on it with mouse and keyboard in headless Chromium.
 
-WEB_MODULE may name what web/build/capture_module.sh made; then the module is made again. If PICTURES is a folder, pictures
+WEB_MODULE may name what bindings/web/build/capture_module.sh made; then the module is made again. If PICTURES is a folder, pictures
 of the page are left there.
 """
 
@@ -16,7 +16,7 @@ import in_memory
 import pages
 from checks import Checks
 
-WEB = os.path.join(driver.HOME, "web")
+WEB = os.path.join(driver.HOME, "bindings", "web")
 MODULE = os.path.join(WEB, "gherkin_run.wasm")
 PAGE = "file://" + os.path.join(WEB, "try.html")
 FIRST = "examples/paint.feature"
@@ -58,7 +58,7 @@ LONG_RUN = {"files": [[f"{number}.feature", MILLION_STEPS] for number in range(5
 
 @pages.tests("page/module.md")
 class Parts(Checks):
-    """The files of web/."""
+    """The files of bindings/web/."""
 
 
 def encoded(value):

@@ -1,4 +1,4 @@
-"""The pytest plugin of python/: the runs of pytest.md, control characters, an unpacked wheel, two processes, and scenarios that
+"""The pytest plugin of bindings/python/: the runs of pytest.md, control characters, an unpacked wheel, two processes, and scenarios that
 run together."""
 
 import collections

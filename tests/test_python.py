@@ -1,4 +1,4 @@
-"""The package of python/ against the program: the stored runs over files in memory, results, faults, arguments, types, threads,
+"""The package of bindings/python/ against the program: the stored runs over files in memory, results, faults, arguments, types, threads,
 missing libraries, refused memory, the wheel and the command that it installs, and what the pages on Python and pytest show."""
 
 import base64
@@ -217,7 +217,7 @@ class Pages(Package):
         for page in ("from_python.md", "pytest.md"):
             folder = os.path.join(self.room, page)
             driver.write_program(os.path.join(folder, "bin", "pytest"), self.PYTEST.format(python=python))
-            for name in ("examples", "python"):
+            for name in ("examples", "bindings"):
                 os.symlink(os.path.join(driver.HOME, name), os.path.join(folder, name))
             environment = {**os.environ, "PATH": f"{folder}/bin:{os.environ['PATH']}"}
             for name, command, shown in self.shown_runs(page, folder):

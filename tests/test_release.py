@@ -1,6 +1,6 @@
 """./release in a copy of the repository, with a stand-in for the toolchain that builds the libraries in a moment.
 
-Whatever fails, dist/ and web/ are either as they were or as a whole release makes them, nothing is left in out/ or in the
+Whatever fails, dist/ and bindings/web/ are either as they were or as a whole release makes them, nothing is left in out/ or in the
 folder for temporary files, and one line says why.
 """
 
@@ -17,7 +17,7 @@ import stand_ins
 from checks import Checks
 from ready import Clone
 
-RELEASED = ("dist", "web")
+RELEASED = ("dist", "bindings/web")
 WHEEL = "dist/gherkin_run-0-py3-none-manylinux_2_34_x86_64.whl"
 # The programs of the toolchain. Each fails if a variable says so.
 TOOLCHAIN = blocks.shown("release.md")
@@ -39,7 +39,7 @@ class Released(Checks):
         cls.clone.change()
         assert cls.clone.run(with_rt=True)[0] == 0
         # Otherwise the page would be the same.
-        driver.write(cls.clone.folder, {"web/source/page.html": cls.text("web/source/page.html") + b"<!-- another page -->\n"})
+        driver.write(cls.clone.folder, {"bindings/web/source/page.html": cls.text("bindings/web/source/page.html") + b"<!-- another page -->\n"})
         cls.commands, cls.steps, kit = cls.clone.commands(True), os.path.join(cls.room, "steps"), os.path.join(cls.room, "kit")
         for name in OTHERS:
             os.symlink(shutil.which(name), os.path.join(cls.commands, name))

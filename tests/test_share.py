@@ -1,4 +1,4 @@
-"""share/: the man page and the completions, against the help of the program, its runs and the shells, as share.md shows it."""
+"""packaging/: the man page and the completions, against the help of the program, its runs and the shells, as share.md shows it."""
 
 import os
 import re
@@ -8,7 +8,7 @@ import pages
 from checks import Checks
 from driver import EXAMPLES, HOME
 
-SHARE = os.path.join(HOME, "share")
+SHARE = os.path.join(HOME, "packaging")
 # A value of each option that has one.
 VALUES = {"--tags": "@a", "--line": "3", "--env": "A=b", "--file": f"A={HOME}/README.md", "--library": f"{EXAMPLES}/default.steps",
           "--hooks": f"{EXAMPLES}/hooks.hooks", "--format": "plain"}

@@ -18,7 +18,7 @@ room=$(mktemp -d out/keep.XXXXXX)
 cp crates/gherkin_run/out/gherkin_run "$room/gherkin_run"
 (cd "$room" && sha256sum gherkin_run > gherkin_run.sha256)
 rt version > "$room/gherkin_run.kit"
-# What each crate was built as, which web/build/capture_module.sh builds the library over.
+# What each crate was built as, which bindings/web/build/capture_module.sh builds the library over.
 find crates -path '*/out/rlib/*.rlib/format' -exec sha256sum {} + > "$room/gherkin_run.libraries"
 echo "$1" > "$room/gherkin_run.sources"
 # The sum of the sources comes last: ./run takes the program only with it.

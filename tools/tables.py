@@ -350,18 +350,18 @@ def guide_actions():
 # ---- writing and checking
 
 PARTS = {
-    "share/gherkin_run.1": {"options": man_options, "steps": man_steps},
-    "share/gherkin_run.bash": {"options": bash},
-    "share/_gherkin_run": {"options": zsh},
-    "share/gherkin_run.fish": {"options": fish},
-    "python/gherkin_run/runs.py": {
+    "packaging/gherkin_run.1": {"options": man_options, "steps": man_steps},
+    "packaging/gherkin_run.bash": {"options": bash},
+    "packaging/_gherkin_run": {"options": zsh},
+    "packaging/gherkin_run.fish": {"options": fish},
+    "bindings/python/gherkin_run/runs.py": {
         "formats": python_formats,
         "run": lambda: python_options("report"),
         "explain": lambda: python_options("explanation"),
         "lint": lambda: python_options("findings"),
     },
-    "web/source/page.html": {"formats": page_formats, "flags": page_flags},
-    "web/source/page.js": {"flags": script_flags},
+    "bindings/web/source/page.html": {"formats": page_formats, "flags": page_flags},
+    "bindings/web/source/page.js": {"flags": script_flags},
     "docs/guide/command_line.md": {"options": guide_options},
     "docs/guide/steps.md": {"steps": guide_steps},
     "docs/guide/library_files.md": {"actions": guide_actions},

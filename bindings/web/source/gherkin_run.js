@@ -1,4 +1,4 @@
-// Calls gherkin_run.wasm as include/gherkin_run.h describes, with pointers and lengths of 64 bits.
+// Calls gherkin_run.wasm as bindings/c/gherkin_run.h describes, with pointers and lengths of 64 bits.
 
 // Most outputs fit into this many bytes, and this many more for each byte of the files.
 const FIRST_ROOM = 1 << 18;

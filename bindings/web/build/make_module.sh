@@ -1,5 +1,5 @@
 #!/bin/sh
-# Builds the WebAssembly module from the output of capture_module.sh: web/build/make_module.sh MODULE OUT
+# Builds the WebAssembly module from the output of capture_module.sh: bindings/web/build/make_module.sh MODULE OUT
 #
 # Needs the toolchain's clang and linker, and wasm-opt of binaryen, which turns the module's 64-bit memory into a 32-bit
 # one, since not every browser has 64-bit memories.

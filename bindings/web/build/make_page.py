@@ -1,7 +1,7 @@
 #!/usr/bin/env python3
 """Makes the page, one file with all that it needs: make_page.py MODULE > try.html
 
-It consists of the page and the scripts of web/source, the WebAssembly module, and the features of examples/ with their arguments.
+It consists of the page and the scripts of bindings/web/source, the WebAssembly module, and the features of examples/ with their arguments.
 """
 
 import base64
@@ -11,7 +11,7 @@ import os
 import re
 import sys
 
-HOME = os.path.dirname(os.path.dirname(os.path.dirname(os.path.realpath(__file__))))
+HOME = os.path.realpath(os.path.join(os.path.dirname(os.path.realpath(__file__)), "..", "..", ".."))
 
 
 def read(*path):
@@ -21,8 +21,8 @@ def read(*path):
 
 
 def source(name):
-    """Returns the text of a file of web/source, without the lines that say which parts are written by a tool."""
-    return re.sub(r"^.*tools/tables\.py: .*\n", "", read("web", "source", name), flags=re.MULTILINE)
+    """Returns the text of a file of bindings/web/source, without the lines that say which parts are written by a tool."""
+    return re.sub(r"^.*tools/tables\.py: .*\n", "", read("bindings", "web", "source", name), flags=re.MULTILINE)
 
 
 def examples():

@@ -1,5 +1,5 @@
 #!/bin/sh
-# Builds crates/gk_c, and keeps the LLVM module of its static library: web/build/capture_module.sh OUT
+# Builds crates/gk_c, and keeps the LLVM module of its static library: bindings/web/build/capture_module.sh OUT
 #
 # OUT is the module, as bitcode. The toolchain passes the module of a proved crate to its own clang, and doesn't keep it. So
 # this script calls the toolchain through a folder of links, in which clang is a script that copies the module before it
@@ -9,7 +9,7 @@
 set -eu
 
 out=$(readlink -f -- "$1")
-cd "$(dirname -- "$(readlink -f -- "$0")")/../.."
+cd "$(dirname -- "$(readlink -f -- "$0")")/../../.."
 kit=$(dirname -- "$(dirname -- "$(readlink -f -- "$(command -v rt)")")")
 room=$(mktemp -d)
 trap 'rm -rf "$room"' EXIT

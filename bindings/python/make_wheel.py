@@ -5,7 +5,7 @@ OUT is the folder that gets it; its path is printed. The program and the shared 
 default dist/ of this clone.
 The same files give the same bytes on each machine: nothing is compressed, and all times are the same.
 
-`pip install ./python` calls `build_wheel`. (PEP 517; the files of a wheel: PEP 427)
+`pip install ./bindings/python` calls `build_wheel`. (PEP 517; the files of a wheel: PEP 427)
 """
 
 import base64
@@ -16,6 +16,7 @@ import sys
 import zipfile
 
 HERE = pathlib.Path(__file__).resolve().parent
+HOME = HERE.parent.parent
 # The oldest glibc with which the program runs.
 TAG = "py3-none-manylinux_2_34_x86_64"
 BINARIES = ("gherkin_run", "libgherkin_run.so")
@@ -70,7 +71,7 @@ def files(dist):
     package, info = HERE / "gherkin_run", f"gherkin_run-{version()}.dist-info"
     found = {f"gherkin_run/{it.name}": it.read_bytes() for it in [*package.glob("*.py"), package / "py.typed"]}
     found.update({f"gherkin_run/{it}": (dist / it).read_bytes() for it in BINARIES})
-    found.update({f"{info}/licenses/{it}": (HERE.parent / it).read_bytes() for it in LICENCES})
+    found.update({f"{info}/licenses/{it}": (HOME / it).read_bytes() for it in LICENCES})
     metadata = METADATA.format(version=version(), readme=(HERE / "README.md").read_text(encoding="utf-8"))
     found.update({f"{info}/METADATA": metadata.encode(), f"{info}/WHEEL": WHEEL.encode(), f"{info}/entry_points.txt": ENTRY_POINTS.encode()})
     return found
@@ -100,10 +101,10 @@ def make(out, dist):
 
 def build_wheel(wheel_directory, config_settings=None, metadata_directory=None):
     """Makes the wheel for pip, and returns its name."""
-    return make(pathlib.Path(wheel_directory), HERE.parent / "dist").name
+    return make(pathlib.Path(wheel_directory), HOME / "dist").name
 
 
 if __name__ == "__main__":
     if len(sys.argv) not in (2, 3):
         sys.exit("it is make_wheel.py OUT [DIST]")
-    print(make(*map(pathlib.Path, [*sys.argv[1:], HERE.parent / "dist"][:2])))
+    print(make(*map(pathlib.Path, [*sys.argv[1:], HOME / "dist"][:2])))

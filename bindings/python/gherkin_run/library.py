@@ -1,4 +1,4 @@
-"""The shared library: the program over files in memory, as include/gherkin_run.h declares it."""
+"""The shared library: the program over files in memory, as bindings/c/gherkin_run.h declares it."""
 
 from __future__ import annotations
 
@@ -55,7 +55,7 @@ def built(name: str) -> str:
     """Returns the path of the program or of the library: beside this module if it is installed, otherwise in `dist/`."""
     here = os.path.dirname(os.path.abspath(__file__))
     beside = os.path.join(here, name)
-    return beside if os.path.exists(beside) else os.path.join(here, "..", "..", "dist", name)
+    return beside if os.path.exists(beside) else os.path.join(here, "..", "..", "..", "dist", name)
 
 
 @functools.lru_cache(maxsize=None)

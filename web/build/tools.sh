@@ -1,5 +1,0 @@
-#!/bin/sh
-# Prints the tools that build web/gherkin_run.wasm: the toolchain, and wasm-opt
-set -eu
-
-echo "$(rt version), $(wasm-opt --version)"
