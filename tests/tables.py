@@ -27,6 +27,7 @@ CHANGES = (
     (written.FORMAT_TABLE, '"progress"', '"dots"', "dots", 5),
     (written.DEFAULT_FILE, "step it fails =>", "step it breaks =>", "it breaks", 4),
     (written.ACTION_TABLE, '["name", "n"]', '["name", "n", "by"]', "{by}", 1),
+    (written.VERSION_FILE, "\n", "-changed\n", "-changed", 3),
 )
 
 
@@ -47,7 +48,7 @@ def not_up_to_date():
 
 def copied(folder):
     """Copies tools/tables.py with all that it reads and writes. Returns how to call the copy."""
-    sources = {written.OPTION_TABLE, written.FORMAT_TABLE, written.ACTION_TABLE, written.DEFAULT_FILE}
+    sources = {written.OPTION_TABLE, written.FORMAT_TABLE, written.ACTION_TABLE, written.DEFAULT_FILE, written.VERSION_FILE}
     for path in ("tools/tables.py", *sources, *written.texts()):
         driver.write(folder, {path: driver.text(path)})
     return lambda option: driver.start(sys.executable, [os.path.join(folder, "tools", "tables.py"), option])

@@ -2,12 +2,13 @@
 """Writes what repeats the tables of the sources: tools/tables.py --write | --check | --json
 
     --write   renews the man page, the completions, the options of Python's calls and of the page, the tables of the guide,
-              the stored help and examples/default.steps
+              the stored help, examples/default.steps, and the version
     --check   names those that differ from what --write would write; the status is 1 if there are any
     --json    prints the tables: options, formats, steps and actions
 
 The tables are OPTIONS of crates/gk_cli, ACTIONS and DEFAULT_TEXT of crates/gk_steps, and the names of formats in
-crates/gk_report. A written part is between a line with `tools/tables.py: NAME` and the next line with `tools/tables.py: end`.
+crates/gk_report; the version is packaging/version. A written part of several lines is between a line with
+`tools/tables.py: NAME` and the next line with `tools/tables.py: end`.
 """
 
 import collections
@@ -371,6 +372,15 @@ PARTS = {
         "--help among others": lambda: stored_help("gherkin_run a.feature --help no.feature"),
     },
 }
+# Before the first release the version is 0, which the program and its header call unreleased.
+VERSION_FILE = "packaging/version"
+# The version in each file that repeats it.
+HEADER = "bindings/c/gherkin_run.h"
+VERSIONS = {
+    HEADER: r'(?m)(?<=^#define GHERKIN_RUN_VERSION ").*(?="$)',
+    "bindings/python/gherkin_run/__init__.py": r'(?m)(?<=^__version__ = ").*(?="$)',
+    "packaging/gherkin_run.pc": r"(?m)(?<=^Version: ).*$",
+}
 MARKED = re.compile(r"(^[^\n]*tools/tables\.py: ([^\n]*?)(?: -->)?\n)(.*?)(^[^\n]*tools/tables\.py: end)", re.M | re.S)
 
 
@@ -382,9 +392,20 @@ def renewed(path):
     return MARKED.sub(lambda found: found[1] + "".join(f"{it}\n" for it in parts[found[2]]()) + found[4], text)
 
 
+def with_version(path):
+    """The text of a file with the version of VERSION_FILE."""
+    version = read(VERSION_FILE).strip()
+    shown = "unreleased" if (path, version) == (HEADER, "0") else version
+    text, count = re.subn(VERSIONS[path], shown, read(path))
+    if count != 1:
+        raise ValueError(f"{path} has {count} versions")
+    return text
+
+
 def texts():
     """The text that each written file should have."""
-    return {**{path: renewed(path) for path in PARTS}, "examples/default.steps": default_text()}
+    return {**{path: renewed(path) for path in PARTS}, **{path: with_version(path) for path in VERSIONS},
+            "examples/default.steps": default_text()}
 
 
 def differing():
