@@ -1,15 +1,18 @@
-"""dist/ has the program and the libraries that the proved sources build, byte for byte, with its sums and theirs."""
+"""dist/ has the program, the libraries and the packages that the sources build, byte for byte, with the program's sums."""
 
 import os
 import subprocess
 
 import driver
+import pages
 from checks import Checks
 
 DIST = os.path.join(driver.HOME, "dist")
 RENEW = "; ./release renews dist/ from what ./test or ./run --build built"
 # The libraries, each with the script that makes it from the static library of `rt lib`.
 LIBRARIES = {"libgherkin_run.so": "tools/shared_library.sh", "libgherkin_run.a": "tools/static_library.sh"}
+
+VERSION = driver.text("packaging/version").strip()
 
 
 def said(*command):
@@ -51,3 +54,32 @@ class Dist(Checks):
             made = os.path.join(self.room, name)
             said(script, made, archive)
             self.compare_built(name, made)
+
+    def test_version(self):
+        """The program, the header and the changelog have the version, or say that nothing was released."""
+        found = (said(self.program, "--version").decode(), driver.text("bindings/c/gherkin_run.h"), driver.text("CHANGELOG.md").lower())
+        shown = [it.split(before)[1].split()[0] for it, before in zip(found, ("gherkin_run ", "_VERSION ", "\n## "))]
+        version = "unreleased" if VERSION == "0" else VERSION
+        self.same("the versions of the program, the header and the changelog", shown, [version, f'"{version}"', version])
+
+
+@pages.tests("debian.md")
+class Debian(Checks):
+    NEEDS = ("dpkg", "dpkg-deb")
+
+    def setUp(self):
+        self.debs = [os.path.join(DIST, f"{it}_{VERSION}_amd64.deb") for it in ("gherkin-run", "libgherkin-run-dev")]
+        self.root = self.new_room()
+        libc = "Package: libc6\nStatus: install ok installed\nVersion: 2.34\nArchitecture: amd64\nMaintainer: m\nDescription: d\n"
+        kept = {"available": "", "status": libc, "info/libc6.list": "", "updates/none": ""}
+        driver.write(self.root, {f"var/lib/dpkg/{it}": text for it, text in kept.items()})
+
+    def made(self):
+        """The packages that are made from dist/, by their names."""
+        folder = self.new_room()
+        said("packaging/debian/make.sh", folder)
+        return driver.tree(folder)
+
+    def dpkg(self, *words):
+        words = [f"--root={self.root}", "--force-not-root", "--log=/dev/null", *words]
+        return driver.start("dpkg", words, environment={**os.environ, "PATH": f"{os.environ['PATH']}:/usr/sbin:/sbin"})[0]

@@ -18,12 +18,13 @@ from checks import Checks
 from ready import Clone
 
 RELEASED = ("dist", "bindings/web")
-WHEEL = "dist/gherkin_run-0-py3-none-manylinux_2_34_x86_64.whl"
+VERSION = driver.text("packaging/version").strip()
+WHEEL = f"dist/gherkin_run-{VERSION}-py3-none-manylinux_2_34_x86_64.whl"
 # The programs of the toolchain. Each fails if a variable says so.
 TOOLCHAIN = blocks.shown("release.md")
 # The commands that ./release and what it calls change files with, those that read, and others.
-STEPS = "chmod cp ln mkdir mktemp mv rm cat cut find python3 readlink sha256sum sort".split()
-OTHERS = "basename env grep head ln nproc sed tr uname wc".split()
+STEPS = "chmod cp dpkg-deb ln mkdir mktemp mv rm cat cut find python3 readlink sha256sum sort".split()
+OTHERS = "basename env grep gzip head install ln md5sum nproc sed tar tr uname wc".split()
 # The commands of a pipe run at the same time; each takes the next number that is free.
 STEP_OF_A_PIPE = stand_ins.STEP.replace('echo $((calls', """until (set -C; : > "$CALLS.$((calls + 1))") 2> /dev/null; do
     calls=$((calls + 1))
@@ -32,6 +33,8 @@ echo $((calls""", 1)
 
 
 class Released(Checks):
+    NEEDS = ("dpkg-deb",)
+
     @classmethod
     def setUpClass(cls):
         super().setUpClass()
