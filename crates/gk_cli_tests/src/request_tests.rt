@@ -1,5 +1,5 @@
 use crate::whole_suite_tests::{files_with, oil, plain, source};
-use gk_findings::{findings_text, push_notes};
+use gk_findings::{EnvMistake, findings_text, notes_on_env, push_notes};
 use gk_gherkin::ReadFault;
 use gk_request::{
     Options, ReadInputs, RunFault, Source, SuiteFiles, bytes_of, file_at_fault, first_bad_tags,
@@ -193,6 +193,20 @@ fn bad_text_of_tags_has_notes(rt: HostRuntime) -> Result<(), Fail> {
     push_notes(&mut notes, rt.alloc(), Some("@bell and"), &files, fault)?;
     let wanted =
         "    @bell and\n    it breaks at its end, where \"not\", \"(\" or a tag such as @a has to stand\n";
+    assert_eq!(rt; notes.as_str(), wanted);
+    Ok(())
+}
+
+#[test]
+fn bad_variables_have_notes(rt: HostRuntime) -> Result<(), Fail> {
+    let notes = notes_on_env(rt.alloc(), EnvMistake::NoEquals, "COLOUR")?;
+    let wanted = "    COLOUR\n    write NAME=VALUE, with = after the name\n";
+    assert_eq!(rt; notes.as_str(), wanted);
+    let notes = notes_on_env(rt.alloc(), EnvMistake::BadName, "")?;
+    let wanted = "    =\n    give the variable a name of 1 to 255 bytes before the =\n";
+    assert_eq!(rt; notes.as_str(), wanted);
+    let notes = notes_on_env(rt.alloc(), EnvMistake::LongValue, "A")?;
+    let wanted = "    A=\n    shorten its value to 1048576 bytes\n";
     assert_eq!(rt; notes.as_str(), wanted);
     Ok(())
 }
