@@ -206,7 +206,7 @@ fn bad_variables_have_notes(rt: HostRuntime) -> Result<(), Fail> {
     let wanted = "    =\n    give the variable a name of 1 to 255 bytes before the =\n";
     assert_eq!(rt; notes.as_str(), wanted);
     let notes = notes_on_env(rt.alloc(), EnvMistake::LongValue, "A")?;
-    let wanted = "    A=\n    shorten its value to 1048576 bytes\n";
+    let wanted = "    A=\n    shorten its value: at most 1048576 bytes\n";
     assert_eq!(rt; notes.as_str(), wanted);
     Ok(())
 }

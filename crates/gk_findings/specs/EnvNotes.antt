@@ -9,7 +9,7 @@ use Rattle.gk_findings.specs.declared.env_notes.EnvMistake.TheVariants.{NoEquals
 abbrev pub env_hint : EnvMistake → List ℕ
 env_hint NoEquals = codes "write NAME=VALUE, with = after the name"
 env_hint BadName = codes "give the variable a name of 1 to 255 bytes before the ="
-env_hint LongValue = codes "shorten its value to 1048576 bytes"
+env_hint LongValue = codes "shorten its value: at most 1048576 bytes"
 
 -- What follows the name in an argument with this mistake.
 abbrev pub after_name : EnvMistake → List ℕ

@@ -24,7 +24,7 @@ fn env_hint(mistake: EnvMistake) -> &'static str
     match mistake {
         EnvMistake::NoEquals => "write NAME=VALUE, with = after the name",
         EnvMistake::BadName => "give the variable a name of 1 to 255 bytes before the =",
-        EnvMistake::LongValue => "shorten its value to 1048576 bytes",
+        EnvMistake::LongValue => "shorten its value: at most 1048576 bytes",
     }
 }
 
