@@ -100,6 +100,8 @@ def unescaped(text):
 
 def meant(escape):
     first, last, repeated, byte, character, letter = escape.groups()
+    if last and "#" not in repeated:
+        return ESCAPE.sub(meant, repeated) * (int(last) - int(first or 1) + 1)
     if last:
         return "".join(ESCAPE.sub(meant, repeated.replace("#", str(it))) for it in range(int(first or 1), int(last) + 1))
     if byte:
