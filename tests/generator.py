@@ -57,8 +57,8 @@ PASSING = ("write_file", "set_value", "append_file", "add_number", "pass")
 Part = collections.namedtuple("Part", "tags heading background scenarios")
 Scenario = collections.namedtuple("Scenario", "tags heading steps examples")
 Examples = collections.namedtuple("Examples", "tags rows")
-# Feature files by their names, hooks by theirs, the lines of a library, options, texts of tags, each with a function that
-# says whether it holds of a set of tags, and the options with some of these texts, or none.
+# Feature files by their names, hooks by theirs, the lines of a library, options, texts of tags, and the options with some of
+# these texts, or none.
 Suite = collections.namedtuple("Suite", "features hooks library options texts choices")
 
 # The bytes that take the place of others: no text, line ends, blanks, the marks of Gherkin and of patterns, and the
@@ -92,6 +92,12 @@ def text_of(parts):
 
 def text_of_hooks(hooks):
     return "".join("\n".join([f"{name}:", *lines_of(steps), ""]) for name, steps in hooks.items())
+
+
+def holds(text, tags):
+    """Whether a text of tags holds of a set of tags: as Python reads it, with True or False for each tag."""
+    words = text.replace("~", " not ").replace(",", " or ")
+    return eval(re.sub(r"@?\b([abc])\b", lambda it: str(f"@{it[1]}" in tags), words))  # pylint: disable=eval-used
 
 
 class Maker:
@@ -157,37 +163,27 @@ class Maker:
         return text
 
     def several(self, operator, make, depth):
-        """Some parts with an operator between them, and whether each holds of a set of tags."""
-        texts, functions = zip(*(make(depth) for _ in range(self.chance.choice([1, 1, 2, 3]))))
-        return self.joined(texts[0], *(it for text in texts[1:] for it in (operator, text))), functions
+        """Some parts with an operator between them."""
+        texts = [make(depth) for _ in range(self.chance.choice([1, 1, 2, 3]))]
+        return self.joined(texts[0], *(it for text in texts[1:] for it in (operator, text)))
 
     def expression(self, depth=3):
-        """An expression of tags, and the function that says whether it holds of a set of tags."""
-        text, terms = self.several("or", self.term, depth)
-        return text, lambda tags: any(holds(tags) for holds in terms)
+        return self.several("or", self.term, depth)
 
     def term(self, depth):
-        """A term of an expression: factors between `and`."""
-        text, factors = self.several("and", self.factor, depth)
-        return text, lambda tags: all(holds(tags) for holds in factors)
+        return self.several("and", self.factor, depth)
 
     def factor(self, depth):
         """A tag, a negation, or an expression in parentheses."""
         kind = self.chance.random() if depth else 1
         if kind < 0.3:
-            text, holds = self.expression(depth - 1)
-            return self.joined("(", text, ")"), holds
-        if kind < 0.6:
-            text, holds = self.factor(depth - 1)
-            return self.joined("not", text), lambda tags: not holds(tags)
-        tag = self.chance.choice(TAGS)
-        return tag, lambda tags: tag in tags
+            return self.joined("(", self.expression(depth - 1), ")")
+        return self.joined("not", self.factor(depth - 1)) if kind < 0.6 else self.chance.choice(TAGS)
 
     def alternatives(self):
-        """A text of the old form, and the function that says whether it holds of a set of tags."""
+        """A text of the old form."""
         chosen = [(self.chance.choice(["", "~"]), self.chance.choice(TAGS)) for _ in range(2)]
-        text = ",".join(tilde + tag[self.chance.randrange(2):] for tilde, tag in chosen)
-        return text, lambda tags: any((tag in tags) != bool(tilde) for tilde, tag in chosen)
+        return ",".join(tilde + tag[self.chance.randrange(2):] for tilde, tag in chosen)
 
     # ---- features, hooks and suites
 
@@ -240,7 +236,7 @@ class Maker:
         hooks = self.hooks()
         texts = [self.expression(), self.expression(), self.alternatives()]
         texts = self.chance.sample(texts, self.chance.randrange(1, 3))
-        choices = [("--tags", text) for text, _ in texts] if self.chance.random() < 0.4 else []
+        choices = [("--tags", it) for it in texts] if self.chance.random() < 0.4 else []
         return Suite(features, hooks, library, options, texts, choices)
 
     # ---- lines and bytes of which a file need not be read

@@ -19,8 +19,8 @@ import random
 import re
 
 import search
-from generator import TAGS, Maker, Part, Scenario, first_given, text_of, text_of_hooks
-from reports import AROUND, Report, Style, one_line, unreached
+from generator import TAGS, Maker, Part, Scenario, first_given, holds, text_of, text_of_hooks
+from reports import Report, Style, failures, unreached
 from tables import FORMATS
 
 COUNT = 1215  # suites
@@ -117,11 +117,10 @@ class Comparison:
         wanted = set()
         for place in self.chosen_lines():
             tags = {tag for tag in TAGS if place in having[tag]}
-            if all(holds(tags) for _, holds in self.suite.texts):
+            if all(holds(it, tags) for it in self.suite.texts):
                 wanted.add(place)
-        texts = [text for text, _ in self.suite.texts]
-        if self.chosen_lines(*texts) != wanted:
-            yield f"{texts} don't choose the scenarios of whose tags they hold: {wanted}"
+        if self.chosen_lines(*self.suite.texts) != wanted:
+            yield f"{self.suite.texts} don't choose the scenarios of whose tags they hold: {wanted}"
 
     def alone(self, whole):
         for feature in whole.features:
@@ -237,23 +236,6 @@ def turned(parts):
 
 
 # ---- reports of the same suite
-
-def failures(report):
-    """What of a run failed, in the order in which it ended: its heading with its place, and the lines of its steps."""
-    for feature in report.features:
-        source = feature.source
-        for place in range(len(feature.cases) + 1):
-            yield from ((f"{source}:{it.line}: Rule: {AROUND}", []) for it, _, behind in feature.spans
-                        if it.around == "failed" and behind == place)
-            for case in feature.cases[place:place + 1]:
-                if case.status == "failed":
-                    yield (f"{source}:{case.line}: {case.keyword}: {one_line(case.name)}",
-                           [f"  {source}:{line}: {keyword} {one_line(text)} ... {status}" for keyword, line, text, status in case.steps])
-        if feature.around == "failed":
-            yield f"{source}:{feature.line}: Feature: {one_line(feature.name)} {AROUND}", []
-    if report.around == "failed":
-        yield f"Run: {AROUND}", []
-
 
 def without_lines(case):
     """A scenario without what differs where it is in another file: its line, and its steps' lines and keywords."""

@@ -264,6 +264,25 @@ WRITERS = {"plain": ("", plain_part, plain_tail), "progress": ("", progress_part
            "json": ('{"features":[', json_part, json_tail)}
 
 
+# ---- explanations
+
+def failures(report):
+    """What of a run failed, in the order in which it ended: its heading with its place, and the lines of its steps."""
+    for feature in report.features:
+        source = feature.source
+        for place in range(len(feature.cases) + 1):
+            yield from ((f"{source}:{it.line}: Rule: {AROUND}", []) for it, _, behind in feature.spans
+                        if it.around == "failed" and behind == place)
+            for case in feature.cases[place:place + 1]:
+                if case.status == "failed":
+                    yield (f"{source}:{case.line}: {case.keyword}: {one_line(case.name)}",
+                           [f"  {source}:{line}: {keyword} {one_line(text)} ... {status}" for keyword, line, text, status in case.steps])
+        if feature.around == "failed":
+            yield f"{source}:{feature.line}: Feature: {one_line(feature.name)} {AROUND}", []
+    if report.around == "failed":
+        yield f"Run: {AROUND}", []
+
+
 # ---- runs in which memory is refused
 
 MEMORY = b"gherkin_run: out of memory\n"

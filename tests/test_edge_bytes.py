@@ -13,24 +13,21 @@ import re
 import driver
 from builder import FAILING, FeatureFile, Run, Step, troubles
 from checks import Checks
-from reports import one_line
+from reports import failures, one_line, plain_tail
 from tables import FORMATS
+from test_by_rule import HELP, USAGE
 
 BYTES = (*range(1, 33), 127)
 FAILING_FILE, PASSING_FILE = (driver.feature(f"Given {it}") for it in ("it fails", "it passes"))
 # The escapes of control characters that have a letter in an explanation.
 SHOWN = {"\t": "\\t", "\n": "\\n", "\r": "\\r"}
-CLOSING = """
-0 features passed, 1 failed, 0 skipped
-0 scenarios passed, 1 failed, 0 skipped
-0 steps passed, 1 failed, 0 skipped, 0 undefined
-"""
-TRY_HELP = "\nFor more information, try '--help'.\n"
-NOT_A_FORMAT = ("error: invalid value '{}' for '--format <F>'\n  [possible values: " + ", ".join(FORMATS) + "]\n\n"
-                "Usage: gherkin_run [OPTIONS] <FILE>...\n" + TRY_HELP)
-NOT_A_LINE = "error: invalid value '{}' for '--line <N>': invalid digit found in string\n" + TRY_HELP
-NOT_AN_OPTION = ("error: unexpected argument '{}' found\n\n  tip: a similar argument exists: '--stop'\n\n"
-                 "Usage: gherkin_run --stop <FILE>...\n" + TRY_HELP)
+# Files of --library and of --hooks: what is wrong with the word dance in one, and one that a step finds.
+SEEN = 'the variable "V" should be "x"'
+OTHER_FILES = {"--library": ("bad step type", f"step {SEEN} => pass\n"),
+               "--hooks": ("unexpected line", 'before_all:\n* the variable "V" is set to "x"\n')}
+# Options with a value: one that is good, and what is said of others.
+VALUES = {"--format <F>": ("plain", f"\n  [possible values: {', '.join(FORMATS)}]\n{USAGE}{HELP}"),
+          "--line <N>": ("2", f": invalid digit found in string\n{HELP}")}
 
 
 def edged(byte, text):
@@ -49,18 +46,15 @@ def both_forms(option, value):
     return [option, value], [f"{option}={value}"]
 
 
-# ---- names of files
-
 def feature_files(name):
     """Runs of a feature file of this name. Two print places in it."""
     yield Run(FeatureFile(source=name).scenario("it passes"), files={"a": FAILING_FILE}, formats=FORMATS)
-    place = shown(name)
-    explanation = (f"{place}:2: Scenario: s ... failed\n  {place}:3: Given it fails ... failed: fail step\n\n"
-                   f"{place}:2: Scenario: s\n" + CLOSING)
-    made = FeatureFile(source=name).scenario(FAILING)
+    report = Run(FeatureFile(source=shown(name)).scenario(FAILING)).report()
+    (heading, steps), = failures(report)
+    explanation = "\n".join([f"{heading} ... failed", *steps, "", heading, "", plain_tail(report)])
+    made, finding = FeatureFile(source=name).scenario(FAILING), f"{shown(name)}:1: feature without scenarios\n"
     yield Run(made, files={"a": PASSING_FILE}, options=["--explain"], printed=explanation, status=1)
-    yield Run(FeatureFile(source=name), files={"a": PASSING_FILE}, options=["--lint"],
-              printed=f"{place}:1: feature without scenarios\n", status=1)
+    yield Run(FeatureFile(source=name), files={"a": PASSING_FILE}, options=["--lint"], printed=finding, status=1)
 
 
 def faults(name):
@@ -69,38 +63,34 @@ def faults(name):
         yield Run(files={"a": PASSING_FILE}, sources=sources, fault=f"{name}: cannot read")
     files = {"a": PASSING_FILE, name: "Feature: f\nFeature: g\n"}
     yield Run(files=files, sources=[name], fault=f"{name}:2: unexpected line")
-    made = FeatureFile().scenario("it passes")
-    for option, text in (("--library", "bad step type"), ("--hooks", "unexpected line")):
+    for option, (fault, _) in OTHER_FILES.items():
+        made = FeatureFile().scenario("it passes")
         yield Run(made, files={"a": ""}, options=[option, name], fault=f"{name}: cannot read")
-        yield Run(made, files={"a": "", name: "dance\n"}, options=[f"{option}={name}"], fault=f"{name}:1: {text}")
+        yield Run(made, files={"a": "", name: "dance\n"}, options=[f"{option}={name}"], fault=f"{name}:1: {fault}")
 
 
 def other_files(name):
     """Runs with a library, and with hooks, in a file of this name."""
-    step = 'the variable "V" should be "x"'
-    for option, text in (("--library", f"step {step} => pass\n"),
-                         ("--hooks", 'before_all:\n* the variable "V" is set to "x"\n')):
-        for options in both_forms(option, name):
-            yield Run(FeatureFile().scenario(step), files={"a": "", name: text}, options=options)
+    return (Run(FeatureFile().scenario(SEEN), files={"a": "", name: text}, options=options)
+            for option, (_, text) in OTHER_FILES.items() for options in both_forms(option, name))
 
 
-# ---- other arguments
+def in_a_table(text, *steps):
+    """A feature whose steps have a text, in quotes, from a table, where a line feed can be written."""
+    return FeatureFile().outline("o", *steps).examples([f'"{one_line(text)}"'], header=["t"])
+
 
 def variables(text):
-    """A run with a variable of this text, and one of this name.
-
-    The steps have them from a table, where a line feed can be written."""
-    cell = '"' + one_line(text) + '"'
-    made = FeatureFile().outline("o", 'the variable "V" should be <t>', 'the variable <t> should be "x"')
-    made.examples([cell], header=["t"])
+    """A run with a variable of this text, and one of this name."""
+    made = in_a_table(text, 'the variable "V" should be <t>', 'the variable <t> should be "x"')
     for of_text, of_name in zip(both_forms("--env", f"V={text}"), both_forms("--env", f"{text}=x")):
         yield Run(made, options=[*of_text, *of_name])
 
 
 def world_files(text):
     """A run with a file of this name from a path of the same name, and one whose path is missing."""
-    made = FeatureFile().outline("o", 'the file <t> should be "x"').examples(['"' + one_line(text) + '"'], header=["t"])
     for options in both_forms("--file", f"{text}={text}"):
+        made = in_a_table(text, 'the file <t> should be "x"')
         yield Run(made, files={text: "x"}, options=options)
         yield Run(made, options=options, fault=f"{text}: cannot read")
 
@@ -108,19 +98,20 @@ def world_files(text):
 def tags(byte):
     """Runs with texts of tags. A blank at an end is one of an expression; any other byte belongs to the tag."""
     status = "passed" if chr(byte) in "\t " else "skipped"
-    for text in edged(byte, "@a"):
-        for options in both_forms("--tags", text):
-            yield Run(FeatureFile("@a").scenario(Step("it passes", status)), options=options)
+    return (Run(FeatureFile("@a").scenario(Step("it passes", status)), options=options)
+            for text in edged(byte, "@a") for options in both_forms("--tags", text))
 
 
 def options_of(byte):
     """Runs with options, and values of them, that aren't one with this byte."""
     made, end = FeatureFile().scenario("it passes"), chr(byte)
-    for option, value, error in (("--format", "plain", NOT_A_FORMAT), ("--line", "2", NOT_A_LINE)):
+    for option, (value, said) in VALUES.items():
         for text in edged(byte, value):
-            for options in both_forms(option, text):
-                yield Run(made, options=options, err=error.format(text), status=2)
-    yield Run(made, options=[f"--stop{end}"], err=NOT_AN_OPTION.format(f"--stop{end}"), status=2)
+            err = f"error: invalid value '{text}' for '{option}'{said}"
+            yield from (Run(made, options=it, err=err, status=2) for it in both_forms(option.split()[0], text))
+    usage = "\nUsage: gherkin_run --stop <FILE>...\n"
+    err = f"error: unexpected argument '--stop{end}' found\n\n  tip: a similar argument exists: '--stop'\n{usage}{HELP}"
+    yield Run(made, options=[f"--stop{end}"], err=err, status=2)
     # What doesn't begin with a dash is a file.
     for option in ("--stop", "--help", "--", "-h"):
         yield Run(made, options=[end + option], fault=f"{end + option}: cannot read")

@@ -1,11 +1,11 @@
 """Counts and lengths of sizes at which nobody looks, and large runs.
 
-Each count and length that a user controls, from the bytes of a file to the changes in a layer, is a row. ROWS are made
-of tables and of marked functions. Each has a function that makes the run of a size, with what has to come out, worked
-out beside it and not taken from the program. A row is tried with each of SIZES and with some random ones, or with sizes
-that are its own: those up to SMALL in each format, larger ones in one format. With SIZES=all in the environment each
-size is tried in each format, in some two minutes. Some rows end at 4,097, since their cost grows faster than their
-number, or there is a limit below; those of one argument end where the system takes no longer one.
+Each count and length that a user controls, from the bytes of a file to the changes in a layer, is a row. A row makes
+the run of a size, with what has to come out, worked out beside it and not taken from the program. It is tried with each
+of SIZES and with some random ones, or with sizes of its own: those up to SMALL in each format, larger ones in one format.
+With SIZES=all in the environment each size is tried in each format, in some two minutes. Some rows end at SMALL, since
+their cost grows faster than their number, or there is a limit below; those of one argument end where the system takes no
+longer one.
 
 A growing run is made of two sizes, and the larger may take only so many times the processor time of the smaller. Runs at
 the limits are on the page sizes.md.
@@ -21,9 +21,9 @@ import threading
 
 import driver
 import pages
-from builder import FAILING, HINTS, FeatureFile, Run, Step, judged, quoted, with_hooks, with_library
+from builder import FAILING, HINTS, FeatureFile, Run, Step, quoted, table_row, with_hooks, with_library
 from checks import Checks
-from reports import closing
+from reports import failures, plain_tail
 from tables import FORMATS
 
 SIZES = [0, 1, 127, 128, 129, 255, 256, 257, 4095, 4096, 4097, 65_535, 65_536, 65_537]
@@ -38,6 +38,8 @@ DEPTH_LIMIT = 100  # of an expression
 PIPE = 65_536  # bytes that a pipe holds, as the system makes it
 TIMES = 10  # a growing run is made once more so many times as large
 MOST_TIMES = 30  # and takes at most so many times the processor time; 100 where each part is compared with each other
+OVER = (TEXT_LIMIT, TEXT_LIMIT + 1)
+AROUND = (TEXT_LIMIT - 1, *OVER)
 # Not the same letters again after a while, so that a part that is lost or doubled is seen.
 LETTERS = "".join(random.Random(0).choices("abcdefghijklmnopqrstuvwxy", k=MOST))
 OWN_ENTRIES = {
@@ -46,34 +48,21 @@ OWN_ENTRIES = {
     "value": "step put {name} => set_value\nstep see {name} => value_is\n",
 }
 PASSING = FeatureFile().scenario("it passes").text()
-SKIPPED = Step("it passes", "skipped")
-UNTESTED = Step("it passes", "untested")
-
-# What makes the run of a size, the sizes, and the formats, where each of them is tried with these.
-Row = collections.namedtuple("Row", "name make sizes formats")
-ROWS, GROWING = [], []
+SKIPPED, UNTESTED = (Step("it passes", it) for it in ("skipped", "untested"))
 
 
-def rows(table, least=0, most=MOST, also=(), only=None, formats=None):
-    """Adds a row for each name of a table, with the usual sizes of a range and some more, or with other sizes alone."""
-    for name, make in table.items():
+class Row(collections.namedtuple("Row", "make least most also only formats", defaults=(0, MOST, (), (), ()))):
+    """What makes the run of a size, and the sizes: the usual ones of a range and some more, or others alone. It may have
+    formats in which each of them is tried."""
+
+    def sizes(self, name):
         chance = random.Random(name)
-        sizes = [it for it in SIZES if least <= it <= most]
-        sizes += [int(most ** chance.random()) for _ in range(RANDOM_SIZES)]
-        ROWS.append(Row(name, make, list(only or [*sizes, *also]), formats))
+        sizes = [it for it in SIZES if self.least <= it <= self.most]
+        return self.only or [*sizes, *(int(self.most ** chance.random()) for _ in range(RANDOM_SIZES)), *self.also]
 
 
-def row(**limits):
-    """Marks a function as a row."""
-    def marked(make):
-        rows({make.__name__: make}, **limits)
-        return make
-    return marked
-
-
-def growing(size, table):
-    """Adds the growing runs of a table, which are made of this size and TIMES as large."""
-    GROWING.extend((name, make, size) for name, make in table.items())
+# Rows by their names. A function alone has the usual sizes.
+ROWS = {}
 
 
 # ---- texts
@@ -98,21 +87,13 @@ def one(*steps, **more):
     return FeatureFile().scenario(*steps, **more)
 
 
+def outline(*steps):
+    return FeatureFile().outline("o", *steps)
+
+
 def each(text, numbers):
     """A text with each of these numbers in place of its `{}`, one after another. A number is a count, or a range."""
     return "".join(text.format(it) for it in (range(numbers) if isinstance(numbers, int) else numbers))
-
-
-def too_long(name, size):
-    """The fault of a file of this size, if it has one."""
-    return f"{name}: longer than {FILE_LIMIT} bytes" if size > FILE_LIMIT else ""
-
-
-def counts(*numbers):
-    """The closing lines of a report. Each of the three is what passed, failed, was skipped and was undefined."""
-    names = ("passed", "failed", "skipped", "undefined")
-    kinds = zip(("feature", "scenario", "step"), numbers)
-    return "".join(closing(noun, collections.Counter(dict(zip(names, own)))) + "\n" for noun, own in kinds)
 
 
 # ---- lengths of files and lines
@@ -121,6 +102,11 @@ def padded(text, size):
     """A text of this size: a comment, and below it the text if there is room."""
     rest = size - len(text) - 2
     return "#" + "x" * rest + "\n" + text if rest >= 0 else ("#" + "x" * size)[:size]
+
+
+def too_long(name, size):
+    """The fault of a file of this size, if it has one."""
+    return f"{name}: longer than {FILE_LIMIT} bytes" if size > FILE_LIMIT else ""
 
 
 def feature_of_bytes(size):
@@ -139,33 +125,10 @@ def library_of_bytes(size):
 
 def hooks_of_bytes(size):
     """Without its last byte a hook would fail."""
-    made = one("it passes")
-    return with_hooks(made, padded("before_feature:\n* it passes", size), fault=too_long("h.hooks", size))
+    text = padded("before_feature:\n* it passes", size)
+    return with_hooks(one("it passes"), text, fault=too_long("h.hooks", size))
 
 
-rows({"bytes of a feature file": feature_of_bytes, "bytes of a library": library_of_bytes,
-      "bytes of a hooks file": hooks_of_bytes}, also=(FILE_LIMIT, FILE_LIMIT + 1))
-rows({"bytes of a comment": lambda size: one("it passes").add(("#" + letters(size))[:size])},
-     also=(FILE_LIMIT - len(PASSING) - 1,))
-
-
-rows({"bytes of a description": lambda size: FeatureFile().add(letters(size)).scenario("it passes")}, least=1)
-rows({
-    "bytes of a line of blanks": lambda size: FeatureFile(blanks(size)).scenario("it passes").add(blanks(size)),
-    "lines before a scenario": lambda size: FeatureFile().add(*[""] * size).scenario(FAILING),
-    "lines before a fault of a library": lambda size: with_library(
-        FeatureFile(), "\n" * size + "step x => dance\n", fault=f"l.steps:{size + 1}: unknown action"),
-    # A step is description there.
-    "lines of descriptions": lambda size: FeatureFile().add(*["Given it fails"] * size).scenario("it passes"),
-})
-rows({"lines before a fault": lambda size: Run(one("it passes").add(*["# c"] * size, "stray"),
-                                               fault=f"a.feature:{size + 4}: unexpected line")}, also=(70_000,))
-rows({"lines before the scenario of --line": lambda size: Run(
-    one(Step("it fails", "skipped"), name="no").add(*[""] * size).scenario("it passes", name="yes"),
-    options=["--line", str(size + 4)])}, only=(65_531, 65_532, 999_996))
-
-
-@row()
 def blanks_around_lines(size):
     """They are trimmed, and each line has its column."""
     made = one("it passes", Step("these files:", block=("| name | text |", "| f | x |")))
@@ -173,11 +136,30 @@ def blanks_around_lines(size):
     return made
 
 
-# As many are dropped from each line of it, or as there are.
-rows({"blanks before a doc string": lambda size: one(
-    Step('a file named "f" with:', block=[blanks(size) + it for it in ('"""', "  a", "", "b")] + [
-        blanks(max(0, size - 1)) + "c", '"""']),
-    Step('the file "f" should be:', block=quoted("  a\n\nb\nc")))})
+ROWS |= {
+    **{f"bytes of a {noun}": Row(make, also=(FILE_LIMIT, FILE_LIMIT + 1)) for noun, make in (
+        ("feature file", feature_of_bytes), ("library", library_of_bytes), ("hooks file", hooks_of_bytes))},
+    "bytes of a comment": Row(
+        lambda size: one("it passes").add(("#" + letters(size))[:size]), also=(FILE_LIMIT - len(PASSING) - 1,)),
+    "bytes of a description": Row(lambda size: FeatureFile().add(letters(size)).scenario("it passes"), least=1),
+    "bytes of a line of blanks": lambda size: FeatureFile(blanks(size)).scenario("it passes").add(blanks(size)),
+    "blanks around lines": blanks_around_lines,
+    # As many are dropped from each line of it, or as there are.
+    "blanks before a doc string": lambda size: one(
+        Step('a file named "f" with:', block=[blanks(size) + it for it in ('"""', "  a", "", "b")] + [
+            blanks(max(0, size - 1)) + "c", '"""']),
+        Step('the file "f" should be:', block=quoted("  a\n\nb\nc"))),
+    "lines before a scenario": lambda size: FeatureFile().add(*[""] * size).scenario(FAILING),
+    "lines before a fault of a library": lambda size: with_library(
+        FeatureFile(), "\n" * size + "step x => dance\n", fault=f"l.steps:{size + 1}: unknown action"),
+    # A step is description there.
+    "lines of descriptions": lambda size: FeatureFile().add(*["Given it fails"] * size).scenario("it passes"),
+    "lines before a fault": Row(lambda size: Run(
+        one("it passes").add(*["# c"] * size, "stray"), fault=f"a.feature:{size + 4}: unexpected line"), also=(70_000,)),
+    "lines before the scenario of --line": Row(lambda size: Run(
+        one(Step("it fails", "skipped"), name="no").add(*[""] * size).scenario("it passes", name="yes"),
+        options=["--line", str(size + 4)]), only=(65_531, 65_532, 999_996)),
+}
 
 
 # ---- lengths of texts
@@ -196,20 +178,13 @@ def kept_text(noun, letter, size):
     return with_library(one(Step("put n", kept(size), quoted(text)), *found("see n", text)), OWN_ENTRIES[noun])
 
 
-rows({f"bytes of the text of a {noun}": functools.partial(kept_text, noun, "") for noun in OWN_ENTRIES},
-     also=(TEXT_LIMIT, TEXT_LIMIT + 1))
-rows({"bytes of a text of longer characters": functools.partial(kept_text, "file", "\u00e9")},
-     only=(TEXT_LIMIT, TEXT_LIMIT + 1, TEXT_LIMIT + 2))
+def text_of_a_cell(size):
+    text = letters(size)
+    return one(Step("these files:", kept(size), ("| name | text |", f"| f | {text} |")),
+               Step('the file "f" should contain:', block=quoted(text)), *found('the file "f" should be:', text))
 
 
-rows({"bytes of the text of a cell": lambda size: one(
-    Step("these files:", kept(size), ("| name | text |", f"| f | {letters(size)} |")),
-    Step('the file "f" should contain:', block=quoted(letters(size))), *found('the file "f" should be:', letters(size)))},
-     also=(TEXT_LIMIT, TEXT_LIMIT + 1))
-
-
-@row(also=(TEXT_LIMIT - 1, TEXT_LIMIT, TEXT_LIMIT + 1))
-def bytes_of_a_text_in_two_halves(size):
+def text_in_two_halves(size):
     """And the same text with one byte more."""
     text, half = letters(size), size // 2
     return one(
@@ -221,20 +196,25 @@ def bytes_of_a_text_in_two_halves(size):
         Step('the file "f" should be:', "failed: differs", quoted(f"{other(text)}!")))
 
 
-@row(least=1, also=(TEXT_LIMIT, TEXT_LIMIT + 1))
-def bytes_of_a_text_in_a_step(size):
+def text_in_a_step(size):
     text, made = letters(size), FeatureFile()
     for put, see, last in (
-            ('the variable "V" is set to "{}"', 'the variable "V" should be "{}"', Step("it passes")),
-            ('the value "v" is set to "{}"', 'the value "v" should be "{}"',
+            ('the variable "V" is set to', 'the variable "V" should be', Step("it passes")),
+            ('the value "v" is set to', 'the value "v" should be',
              Step('the number "v" grows by 1', "failed: not a number")),
-            ('a file named "f" containing "{}"', 'the file "f" should be "{}"',
+            ('a file named "f" containing', 'the file "f" should be',
              Step(f'the file "f" should contain "{other(text)}"', "failed: differs"))):
-        made.scenario(Step(put.format(text), kept(size)), see.format(text), last)
+        made.scenario(Step(f'{put} "{text}"', kept(size)), f'{see} "{text}"', last)
     return made
 
 
-rows({
+ROWS |= {
+    **{f"bytes of the text of a {noun}": Row(functools.partial(kept_text, noun, ""), also=OVER) for noun in OWN_ENTRIES},
+    "bytes of a text of longer characters": Row(
+        functools.partial(kept_text, "file", "\u00e9"), only=(TEXT_LIMIT, TEXT_LIMIT + 1, TEXT_LIMIT + 2)),
+    "bytes of the text of a cell": Row(text_of_a_cell, also=OVER),
+    "bytes of a text in two halves": Row(text_in_two_halves, also=AROUND),
+    "bytes of a text in a step": Row(text_in_a_step, least=1, also=OVER),
     "escapes in a cell": lambda size: one(
         Step("these files:", block=("| name | text |", "| f | " + "\\|" * size + "a |")),
         Step('the file "f" should be:', block=quoted("|" * size + "a"))),
@@ -245,22 +225,14 @@ rows({
     "digits of a number": lambda size: one(
         Step(f'the number "n" is set to {"0" * (size - 1) + "7" if size else "+"}', "passed" if size else "undefined"),
         'the value "n" should be "7"'),
-})
-
-
-# ---- texts that could cost more than their length
-
-rows({
     # A look-up at each `<` must not read on to the end, and what was filled before a `>` may not be copied there.
-    "openings": lambda size: FeatureFile().outline("o", Step("<" * size, "undefined")).examples(["1"]),
-    "openings and a closing": lambda size: FeatureFile().outline("o", Step("<" * size + ">", "undefined")).examples(["1"]),
-    "closings": lambda size: FeatureFile().outline("o", Step(">" * size * 2, "undefined")).examples(["1"]),
-}, only=(TEXT_LIMIT,))
-rows({
+    **{name: Row(lambda size, begin=begin, end=end: outline(Step(begin * size + end, "undefined")).examples(["1"]),
+                 only=(TEXT_LIMIT,))
+       for name, begin, end in (("openings", "<", ""), ("openings and a closing", "<", ">"), ("closings", ">>", ""))},
     # No line of a doc string may cost the whole text.
-    "lines of a doc string with escapes": lambda size: one(
-        Step("it passes", block=["```", *["x"] * size, "\\`\\`\\`" * (size // 10), "```"])),
-}, only=(1_000_000,))
+    "lines of a doc string with escapes": Row(lambda size: one(
+        Step("it passes", block=["```", *["x"] * size, "\\`\\`\\`" * (size // 10), "```"])), only=(1_000_000,)),
+}
 
 
 # ---- lengths of names
@@ -275,40 +247,11 @@ def kept_name(noun, letter, size):
     return with_library(made, OWN_ENTRIES[noun])
 
 
-rows({f"bytes of the name of a {noun}, of {letter or 'letters'}": functools.partial(kept_name, noun, letter)
-      for noun in OWN_ENTRIES for letter in ("", "\u00e9")}, least=1)
-
-
-rows({"bytes of a name in a table": lambda size: one(Step(
-    "these files:", kept(size or NAME_LIMIT + 1, "bad name", NAME_LIMIT), ("| name | text |", f"| {letters(size)} | x |")))})
-rows({"bytes of the new name of a file": lambda size: one(
-    'a file named "f" containing "x"',
-    Step(f'the file "f" is renamed to "{letters(size)}"', kept(size, "bad name", NAME_LIMIT)),
-    f'the file "{letters(size)}" should be "x"', Step('the file "f" should exist', "failed: absent"))}, least=1)
-rows({
-    "bytes of the name of a feature": lambda size: FeatureFile(name=letters(size)).scenario("it passes"),
-    "bytes of the name of a scenario": lambda size: one("it passes", name=letters(size)),
-    "bytes of the names of a rule and a background": lambda size: FeatureFile().rule(letters(size)).background(
-        "it passes", name=letters(size)).scenario("it passes"),
-    "bytes of the names of an outline and of examples": lambda size: FeatureFile().outline(
-        letters(size), "it passes").examples(["x"], name=letters(size)),
-    # A placeholder of any length is filled, an empty one, too.
-    "bytes of a header and a cell": lambda size: FeatureFile().outline(
-        "o", Step(f"<{letters(size)}><{letters(size)}y>", "undefined")).examples(
-            [letters(size).upper()], header=[letters(size)]),
-})
-
-
 def named(name):
     return FeatureFile(name=name).scenario(Step(name, "undefined"), name=name)
 
 
-rows({"names with escapes": lambda size: named('\u00e9"\\' * size)}, only=(100_000,), formats=FORMATS)
-rows({"names": lambda size: named("n" * size)}, only=(1_000_000,))
-
-
-@row(least=1)
-def bytes_of_a_tag(size):
+def tag_of_bytes(size):
     tag = f"@{letters(size - 1)}"
     made = one("it passes", tags=tag)
     if size == 1:
@@ -316,22 +259,58 @@ def bytes_of_a_tag(size):
     return Run(made.scenario(SKIPPED, tags=f"{other(tag)} {tag}z"), options=["--tags", tag])
 
 
-@row()
-def bytes_of_a_path(size):
+def path_of_bytes(size):
     """The file's name, after as many slashes as are needed."""
     path = "." + "/" * (size - 10) + "a.feature" if size > 10 else "a"[:size]
-    made = FeatureFile(source=path).scenario("it passes")
-    run = Run(made, fault="" if 0 < size <= PATH_LIMIT else f"{path}: cannot read")
-    run.files = {"a": made.text(), "a.feature": made.text()}
+    run = Run(FeatureFile(source=path).scenario("it passes"),
+              fault="" if 0 < size <= PATH_LIMIT else f"{path}: cannot read")
+    run.files = dict.fromkeys(("a", "a.feature"), PASSING)
     return run
+
+
+ROWS |= {
+    **{f"bytes of the name of a {noun}, of {letter or 'letters'}": Row(functools.partial(kept_name, noun, letter), least=1)
+       for noun in OWN_ENTRIES for letter in ("", "\u00e9")},
+    "bytes of a name in a table": lambda size: one(Step(
+        "these files:", kept(size or NAME_LIMIT + 1, "bad name", NAME_LIMIT),
+        ("| name | text |", f"| {letters(size)} | x |"))),
+    "bytes of the new name of a file": Row(lambda size: one(
+        'a file named "f" containing "x"',
+        Step(f'the file "f" is renamed to "{letters(size)}"', kept(size, "bad name", NAME_LIMIT)),
+        f'the file "{letters(size)}" should be "x"', Step('the file "f" should exist', "failed: absent")), least=1),
+    "bytes of the name of a feature": lambda size: FeatureFile(name=letters(size)).scenario("it passes"),
+    "bytes of the name of a scenario": lambda size: one("it passes", name=letters(size)),
+    "bytes of the names of a rule and a background": lambda size: FeatureFile().rule(letters(size)).background(
+        "it passes", name=letters(size)).scenario("it passes"),
+    "bytes of the names of an outline and of examples": lambda size: FeatureFile().outline(
+        letters(size), "it passes").examples(["x"], name=letters(size)),
+    # A placeholder of any length is filled, an empty one, too.
+    "bytes of a header and a cell": lambda size: outline(
+        Step(f"<{letters(size)}><{letters(size)}y>", "undefined")).examples(
+            [letters(size).upper()], header=[letters(size)]),
+    "names with escapes": Row(lambda size: named('\u00e9"\\' * size), only=(100_000,), formats=FORMATS),
+    "names": Row(lambda size: named("n" * size), only=(1_000_000,)),
+    "bytes of a tag": Row(tag_of_bytes, least=1),
+    "bytes of a path": path_of_bytes,
+}
 
 
 # ---- libraries and their steps
 
-rows({
+def fields_of_a_pattern(size):
+    fields, texts = (",".join(it % number for number in range(size)) for it in ("{f%d}", "t%d"))
+    return with_library(one(f"a {texts}.", Step(f"a {texts}", "undefined")), f"step a {fields}. => pass\n")
+
+
+def entries_of_a_library(size):
+    steps = [f"w{number}" for number in (0, size // 2, size - 1)] if size else []
+    return with_library(one(*steps, Step(f"w{size}", "undefined")), each("step w{} => pass\n", size))
+
+
+ROWS |= {
     # A keyword alone is no step, and nothing else may follow below one.
-    "bytes of a step": lambda size: Run(one("it passes", Step(letters(size), "undefined")),
-                                        fault="" if size else "a.feature:4: unexpected line"),
+    "bytes of a step": lambda size: Run(
+        one("it passes", Step(letters(size), "undefined")), fault="" if size else "a.feature:4: unexpected line"),
     "bytes of a pattern": lambda size: with_library(
         one(letters(size), Step(other(letters(size)), "undefined")), f"step {letters(size)} => pass\n",
         fault="" if size else "l.steps:1: bad pattern"),
@@ -342,28 +321,9 @@ rows({
     "bytes of the name of a field": lambda size: with_library(
         one("a b,c"), f"step a {{{letters(size)}}},{{{other(letters(size))}}} => pass\n",
         fault="" if size else "l.steps:1: bad pattern"),
-})
-
-
-@row(most=4097)
-def fields_of_a_pattern(size):
-    fields, texts = (",".join(it % number for number in range(size)) for it in ("{f%d}", "t%d"))
-    return with_library(one(f"a {texts}.", Step(f"a {texts}", "undefined")), f"step a {fields}. => pass\n")
-
-
-@row(most=4097)
-def entries_of_a_library(size):
-    steps = [f"w{number}" for number in (0, size // 2, size - 1)] if size else []
-    return with_library(one(*steps, Step(f"w{size}", "undefined")), each("step w{} => pass\n", size))
-
-
-growing(3000, {
-    # Each line is compared with those before it that may be ambiguous with it.
-    "entries of a library": lambda count: with_library(
-        one("w0", f"w{count - 1}", Step("w", "undefined")), each("step w{} => pass\n", count)),
-    "entries of a library with fields": lambda count: with_library(
-        one(f"w0 is 1 of {count}", Step("w0 is", "undefined")), each("step w{} is {{n:d}} of {{m:d}} => pass\n", count)),
-})
+    "fields of a pattern": Row(fields_of_a_pattern, most=SMALL),
+    "entries of a library": Row(entries_of_a_library, most=SMALL),
+}
 
 
 # ---- counts in a feature file
@@ -375,43 +335,13 @@ RULE_HOOKS = ('before_feature:\n* the number "n" is set to 1\nbefore_rule:\n* th
               'after_feature:\n* the number "n" should be 1\nafter_tag @bad:\n* the number "n" should be 1\n')
 SEEN, GROWN = 'the number "n" should be 11', ['the number "n" grows by 100', 'the number "n" should be 111']
 
-rows({
-    "scenarios of a feature": lambda size: FeatureFile().scenarios(size, *KINDS),
-    "scenarios of a rule": lambda size: FeatureFile().rule("r").scenarios(size, *KINDS),
-    "scenarios that pass": lambda size: FeatureFile().scenarios(size, ["it passes"]),
-    "scenarios after one that stops the run": lambda size: Run(
-        one(FAILING).scenarios(size, [UNTESTED]), options=["--stop"]),
-    "scenarios before the one that is chosen": lambda size: Run(
-        FeatureFile().scenarios(size, [Step("it fails", "skipped")]).scenario("it passes"),
-        options=["--line", str(2 + 2 * size)]),
-    "steps of a scenario": lambda size: one(*["it passes"] * size, FAILING, "it passes"),
-    "steps of a background": lambda size: FeatureFile().background(*["it passes"] * size).scenario(
-        "it passes").scenario(FAILING),
-})
-rows({"scenarios that change something": lambda size: FeatureFile(name="many").scenarios(size, *CHANGED)},
-     only=(100_000,), formats=FORMATS)
-rows({
-    "scenarios of the file after one that stops the run": lambda size: Run(
-        FeatureFile(source="0.feature").scenario(FAILING),
-        FeatureFile().scenarios(size, [Step(it, "untested") for it in CHANGED[0]]), options=["--stop"]),
-    # Each finds what the rule's hook made.
-    "scenarios of a rule with hooks": lambda size: with_hooks(
-        FeatureFile().rule("r").scenarios(size, [SEEN, 'the number "n" grows by 1']), RULE_HOOKS),
-}, only=(100_000,), formats=["progress", "plain"])
 
-
-@row()
 def steps_of_a_dry_run(size):
     made = one(*[UNTESTED] * size, Step("nothing knows this", "undefined"))
     made.cases = [it._replace(status="untested") for it in made.cases]
     return Run(made, options=["--dry-run"])
 
 
-rows({"rules of a feature": lambda size: FeatureFile().repeat(
-    size, lambda made, at: made.rule(f"r{at}").scenario("it passes", name=f"s{at}"))})
-
-
-@row()
 def rules_with_hooks(size):
     """The hook after every third one fails, unless the rule has no scenario, since such a one isn't begun."""
     made = FeatureFile()
@@ -423,79 +353,43 @@ def rules_with_hooks(size):
     return with_hooks(made, RULE_HOOKS)
 
 
-rows({"rules with hooks and changes": lambda size: with_hooks(FeatureFile().repeat(size, lambda made, at: made.rule(
-    f"r{at}", "@bad" * (at % 2), "failed" if at % 2 else "passed").scenario(*GROWN, name="a").scenario(
-        SEEN, name="b")), RULE_HOOKS)}, only=(1000,), formats=FORMATS)
-rows({"rules after the one that stops the run": lambda size: with_hooks(
-    FeatureFile().rule("r", "@bad", "failed").scenario("it passes").repeat(size, lambda made, at: made.rule(
-        f"r{at}").scenario(UNTESTED, name=f"s{at}").scenario(UNTESTED, name="t")), RULE_HOOKS, ["--stop"])}, also=(999,))
-rows({"examples and rules in turn": lambda size: FeatureFile().outline("o", 'a file named "<a>" containing "x"').repeat(
-    size, lambda made, at: made.examples([str(at)], ["x"], name=f"e{at}")).repeat(size, lambda made, at: made.rule(
-        f"r{at}").background("it passes").scenario(name=f"e{at}", keyword="Example"))}, only=(300,))
+def rules_with_changes(size):
+    return with_hooks(FeatureFile().repeat(size, lambda made, at: made.rule(
+        f"r{at}", "@bad" * (at % 2), "failed" if at % 2 else "passed").scenario(*GROWN, name="a").scenario(
+            SEEN, name="b")), RULE_HOOKS)
 
 
-@row(only=(60 * 41,), formats=FORMATS)
-def scenarios_of_a_part_of_many_pieces(size):
-    """60 before the first rule and in each. Their names grow and shrink, so that pieces end anywhere. The hook after
-    each second rule fails. Two of five aren't chosen, nor most of a rule in the middle."""
+def rules_after_one_that_stops(size):
+    made = FeatureFile().rule("r", "@bad", "failed").scenario("it passes")
+    return with_hooks(made.repeat(size, lambda made, at: made.rule(f"r{at}").scenario(
+        UNTESTED, name=f"s{at}").scenario(UNTESTED, name="t")), RULE_HOOKS, ["--stop"])
+
+
+def part_of_many_pieces(size):
+    """60 scenarios before the first rule and in each. Their names grow and shrink, so that pieces end anywhere. The hook
+    after each second rule fails. Two of five aren't chosen, nor most of a rule in the middle."""
     made = FeatureFile()
     for number in range(size):
         rule, place = divmod(number, 60)
         if rule and place == 0:
             made.rule(f"r{rule}", "@bad" * (rule % 2), "failed" if rule % 2 else "passed")
         is_on = number % 5 not in (2, 3) and not 1025 <= number < 1078
-        made.scenario("it passes" if is_on else SKIPPED, name=f"s{number}{'x' * (number * 37 % 211)}", tags="@on" * is_on)
+        name = f"s{number}{'x' * (number * 37 % 211)}"
+        made.scenario("it passes" if is_on else SKIPPED, name=name, tags="@on" * is_on)
     return with_hooks(made, "after_tag @bad:\n* it fails\n", ["--no-skipped", "--tags", "@on"])
 
 
-@row(also=(70_000,))
 def rows_of_a_table(size):
     table = ["| name | text |", *(f"| f{number} | {number} |" for number in range(size))]
     seen = [f'the file "f{number}" should be "{number}"' for number in (0, size // 2, size - 1)]
     return one(Step("these files:", block=table), *(seen if size else []),
-                                  Step(f'the file "f{size}" should exist', "failed: absent"))
+               Step(f'the file "f{size}" should exist', "failed: absent"))
 
 
-@row(least=1)
 def cells_of_a_row(size):
     """The first and the last of the examples' cells, below a step with a table of as many."""
-    header = [f"h{number}" for number in range(size)]
-    table = [f"| {' | '.join(header)} |"] * 2
-    step = Step(f"<h{size - 1}><h0>", "undefined", table)
-    return FeatureFile().outline("o", step).examples([f"c{number}" for number in range(size)], header=header)
-
-
-rows({"cells of a row with one more": lambda size: Run(
-    one(Step("it passes", block=[*["|" + "a|" * size] * 2, "|" + "a|" * (size + 1)])),
-    fault="a.feature:6: row with another number of cells")}, least=1, also=(100_000,))
-
-
-rows({
-    "rows of examples": lambda size: FeatureFile().outline("o", "it passes").examples(*([str(at)] for at in range(size))),
-    "examples of an outline": lambda size: FeatureFile().outline("o", "it passes").repeat(
-        size, lambda made, _: made.examples(["x"], name="e")),
-})
-rows({"placeholders in a text": lambda size: FeatureFile().outline(
-    "o", Step(f"x{'<a>' * size}<b>", "undefined")).examples(["12"])})
-
-
-def under(header, text, told):
-    """A step with this text under a header, and the text that it is filled to from one row."""
-    cells = [f"c{number}" for number in range(len(header))]
-    made = FeatureFile().outline("o", Step(text, "undefined"))
-    made.add("Examples:", *(f"|{'|'.join(row)}|" for row in (header, cells)))
-    steps = [it._replace(text=told) for it in made.outlined_steps]
-    return Run(made.case("Scenario Outline", "o -- @1.1", len(made.lines), steps))
-
-
-growing(3000, {
-    "columns of an outline": lambda count: under(
-        [f"h{number}" for number in range(count)], each("<h{}>", count), each("c{}", count)),
-    "placeholders in a long text": lambda count: under(["a", "b"], "<a><b><c>" * count, "c0c1<c>" * count),
-    # Behind each `<` as many bytes may be a name. A header of 21 columns has an index.
-    "brackets before a placeholder": lambda count: under(
-        [*(f"h{number}" for number in range(20)), "<" * count], "<" * 2 * count + ">", "<" * (count - 1) + "c20"),
-})
+    header, cells = ([f"{letter}{number}" for number in range(size)] for letter in "hc")
+    return outline(Step(f"<h{size - 1}><h0>", "undefined", [table_row(header)] * 2)).examples(cells, header=header)
 
 
 def chosen_by_the_last(tags, size):
@@ -504,19 +398,61 @@ def chosen_by_the_last(tags, size):
     return Run(made, options=["--tags", f"@t{size - 1}", "--tags", f"~@t{size}"])
 
 
-rows({"tags of a line": lambda size: chosen_by_the_last([each("@t{} ", size)], size),
-      "lines of tags": lambda size: chosen_by_the_last([f"@t{number}" for number in range(size)], size)}, also=(70_000,))
-
-
-@row(also=(80_000,))
 def lines_of_a_doc_string(size):
     lines = [f"line {number}" for number in range(size)]
+    block, less = ['"""', *lines, '"""'], ['"""', *lines[:-1], "line", '"""']
     contained = [f'the file "f" should contain "{lines[-1]}"'] if lines else []
-    made = one(Step('a file named "f" with:', block=['"""', *lines, '"""']), *contained,
-                                  Step('the file "f" should be:', block=['"""', *lines, '"""']),
-                                  Step('the file "f" should be:', "failed: differs", ['"""', *lines[:-1], "line", '"""']))
-    return made.scenario(Step('a file named "f" with:', block=['"""', *lines, '"""']),
-                         Step(f'the file "f" should contain "line {size}"', "failed: differs"))
+    put, see = 'a file named "f" with:', 'the file "f" should be:'
+    return one(Step(put, block=block), *contained, Step(see, block=block), Step(see, "failed: differs", less)).scenario(
+        Step(put, block=block), Step(f'the file "f" should contain "line {size}"', "failed: differs"))
+
+
+ROWS |= {
+    "scenarios of a feature": lambda size: FeatureFile().scenarios(size, *KINDS),
+    "scenarios of a rule": lambda size: FeatureFile().rule("r").scenarios(size, *KINDS),
+    "scenarios that pass": lambda size: FeatureFile().scenarios(size, ["it passes"]),
+    "scenarios after one that stops the run": lambda size: Run(
+        one(FAILING).scenarios(size, [UNTESTED]), options=["--stop"]),
+    "scenarios before the one that is chosen": lambda size: Run(
+        FeatureFile().scenarios(size, [Step("it fails", "skipped")]).scenario("it passes"),
+        options=["--line", str(2 + 2 * size)]),
+    "steps of a scenario": lambda size: one(*["it passes"] * size, FAILING, "it passes"),
+    "steps of a background": lambda size: FeatureFile().background(*["it passes"] * size).scenario(
+        "it passes").scenario(FAILING),
+    "scenarios that change something": Row(
+        lambda size: FeatureFile(name="many").scenarios(size, *CHANGED), only=(100_000,), formats=FORMATS),
+    "scenarios of the file after one that stops the run": Row(lambda size: Run(
+        FeatureFile(source="0.feature").scenario(FAILING),
+        FeatureFile().scenarios(size, [Step(it, "untested") for it in CHANGED[0]]), options=["--stop"]),
+        only=(100_000,), formats=["progress", "plain"]),
+    # Each finds what the rule's hook made.
+    "scenarios of a rule with hooks": Row(lambda size: with_hooks(
+        FeatureFile().rule("r").scenarios(size, [SEEN, 'the number "n" grows by 1']), RULE_HOOKS),
+        only=(100_000,), formats=["progress", "plain"]),
+    "steps of a dry run": steps_of_a_dry_run,
+    "rules of a feature": lambda size: FeatureFile().repeat(
+        size, lambda made, at: made.rule(f"r{at}").scenario("it passes", name=f"s{at}")),
+    "rules with hooks": rules_with_hooks,
+    "rules with hooks and changes": Row(rules_with_changes, only=(1000,), formats=FORMATS),
+    "rules after the one that stops the run": Row(rules_after_one_that_stops, also=(999,)),
+    "examples and rules in turn": Row(lambda size: outline('a file named "<a>" containing "x"').repeat(
+        size, lambda made, at: made.examples([str(at)], ["x"], name=f"e{at}")).repeat(
+            size, lambda made, at: made.rule(f"r{at}").background("it passes").scenario(
+                name=f"e{at}", keyword="Example")), only=(300,)),
+    "scenarios of a part of many pieces": Row(part_of_many_pieces, only=(60 * 41,), formats=FORMATS),
+    "rows of a table": Row(rows_of_a_table, also=(70_000,)),
+    "cells of a row": Row(cells_of_a_row, least=1),
+    "cells of a row with one more": Row(lambda size: Run(
+        one(Step("it passes", block=[*["|" + "a|" * size] * 2, "|" + "a|" * (size + 1)])),
+        fault="a.feature:6: row with another number of cells"), least=1, also=(100_000,)),
+    "rows of examples": lambda size: outline("it passes").examples(*([str(at)] for at in range(size))),
+    "examples of an outline": lambda size: outline("it passes").repeat(
+        size, lambda made, _: made.examples(["x"], name="e")),
+    "placeholders in a text": lambda size: outline(Step(f"x{'<a>' * size}<b>", "undefined")).examples(["12"]),
+    "tags of a line": Row(lambda size: chosen_by_the_last([each("@t{} ", size)], size), also=(70_000,)),
+    "lines of tags": Row(lambda size: chosen_by_the_last([f"@t{it}" for it in range(size)], size), also=(70_000,)),
+    "lines of a doc string": Row(lines_of_a_doc_string, also=(80_000,)),
+}
 
 
 # ---- files of a run
@@ -533,62 +469,73 @@ def empty_files(size, *last):
     return made
 
 
-rows({"files that change something": lambda size: Run(*changing_files(size)),
-      "files that change something, backwards": lambda size: Run(*reversed(changing_files(size)))}, only=(100,), formats=["plain"])
-rows({"files without scenarios": lambda size: Run(*empty_files(size))}, only=(300,), formats=FORMATS)
-rows({"files before one with a fault": lambda size: Run(
-    *empty_files(size, "Feature: g"), fault=f"{size - 1}.feature:2: unexpected line")}, only=(300,), formats=["plain"])
-# The same file again and again.
-rows({"files of a run": lambda size: Run(*[FeatureFile(source="a").scenario("it passes")] * size)}, least=1)
-rows({"steps of a file": lambda size: FeatureFile().outline("o", *["it passes"] * 1000).examples(*[["x"]] * (size // 1000))},
-     only=(1_000_000,), formats=["plain"])
+ROWS |= {
+    "files that change something": Row(lambda size: Run(*changing_files(size)), only=(100,), formats=["plain"]),
+    "files that change something, backwards": Row(
+        lambda size: Run(*reversed(changing_files(size))), only=(100,), formats=["plain"]),
+    "files without scenarios": Row(lambda size: Run(*empty_files(size)), only=(300,), formats=FORMATS),
+    "files before one with a fault": Row(lambda size: Run(
+        *empty_files(size, "Feature: g"), fault=f"{size - 1}.feature:2: unexpected line"), only=(300,), formats=["plain"]),
+    # The same file again and again.
+    "files of a run": Row(lambda size: Run(*[FeatureFile(source="a").scenario("it passes")] * size), least=1),
+    "steps of a file": Row(lambda size: outline(*["it passes"] * 1000).examples(*[["x"]] * (size // 1000)),
+                           only=(1_000_000,), formats=["plain"]),
+}
 
 
 # ---- counts in a run
 
+GROWS = 'the number "n" grows by 1'
+STARTS = 'the number "n" is set to 0'
+NO_VALUE = 'the value "n" should be absent'
+
+
+def counted(number):
+    return f'the number "n" should be {number}'
+
+
 def changes_of_each_kind(size):
     """So many changes of each of a value, a variable and a file. The end of the scenario takes all of them back."""
     gone = ['the variable "V" should be unset', 'the file "f" should not exist']
-    changes = [*['the number "n" grows by 1'] * size,
+    changes = [*[GROWS] * size,
                *['the variable "V" is set to "x"', 'the variable "V" is unset'] * (size // 2),
                *['a file named "f" containing "x"', 'the file "f" is removed'] * (size // 2)]
-    made = one('the number "n" is set to 0', *changes, f'the number "n" should be {size}', *gone)
-    return made.scenario('the value "n" should be absent', *gone)
+    return one(STARTS, *changes, counted(size), *gone).scenario(NO_VALUE, *gone)
 
 
-rows({"changes of a layer": lambda size: one(
-    'the number "n" is set to 0', *['the number "n" grows by 1'] * size, f'the number "n" should be {size}').scenario(
-        'the value "n" should be absent')})
-rows({"changes of each kind": changes_of_each_kind}, only=(100_000,))
-
-
-@row()
 def names_of_a_layer(size):
     """A variable and a value of each name. The end of the layer takes all of them back."""
-    put = [f'the {noun} "n{number}" is set to "{number}"'
-           for number in range(size // 2) for noun in ("variable", "value")]
-    last = size // 2 - 1
-    seen = [f'the {noun} "n{last}" should be "{last}"' for noun in ("variable", "value")]
-    return one(*put, *(seen if put else [])).scenario(
-        f'the variable "n{last}" should be unset', f'the value "n{last}" should be absent')
+    kinds, last = [("variable", "unset"), ("value", "absent")], size // 2 - 1
+    put = [f'the {noun} "n{number}" is set to "{number}"' for number in range(size // 2) for noun, _ in kinds]
+    seen = [f'the {noun} "n{last}" should be "{last}"' for noun, _ in kinds] if put else []
+    return one(*put, *seen).scenario(*(f'the {noun} "n{last}" should be {gone}' for noun, gone in kinds))
 
 
-# Cleanups run last in, first out.
-rows({"cleanups of a scenario": lambda size: one(
-    f'at cleanup the number "n" should be {size}', *['at cleanup the number "n" grows by 1'] * size,
-    'at cleanup the number "n" is set to 0').scenario('the value "n" should be absent')})
+def cleanups_with_a_table(size):
+    last, rows = size // 10 - 1, [f"| f{at} | {at} |" for at in range(size // 10)]
+    return one(
+        f"at cleanup {counted(size)}", f'at cleanup the file "f{last}" should be "{last}"',
+        *[f"at cleanup {GROWS}"] * size, f"at cleanup {STARTS}",
+        Step("at cleanup these files:", block=["| name | text |", *rows]))
 
 
-rows({"cleanups with a table": lambda size: one(
-    f'at cleanup the number "n" should be {size}', f'at cleanup the file "f{size // 10 - 1}" should be "{size // 10 - 1}"',
-    *['at cleanup the number "n" grows by 1'] * size, 'at cleanup the number "n" is set to 0',
-    Step("at cleanup these files:", block=["| name | text |", *(f"| f{at} | {at} |" for at in range(size // 10))]))},
-     only=(100_000,))
-# They run after its scenarios and last in, first out, and the last of them fails.
-rows({"cleanups of a rule": lambda size: with_hooks(
-    FeatureFile().rule("r", around="failed").scenario('the value "n" should be absent'),
-    f'before_rule:\n* at cleanup it fails\n* at cleanup the number "n" should be {size}\n'
-    + '* at cleanup the number "n" grows by 1\n' * size + '* at cleanup the number "n" is set to 0\n')})
+def cleanups_of_a_rule(size):
+    """They run after its scenarios and last in, first out, and the last of them fails."""
+    cleanups = ["it fails", counted(size), *[GROWS] * size, STARTS]
+    return with_hooks(FeatureFile().rule("r", around="failed").scenario(NO_VALUE),
+                      "before_rule:\n" + each("* at cleanup {}\n", cleanups))
+
+
+ROWS |= {
+    "changes of a layer": lambda size: one(STARTS, *[GROWS] * size, counted(size)).scenario(NO_VALUE),
+    "changes of each kind": Row(changes_of_each_kind, only=(100_000,)),
+    "names of a layer": names_of_a_layer,
+    # Cleanups run last in, first out.
+    "cleanups of a scenario": lambda size: one(
+        f"at cleanup {counted(size)}", *[f"at cleanup {GROWS}"] * size, f"at cleanup {STARTS}").scenario(NO_VALUE),
+    "cleanups with a table": Row(cleanups_with_a_table, only=(100_000,)),
+    "cleanups of a rule": cleanups_of_a_rule,
+}
 
 
 # ---- hooks
@@ -600,52 +547,29 @@ EMPTY_HOOKS = "before_tag @t{0}:\nafter_tag @t{0}:\n"
 
 def under_counting_hooks(size, of_rule):
     """One scenario, or two of a rule, with tags whose hooks each grow a number. A step passes if each ran once, in order."""
-    hooks = 'before_tag @t:\n* the number "n" is set to 0\n' + each('before_tag @t{}:\n* the number "n" grows by 1\n', size)
-    tags, seen = "@t" + each(" @t{}", size), f'the number "n" should be {size}'
+    hooks = f"before_tag @t:\n* {STARTS}\n" + each(f"before_tag @t{{}}:\n* {GROWS}\n", size)
+    tags, seen = "@t" + each(" @t{}", size), counted(size)
     in_rule = FeatureFile().rule("r", tags).scenario(seen, name="one").scenario(seen, name="two")
     return with_hooks(in_rule if of_rule else one(seen, tags=tags), hooks)
 
 
-rows({"hooks of a rule": lambda size: under_counting_hooks(size, True),
-      "hooks of a scenario": lambda size: under_counting_hooks(size, False)}, most=4097)
-
-
-@row(most=4097, also=(1000,))
 def hooks_of_a_file(size):
     tags = f"@t0 @t{size - 1}" if size else "@t"
-    seen = VARIABLE_SEEN.format(size - 1) if size else 'the variable "V" should be unset'
-    made = one(seen, tags=tags)
+    made = one(VARIABLE_SEEN.format(size - 1) if size else 'the variable "V" should be unset', tags=tags)
     if size:
         made.scenario(VARIABLE_SEEN.format(size // 2), tags=f"@t{size // 2}")
     return with_hooks(made, each(SETTING, size))
 
 
-rows({"steps of a hook": lambda size: with_hooks(
-    one(f'the number "n" should be {size}', 'the number "n" grows by 1'),
-    'before_scenario:\n* the number "n" is set to 0\n' + '* the number "n" grows by 1\n' * size
-    + f'after_scenario:\n* the number "n" should be {size + 1}\n')}, also=(70_000,))
+ROWS |= {
+    "hooks of a rule": Row(lambda size: under_counting_hooks(size, True), most=SMALL),
+    "hooks of a scenario": Row(lambda size: under_counting_hooks(size, False), most=SMALL),
+    "hooks of a file": Row(hooks_of_a_file, most=SMALL, also=(1000,)),
+    "steps of a hook": Row(lambda size: with_hooks(
+        one(counted(size), GROWS), f"before_scenario:\n* {STARTS}\n" + f"* {GROWS}\n" * size
+        + f"after_scenario:\n* {counted(size + 1)}\n"), also=(70_000,)),
+}
 
-
-growing(3000, {
-    # Each heading is looked for among those before it.
-    "headings of hooks": lambda count: with_hooks(
-        one(VARIABLE_SEEN.format("x")), each("before_tag @t{}:\n", count)
-        + 'after_tag @last:\nbefore_scenario:\n* the variable "V" is set to "x"\n'),
-    "headings of hooks before a fault": lambda count: with_hooks(
-        FeatureFile(), each(EMPTY_HOOKS, count // 2) + "after_tag @t7:\n", fault=f"h.hooks:{count + 1}: bad hook heading"),
-})
-
-
-growing(300, {
-    # Each tag of each of 20 scenarios has a hook before it and one after it.
-    "tags with hooks": lambda count: with_hooks(
-        FeatureFile().repeat(20, lambda made, at: made.scenario(
-            VARIABLE_SEEN.format("x"), name=f"s{at}", tags=each("@t{} ", count) + "@last")),
-        each(EMPTY_HOOKS, count) + 'before_tag @last:\n* the variable "V" is set to "x"\n')})
-growing(3000, {
-    # Each scenario has a tag of its own, and each tag a hook.
-    "scenarios with hooks": lambda count: with_hooks(FeatureFile().repeat(count, lambda made, at: made.scenario(
-        VARIABLE_SEEN.format(at), name=f"s{at}", tags=f"@t{at}")), each(SETTING, count))})
 
 # ---- counts and lengths of arguments
 
@@ -655,123 +579,85 @@ def chosen(*options, no="@c", **more):
     return Run(made, options=options, **more)
 
 
-rows({
-    "options of tags": lambda size: chosen(*["--tags=a"] * size, "--tags=b", no="@a"),
-    "options of lines": lambda size: chosen(*["--line=1"] * size, "--line=3"),
-})
-rows({"alternatives of tags": lambda size: chosen("--tags=" + "c2," * size + "b"),
-      "blanks of an expression": lambda size: chosen("--tags=" + " " * size + "(@b" + "\t" * size + ")")}, most=60_000)
-rows({"terms of an or": lambda size: chosen("--tags=" + "@x or " * size + "@b ")}, most=20_000, also=(21_800,))
-rows({"terms of an and": lambda size: chosen("--tags=" + "@a and " * size + "@b ", no="@a")}, most=18_000, also=(18_700,))
+def deep(expression, size):
+    """A run with an expression that is this deep."""
+    return chosen(f"--tags={expression}", fault="" if size <= DEPTH_LIMIT else "bad tag expression", status=2)
 
 
-def too_deep(size):
-    """The fault of an expression that is this deep, if it has one."""
-    return {"fault": "" if size <= DEPTH_LIMIT else "bad tag expression", "status": 2}
-
-
-rows({"parentheses of an expression": lambda size: chosen("--tags=" + "(" * size + "@b" + ")" * size, **too_deep(size)),
-      "negations of an expression": lambda size: chosen(
-          "--tags=" + "not " * size + ("@c " if size % 2 else "@b "), **too_deep(size))}, most=4097, also=(32_000,))
-
-
-@row()
-def bytes_of_a_text_of_tags(size):
+def text_of_tags(size):
     tag = letters(size)
     if not size:
         return chosen("--tags=", fault="bad tag expression", status=2)
-    return Run(one("it passes", tags=f"@{tag}").scenario(SKIPPED, tags=f"@{other(tag)}"),
-               options=[f"--tags={tag}"])
+    return Run(one("it passes", tags=f"@{tag}").scenario(SKIPPED, tags=f"@{other(tag)}"), options=[f"--tags={tag}"])
 
 
-rows({
+def named_by(option, noun, value, size):
+    """A run with a variable or a file whose name has this size."""
+    name, see = letters(size), "should be" if noun == "variable" else "should contain"
+    return Run(one(f'the {noun} "{name}" {see} "x"'), files={"x.txt": "x"}, options=[f"{option}={name}={value}"],
+               fault="" if 0 < size <= NAME_LIMIT else f"bad {option}", status=2)
+
+
+def file_of_an_option(size):
+    text = letters(size)
+    return with_library(one(*(found("see f", text) if size <= TEXT_LIMIT else [])), OWN_ENTRIES["file"], ["--file=f=x.txt"],
+                        {"x.txt": text}, fault=f"x.txt: longer than {TEXT_LIMIT} bytes" if size > TEXT_LIMIT else "")
+
+
+ROWS |= {
+    "options of tags": lambda size: chosen(*["--tags=a"] * size, "--tags=b", no="@a"),
+    "options of lines": lambda size: chosen(*["--line=1"] * size, "--line=3"),
+    "alternatives of tags": Row(lambda size: chosen("--tags=" + "c2," * size + "b"), most=60_000),
+    "blanks of an expression": Row(
+        lambda size: chosen("--tags=" + " " * size + "(@b" + "\t" * size + ")"), most=60_000),
+    "terms of an or": Row(lambda size: chosen("--tags=" + "@x or " * size + "@b "), most=20_000, also=(21_800,)),
+    "terms of an and": Row(lambda size: chosen("--tags=" + "@a and " * size + "@b ", no="@a"), most=18_000, also=(18_700,)),
+    "parentheses of an expression": Row(lambda size: deep("(" * size + "@b" + ")" * size, size), most=SMALL, also=(32_000,)),
+    "negations of an expression": Row(
+        lambda size: deep("not " * size + ("@c " if size % 2 else "@b "), size), most=SMALL, also=(32_000,)),
+    "bytes of a text of tags": text_of_tags,
     # The last of equal names counts.
     "options of variables": lambda size: Run(
         one(VARIABLE_SEEN.format((size - 1) % 10 if size else 0)),
         options=["--env=V=0", *(f"--env=V={number % 10}" for number in range(size))]),
-    "bytes of the name of an option": lambda size: Run(
-        one(f'the variable "{letters(size)}" should be "x"'), options=[f"--env={letters(size)}=x"],
-        fault="" if 0 < size <= NAME_LIMIT else "bad --env", status=2),
-    "bytes of the name of a file of an option": lambda size: Run(
-        one(f'the file "{letters(size)}" should contain "x"'), files={"x.txt": "x"}, options=[f"--file={letters(size)}=x.txt"],
-        fault="" if 0 < size <= NAME_LIMIT else "bad --file", status=2),
-})
-
-
-rows({"bytes of the text of an option": lambda size: with_library(
-    one(*found("see V", letters(size))), OWN_ENTRIES["variable"], [f"--env=V={letters(size)}", f"--tags=~@{letters(size)}t"])},
-     also=(100_000,))
-rows({"bytes of the file of an option": lambda size: with_library(
-    one(*(found("see f", letters(size)) if size <= TEXT_LIMIT else [])), OWN_ENTRIES["file"], ["--file=f=x.txt"],
-    {"x.txt": letters(size)}, fault=f"x.txt: longer than {TEXT_LIMIT} bytes" if size > TEXT_LIMIT else "")},
-     also=(TEXT_LIMIT - 1, TEXT_LIMIT, TEXT_LIMIT + 1, FILE_LIMIT + 1))
-
-
-def given(option, values):
-    return [it for value in values for it in (option, str(value))]
-
-
-growing(1000, {
-    "lines of which the last chooses": lambda count: chosen(*given("--line", [*range(count + 6, 7, -1), 3])),
-    # Each of them is looked up for each scenario, so the scenarios are few.
-    "tags of which the last chooses": lambda count: chosen(
-        *given("--tags", [*(f"~@t{number}" for number in range(count - 1)), "~@c"])),
-    # Each tag that is named is looked for among as many in the feature.
-    "tags that are nowhere": lambda count: Run(
-        FeatureFile(each("@t{} ", count)).scenario("it passes"), printed=f"--tags @t{count}: stands nowhere\n", status=1,
-        options=["--lint", *given("--tags", [f"@t{number}" for number in range(1, count + 1)])]),
-    "variables of the run": lambda count: Run(
-        one(*(VARIABLE_SEEN.replace("V", f"V{number}").format(number) for number in (0, count - 1)),
-            f'the variable "V{count}" should be unset'),
-        options=given("--env", (f"V{number}={number}" for number in range(count)))),
-    "files of the run": lambda count: Run(
-        one(*(f'the file "f{number}" should be "x"' for number in (0, count - 1)), f'the file "f{count}" should not exist'),
-        files={"x.txt": "x"}, options=given("--file", (f"f{number}=x.txt" for number in range(count)))),
-})
+    "bytes of the name of an option": functools.partial(named_by, "--env", "variable", "x"),
+    "bytes of the name of a file of an option": functools.partial(named_by, "--file", "file", "x.txt"),
+    "bytes of the text of an option": Row(lambda size: with_library(
+        one(*found("see V", letters(size))), OWN_ENTRIES["variable"],
+        [f"--env=V={letters(size)}", f"--tags=~@{letters(size)}t"]), also=(100_000,)),
+    "bytes of the file of an option": Row(file_of_an_option, also=(*AROUND, FILE_LIMIT + 1)),
+}
 
 
 # ---- explanations
 
 def explained(*files, note="", entries=""):
-    """A run that is explained. A note stands below each step that is undefined. Row N of an outline has the cell N - 1."""
-    cases = [(it.source, case) for it in files for case in it.cases]
-    failed = [(source, case) for source, case in cases if case.status == "failed"]
-    text = ""
-    for source, case in failed:
-        text += f"{source}:{case.line}: {case.keyword}: {case.name} ... failed\n"
-        row = re.search(r" -- @1\.(\d+)$", case.name)
-        text += f"  row {row[1]}: a={int(row[1]) - 1}\n" if row else ""
-        for step in case.steps:
-            text += f"  {source}:{step.line}: {step.keyword} {step.text} ... {step.status}\n"
-            text += note if step.status == "undefined" else ""
-        text += "\n"
-    text += "".join(f"{source}:{case.line}: {case.keyword}: {case.name}\n" for source, case in failed) + "\n" * bool(failed)
-    numbers = [[judged(it.cases) if it.cases else "skipped" for it in files], [case.status for _, case in cases],
-               [step.status.split(":")[0] for _, case in cases for step in case.steps]]
-    text += counts(*([kinds.count(it) for it in ("passed", "failed", "skipped", "undefined")] for kinds in numbers))
+    """A run that is explained. A note is below each step that is undefined. Row N of an outline has the cell N - 1."""
+    report, text, listed = Run(*files).report(), "", ""
+    for heading, steps in failures(report):
+        row = re.search(r" -- @1\.(\d+)$", heading)
+        named_row = f"  row {row[1]}: a={int(row[1]) - 1}\n" if row else ""
+        lines = "".join(f"{it}\n{note if it.endswith(' undefined') else ''}" for it in steps)
+        text += f"{heading} ... failed\n{named_row}{lines}\n"
+        listed += f"{heading}\n"
+    text += listed + "\n" * bool(listed) + plain_tail(report)
     library = ["--library", "l.steps"] if entries else []
-    return Run(*files, files={"l.steps": entries}, options=["--explain", *library], printed=text, status=int(bool(failed)))
+    return Run(*files, files={"l.steps": entries}, options=["--explain", *library], printed=text, status=report.status())
 
 
-rows({
+EXPLAINED = {
     "steps of an explained scenario": lambda size: explained(one(*["it passes"] * size, FAILING, "it passes")),
     "explained scenarios": lambda size: explained(FeatureFile().scenarios(size, [FAILING])),
-    "explained rows of examples": lambda size: explained(
-        FeatureFile().outline("o", FAILING).examples(*([str(at)] for at in range(size)))),
+    "explained rows of examples": lambda size: explained(outline(FAILING).examples(*([str(at)] for at in range(size)))),
     "scenarios of which none is explained": lambda size: explained(FeatureFile().scenarios(size, ["it passes"])),
     "explained features": lambda size: explained(*[one(FAILING)] * size),
     "features without scenarios": lambda size: explained(*[FeatureFile(source="b.feature")] * size, one(FAILING)),
-}, only=(1, 255, 256, 257, 300, 4097, 70_000))
-
-
+}
+ROWS |= {name: Row(make, only=(1, 255, 256, 257, 300, 4097, 70_000)) for name, make in EXPLAINED.items()}
 # The first of those that are equally near to a step is named below it.
-rows({"entries that may be meant": lambda size: explained(
+ROWS["entries that may be meant"] = Row(lambda size: explained(
     one("an old lamp 0", Step("an old lamp burns", "undefined")), note="      the nearest entry is: step an old lamp 0\n",
-    entries=each("step an old lamp {} => pass\n", size))}, only=(1, 999, 1000, 1001, 34_302, 70_000))
-# Entries that begin alike, below 30 undefined steps.
-growing(3000, {"entries beside undefined steps": lambda count: explained(
-    FeatureFile().repeat(30, lambda made, at: made.scenario(Step(f"the entry is {'x' * (at + 1)}", "undefined"))),
-    note="      the nearest entry is: step the entry is 0\n", entries=each("step the entry is {} => pass\n", count))})
+    entries=each("step an old lamp {} => pass\n", size)), only=(1, 999, 1000, 1001, 34_302, 70_000))
 
 
 # ---- what is found before a run
@@ -787,41 +673,99 @@ FAULTY = (
 )
 
 
-def listed(name, line, fault, text):
-    """What --lint prints of a file that doesn't read: the fault, the line that it names, and what is to be done."""
-    quoted_line = text.split("\n")[line - 1]
-    return f"gherkin_run: {name}:{line}: {fault}\n    {quoted_line}\n    {HINTS[fault]}\n"
+def faulty(faults, files, *options):
+    """A run that finds these faults, each a file, a line and a text. The line is quoted, and what is to be done is below it."""
+    listing = "".join(f"gherkin_run: {name}:{line}: {fault}\n    {files[name].splitlines()[line - 1]}\n    {HINTS[fault]}\n"
+                      for name, line, fault in faults)
+    sources = [it for it in files if it.endswith(".feature")]
+    return Run(files=files, sources=sources, options=["--lint", *options], printed="", err=listing)
 
 
 def faults_of_many_files(count):
     """The listing, on standard error, has more bytes than a pipe holds. It has nothing of the files that read."""
-    files, listing = {}, ""
-    for number in range(count):
-        fault, line, text = FAULTY[number % len(FAULTY)]
-        name = f"{number}.feature"
-        files[name] = text.format(number)
-        listing += listed(name, line, fault, files[name]) if fault else ""
-    return Run(files=files, sources=files, options=["--lint"], printed="", err=listing)
+    numbered = [(f"{number}.feature", *FAULTY[number % len(FAULTY)], number) for number in range(count)]
+    return faulty([(name, line, fault) for name, fault, line, *_ in numbered if fault],
+                  {name: text.format(number) for name, _, _, text, number in numbered})
 
 
 def long_line(length):
     """A listing that quotes a line with so many letters, whole, beside the fault of a library."""
-    files = {"l.steps": "dance\n", "a.feature": f"Feature: f\nFeature: {'x' * length}\n"}
-    found = (("l.steps", 1, "bad step type"), ("a.feature", 2, "unexpected line"))
-    listing = "".join(listed(name, line, fault, files[name]) for name, line, fault in found)
-    return Run(files=files, sources=["a.feature"], options=["--lint", "--library", "l.steps"], printed="", err=listing)
+    return faulty([("l.steps", 1, "bad step type"), ("a.feature", 2, "unexpected line")],
+                  {"l.steps": "dance\n", "a.feature": f"Feature: f\nFeature: {'x' * length}\n"}, "--library", "l.steps")
 
 
 AROUND_THE_LINE = len(long_line(0).err)
-rows({"letters of a line with a fault": long_line},
-     only=(1_000_000, PIPE - AROUND_THE_LINE, PIPE + 1 - AROUND_THE_LINE))
+ROWS["letters of a line with a fault"] = Row(
+    long_line, only=(1_000_000, PIPE - AROUND_THE_LINE, PIPE + 1 - AROUND_THE_LINE))
 
 
-growing(700, {"faults of many files": faults_of_many_files})
-# What is found goes to standard output.
-growing(2000, {"findings of a file": lambda count: Run(
-    FeatureFile().scenarios(count, []), options=["--lint"], status=1,
-    printed=each("a.feature:{}: scenario without steps\n", range(2, count + 2)))})
+# ---- growing runs
+
+def under(header, text, told):
+    """A step with this text under a header, and the text that it is filled to from one row."""
+    cells = [f"c{number}" for number in range(len(header))]
+    made = outline(Step(text, "undefined"))
+    made.add("Examples:", *(f"|{'|'.join(row)}|" for row in (header, cells)))
+    steps = [it._replace(text=told) for it in made.outlined_steps]
+    return Run(made.case("Scenario Outline", "o -- @1.1", len(made.lines), steps))
+
+
+def given(option, values):
+    return [it for value in values for it in (option, str(value))]
+
+
+# Each by its name: the smaller size, and what makes a run.
+GROWING = {
+    # Each line is compared with those before it that may be ambiguous with it.
+    "entries of a library": (3000, lambda count: with_library(
+        one("w0", f"w{count - 1}", Step("w", "undefined")), each("step w{} => pass\n", count))),
+    "entries of a library with fields": (3000, lambda count: with_library(
+        one(f"w0 is 1 of {count}", Step("w0 is", "undefined")), each("step w{} is {{n:d}} of {{m:d}} => pass\n", count))),
+    "columns of an outline": (3000, lambda count: under(
+        [f"h{number}" for number in range(count)], each("<h{}>", count), each("c{}", count))),
+    "placeholders in a long text": (3000, lambda count: under(["a", "b"], "<a><b><c>" * count, "c0c1<c>" * count)),
+    # Behind each `<` as many bytes may be a name. A header of 21 columns has an index.
+    "brackets before a placeholder": (3000, lambda count: under(
+        [*(f"h{number}" for number in range(20)), "<" * count], "<" * 2 * count + ">", "<" * (count - 1) + "c20")),
+    # Each heading is looked for among those before it.
+    "headings of hooks": (3000, lambda count: with_hooks(
+        one(VARIABLE_SEEN.format("x")), each("before_tag @t{}:\n", count)
+        + 'after_tag @last:\nbefore_scenario:\n* the variable "V" is set to "x"\n')),
+    "headings of hooks before a fault": (3000, lambda count: with_hooks(
+        FeatureFile(), each(EMPTY_HOOKS, count // 2) + "after_tag @t7:\n", fault=f"h.hooks:{count + 1}: bad hook heading")),
+    # Each tag of each of 20 scenarios has a hook before it and one after it.
+    "tags with hooks": (300, lambda count: with_hooks(
+        FeatureFile().repeat(20, lambda made, at: made.scenario(
+            VARIABLE_SEEN.format("x"), name=f"s{at}", tags=each("@t{} ", count) + "@last")),
+        each(EMPTY_HOOKS, count) + 'before_tag @last:\n* the variable "V" is set to "x"\n')),
+    # Each scenario has a tag of its own, and each tag a hook.
+    "scenarios with hooks": (3000, lambda count: with_hooks(FeatureFile().repeat(count, lambda made, at: made.scenario(
+        VARIABLE_SEEN.format(at), name=f"s{at}", tags=f"@t{at}")), each(SETTING, count))),
+    "lines of which the last chooses": (1000, lambda count: chosen(*given("--line", [*range(count + 6, 7, -1), 3]))),
+    # Each of them is looked up for each scenario, so the scenarios are few.
+    "tags of which the last chooses": (1000, lambda count: chosen(
+        *given("--tags", [*(f"~@t{number}" for number in range(count - 1)), "~@c"]))),
+    # Each tag that is named is looked for among as many in the feature.
+    "tags that are nowhere": (1000, lambda count: Run(
+        FeatureFile(each("@t{} ", count)).scenario("it passes"), printed=f"--tags @t{count}: stands nowhere\n", status=1,
+        options=["--lint", *given("--tags", [f"@t{number}" for number in range(1, count + 1)])])),
+    "variables of the run": (1000, lambda count: Run(
+        one(*(VARIABLE_SEEN.replace("V", f"V{number}").format(number) for number in (0, count - 1)),
+            f'the variable "V{count}" should be unset'),
+        options=given("--env", (f"V{number}={number}" for number in range(count))))),
+    "files of the run": (1000, lambda count: Run(
+        one(*(f'the file "f{number}" should be "x"' for number in (0, count - 1)), f'the file "f{count}" should not exist'),
+        files={"x.txt": "x"}, options=given("--file", (f"f{number}=x.txt" for number in range(count))))),
+    # Entries that begin alike, below 30 undefined steps.
+    "entries beside undefined steps": (3000, lambda count: explained(
+        FeatureFile().repeat(30, lambda made, at: made.scenario(Step(f"the entry is {'x' * (at + 1)}", "undefined"))),
+        note="      the nearest entry is: step the entry is 0\n", entries=each("step the entry is {} => pass\n", count))),
+    "faults of many files": (700, faults_of_many_files),
+    # What is found goes to standard output.
+    "findings of a file": (2000, lambda count: Run(
+        FeatureFile().scenarios(count, []), options=["--lint"], status=1,
+        printed=each("a.feature:{}: scenario without steps\n", range(2, count + 2)))),
+}
 
 
 # ---- running them
@@ -832,21 +776,22 @@ def of_run(name, run, styles):
         return [run.trouble(folder, style, f"{name}, {style}") for style in styles]
 
 
-def of_row(place):
+def of_row(name):
     """The same of each run of a row. Each run above SMALL is tried in one format alone."""
-    row, found = ROWS[place], []
-    for number, size in enumerate(row.sizes, place):
+    row, found = ROWS[name], []
+    row = row if isinstance(row, Row) else Row(row)
+    for number, size in enumerate(row.sizes(name), list(ROWS).index(name)):
         run = row.make(size)
         run = Run(run) if isinstance(run, FeatureFile) else run
         is_each = os.environ.get("SIZES") == "all" or size <= SMALL
         styles = FORMATS if is_each else [FORMATS[number % len(FORMATS)]]
-        found += of_run(f"{row.name}: {size}", run, run.formats or row.formats or styles)
+        found += of_run(f"{name}: {size}", run, run.formats or row.formats or styles)
     return found
 
 
-def of_growing(place):
+def of_growing(name):
     """The same of a growing run. Of three times the least counts."""
-    (name, make, size), least = GROWING[place], []
+    (size, make), least = GROWING[name], []
     for own in (size, size * TIMES):
         run, times = make(own), []
         for _ in range(3):
@@ -856,7 +801,8 @@ def of_growing(place):
             if found != [""]:
                 return found
         least.append(min(times))
-    return [driver.unless(f"{name}: {least[0]:.3f} s, and {TIMES} times as large {least[1]:.3f} s", least[1] <= MOST_TIMES * least[0])]
+    return [driver.unless(f"{name}: {least[0]:.3f} s, and {TIMES} times as large {least[1]:.3f} s",
+                          least[1] <= MOST_TIMES * least[0])]
 
 
 @pages.tests("sizes.md", shows_statuses=True)
@@ -866,34 +812,31 @@ class Sizes(Checks):
         super().setUpClass()
         driver.write(cls.room, {"two.feature": one("it passes", tags="@a @b").scenario("it passes", tags="@a").text()})
 
-    def try_all(self, of_one, count):
-        for troubles in driver.in_processes(of_one, range(count)):
-            self.check_all(troubles)
-
     def with_tags(self, *texts):
         """Which of two scenarios a run with these texts of tags chooses, or its fault."""
-        _, printed, err = driver.start(self.program, ["--format", "progress", *given("--tags", texts), "two.feature"], self.room)
+        words = ["--format", "progress", *given("--tags", texts), "two.feature"]
+        _, printed, err = driver.start(self.program, words, self.room)
         return {b".S": "the first", b"SS": "none"}.get(printed[13:15]) or err.decode()[len("gherkin_run: "):-1]
 
     def test_growing(self):
-        self.try_all(of_growing, len(GROWING))
+        for troubles in driver.in_processes(of_growing, GROWING):
+            self.check_all(troubles)
 
     def test_rows(self):
-        self.try_all(of_row, len(ROWS))
+        for troubles in driver.in_processes(of_row, ROWS):
+            self.check_all(troubles)
 
     def test_pipe(self):
         """The program reads a pipe that gives one byte at a time."""
-        made = FeatureFile(source="pipe").scenario("it passes")
-        os.mkfifo(os.path.join(self.room, "pipe"))
+        run, path = Run(FeatureFile(source="pipe").scenario("it passes")), os.path.join(self.room, "pipe")
+        os.mkfifo(path)
 
-        def feed():
-            with open(os.path.join(self.room, "pipe"), "wb", buffering=0) as pipe:
-                for byte in made.text().encode():
+        def feed(text):
+            with open(path, "wb", buffering=0) as pipe:
+                for byte in text.encode():
                     pipe.write(bytes([byte]))
 
-        writer = threading.Thread(target=feed)
+        writer = threading.Thread(target=feed, args=[run.files.pop("pipe")])
         writer.start()
-        run = Run(made)
-        run.files = {}
         self.check(run.trouble(self.room, "plain", "from a pipe"))
         writer.join()
