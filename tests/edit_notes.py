@@ -1,8 +1,7 @@
 """Edits that change nothing, and a small repository for the notes on edits.
 
 `unapplied` looks for edits that can't be applied to the crates as they are, which `rt ci` passes over. `Repository` has two
-small crates with edits, the script tests/edits.sh, and a stand-in for rt, which names the toolchain, and says of each edit
-what it is told to.
+small crates with edits, the script tests/edits.sh, and the stand-in for rt that edits.md shows.
 """
 
 import glob
@@ -11,19 +10,11 @@ import shutil
 import subprocess
 import tempfile
 
+import blocks
 import driver
 
 CRATES = os.path.join(driver.HOME, "crates")
 SCRIPT = os.path.join(driver.HOME, "tests", "edits.sh")
-RT = """#!/bin/sh
-[ "$1" != version ] || { echo "${KIT:-kit 1}"; exit; }
-shift
-for crate do
-    for edit in crates/"$crate"/must-fail/*.edit; do
-        echo "rt: must-fail $crate/${edit##*/}: ${SAID:-refused, as it must be: src/lib.rt:1:1: error}"
-    done
-done
-"""
 FILES = {
     "HANDLES": "Handles allowed: none.\n",
     "crates.txt": "gk_low:\ngk_high: gk_low\ngk_tests: gk_low gk_high\n",
@@ -42,7 +33,7 @@ class Repository:
     def __init__(self, room):
         self.folder = tempfile.mkdtemp(dir=room)
         self.write(FILES)
-        self.write({"tests/edits.sh": driver.read(SCRIPT), "bin/rt": RT}, 0o755)
+        self.write({"tests/edits.sh": driver.read(SCRIPT), "bin/rt": blocks.shown("edits.md")["rt"]}, 0o755)
 
     def path(self, name):
         return os.path.join(self.folder, name)

@@ -1,37 +1,24 @@
 """Tests that are blocks of pages: commands of a shell over the files above them, and sessions of Python.
 
 In a `console` block, commands run in a folder with the files. A `pycon` block is a session for the standard library's
-doctest: its names are those of the test's module and of the test itself, and `files`, the files above it by their names.
+doctest: its names are those of the test's module and of the test itself, of modules of the standard library, and `files`,
+the files above it by their names.
 Each value that a line has to print is a check.
 """
 
 import ast
-import builtins
-import collections
 import doctest
-import glob
 import importlib.util
-import json
 import os
 import re
-import resource
-import shlex
-import shutil
-import signal
-import subprocess
 import sys
-import time
 import traceback
 import unittest
 
 import blocks
 import driver
-import tables
 
 TESTS = os.path.join(driver.HOME, "tests")
-# What each session may use.
-MODULES = {it.__name__: it for it in (
-    builtins, collections, glob, importlib, json, os, re, resource, shlex, shutil, signal, subprocess, sys, time, driver, tables)}
 
 
 def lay(folder, files, programs):
@@ -86,10 +73,16 @@ class Session(doctest.DocTestRunner):
         self.checks.check(f"{test.name}: {example.source}{''.join(traceback.format_exception(*exc_info))}")
 
 
+def modules_in(text):
+    """The modules that a session uses: of the standard library, driver and tables."""
+    names = set(re.findall(r"\b(\w+)\.\w", text)) & {*sys.stdlib_module_names, "driver", "tables"}
+    return {it: importlib.import_module(it) for it in names}
+
+
 def run_session(checks, name, files, text):
     own = {it: getattr(checks, it) for it in set(dir(checks)) - set(dir(unittest.TestCase))}
     texts = {it: os.fsdecode(text) for it, text in files.items()}
-    names = {**MODULES, **vars(sys.modules[type(checks).__module__]), **own, "files": texts}
+    names = {**modules_in(text), **vars(sys.modules[type(checks).__module__]), **own, "files": texts}
     Session(checks).run(doctest.DocTestParser().get_doctest(text, names, name, None, 0))
 
 

@@ -13,7 +13,6 @@ import re
 
 import driver
 
-LIMITS = os.path.join(driver.HOME, "tests", "shape.limits")
 WIDTH = 100  # columns of a contract line
 ARGUMENTS = 7  # of a function that isn't public
 SHARED = 10  # lines that two places may not share
@@ -183,21 +182,6 @@ def repeated_places():
 # ---- all of it
 
 CHECKS = (wide_contract_lines, long_argument_lists, modules_without_spec, repeated_places)
-
-
-def limits():
-    rows = (line.split() for line in driver.read(LIMITS).decode().splitlines())
-    return {name: int(number) for name, number in rows}
-
-
-def trouble(name, count, limit):
-    """What is to be done if a count isn't its limit, or nothing."""
-    file = os.path.relpath(LIMITS, driver.HOME)
-    if limit is None:
-        return f"{name}: {count}, and {file} has no limit: give it one"
-    if count > limit:
-        return f"{name}: {count}, and the limit is {limit}: fix what is new; tests/shape.py prints all places"
-    return driver.unless(f"{name}: {count}, and the limit is {limit}: lower it to {count} in {file}", count == limit)
 
 
 def main():

@@ -1,7 +1,6 @@
 """The libraries, called from C and by the types of C: examples/c/main.c against the program, rooms of all sizes, null pointers,
 refused growths of memory, random bytes, and the header."""
 
-import ctypes
 import os
 import re
 import resource

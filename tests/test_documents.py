@@ -6,7 +6,6 @@ import itertools
 import os
 import re
 import shutil
-import subprocess
 import sys
 
 import blocks
@@ -24,6 +23,7 @@ SOURCES = (".rt", ".antt", ".py", ".sh", ".awk", ".c", ".feature", ".steps", ".e
 
 FILES = driver.repository_files()
 CRATES = [line.split(":")[0].split()[0] for line in driver.text("crates.txt").splitlines() if line.strip()]
+COMMENTS = {".rt": "//.*", ".antt": "--.*"}
 # The crates of tests, whose texts are no faults of the program.
 TESTS = ("crates/gk_tests/", "crates/gk_cli_tests/")
 CODE = [it for it in FILES if re.fullmatch(r"crates/[^/]+/src/.*[.]rt", it)]
@@ -39,35 +39,25 @@ def prose_of(page):
 
 # ---- names
 
+@functools.cache
 def code_names():
+    """The words of the code and of the definitions, without comments, and the names of files and of what callers set."""
     names = set(CRATES)
-    rust = re.compile(r"\b(?:fn|struct|enum|trait|const|static|type|mod|union)\s+(?:r#)?([A-Za-z_][A-Za-z0-9_]*)")
-    clause = re.compile(r"\b(?:ensures|requires|invariant)\s+([a-z_][a-z0-9_]*)\s*\{")
-    ghost = re.compile(r"\b(from_gives|output)\b")
-    member = re.compile(r"^\s*(?:pub\s+)?([A-Za-z_][A-Za-z0-9_]*)\s*(?:[,({:=]|$)", re.MULTILINE)
-    spec = re.compile(r"^\s*(?:(?:abbrev|unfoldable|ghost)\s+)*(?:pub\s+)?(?:record\s+|data\s+|mod\s+|law\s+|lemma\s+)?([A-Za-z_][A-Za-z0-9_]*)\s*[:({]", re.MULTILINE)
-    header = re.compile(r"^\s*(?:(?:abbrev|unfoldable)\s+)*pub\s+(?:record\s+|data\s+|mod\s+)?([A-Za-z_][A-Za-z0-9_]*)", re.MULTILINE)
     callers = re.compile(r"\b(GHERKIN_[A-Z_]+|(?<=^import )[a-z]+|(?<=^const )[A-Z]+)\b", re.MULTILINE)
-    patterns = {".rt": (rust, clause, ghost, member), ".antt": (spec, header, member)}
     for path in FILES:
         name, ending = os.path.splitext(os.path.basename(path))
         names.add(name)
         if path.startswith(("bindings/c/", "bindings/python/", "bindings/web/source/")) and ending in (".h", ".py", ".js"):
             names.update(callers.findall(driver.text(path)))
-        if path.startswith("crates/") and ending in patterns:
-            text = driver.text(path)
-            names.update(re.findall(r"[A-Za-z_][A-Za-z0-9_]*", " ".join(re.findall(r'"([^"\n]*)"', text))))
-            names.update(*(pattern.findall(text) for pattern in patterns[ending]))
+        if path.startswith("crates/") and ending in COMMENTS:
+            names.update(re.findall(r"[A-Za-z_]\w*", re.sub(COMMENTS[ending], "", driver.text(path))))
     return names
 
 
-# What stands in code style on these pages and is declared nowhere: words of definitions, of Rust, of Gherkin,
-# of the shell and of the pages' own tables.
+# What is in code style on these pages and in no code: words of the shell, of other programs, and of the pages' own tables.
 PLAIN_WORDS = set("""
-    gherkin_world gherkin_scenario
-    abbrev unfoldable Global Memory Option None Result Err Some String Vec Display Serialize write_all read_to_end ensures requires refl clap indexmap serde serde_json thiserror std rt cc jq malloc
-    GHERKIN_RUN WEB_MODULE NAME TEXT TO N E R EXAMPLES LINE FILE KEYWORD VERDICT STATUS REASON TYPE PATTERN ACTION h x n main run test given when then step
-    all Andorra EU EN en json name text to absent present differs passed failed skipped undefined untested memory
+    gherkin_world gherkin_scenario Andorra EN EU GHERKIN_RUN WEB_MODULE TEXT TO LINE KEYWORD VERDICT STATUS REASON TYPE
+    jq malloc read_to_end write_all
 """.split())
 GUIDE = [it for it in PAGES if it.startswith("docs/guide/")]
 MAIN = ["README.md", "docs/FAULTS.md", *GUIDE]
@@ -80,6 +70,7 @@ USERS_PAGES = (*GUIDE, "docs/FAULTS.md", "bench/README.md", "bench/figures.md",
                *(it for it in DOCUMENTS if it.startswith(("examples/", "tests/runs/", "tests/side_by_side/"))))
 
 
+@functools.cache
 def members():
     """The functions, fields and variants of each type of the code, by the type's name."""
     found = collections.defaultdict(set)
@@ -108,9 +99,9 @@ def path_is_there(name, page):
     return is_below or "/" not in name and any(os.path.basename(it) == name for it in FILES)
 
 
-def named_wrongly(page, names, owned):
+def wrong_names(page):
     """Names in code style that nothing of the repository has, with their lines."""
-    shown = names_shown_in(os.path.dirname(page))
+    names, owned, shown = code_names(), members(), names_shown_in(os.path.dirname(page))
     for number, line in enumerate(prose_of(page).split("\n"), 1):
         for text in re.findall(r"(?<!`)`([^`\n]+)`(?!`)", line):
             if re.fullmatch(r"\.?[A-Za-z0-9_./-]+", text) and ("/" in text or text.endswith(SOURCES)):
@@ -131,8 +122,9 @@ def named_wrongly(page, names, owned):
             yield number, "something is left to do"
 
 
-def named_clauses(line, clauses):
+def named_clauses(line):
     """What a line says of clauses that aren't there: `call`: `clause`, `clause` names clauses of one function."""
+    clauses = clauses_by_function()
     for call, listed in re.findall(r"`([A-Za-z_][A-Za-z0-9_:]*)`: ((?:`[a-z_][a-z0-9_]*`(?:, | and )?)+)", line):
         function = call.split("::")[-1]
         if function not in clauses:
@@ -143,6 +135,11 @@ def named_clauses(line, clauses):
                 yield f"no clause {clause} of {call}"
 
 
+def wrong_clauses(page):
+    return ((number, it) for number, line in enumerate(prose_of(page).split("\n"), 1) for it in named_clauses(line))
+
+
+@functools.cache
 def clauses_by_function():
     found = collections.defaultdict(set)
     for path in (it for it in FILES if it.startswith("crates/") and it.endswith(".rt")):
@@ -157,9 +154,9 @@ def clauses_by_function():
 EDITS = [it for it in FILES if it.startswith(("crates/", "tests/edits/")) and it.endswith(".edit")]
 
 
-def edit_differences(names, owned):
+def edit_differences():
     """Edits that don't say what they break and what refuses them, and names in them that nothing has."""
-    clauses = clauses_by_function()
+    names, owned = code_names(), members()
     for path in EDITS:
         why, by = driver.text(path).split("\n")[:2]
         if not (re.match(r"why: \S", why) and re.match(r"by: \S", by)):
@@ -168,7 +165,7 @@ def edit_differences(names, owned):
             owner, _, member = name.rpartition("::")
             if not set(name.split("::")) <= names or owner in owned and member not in owned[owner]:
                 yield f"{path} names {name}, which isn't there"
-        yield from (f"{path}: {it}" for it in named_clauses(by, clauses))
+        yield from (f"{path}: {it}" for it in named_clauses(by))
 
 
 # ---- pages that tools/read.py prints
@@ -192,10 +189,10 @@ def reading_differences():
               "definitions": [f"({it[7:]})\n" for it in FILES if re.fullmatch(r"crates/[^/]+/specs/(?!Lib).*[.]antt", it)],
               "claims": [f"\n- `{it}`:" for crate in libraries for it in public_functions(crate)]}
     for command, texts in wanted.items():
-        done = subprocess.run([sys.executable, os.path.join(HOME, "tools/read.py"), command], stdout=subprocess.PIPE, text=True)
-        if done.returncode != 0:
-            yield f"tools/read.py {command} ends with {done.returncode}"
-        yield from (f"tools/read.py {command} prints {it.strip()} {done.stdout.count(it)} times" for it in texts if done.stdout.count(it) != 1)
+        status, printed, _ = driver.start(sys.executable, [os.path.join(HOME, "tools/read.py"), command])
+        counts = {it: printed.decode().count(it) for it in texts}
+        yield from [f"tools/read.py {command} ends with {status}"] * (status != 0)
+        yield from (f"tools/read.py {command} prints {it.strip()} {count} times" for it, count in counts.items() if count != 1)
 
 
 # ---- links
@@ -274,13 +271,7 @@ def run_differences(page, room):
         if blocks.is_file(block):
             driver.write(folder, laid([block]))
         elif block.kind == "console":
-            status = 0
-            for command, wanted in blocks.commands(block):
-                if command == b"echo $?":
-                    got = b"%d\n" % status
-                else:
-                    status, got, _ = driver.start("sh", ["-c", command], folder, stderr=subprocess.STDOUT)
-                yield block.line, None if got == wanted else f"'{command.decode()}' prints something else:\n{got.decode()}"
+            yield from ((block.line, it) for it in pages.troubles(folder, block, False))
 
 
 # ---- definitions
@@ -368,17 +359,17 @@ def hint_differences():
 PICTURES = {"failing_run.svg": "docs/pictures/failing_run.py", "peers.svg": "bench/chart"}
 
 
-def picture_differences(program):
+def picture_differences():
     """Pictures that are missing, or that their scripts draw in another way."""
     for name, script in PICTURES.items():
-        drawn = subprocess.run([sys.executable, os.path.join(HOME, script), program], stdout=subprocess.PIPE, text=True, check=True).stdout
-        if drawn != driver.text(f"docs/pictures/{name}"):
+        if driver.start(sys.executable, [script, driver.program()])[:2] != (0, driver.read(os.path.join(HOME, "docs/pictures", name))):
             yield f"docs/pictures/{name} isn't what {script} draws"
 
 
 # ---- words
 
 def foreign_words():
+    """Words of WORDS on pages at the top or of docs/."""
     for page in PAGES:
         for number, line in enumerate(driver.text(page).split("\n"), 1):
             # A name in code style is the code's own.
@@ -388,81 +379,47 @@ def foreign_words():
 
 # ---- all of it
 
+def hard_to_read(page):
+    return prose.hard_to_read(page, driver.text(page), prose_of(page))
+
+
+def too_many_words():
+    return prose.too_many_words(*([prose_of(it) for it in pages] for pages in (MAIN, READMES)))
+
+
+def too_many_lines():
+    length = driver.text("README.md").count("\n")
+    return [f"README.md has {length} lines"] * (length > README_LINES)
+
+
+# What is looked for in each of some files, with its lines, and in all together. Nothing may be found.
+OF_EACH = {
+    "names": (wrong_names, DOCUMENTS), "clauses": (wrong_clauses, PAGES), "links": (dead_links, DOCUMENTS),
+    "examples": (example_differences, PAGES), "prose": (hard_to_read, sorted({*MAIN, *READMES})),
+    "comments": (broken_comments, [it for it in FILES if re.fullmatch(r"crates/[^/]+/specs/.*[.]antt", it)]),
+}
+OF_ALL = {
+    "must-fail edits": edit_differences, "files of the guide": shown_twice, "words": foreign_words,
+    "words of pages": too_many_words, "lines of README.md": too_many_lines,
+    "lists of pages": unlisted_pages, "pages of tools/read.py": reading_differences, "modules of the same name": shared_modules,
+    "entries of docs/FAULTS.md": fault_differences, "hints of docs/FAULTS.md": hint_differences, "pictures": picture_differences,
+}
+
+
 class Documents(Checks):
-    def check_lines(self, name, path, pairs):
-        self.check_list(f"{name} {path}", (f"{path}:{number}: {text}" for number, text in pairs))
-
-    def test_names(self):
-        """A document names no file, crate, function or definition that is missing."""
-        names, owned = code_names(), members()
-        for page in DOCUMENTS:
-            self.check_lines("names in", page, named_wrongly(page, names, owned))
-
-    def test_clauses(self):
-        clauses = clauses_by_function()
-        for page in PAGES:
-            lines = enumerate(prose_of(page).split("\n"), 1)
-            found = ((number, it) for number, line in lines for it in named_clauses(line, clauses))
-            self.check_lines("clauses in", page, found)
-
-    def test_edits(self):
-        """A must-fail edit says what it breaks and which clause refuses it."""
-        self.check_list("must-fail edits", edit_differences(code_names(), members()))
-
-    def test_links(self):
-        for page in DOCUMENTS:
-            self.check_lines("links in", page, dead_links(page))
-
-    def test_examples(self):
-        """A file of examples/ that a document shows is that file."""
-        for page in PAGES:
-            self.check_lines("examples in", page, example_differences(page))
-
     def test_runs(self):
         """A run that a document shows gives that: a `console` block over the files above it, and those of the guide."""
         for page in PAGES:
             for number, difference in run_differences(page, self.room):
                 self.check_list(f"{page}:{number}", [difference] if difference else [])
 
-    def test_files_of_the_guide(self):
-        """No two pages of docs/guide/ have files of the same name."""
-        self.check_list("files of docs/guide/", shown_twice())
+    def try_each(self, name, look, paths):
+        for path in paths:
+            self.check_list(f"{name} in {path}", (f"{path}:{number}: {text}" for number, text in look(path)))
 
-    def test_prose(self):
-        """README.md is short, and the pages for users are easy to read."""
-        for page in sorted({*MAIN, *READMES}):
-            self.check_lines("prose of", page, prose.hard_to_read(page, driver.text(page), prose_of(page)))
-        self.check_list("words of pages", prose.too_many_words(*([prose_of(it) for it in pages] for pages in (MAIN, READMES))))
-        length = driver.text("README.md").count("\n")
-        self.unless(f"README.md has {length} lines", length <= README_LINES)
 
-    def test_words(self):
-        """A page at the top or of docs/ has no word of WORDS."""
-        self.check_list("words in pages", foreign_words())
-
-    def test_lists_of_pages(self):
-        """The README of tests/runs/ and of tests/side_by_side/ lists each page."""
-        self.check_list("lists of pages", unlisted_pages())
-
-    def test_reading(self):
-        """tools/read.py prints each edit, each file of definitions and each public function once."""
-        self.check_list("pages of tools/read.py", reading_differences())
-
-    def test_comments(self):
-        """A definition of specs/ has a comment above it."""
-        for path in FILES:
-            if re.match(r"crates/[^/]+/specs/", path) and path.endswith(".antt"):
-                self.check_lines("comments in", path, broken_comments(path))
-
-    def test_modules(self):
-        """No two crates have modules of the same name."""
-        self.check_list("modules of the same name", shared_modules())
-
-    def test_faults(self):
-        """Each fault text and each reason of the program has an entry in docs/FAULTS.md, and each hint begins a fix."""
-        self.check_list("entries of docs/FAULTS.md", fault_differences())
-        self.check_list("hints of docs/FAULTS.md", hint_differences())
-
-    def test_pictures(self):
-        """A picture of docs/pictures/ is what its script draws."""
-        self.check_list("pictures", picture_differences(self.program))
+for _name, _look in OF_EACH.items():
+    setattr(Documents, f"test_{_name}", lambda self, name=_name, look=_look: self.try_each(name, *look))
+for _name, _look in OF_ALL.items():
+    setattr(Documents, f"test_{re.sub('[^a-z]+', '_', _name.lower())}",
+            lambda self, name=_name, look=_look: self.check_list(name, look()))

@@ -55,8 +55,7 @@ def matched(name, text, arguments):
 def in_vim(script, folder, environment=None):
     """The places in vim's quickfix list after a script."""
     driver.write(folder, {"script.vim": f"{script}\n{PLACES}"})
-    subprocess.run(["vim", "-es", "-N", "-u", "NONE", "-S", "script.vim"], cwd=folder, env=environment, check=False,
-                   stdin=subprocess.DEVNULL, stdout=subprocess.DEVNULL, stderr=subprocess.DEVNULL, timeout=60)
+    driver.start("vim", ["-es", "-N", "-u", "NONE", "-S", "script.vim"], folder, environment)
     return [tuple(json.loads(it)) for it in driver.read(os.path.join(folder, "places")).splitlines()]
 
 

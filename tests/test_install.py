@@ -7,10 +7,8 @@ contents.
 import collections
 import fcntl
 import os
-import resource
 import shutil
 import signal
-import stat
 import subprocess
 import tempfile
 

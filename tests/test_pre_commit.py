@@ -18,9 +18,8 @@ class PreCommit(Checks):
 
     def call(self, folder, *words):
         environment = {**os.environ, **AUTHOR, "HOME": self.room, "PRE_COMMIT_HOME": os.path.join(self.room, "home")}
-        done = subprocess.run(words, cwd=os.path.join(self.room, folder), env=environment, stdin=subprocess.DEVNULL,
-                              stdout=subprocess.PIPE, stderr=subprocess.STDOUT, text=True, check=False)
-        return done.returncode, done.stdout
+        status, said, _ = driver.start(words[0], words[1:], os.path.join(self.room, folder), environment, stderr=subprocess.STDOUT)
+        return status, said.decode()
 
     def commit(self, folder, files):
         """Commits files to a repository of the room."""

@@ -1,16 +1,12 @@
 """The package of bindings/python/ against the program: the stored runs over files in memory, results, faults, arguments, types, threads,
 missing libraries, refused memory, the wheel and the command that it installs, and what the pages on Python and pytest show."""
 
-import base64
 import concurrent.futures
 import contextlib
 import ctypes
 import functools
-import hashlib
-import inspect
 import json
 import os
-import pathlib
 import pickle
 import re
 import subprocess
@@ -19,14 +15,12 @@ import time
 import types
 import typing
 import unittest.mock
-import zipfile
 
 import blocks
 import calling
 import driver
 import in_memory
 import pages
-import tables
 import gherkin_run
 from calling import PACKAGE
 from gherkin_run import Source, explain, lint, run, version
@@ -222,8 +216,7 @@ class Pages(Package):
             environment = {**os.environ, "PATH": f"{folder}/bin:{os.environ['PATH']}"}
             for name, command, shown in self.shown_runs(page, folder):
                 if python or not name.startswith("pytest"):
-                    done = subprocess.run(command, cwd=folder, env=environment, stdin=subprocess.DEVNULL, stdout=subprocess.PIPE,
-                                          stderr=subprocess.STDOUT, timeout=driver.PATIENCE, check=False)
+                    printed = driver.start(command[0], command[1:], folder, environment, stderr=subprocess.STDOUT)[1]
                     # The time that pytest measured differs.
-                    found = re.sub(r"\bin \d\.\d\ds\b", "in 0.01s", done.stdout.decode())
+                    found = re.sub(r"\bin \d\.\d\ds\b", "in 0.01s", printed.decode())
                     self.unless(f"docs/guide/{page}: {name}\nprints\n{found}\nand not\n{shown}", found == shown)

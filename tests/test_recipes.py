@@ -6,6 +6,7 @@ the strict reader of Python's library. Names that a terminal, a shell or GitHub 
 a script that is ended by a signal leaves nothing.
 """
 
+import collections
 import json
 import os
 import re
@@ -15,7 +16,7 @@ import blocks
 import driver
 import pages
 from checks import Checks
-from driver import EXAMPLES, unless
+from driver import EXAMPLES
 
 RECIPES = os.path.join(EXAMPLES, "recipes")
 PATIENCE = 300  # seconds: a script starts many programs, also while proofs have the processors
@@ -50,57 +51,57 @@ def bad_places(report):
     return sum(it in BAD for it in [*around, *(step["status"] for one in scenarios for step in one["steps"])])
 
 
-# ---- what each file makes
+# ---- what each file makes, and what is wrong with it: what is found of each trouble
 
-def annotations_trouble(report, printed):
-    lines = printed.decode().split("\n")[:-1]
-    odd = [it for it in lines if not re.fullmatch(r"::error (file=[^,:]*,line=\d+,)?title=[^,:]*::[^\r]*", it)]
-    unescaped = [it for line in lines for it in re.findall("%(?!25|0A|3A|2C).{0,2}", line)]
+def annotations_troubles(report, printed):
+    lines = printed.split("\n")[:-1]
     texts = [line.split("::", 2)[2].replace("%0A", "\n").replace("%25", "%") for line in lines if line.count("::") > 1]
-    steps = [f"{it['keyword']} {it['text']} ... {it['status']}" for one in report["features"] for row in one["scenarios"]
-             for it in row["steps"] if it["status"] in BAD]
-    others = [it for it in steps if not any(text.startswith(escaped(it)) for text in texts)]
-    return unless("annotations: lines that are none", not odd and not unescaped, *odd, *unescaped) or \
-        unless("annotations: control characters", not CONTROL.search(printed.decode())) or \
-        unless("annotations: steps that no line has", not others, *others) or \
-        unless(f"annotations: {len(lines)} lines", len(lines) == bad_places(report))
+    steps = [escaped(f"{it['keyword']} {it['text']} ... {it['status']}") for one in report["features"]
+             for row in one["scenarios"] for it in row["steps"] if it["status"] in BAD]
+    return {"lines that are none": [
+                it for it in lines if not re.fullmatch(r"::error (file=[^,:]*,line=\d+,)?title=[^,:]*::[^\r]*", it)],
+            "unescaped": re.findall("%(?!25|0A|3A|2C).{0,2}", printed), "control characters": CONTROL.findall(printed),
+            "steps that no line has": [it for it in steps if not any(text.startswith(it) for text in texts)],
+            "another number of lines": [lines] * (len(lines) != bad_places(report))}
 
 
-def summary_trouble(report, printed):
-    lines = printed.decode().split("\n")
-    rows = [[cell.strip() for cell in it.split("|")[1:-1]] for it in lines if it.startswith("| ")]
-    wrong = [it for it in rows[1:] if any(cell != str(report["summary"][it[0]].get(name, "")) for name,
-                                          cell in zip(rows[0][1:], it[1:]))]
+def summary_troubles(report, printed):
+    lines = printed.split("\n")
+    names, *rows = [[cell.strip() for cell in it.split("|")[1:-1]] for it in lines if it.startswith("| ")]
+    wanted = [[it[0], *(str(report["summary"][it[0]].get(name, "")) for name in names[1:])] for it in rows]
     listed = [it for it in lines if it.startswith(("- ", "  - "))]
-    odd = [it for it in listed if not re.fullmatch(r" *- (?:[\w ().:,*/]|[^\x00-\xa0]|&#?\w+;)*", it)]
-    return unless("summary: control characters", not CONTROL.search(printed.decode())) or \
-        unless("summary: other counts", len(rows) == 4 and not wrong, *wrong) or \
-        unless("summary: characters that are Markdown", not odd, *odd) or \
-        unless("summary: nothing failed", bool(listed) == bool(bad_places(report)))
+    return {"control characters": CONTROL.findall(printed), "other counts": [rows] * (rows != wanted or len(rows) != 3),
+            "characters that are Markdown": [
+                it for it in listed if not re.fullmatch(r" *- (?:[\w ().:,*/]|[^\x00-\xa0]|&#?\w+;)*", it)],
+            "nothing failed, or something did": [listed] * (bool(listed) != bool(bad_places(report)))}
 
 
-def junit_trouble(report, printed):
+def junit_troubles(report, printed):
     try:
-        root = xml.etree.ElementTree.fromstring(printed)
+        root = xml.etree.ElementTree.fromstring(printed.encode())
     except xml.etree.ElementTree.ParseError as error:
-        return f"JUnit: {error}"
-    suites = root.findall("testsuite")
-    cases = [[it.find(kind) is not None for it in one.findall("testcase")] for one in suites for kind in ("failure",
-                                                                                                          "error",
-                                                                                                          "skipped")]
-    counted = [int(one.get(name)) for one in suites for name in ("failures", "errors", "skipped")]
+        return {"no XML": [error]}
+    kinds = {"failures": "failure", "errors": "error", "skipped": "skipped"}
     scenarios = [it for one in report["features"] for it in one["scenarios"]]
-    statuses = [it["status"] for it in scenarios]
-    statuses += [it["around"] for it in [*report["features"], *rules_of(report)] if it["around"] != "passed"]
-    statuses += [report["run"]] if report["run"] != "passed" else []
-    wanted = [statuses.count("failed"), statuses.count("memory"),
-              statuses.count("skipped") + statuses.count("untested")]
-    found = [len(root.findall(f".//{kind}")) for kind in ("failure", "error", "skipped")]
-    around = re.compile(r"\((rule, line \d+: )?hooks and cleanups\)")
-    names = [it.get("name") for it in root.findall(".//testcase") if not around.fullmatch(it.get("name"))]
-    return unless("JUnit: counts that aren't those of the cases", counted == [sum(it) for it in cases]) or \
-        unless(f"JUnit: {found} and not {wanted}", found == wanted) or \
-        unless("JUnit: other names", names == [readable(it["name"]) for it in scenarios], *names)
+    around = [*(it["around"] for it in [*report["features"], *rules_of(report)]), report["run"]]
+    statuses = collections.Counter([*(it["status"] for it in scenarios), *(it for it in around if it != "passed")])
+    wanted = [statuses["failed"], statuses["memory"], statuses["skipped"] + statuses["untested"]]
+    found = [len(root.findall(f".//{kind}")) for kind in kinds.values()]
+    names = [it.get("name") for it in root.findall(".//testcase")]
+    names = [it for it in names if not re.fullmatch(r"\((rule, line \d+: )?hooks and cleanups\)", it)]
+    return {"counts that aren't those of the cases": [
+                one for one in root.findall("testsuite") for count, kind in kinds.items()
+                if int(one.get(count)) != len(one.findall(f"testcase[{kind}]"))],
+            f"and not {wanted}": [found] * (found != wanted),
+            "other names": [names] * (names != [readable(it["name"]) for it in scenarios])}
+
+
+def failed_troubles(report, printed):
+    wanted = sum(it["status"] in ("failed", "memory") for one in report["features"] for it in one["scenarios"])
+    wanted += sum(it["around"] in BAD for it in [*report["features"], *rules_of(report)]) + (report["run"] in BAD)
+    lines = printed.split("\n")[:-1]
+    return {"another number of lines": [lines] * (len(lines) != wanted), "control characters": CONTROL.findall(printed),
+            "commands of GitHub's": [it for it in lines if it.lstrip().startswith("::") or "##[" in it]}
 
 
 def escaped(text):
@@ -112,16 +113,6 @@ def readable(name):
     return "".join("\ufffd" if it in "\ufffe\uffff" else f"\\x{ord(it):02x}" if CONTROL.match(it) and it not in "\t\r" else it for it in name)
 
 
-def failed_trouble(report, printed):
-    wanted = sum(it["status"] in ("failed", "memory") for one in report["features"] for it in one["scenarios"])
-    wanted += sum(it["around"] in BAD for it in [*report["features"], *rules_of(report)]) + (report["run"] in BAD)
-    lines = printed.decode().split("\n")[:-1]
-    commands = [it for it in lines if it.lstrip().startswith("::") or "##[" in it]
-    return unless("failed: another number of lines", len(lines) == wanted, *lines) or \
-        unless("failed: control characters", not CONTROL.search(printed.decode()), *lines) or \
-        unless("failed: commands of GitHub's", not commands, *commands)
-
-
 def out_of_memory(report):
     """A report in which memory ran out wherever something failed."""
     made = json.loads(re.sub('"(status|around|run)":"failed"', r'"\1":"memory"', report.decode()))
@@ -130,8 +121,12 @@ def out_of_memory(report):
     return json.dumps(made, ensure_ascii=False, separators=(",", ":")).encode()
 
 
-MAKERS = {"annotations": annotations_trouble, "summary": summary_trouble, "junit": junit_trouble,
-          "failed": failed_trouble}
+MAKERS = {"annotations": annotations_troubles, "summary": summary_troubles, "junit": junit_troubles, "failed": failed_troubles}
+
+
+def troubles_of(maker, report, printed):
+    """What is wrong with what a file of examples/recipes/ makes of a report."""
+    return [f"{trouble}: {it}" for trouble, found in MAKERS[maker](report, printed.decode()).items() for it in found]
 
 
 def seconds_of(folder, command, **more):
@@ -164,7 +159,6 @@ class Recipes(Checks):
     def try_makers(self, folder, name, report):
         """Checks what each file of examples/recipes/ makes of a report, if there is one."""
         driver.write(folder, {"report.json": report})
-        for maker, trouble in MAKERS.items() if report else ():
-            status, text, fault = driver.start("jq", ["-r", "-f", os.path.join(RECIPES, maker + ".jq"), "report.json"], folder)
-            found = trouble(json.loads(report), text) if status == 0 else f"{maker}.jq: {fault.decode()}"
-            self.check(f"{name}: {found}" if found else "")
+        for maker in MAKERS if report else ():
+            status, text, fault = driver.start("jq", ["-r", "-f", os.path.join(RECIPES, f"{maker}.jq"), "report.json"], folder)
+            self.check_list(f"{name}: {maker}.jq", troubles_of(maker, json.loads(report), text) if status == 0 else [fault.decode()])

@@ -87,9 +87,9 @@ class Refusals:
 
     def endings(self):
         """How each run ends, up to the first that meets no refusal."""
-        number, told = 1, []
-        while True:
-            numbers = range(number, number + 64)
+        told = []
+        for first in itertools.count(1, 64):
+            numbers = range(first, first + 64)
             for refused, ending in zip(numbers, driver.on_all_processors(self.ending, numbers)):
                 yield ending
                 if ending[0] == "told":
@@ -97,7 +97,6 @@ class Refusals:
                 if ending[0] == "unmet":
                     yield from ((f"{self.name}, growth {it} refused: no trace", b"") for it in told if it < refused - LAST)
                     return
-            number += 64
 
 
 class AmpleText:
@@ -152,14 +151,17 @@ class OfGrowths(Refusing):
                 written.add(printed)
             if ending == "marked":
                 marked.add(printed.decode())
-        seen = RUNS[case.name][2] if case.name in RUNS else ""
+        _, _, seen = RUNS.get(case.name, ("", "", ""))
         if seen:
             self.unless(f"{case.name}: no run ended with\n{seen}", seen in marked)
         return endings, written, marked
 
 
 class RefusedMemory(OfGrowths):
-    def try_run(self, name, arguments, folder):
+    def try_run(self, name, arguments, files=None):
+        """Tries a run over files in a folder of its own, or from the top of the repository."""
+        folder = driver.HOME if files is None else os.path.join(self.room, name.replace(" ", "_"))
+        driver.write(folder, files or {})
         case = Refusals(self.program, self.room, name, arguments, folder)
         endings, written, _ = self.try_case(case)
         self.unless(f"{name}: no run stopped", "stopped" in endings)
@@ -170,33 +172,25 @@ class RefusedMemory(OfGrowths):
                     self.unless(f"{name}: no run stopped after {len(before)} bytes, where a piece is made",
                                 before in written)
 
-    def try_page(self, name, *options):
-        arguments, files, _ = RUNS[name]
-        folder = os.path.join(self.room, "_".join([*name.split(), *options]))
-        driver.write(folder, files)
-        self.try_run(", ".join([name, *options]), [*options, *arguments], folder)
-
     def test_examples(self):
         for arguments in driver.examples():
-            self.try_run(arguments[-1], arguments, driver.HOME)
+            self.try_run(arguments[-1], arguments)
 
     def test_findings(self):
         for case in stored_cases.cases():
             if case.page.startswith("lint") and case.name in LINTED:
-                folder = os.path.join(self.room, case.name.replace(" ", "_"))
-                stored_cases.lay(case, folder)
-                self.try_run(case.name, [it.decode() for it in case.arguments], folder)
+                self.try_run(case.name, [it.decode() for it in case.arguments], case.files)
 
 
-def add_test(name, *options):
-    words = "_".join(re.findall("[a-z0-9]+", " ".join([name, *options]).lower()))
-    setattr(RefusedMemory, f"test_{words}", lambda self: self.try_page(name, *options))
+def add_test(name, arguments, files):
+    words = "_".join(re.findall("[a-z0-9]+", name.lower()))
+    setattr(RefusedMemory, f"test_{words}", lambda self: self.try_run(name, arguments, files))
 
 
-for _name in RUNS:
-    add_test(_name)
-for _name in EXPLAINED:
-    add_test(_name, "--explain")
+for _name, (_arguments, _files, _) in RUNS.items():
+    add_test(_name, _arguments, _files)
+    if _name in EXPLAINED:
+        add_test(f"{_name}, --explain", ["--explain", *_arguments], _files)
 
 
 # ---- inside of the libraries
@@ -296,10 +290,8 @@ class RefusedInside(OfGrowths):
         self.try_inside(NOT_BEGUN_FEATURE, {**files, HOOKS: b"before_feature:\nGiven it fails\n" + files[HOOKS]})
 
     def test_removed_file(self):
-        number, is_met, found = 0, True, []
-        while is_met:
-            number += 1
-            log = os.path.join(self.room, "removed.log")
+        log, found = os.path.join(self.room, "removed.log"), []
+        for number in itertools.count(1):
             ended = driver.start(self.program, [], self.room, driver.limited(self.room, REFUSE=number, REFUSE_LOG=log))
             is_met = driver.read(log) != b"unmet\n"
             if is_met and ended == NOT_BEGUN:
@@ -309,5 +301,7 @@ class RefusedInside(OfGrowths):
             self.unless(f"a file is removed, growth {number} refused: {ended}", is_well)
             # A refused growth that was a guess is asked for again, and harms nothing.
             found += [] if is_met and ended[2] == REMOVED[2] else [ended[2]]
+            if not is_met:
+                break
         in_order = [it for it, _ in itertools.groupby(found)]
         self.same("the results if a file is removed in a layer", in_order, REMOVED)

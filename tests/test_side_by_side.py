@@ -107,11 +107,10 @@ class WithBehave(Pairs, Checks):
     @classmethod
     def setUpClass(cls):
         super().setUpClass()
-        if subprocess.run(["behave", "--version"], capture_output=True, check=False).stdout != b"behave 1.2.6\n":
+        if driver.start("behave", ["--version"])[1] != b"behave 1.2.6\n":
             cls.leave_out("there is no behave 1.2.6")
 
     def said(self, folder, words):
-        done = subprocess.run(["behave", *QUIET, *words], cwd=folder, stdin=subprocess.DEVNULL, stdout=subprocess.PIPE,
-                              stderr=subprocess.STDOUT, timeout=driver.PATIENCE, check=False,
-                              env={**os.environ, "HOME": folder, "PYTHONDONTWRITEBYTECODE": "1"})
-        return said_of(done.returncode, done.stdout.replace(folder.encode() + b"/", b""))
+        environment = {**os.environ, "HOME": folder, "PYTHONDONTWRITEBYTECODE": "1"}
+        status, printed, _ = driver.start("behave", [*QUIET, *words], folder, environment, stderr=subprocess.STDOUT)
+        return said_of(status, printed.replace(folder.encode() + b"/", b""))

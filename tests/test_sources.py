@@ -14,9 +14,10 @@ from checks import Checks
 
 class Shape(Checks):
     def test_limits(self):
-        limits = shape.limits()
+        limits = dict(line.split() for line in driver.text("tests/shape.limits").splitlines())
         for check in shape.CHECKS:
-            self.check(shape.trouble(check.__name__, len(list(check())), limits.pop(check.__name__, None)))
+            name, count = check.__name__, len(list(check()))
+            self.same(f"{name} (tests/shape.py prints the places, and a lower count lowers the limit)", str(count), limits.pop(name, None))
         self.check_list("limits of nothing", limits)
 
 
