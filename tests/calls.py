@@ -44,14 +44,12 @@ def sources(crate):
             for it in shape.sources(".rt") if it.startswith(top)}
 
 
-def public(text):
-    """The names of the public functions in a text that aren't laws."""
-    for name, arguments, returns in FUNCTION.findall(text):
-        if returns or "&mut" in arguments:
-            yield name
+def functions(crate, traits=TRAITS, has_laws=False):
+    """The public functions of a crate, and the methods of some traits, without or with laws."""
+    def public(text):
+        found = FUNCTION.findall(text)
+        return [name for name, arguments, returns in found if has_laws or returns or "&mut" in arguments]
 
-
-def functions(crate):
     texts = sources(crate)
     root = texts["lib.rt"]
     exported = set(re.findall(r"\w+", " ".join(one + many for one, many in EXPORT.findall(root))))
@@ -62,7 +60,7 @@ def functions(crate):
                 for name in public(body):
                     yield Function(crate, type_name, name)
         for trait, type_name, body in TRAIT_BLOCK.findall(text):
-            if trait in TRAITS and type_name in exported:
+            if trait in traits and type_name in exported:
                 for name in METHOD.findall(body):
                     yield Function(crate, type_name, name)
         for name in public(BLOCK.sub("", text)):

@@ -1,8 +1,8 @@
 """Tests that are blocks of pages: commands of a shell over the files above them, and sessions of Python.
 
 In a `console` block, commands run in a folder with the files. A `pycon` block is a session for the standard library's
-doctest: its names are those of the test's module and of the test itself, of modules of the standard library, and `files`,
-the files above it by their names.
+doctest: its names are those of the test's module, of the test itself and of modules of the standard library, and
+`files`, the files above it by their names.
 Each value that a line has to print is a check.
 """
 

@@ -106,31 +106,21 @@ static void note_opened(const char *name) {
   close(file);
 }
 
-static int opened(const char *name, int flags, va_list more) {
+int open(const char *name, int flags, ...) {
   const char *failing = getenv("OPEN_FAILS");
   note_opened(name);
   if (failing && strcmp(failing, name) == 0) {
     errno = (int)number_of("OPEN_ERROR");
     return -1;
   }
-  return (int)syscall(SYS_openat, AT_FDCWD, name, flags, flags & O_CREAT ? va_arg(more, int) : 0);
-}
-
-int open(const char *name, int flags, ...) {
   va_list more;
   va_start(more, flags);
-  int file = opened(name, flags, more);
+  int mode = flags & O_CREAT ? va_arg(more, int) : 0;
   va_end(more);
-  return file;
+  return (int)syscall(SYS_openat, AT_FDCWD, name, flags, mode);
 }
 
-int open64(const char *name, int flags, ...) {
-  va_list more;
-  va_start(more, flags);
-  int file = opened(name, flags, more);
-  va_end(more);
-  return file;
-}
+int open64(const char *name, int flags, ...) __nonnull((1)) __attribute__((alias("open")));
 
 __attribute__((destructor)) static void tell(void) {
   const char *name = getenv("REFUSE_LOG");

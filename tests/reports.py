@@ -275,8 +275,9 @@ def failures(report):
                         if it.around == "failed" and behind == place)
             for case in feature.cases[place:place + 1]:
                 if case.status == "failed":
-                    yield (f"{source}:{case.line}: {case.keyword}: {one_line(case.name)}",
-                           [f"  {source}:{line}: {keyword} {one_line(text)} ... {status}" for keyword, line, text, status in case.steps])
+                    steps = [f"{line}: {keyword} {one_line(text)} ... {status}" for keyword, line, text, status in case.steps]
+                    heading = f"{source}:{case.line}: {case.keyword}: {one_line(case.name)}"
+                    yield heading, [f"  {source}:{it}" for it in steps]
         if feature.around == "failed":
             yield f"{source}:{feature.line}: Feature: {one_line(feature.name)} {AROUND}", []
     if report.around == "failed":

@@ -9,6 +9,7 @@ import shutil
 import sys
 
 import blocks
+import calls
 import driver
 import pages
 import prose
@@ -41,7 +42,7 @@ def prose_of(page):
 
 @functools.cache
 def code_names():
-    """The words of the code and of the definitions, without comments, and the names of files and of what callers set."""
+    """The words of the code and of the definitions without comments, the names of files, and of what callers set."""
     names = set(CRATES)
     callers = re.compile(r"\b(GHERKIN_[A-Z_]+|(?<=^import )[a-z]+|(?<=^const )[A-Z]+)\b", re.MULTILINE)
     for path in FILES:
@@ -54,7 +55,7 @@ def code_names():
     return names
 
 
-# What is in code style on these pages and in no code: words of the shell, of other programs, and of the pages' own tables.
+# What is in code style on pages and in no code: words of the shell, of other programs, and of the pages' own tables.
 PLAIN_WORDS = set("""
     gherkin_world gherkin_scenario Andorra EN EU GHERKIN_RUN WEB_MODULE TEXT TO LINE KEYWORD VERDICT STATUS REASON TYPE
     jq malloc read_to_end write_all
@@ -171,15 +172,10 @@ def edit_differences():
 # ---- pages that tools/read.py prints
 
 def public_functions(crate):
-    """The functions that lib.rt of a crate has or exports, and those of the types that it exports."""
+    """The names of the functions that lib.rt of a crate has or exports, and of those of the types that it exports."""
     library = driver.text(f"crates/{crate}/src/lib.rt")
-    exported = set(re.findall(r"\w+", " ".join(re.findall(r"^pub use \w+::([^;]+);", library, re.MULTILINE))))
-    code = "\n".join(driver.text(it) for it in CODE if it.startswith(f"crates/{crate}/"))
-    found = set(re.findall(r'^pub extern "C" fn (\w+)', library, re.MULTILINE))
-    found |= exported & set(re.findall(r"^pub fn (\w+)", code, re.MULTILINE))
-    for owner, body in re.findall(r"^impl(?:<\S*>)? (\w+)(?:<\S*>)? \{$(.*?)^\}", code, re.MULTILINE | re.DOTALL):
-        found |= {f"{owner}::{it}" for it in re.findall(r"^    pub fn (\w+)", body, re.MULTILINE) if owner in exported}
-    return found
+    return {*re.findall(r'^pub extern "C" fn (\w+)', library, re.MULTILINE),
+            *("::".join(filter(None, it[1:])) for it in calls.functions(crate, (), has_laws=True))}
 
 
 def reading_differences():
@@ -190,9 +186,9 @@ def reading_differences():
               "claims": [f"\n- `{it}`:" for crate in libraries for it in public_functions(crate)]}
     for command, texts in wanted.items():
         status, printed, _ = driver.start(sys.executable, [os.path.join(HOME, "tools/read.py"), command])
-        counts = {it: printed.decode().count(it) for it in texts}
+        counts = ((it.strip(), printed.decode().count(it)) for it in texts)
         yield from [f"tools/read.py {command} ends with {status}"] * (status != 0)
-        yield from (f"tools/read.py {command} prints {it.strip()} {count} times" for it, count in counts.items() if count != 1)
+        yield from (f"tools/read.py {command} prints {it} {count} times" for it, count in counts if count != 1)
 
 
 # ---- links
@@ -362,7 +358,8 @@ PICTURES = {"failing_run.svg": "docs/pictures/failing_run.py", "peers.svg": "ben
 def picture_differences():
     """Pictures that are missing, or that their scripts draw in another way."""
     for name, script in PICTURES.items():
-        if driver.start(sys.executable, [script, driver.program()])[:2] != (0, driver.read(os.path.join(HOME, "docs/pictures", name))):
+        status, drawn, _ = driver.start(sys.executable, [script, driver.program()])
+        if status != 0 or drawn.decode() != driver.text(f"docs/pictures/{name}"):
             yield f"docs/pictures/{name} isn't what {script} draws"
 
 
@@ -400,9 +397,10 @@ OF_EACH = {
 }
 OF_ALL = {
     "must-fail edits": edit_differences, "files of the guide": shown_twice, "words": foreign_words,
-    "words of pages": too_many_words, "lines of README.md": too_many_lines,
-    "lists of pages": unlisted_pages, "pages of tools/read.py": reading_differences, "modules of the same name": shared_modules,
-    "entries of docs/FAULTS.md": fault_differences, "hints of docs/FAULTS.md": hint_differences, "pictures": picture_differences,
+    "words of pages": too_many_words, "lines of README.md": too_many_lines, "lists of pages": unlisted_pages,
+    "pages of tools/read.py": reading_differences, "modules of the same name": shared_modules,
+    "entries of docs/FAULTS.md": fault_differences, "hints of docs/FAULTS.md": hint_differences,
+    "pictures": picture_differences,
 }
 
 

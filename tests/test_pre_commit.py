@@ -18,7 +18,9 @@ class PreCommit(Checks):
 
     def call(self, folder, *words):
         environment = {**os.environ, **AUTHOR, "HOME": self.room, "PRE_COMMIT_HOME": os.path.join(self.room, "home")}
-        status, said, _ = driver.start(words[0], words[1:], os.path.join(self.room, folder), environment, stderr=subprocess.STDOUT)
+        program, *words = words
+        folder = os.path.join(self.room, folder)
+        status, said, _ = driver.start(program, words, folder, environment, stderr=subprocess.STDOUT)
         return status, said.decode()
 
     def commit(self, folder, files):

@@ -121,7 +121,8 @@ def out_of_memory(report):
     return json.dumps(made, ensure_ascii=False, separators=(",", ":")).encode()
 
 
-MAKERS = {"annotations": annotations_troubles, "summary": summary_troubles, "junit": junit_troubles, "failed": failed_troubles}
+MAKERS = {"annotations": annotations_troubles, "summary": summary_troubles, "junit": junit_troubles,
+          "failed": failed_troubles}
 
 
 def troubles_of(maker, report, printed):
@@ -160,5 +161,7 @@ class Recipes(Checks):
         """Checks what each file of examples/recipes/ makes of a report, if there is one."""
         driver.write(folder, {"report.json": report})
         for maker in MAKERS if report else ():
-            status, text, fault = driver.start("jq", ["-r", "-f", os.path.join(RECIPES, f"{maker}.jq"), "report.json"], folder)
-            self.check_list(f"{name}: {maker}.jq", troubles_of(maker, json.loads(report), text) if status == 0 else [fault.decode()])
+            path = os.path.join(RECIPES, f"{maker}.jq")
+            status, text, fault = driver.start("jq", ["-r", "-f", path, "report.json"], folder)
+            found = troubles_of(maker, json.loads(report), text) if status == 0 else [fault.decode()]
+            self.check_list(f"{name}: {maker}.jq", found)

@@ -8,7 +8,6 @@ import contextlib
 import glob
 import os
 import shutil
-import subprocess
 
 import blocks
 import driver
@@ -91,9 +90,10 @@ class Released(Checks):
         driver.write(cls.room, {"steps taken": "0\n"})
         # The stand-in for the toolchain notes its calls in the same variable.
         settings = {"PATH": f"{cls.steps}:{cls.commands}", "CALLS": calls, "AT": str(at), "HOW": how, "TMPDIR": cls.clone.temporary, **more}
-        done = subprocess.run([*stand_ins.BEGIN, script], cwd=cls.clone.folder, env=settings, check=False, stdin=subprocess.DEVNULL,
-                              capture_output=True, timeout=2 * driver.PATIENCE, umask=umask)
-        return done.returncode, done.stdout.decode("utf-8", "replace"), done.stderr.decode("utf-8", "replace"), len(glob.glob(glob.escape(calls) + ".[0-9]*"))
+        program, *words = [*stand_ins.BEGIN, script]
+        status, *printed = driver.start(program, words, cls.clone.folder, settings, patience=2 * driver.PATIENCE,
+                                        before=lambda: os.umask(umask))
+        return status, *(it.decode("utf-8", "replace") for it in printed), len(glob.glob(glob.escape(calls) + ".[0-9]*"))
 
     def tearDown(self):
         self.put_back()

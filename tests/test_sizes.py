@@ -2,10 +2,10 @@
 
 Each count and length that a user controls, from the bytes of a file to the changes in a layer, is a row. A row makes
 the run of a size, with what has to come out, worked out beside it and not taken from the program. It is tried with each
-of SIZES and with some random ones, or with sizes of its own: those up to SMALL in each format, larger ones in one format.
+of SIZES and with some random ones, or with sizes of its own: those up to SMALL in each format, larger ones in one.
 With SIZES=all in the environment each size is tried in each format, in some two minutes. Some rows end at SMALL, since
-their cost grows faster than their number, or there is a limit below; those of one argument end where the system takes no
-longer one.
+their cost grows faster than their number, or there is a limit below; those of one argument end where the system takes
+no longer one.
 
 A growing run is made of two sizes, and the larger may take only so many times the processor time of the smaller. Runs at
 the limits are on the page sizes.md.
@@ -52,8 +52,8 @@ SKIPPED, UNTESTED = (Step("it passes", it) for it in ("skipped", "untested"))
 
 
 class Row(collections.namedtuple("Row", "make least most also only formats", defaults=(0, MOST, (), (), ()))):
-    """What makes the run of a size, and the sizes: the usual ones of a range and some more, or others alone. It may have
-    formats in which each of them is tried."""
+    """What makes the run of a size, and the sizes: the usual ones of a range and some more, or others alone. It may
+    have formats in which each of them is tried."""
 
     def sizes(self, name):
         chance = random.Random(name)
@@ -155,7 +155,7 @@ ROWS |= {
     # A step is description there.
     "lines of descriptions": lambda size: FeatureFile().add(*["Given it fails"] * size).scenario("it passes"),
     "lines before a fault": Row(lambda size: Run(
-        one("it passes").add(*["# c"] * size, "stray"), fault=f"a.feature:{size + 4}: unexpected line"), also=(70_000,)),
+        one("it passes").add(*["# c"] * size, "stray"), fault=f"a.feature:{size + 4}: unexpected line"), also=(MOST,)),
     "lines before the scenario of --line": Row(lambda size: Run(
         one(Step("it fails", "skipped"), name="no").add(*[""] * size).scenario("it passes", name="yes"),
         options=["--line", str(size + 4)]), only=(65_531, 65_532, 999_996)),
@@ -209,7 +209,7 @@ def text_in_a_step(size):
 
 
 ROWS |= {
-    **{f"bytes of the text of a {noun}": Row(functools.partial(kept_text, noun, ""), also=OVER) for noun in OWN_ENTRIES},
+    **{f"bytes of the text of a {it}": Row(functools.partial(kept_text, it, ""), also=OVER) for it in OWN_ENTRIES},
     "bytes of a text of longer characters": Row(
         functools.partial(kept_text, "file", "\u00e9"), only=(TEXT_LIMIT, TEXT_LIMIT + 1, TEXT_LIMIT + 2)),
     "bytes of the text of a cell": Row(text_of_a_cell, also=OVER),
@@ -269,8 +269,8 @@ def path_of_bytes(size):
 
 
 ROWS |= {
-    **{f"bytes of the name of a {noun}, of {letter or 'letters'}": Row(functools.partial(kept_name, noun, letter), least=1)
-       for noun in OWN_ENTRIES for letter in ("", "\u00e9")},
+    **{f"bytes of the name of a {noun}, of {letter or 'letters'}":
+       Row(functools.partial(kept_name, noun, letter), least=1) for noun in OWN_ENTRIES for letter in ("", "\u00e9")},
     "bytes of a name in a table": lambda size: one(Step(
         "these files:", kept(size or NAME_LIMIT + 1, "bad name", NAME_LIMIT),
         ("| name | text |", f"| {letters(size)} | x |"))),
@@ -366,8 +366,8 @@ def rules_after_one_that_stops(size):
 
 
 def part_of_many_pieces(size):
-    """60 scenarios before the first rule and in each. Their names grow and shrink, so that pieces end anywhere. The hook
-    after each second rule fails. Two of five aren't chosen, nor most of a rule in the middle."""
+    """60 scenarios before the first rule and in each. Their names grow and shrink, so that pieces end anywhere. The
+    hook after each second rule fails. Two of five aren't chosen, nor most of a rule in the middle."""
     made = FeatureFile()
     for number in range(size):
         rule, place = divmod(number, 60)
@@ -474,8 +474,9 @@ ROWS |= {
     "files that change something, backwards": Row(
         lambda size: Run(*reversed(changing_files(size))), only=(100,), formats=["plain"]),
     "files without scenarios": Row(lambda size: Run(*empty_files(size)), only=(300,), formats=FORMATS),
-    "files before one with a fault": Row(lambda size: Run(
-        *empty_files(size, "Feature: g"), fault=f"{size - 1}.feature:2: unexpected line"), only=(300,), formats=["plain"]),
+    "files before one with a fault": Row(
+        lambda size: Run(*empty_files(size, "Feature: g"), fault=f"{size - 1}.feature:2: unexpected line"),
+        only=(300,), formats=["plain"]),
     # The same file again and again.
     "files of a run": Row(lambda size: Run(*[FeatureFile(source="a").scenario("it passes")] * size), least=1),
     "steps of a file": Row(lambda size: outline(*["it passes"] * 1000).examples(*[["x"]] * (size // 1000)),
@@ -599,9 +600,9 @@ def named_by(option, noun, value, size):
 
 
 def file_of_an_option(size):
-    text = letters(size)
-    return with_library(one(*(found("see f", text) if size <= TEXT_LIMIT else [])), OWN_ENTRIES["file"], ["--file=f=x.txt"],
-                        {"x.txt": text}, fault=f"x.txt: longer than {TEXT_LIMIT} bytes" if size > TEXT_LIMIT else "")
+    text, is_long = letters(size), size > TEXT_LIMIT
+    return with_library(one(*([] if is_long else found("see f", text))), OWN_ENTRIES["file"], ["--file=f=x.txt"],
+                        {"x.txt": text}, fault=f"x.txt: longer than {TEXT_LIMIT} bytes" if is_long else "")
 
 
 ROWS |= {
@@ -611,8 +612,10 @@ ROWS |= {
     "blanks of an expression": Row(
         lambda size: chosen("--tags=" + " " * size + "(@b" + "\t" * size + ")"), most=60_000),
     "terms of an or": Row(lambda size: chosen("--tags=" + "@x or " * size + "@b "), most=20_000, also=(21_800,)),
-    "terms of an and": Row(lambda size: chosen("--tags=" + "@a and " * size + "@b ", no="@a"), most=18_000, also=(18_700,)),
-    "parentheses of an expression": Row(lambda size: deep("(" * size + "@b" + ")" * size, size), most=SMALL, also=(32_000,)),
+    "terms of an and": Row(
+        lambda size: chosen("--tags=" + "@a and " * size + "@b ", no="@a"), most=18_000, also=(18_700,)),
+    "parentheses of an expression": Row(
+        lambda size: deep("(" * size + "@b" + ")" * size, size), most=SMALL, also=(32_000,)),
     "negations of an expression": Row(
         lambda size: deep("not " * size + ("@c " if size % 2 else "@b "), size), most=SMALL, also=(32_000,)),
     "bytes of a text of tags": text_of_tags,
@@ -641,8 +644,8 @@ def explained(*files, note="", entries=""):
         text += f"{heading} ... failed\n{named_row}{lines}\n"
         listed += f"{heading}\n"
     text += listed + "\n" * bool(listed) + plain_tail(report)
-    library = ["--library", "l.steps"] if entries else []
-    return Run(*files, files={"l.steps": entries}, options=["--explain", *library], printed=text, status=report.status())
+    options = ["--explain", *(["--library", "l.steps"] if entries else [])]
+    return Run(*files, files={"l.steps": entries}, options=options, printed=text, status=report.status())
 
 
 EXPLAINED = {
@@ -674,8 +677,9 @@ FAULTY = (
 
 
 def faulty(faults, files, *options):
-    """A run that finds these faults, each a file, a line and a text. The line is quoted, and what is to be done is below it."""
-    listing = "".join(f"gherkin_run: {name}:{line}: {fault}\n    {files[name].splitlines()[line - 1]}\n    {HINTS[fault]}\n"
+    """A run that finds these faults, each a file, a line and a text. The line is quoted, with what is to be done."""
+    lines = {name: text.split("\n") for name, text in files.items()}
+    listing = "".join(f"gherkin_run: {name}:{line}: {fault}\n    {lines[name][line - 1]}\n    {HINTS[fault]}\n"
                       for name, line, fault in faults)
     sources = [it for it in files if it.endswith(".feature")]
     return Run(files=files, sources=sources, options=["--lint", *options], printed="", err=listing)
@@ -720,7 +724,8 @@ GROWING = {
     "entries of a library": (3000, lambda count: with_library(
         one("w0", f"w{count - 1}", Step("w", "undefined")), each("step w{} => pass\n", count))),
     "entries of a library with fields": (3000, lambda count: with_library(
-        one(f"w0 is 1 of {count}", Step("w0 is", "undefined")), each("step w{} is {{n:d}} of {{m:d}} => pass\n", count))),
+        one(f"w0 is 1 of {count}", Step("w0 is", "undefined")),
+        each("step w{} is {{n:d}} of {{m:d}} => pass\n", count))),
     "columns of an outline": (3000, lambda count: under(
         [f"h{number}" for number in range(count)], each("<h{}>", count), each("c{}", count))),
     "placeholders in a long text": (3000, lambda count: under(["a", "b"], "<a><b><c>" * count, "c0c1<c>" * count)),
@@ -732,7 +737,8 @@ GROWING = {
         one(VARIABLE_SEEN.format("x")), each("before_tag @t{}:\n", count)
         + 'after_tag @last:\nbefore_scenario:\n* the variable "V" is set to "x"\n')),
     "headings of hooks before a fault": (3000, lambda count: with_hooks(
-        FeatureFile(), each(EMPTY_HOOKS, count // 2) + "after_tag @t7:\n", fault=f"h.hooks:{count + 1}: bad hook heading")),
+        FeatureFile(), each(EMPTY_HOOKS, count // 2) + "after_tag @t7:\n",
+        fault=f"h.hooks:{count + 1}: bad hook heading")),
     # Each tag of each of 20 scenarios has a hook before it and one after it.
     "tags with hooks": (300, lambda count: with_hooks(
         FeatureFile().repeat(20, lambda made, at: made.scenario(
@@ -747,19 +753,21 @@ GROWING = {
         *given("--tags", [*(f"~@t{number}" for number in range(count - 1)), "~@c"]))),
     # Each tag that is named is looked for among as many in the feature.
     "tags that are nowhere": (1000, lambda count: Run(
-        FeatureFile(each("@t{} ", count)).scenario("it passes"), printed=f"--tags @t{count}: stands nowhere\n", status=1,
-        options=["--lint", *given("--tags", [f"@t{number}" for number in range(1, count + 1)])])),
+        FeatureFile(each("@t{} ", count)).scenario("it passes"), printed=f"--tags @t{count}: stands nowhere\n",
+        status=1, options=["--lint", *given("--tags", [f"@t{number}" for number in range(1, count + 1)])])),
     "variables of the run": (1000, lambda count: Run(
         one(*(VARIABLE_SEEN.replace("V", f"V{number}").format(number) for number in (0, count - 1)),
             f'the variable "V{count}" should be unset'),
         options=given("--env", (f"V{number}={number}" for number in range(count))))),
     "files of the run": (1000, lambda count: Run(
-        one(*(f'the file "f{number}" should be "x"' for number in (0, count - 1)), f'the file "f{count}" should not exist'),
+        one(*(f'the file "f{number}" should be "x"' for number in (0, count - 1)),
+            f'the file "f{count}" should not exist'),
         files={"x.txt": "x"}, options=given("--file", (f"f{number}=x.txt" for number in range(count))))),
     # Entries that begin alike, below 30 undefined steps.
     "entries beside undefined steps": (3000, lambda count: explained(
         FeatureFile().repeat(30, lambda made, at: made.scenario(Step(f"the entry is {'x' * (at + 1)}", "undefined"))),
-        note="      the nearest entry is: step the entry is 0\n", entries=each("step the entry is {} => pass\n", count))),
+        note="      the nearest entry is: step the entry is 0\n",
+        entries=each("step the entry is {} => pass\n", count))),
     "faults of many files": (700, faults_of_many_files),
     # What is found goes to standard output.
     "findings of a file": (2000, lambda count: Run(

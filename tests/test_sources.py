@@ -17,7 +17,8 @@ class Shape(Checks):
         limits = dict(line.split() for line in driver.text("tests/shape.limits").splitlines())
         for check in shape.CHECKS:
             name, count = check.__name__, len(list(check()))
-            self.same(f"{name} (tests/shape.py prints the places, and a lower count lowers the limit)", str(count), limits.pop(name, None))
+            advice = "fix what is new, which tests/shape.py prints, or lower the limit"
+            self.same(f"{name} in tests/shape.limits ({advice})", str(count), limits.pop(name, None))
         self.check_list("limits of nothing", limits)
 
 
