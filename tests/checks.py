@@ -37,7 +37,9 @@ class Checks(unittest.TestCase):
     @classmethod
     def setUpClass(cls):
         cls.needs(*cls.NEEDS)
-        cls.room = cls.new_room()
+        folder = tempfile.TemporaryDirectory(ignore_cleanup_errors=True)
+        cls.addClassCleanup(folder.cleanup)
+        cls.room = os.path.realpath(folder.name)
 
     @classmethod
     def needs(cls, *tools):
@@ -51,12 +53,6 @@ class Checks(unittest.TestCase):
         print(f"{cls.__module__}: {cls.__name__} is left out: {reason}", flush=True)
         COUNTS["passed"] += 0
         raise unittest.SkipTest(reason)
-
-    @classmethod
-    def new_room(cls):
-        folder = tempfile.TemporaryDirectory(ignore_cleanup_errors=True)
-        cls.addClassCleanup(folder.cleanup)
-        return os.path.realpath(folder.name)
 
     @property
     def program(self):

@@ -113,8 +113,10 @@ def mixed(generator):
     return Case([("--library", "l.steps")], "a.feature", {**files, "l.steps": b"".join(library)})
 
 
-def random_files(generator, kind):
-    """Random bytes, or lines: of a feature file and of a library, of hooks, or options before a file."""
+def random_case(generator, kind):
+    """Mixed lines, random bytes, or random lines: of a feature file and of a library, of hooks, or options before a file."""
+    if kind == "mixed":
+        return mixed(generator)
     if kind == "bytes":
         return Case([], "a.feature", {"a.feature": generator.bytes(400)})
     if kind == "lines":
@@ -155,14 +157,12 @@ def is_report(runs, arguments, status, text):
 
 def case(key):
     """A case. It has options for the report and the run in turn, unless these are hostile, or an example has some."""
-    number = key.number if isinstance(key, Change) else key
-    # Kinds of cases take turns, so the options change more slowly.
     if isinstance(key, Change):
-        made = changed(key)
+        made, turn = changed(key), key.number
     else:
-        kind, maker = KINDS[key % len(KINDS)], Maker(key // len(KINDS))
-        made = mixed(maker) if kind == "mixed" else random_files(maker, kind)
-    turn = number if isinstance(key, Change) else number // len(KINDS)
+        # Kinds of cases take turns, so the options change more slowly.
+        turn, kind = divmod(key, len(KINDS))
+        made = random_case(Maker(turn), KINDS[kind])
     if made.may_be_refused or OWN_STYLE & {it for option in made.options for it in option}:
         return made
     added = STYLES[turn % len(STYLES)] + [(it,) for it in RUN_OPTIONS[turn % len(RUN_OPTIONS)]]

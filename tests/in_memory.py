@@ -6,7 +6,6 @@ The files of a case are those that its arguments ask for, and no others.
 import collections
 import os
 import random
-import stat
 
 import driver
 import hostile_bytes
@@ -18,18 +17,10 @@ FORMS = [["--format", "plain"], ["--format", "progress"], ["--format", "json"], 
 CHANGED = 300  # files
 
 
-def is_file(path):
-    """Whether a file can be read whole."""
-    try:
-        return stat.S_ISREG(os.stat(path).st_mode) and not path.startswith(b"/proc")
-    except OSError:
-        return False
-
-
 def case(asked, program, words, folder=driver.HOME):
     words = [os.fsencode(it) for it in words]
     paths = {it: os.path.join(os.fsencode(folder), it) for it in asked(words)}
-    files = {it: driver.read(path) for it, path in paths.items() if is_file(path)}
+    files = {it: driver.read(path) for it, path in paths.items() if os.path.isfile(path) and not path.startswith(b"/proc")}
     return Case(f"{words} in memory", words, files, driver.start(program, words, folder))
 
 

@@ -84,16 +84,15 @@ class UnknownCase(Case):
 
 
 class FailingWrites(Refusing):
-    def try_all(self, kind, options, runs):
-        cases = [kind(self.program, self.room, it, options) for it in runs]
+    def try_all(self, kind, options, is_report):
+        cases = [kind(self.program, self.room, it, options) for it in stored_cases.cases("failing_writes.md")
+                 if is_report == {b"--explain", b"--lint"}.isdisjoint(it.arguments)]
         for troubles in driver.on_all_processors(lambda case: list(case.troubles()), cases):
             self.check_all(troubles)
 
     def test_reports(self):
-        runs = [it for it in stored_cases.cases("failing_writes.md") if not {b"--explain", b"--lint"} & set(it.arguments)]
         for style in FORMATS:
-            self.try_all(Case, ["--format", style], runs)
+            self.try_all(Case, ["--format", style], True)
 
     def test_explanations_and_findings(self):
-        runs = [it for it in stored_cases.cases("failing_writes.md") if {b"--explain", b"--lint"} & set(it.arguments)]
-        self.try_all(UnknownCase, [], runs)
+        self.try_all(UnknownCase, [], False)
