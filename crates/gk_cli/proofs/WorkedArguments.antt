@@ -99,7 +99,7 @@ have_faults :
     × Have (codes "--dry-run" ∷ codes "--lint" ∷ codes "a" ∷ []) (kind.ArgumentConflict ∷ [])
     × Have (codes "--lint" ∷ codes "--no-skipped" ∷ codes "a" ∷ []) (kind.ArgumentConflict ∷ [])
     × Have (codes "--stop" ∷ codes "a" ∷ codes "--lint" ∷ []) (kind.ArgumentConflict ∷ [])
-    × Have (codes "--lint" ∷ codes "--env" ∷ codes "A=" ∷ codes "a" ∷ []) (kind.ArgumentConflict ∷ [])
+    × Have (codes "--lint" ∷ codes "--env" ∷ codes "A=" ∷ codes "a" ∷ []) []
     × Have (codes "--file=n=p" ∷ codes "--lint" ∷ codes "a" ∷ []) (kind.ArgumentConflict ∷ [])
     × Have (codes "--lint" ∷ codes "a" ∷ codes "--lint" ∷ []) (kind.ArgumentConflict ∷ [])
 unfolding clap_on_literals
