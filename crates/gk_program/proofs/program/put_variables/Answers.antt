@@ -9,8 +9,8 @@ use Rattle.gk_program.proofs.program.put_variables.Goals as goal
 
 pub returns-in-Err : goal.returns-in-Err
 returns-in-Err c =
-    let name = c.as_str.ensures.value in
-    let text = c.as_str-in-loop-variable.ensures.value in
+    let name = c.as_str-name.ensures.value in
+    let text = c.as_str.ensures.value in
     let fault = c.fault_of_variable.result in
     refused c.args.mode (map pair_value c.args.variables.now) c.args.sandbox.now c.put_env.new.self (pair_value c.variable-item.result) c.in-Err.fault fault
     (subst (λ r. IsFault r c.in-Err.fault) (ap₂ put_refusal name text) c.in-Err.ensures.answer)
@@ -19,8 +19,8 @@ returns-in-Err c =
 
 pub loop-variable-preserved : goal.loop-variable-preserved
 loop-variable-preserved c =
-    let name = c.as_str.ensures.value in
-    let text = c.as_str-in-loop-variable.ensures.value in
+    let name = c.as_str-name.ensures.value in
+    let text = c.as_str.ensures.value in
     let put = c.in-Ok.ensures.ok.contents ∙ ap₂ (with_env c.loop-variable.sandbox.now) name text in
     record {
       put = put_more pair_value c.args.variables.now c.loop-variable.variable-index c.variable-item.result _ _ _ c.loop-variable-test.true c.variable-item.is put c.loop-variable.invariant.put;
