@@ -2,6 +2,7 @@
 
 import os
 import subprocess
+import tempfile
 
 import driver
 import pages
@@ -69,14 +70,14 @@ class Debian(Checks):
 
     def setUp(self):
         self.debs = [os.path.join(DIST, f"{it}_{VERSION}_amd64.deb") for it in ("gherkin-run", "libgherkin-run-dev")]
-        self.root = self.new_room()
+        self.root = tempfile.mkdtemp(dir=self.room)
         libc = "Package: libc6\nStatus: install ok installed\nVersion: 2.34\nArchitecture: amd64\nMaintainer: m\nDescription: d\n"
         kept = {"available": "", "status": libc, "info/libc6.list": "", "updates/none": ""}
         driver.write(self.root, {f"var/lib/dpkg/{it}": text for it, text in kept.items()})
 
     def made(self):
         """The packages that are made from dist/, by their names."""
-        folder = self.new_room()
+        folder = tempfile.mkdtemp(dir=self.room)
         said("packaging/debian/make.sh", folder)
         return driver.tree(folder)
 
