@@ -15,7 +15,7 @@ const OPTIONS = [
     { option: "--hooks", field: "hooks", kind: "file", tabs: ["report", "explanation", "findings"] },
     { option: "--tags", field: "tags", kind: "text", between: "\n", tabs: ["report", "explanation", "findings"] },
     { option: "--line", field: "lines", kind: "text", between: /[\s,]+/, tabs: ["report", "explanation", "findings"] },
-    { option: "--env", field: "variables", kind: "text", between: "\n", tabs: ["report", "explanation"] },
+    { option: "--env", field: "variables", kind: "text", between: "\n", tabs: ["report", "explanation", "findings"] },
     { option: "--file", field: "written", kind: "put", tabs: ["report", "explanation"] },
     // tools/tables.py: flags
     { option: "--dry-run", field: "dryRun", kind: "flag", tabs: ["report"] },
