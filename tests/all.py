@@ -38,17 +38,14 @@ def classes(name):
 
 
 def run(name):
+    """What a module says, and how many checks passed and failed. A bad end without counts or a failure is one failure."""
     with subprocess.Popen([sys.executable, "-m", "unittest", "-q", name], cwd=TESTS, stdin=subprocess.DEVNULL,
                           stdout=subprocess.PIPE, stderr=subprocess.STDOUT, text=True, errors="replace") as process:
         STARTED.append(process)
-        return process.communicate()[0], process.returncode
-
-
-def counts(said, status):
-    """How many checks passed and failed. A bad end without a failure, or without counts, is one failure."""
+        said = process.communicate()[0]
     found = CLOSING.findall(said)
     passed, failed = map(int, found[-1]) if found else (0, 1)
-    return passed, failed or int(status != 0)
+    return said, passed, failed or int(process.returncode != 0)
 
 
 def end(*_):
@@ -77,8 +74,7 @@ def main():
         order = sorted(names, key=lambda it: LONGEST.index(it) if it in LONGEST else len(LONGEST))
         running = {it: pool.submit(run, it) for it in order}
         for name in names:
-            said, status = running[name].result()
-            good, bad = counts(said, status)
+            said, good, bad = running[name].result()
             print(f"== {name}", said.rstrip("\n"), sep="\n", flush=True)
             passed, failed = passed + good, failed + bad
     print(f"{passed} passed, {failed} failed")

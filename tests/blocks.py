@@ -60,8 +60,7 @@ def shown(page):
 
 
 def runs(page):
-    """The console blocks of a page, and its sessions of Python, each with its heading, and the files below that and the
-    headings above it."""
+    """The console blocks and sessions of Python of a page, each with its heading, and the files below that and those above it."""
     files, names = {}, {}
     for part in parts(page):
         if not isinstance(part, Block):

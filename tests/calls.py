@@ -4,9 +4,7 @@ No proof says that a call succeeds if memory is ample. So a test calls each publ
 ample memory, and compares what it returns: one that the root of a library crate exports, a public
 method of a type that it exports, or a method of a trait of TRAITS for such a type. This only reads
 the sources. A function is one check, which fails if no crate of tests calls it. `tests/calls.py`
-prints the table: which files call which function.
-
-The functions of gk_program are called by the program and gk_c, which other tests run.
+prints the table: which files call which function. Other tests run the functions of gk_program.
 
 Laws aren't looked for: functions that return nothing and change nothing. A method is called by its
 name after a dot, or by its type. Only a call by the type, or after a variable with the type's name,
@@ -41,7 +39,7 @@ def sources(crate):
     """The code of a crate, without its comments and what is in its strings, by the paths of its files below its folder src/."""
     top = f"crates/{crate}/src/"
     return {it.removeprefix(top): "\n".join(map(shape.without_literals, shape.lines_of(it)))
-            for it in shape.sources(".rt") if it.startswith(top)}
+            for it in shape.CODE if it.startswith(top)}
 
 
 def functions(crate, traits=TRAITS, has_laws=False):
@@ -55,17 +53,10 @@ def functions(crate, traits=TRAITS, has_laws=False):
     exported = set(re.findall(r"\w+", " ".join(one + many for one, many in EXPORT.findall(root))))
     modules = [f"{name}.rt" for name in MODULE.findall(root)]
     for path, text in sorted(texts.items()):
-        for type_name, body in BLOCK.findall(text):
-            if type_name in exported:
-                for name in public(body):
-                    yield Function(crate, type_name, name)
-        for trait, type_name, body in TRAIT_BLOCK.findall(text):
-            if trait in traits and type_name in exported:
-                for name in METHOD.findall(body):
-                    yield Function(crate, type_name, name)
-        for name in public(BLOCK.sub("", text)):
-            if name in exported or path in modules:
-                yield Function(crate, None, name)
+        methods = [(it, public(body)) for it, body in BLOCK.findall(text)]
+        methods += [(it, METHOD.findall(body)) for trait, it, body in TRAIT_BLOCK.findall(text) if trait in traits]
+        yield from (Function(crate, it, name) for it, names in methods if it in exported for name in names)
+        yield from (Function(crate, None, it) for it in public(BLOCK.sub("", text)) if it in exported or path in modules)
 
 
 def is_called(function, text, shared):

@@ -40,6 +40,14 @@ class Checks(unittest.TestCase):
         folder = tempfile.TemporaryDirectory(ignore_cleanup_errors=True)
         cls.addClassCleanup(folder.cleanup)
         cls.room = os.path.realpath(folder.name)
+        os.chmod(cls.room, 0o755)
+
+    @classmethod
+    def new_folder(cls):
+        """Makes a folder in the room, which other users can enter, too."""
+        folder = tempfile.mkdtemp(dir=cls.room)
+        os.chmod(folder, 0o755)
+        return folder
 
     @classmethod
     def needs(cls, *tools):
@@ -93,3 +101,7 @@ class Refusing(Checks):
     def setUpClass(cls):
         super().setUpClass()
         driver.build_shim(cls.room)
+
+    def limited(self, arguments, folder, **limits):
+        """How the program ends that is limited by that library."""
+        return driver.start(self.program, arguments, folder, driver.limited(self.room, **limits))

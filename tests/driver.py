@@ -191,8 +191,7 @@ def stream_difference(name, printed, wanted):
 
 
 def trouble(name, ended, wanted):
-    """What is wrong with a run of this name, or nothing where it ended as wanted. Both are a status and the bytes on
-    standard output and standard error."""
+    """What is wrong with a run of this name, if it ended otherwise. Both ends are a status and the bytes on two streams."""
     found = [] if ended[0] == wanted[0] else [f"  status {ended[0]}, and not {wanted[0]}"]
     for name_of_stream, printed, text in zip(STREAMS, ended[1:], wanted[1:]):
         if printed != text:

@@ -57,8 +57,7 @@ PASSING = ("write_file", "set_value", "append_file", "add_number", "pass")
 Part = collections.namedtuple("Part", "tags heading background scenarios")
 Scenario = collections.namedtuple("Scenario", "tags heading steps examples")
 Examples = collections.namedtuple("Examples", "tags rows")
-# Feature files by their names, hooks by theirs, the lines of a library, options, texts of tags, and the options with some
-# of these texts, or none.
+# Feature files and hooks by their names, the lines of a library, options, texts of tags, and the options with some of these.
 Suite = collections.namedtuple("Suite", "features hooks library options texts choices")
 
 # The bytes that take the place of others: no text, line ends, blanks, the marks of Gherkin and of patterns, and the

@@ -4,8 +4,7 @@
 - The lines of all examples, libraries and hooks files mixed: two files' lines in turn, and random lines of all of them.
 - Random options.
 - Each example whole; each prefix of its feature file, of its library and of its hooks file; each of these files with
-  one byte changed, at every place, to a byte of a list, in turn. These aren't random, and run only without --count and
-  --seconds.
+  one byte changed, at every place, to a byte of a list, in turn. These aren't random, and tests/search.py leaves them out.
 
 Each of these runs is made with a report of one format, plain, as progress or as JSON, and some with --no-skipped,
 --dry-run or --stop. It has to end with status 0 or 1, the report that follows from one in JSON of the same run, whose

@@ -10,10 +10,11 @@ import random
 import driver
 import hostile_bytes
 import stored_cases
+from tables import FORMATS
 
 # Arguments and names are bytes. The end is a status, the output and the errors.
 Case = collections.namedtuple("Case", "name arguments files ended")
-FORMS = [["--format", "plain"], ["--format", "progress"], ["--format", "json"], ["--explain"], ["--lint"]]
+FORMS = [*(["--format", it] for it in FORMATS), ["--explain"], ["--lint"]]
 CHANGED = 300  # files
 
 
@@ -34,8 +35,7 @@ def stored(asked):
 
 
 def changed_files(room, seed, forms):
-    """Writes examples to a folder, one after another, each with a byte changed or cut off there, and yields the arguments of a run
-    of each."""
+    """Writes examples to a folder, one after another, changed at a byte or cut off there. Yields the arguments of a run of each."""
     for change in random.Random(seed).sample(list(hostile_bytes.changes()), CHANGED):
         made = hostile_bytes.changed(change)
         driver.write(room, made.files)

@@ -22,8 +22,7 @@ TESTS = os.path.join(driver.HOME, "tests")
 
 
 def lay(folder, files, programs):
-    """Makes a folder with these files, the program as `run`, the repository's examples, and one for temporary files. Some
-    programs may be called by their names."""
+    """Makes a folder with these files, the program as `run`, programs to call by their names, the examples, and `temporary`."""
     driver.write(os.path.join(folder, "bin"), programs, 0o755)
     driver.write(os.path.join(folder, "temporary"), {})
     driver.write(folder, files)

@@ -1,13 +1,13 @@
 """How the pages for users read: what test_documents.py finds of README.md, docs/guide/, docs/FAULTS.md and the READMEs of folders.
 
 Such a page has lines of at most 100 columns outside of tables and fenced blocks, sentences of at most 30 words, cells of
-at most 25, at most one mark for 1,000 words, and a page of docs/guide/ at most 200 lines. A mark is a word or a phrase that
-sounds translated. Together these pages have at most 16,000 words, without the READMEs of folders at most 14,000.
+at most 25, at most one mark for 1,000 words, a page of docs/guide/ at most 200 lines, and README.md 120. A mark is a word
+or a phrase that sounds translated. Together these pages have at most 16,000 words, without the READMEs of folders 14,000.
 """
 
 import re
 
-COLUMNS, SENTENCE, CELL, MARKS, GUIDE_LINES = 100, 30, 25, 1, 200
+COLUMNS, SENTENCE, CELL, MARKS, GUIDE_LINES, README_LINES = 100, 30, 25, 1, 200, 120
 # The words of README.md, docs/guide/ and docs/FAULTS.md together, and those with the READMEs of folders.
 MAIN_WORDS, ALL_WORDS = 14000, 16000
 FOREIGN = re.compile("|".join([
@@ -76,13 +76,13 @@ def rows_without_header(text):
             yield number, "a row without a header"
 
 
-def hard_to_read(page, text, without_blocks):
-    for number, line in enumerate(without_blocks.split("\n"), 1):
+def hard_to_read(page, text):
+    """What is hard to read on a page without the texts of its blocks."""
+    lines = text.split("\n")
+    for number, line in enumerate(lines, 1):
         if len(line) > COLUMNS and not line.startswith("|"):
             yield number, f"{len(line)} columns"
-    yield from long_pieces(without_blocks)
-    yield from rows_without_header(without_blocks)
-    yield from marks(without_blocks)
-    lines = text.count("\n")
-    if page.startswith("docs/guide/") and lines > GUIDE_LINES:
-        yield lines, f"more than {GUIDE_LINES} lines"
+    yield from (*long_pieces(text), *rows_without_header(text), *marks(text))
+    most = README_LINES if page == "README.md" else GUIDE_LINES if page.startswith("docs/guide/") else len(lines)
+    if len(lines) > most + 1:
+        yield len(lines), f"more than {most} lines"

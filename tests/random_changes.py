@@ -11,7 +11,7 @@ import random
 
 import driver
 import search
-from builder import FAILING, FeatureFile, Run, Step, quoted
+from builder import Run, quoted, unmarked
 from generator import BAD_NAME, BUILT_IN, LONG_TEXTS, NAMES
 from reports import Ample, in_json
 from tables import FORMATS
@@ -103,12 +103,12 @@ class World:
         """Steps that pass if each name has what it has here."""
         for name in self.names:
             if name in self.files:
-                yield Step(f'the file "{name}" should be:', block=quoted(self.files[name]), keyword=keyword)
+                yield f'{keyword} the file "{name}" should be: ... passed\n{quoted(self.files[name])}'
             else:
-                yield Step(BUILT_IN["file_absent"].format(file=name), keyword=keyword)
+                yield f"{keyword} {BUILT_IN['file_absent'].format(file=name)} ... passed"
             for maps, noun in ((self.env, "env"), (self.values, "value")):
                 step = BUILT_IN[f"{noun}_is" if name in maps else f"{noun}_absent"]
-                yield Step(step.format(key=name, text=maps.get(name)), keyword=keyword)
+                yield f"{keyword} {step.format(key=name, text=maps.get(name))} ... passed"
 
 
 def random_change(chance, world):
@@ -129,11 +129,13 @@ def random_change(chance, world):
 def step_of(change, reason=None):
     """The step of a change, which may fail for a reason."""
     action, name, more = change
-    blocks = {"write_block": quoted(f"{more}\n{more}")}
-    if action == "write_files":
-        blocks[action] = ["| name | text |", *(f"| {own} | {text} |" for own, text in more)]
     text = BUILT_IN[action].format(file=name, key=name, text=more, to=more, number=more)
-    return Step(text, f"failed: {reason}" if reason else "passed", blocks.get(action, []), "When")
+    lines = [f"When {text} ... {f'failed: {reason}' if reason else 'passed'}"]
+    if action == "write_block":
+        lines.append(quoted(f"{more}\n{more}"))
+    if action == "write_files":
+        lines += ["| name | text |", *(f"| {own} | {text} |" for own, text in more)]
+    return "\n".join(lines)
 
 
 def changes_of_layer(chance, world, count, may_fail=False):
@@ -160,18 +162,18 @@ def steps_of(world, changes, may_fail=False):
     yield from world.checks()
 
 
-def add_hooks(hooks, world, name, changes):
-    """Adds hooks around a section whose layer begins: one changes it, the other checks that all is there again."""
+def hooks_of(world, name, changes):
+    """Hooks around a section whose layer begins: one changes it, the other checks that all is there again."""
     world.begin()
-    hooks.add(f"before_{name}:").steps(*steps_of(world, changes))
-    hooks.add(f"after_{name}:").steps(*world.checks())
+    return [f"before_{name}:", *steps_of(world, changes), f"after_{name}:", *world.checks()]
 
 
-def add_scenarios(made, world, scenarios):
-    """Adds scenarios, each with a layer that ends with it. That of number 1 fails."""
+def scenarios_of(world, scenarios):
+    """Scenarios, each with a layer that ends with it. That of number 1 fails."""
     for number, changes in enumerate(scenarios):
         world.begin()
-        made.scenario(*steps_of(world, changes, may_fail=True), *[FAILING] * (number == 1), name=f"s{number}")
+        yield from (f"Scenario: s{number}", *steps_of(world, changes, may_fail=True))
+        yield from ["Given it fails ... failed: fail step"] * (number == 1)
         world.end()
 
 
@@ -179,20 +181,17 @@ def run_of(case):
     """A run whose hooks change the layers of the run, of the features and of the rules, and check after them that all is there
     again. What the scenarios of the first feature and of its first rule did changes nothing in those after them. A scenario
     of no rule finds what the feature's hook left."""
-    world, hooks = World(case.names, OUTSIDE), FeatureFile()
-    hooks.lines = []
-    add_hooks(hooks, world, "all", case.all)
-    add_hooks(hooks, world, "feature", case.feature)
-    first, second = FeatureFile(name="a"), FeatureFile(name="b", source="b.feature")
-    add_scenarios(first, world, [*case.scenarios[:1], ()])
-    add_scenarios(second, world, [()])
-    add_hooks(hooks, world, "rule", case.rule)
-    add_scenarios(first.rule("one"), world, case.scenarios[1:])
-    add_scenarios(second.rule("one"), world, [()] * 3)
-    for made in (first, second):
-        add_scenarios(made.rule("two"), world, [()] * 2)
+    world = World(case.names, OUTSIDE)
+    hooks = [*hooks_of(world, "all", case.all), *hooks_of(world, "feature", case.feature)]
+    first = ["Feature: a", *scenarios_of(world, [*case.scenarios[:1], ()])]
+    second = ["Feature: b", *scenarios_of(world, [()])]
+    hooks += hooks_of(world, "rule", case.rule)
+    first += ["Rule: one", *scenarios_of(world, case.scenarios[1:])]
+    second += ["Rule: one", *scenarios_of(world, [()] * 3)]
+    rest = ["Rule: two", *scenarios_of(world, [()] * 2), ""]
+    features = {"a.feature": "\n".join(first + rest), "b.feature": "\n".join(second + rest)}
     options = ["--hooks", "h.hooks", *(f"--env={name}={text}" for name, text in OUTSIDE.items())]
-    return Run(first, second, files={"h.hooks": hooks.text()}, options=options)
+    return Run(features, {"h.hooks": unmarked("\n".join([*hooks, ""]))}, options)
 
 
 # ---- cases
@@ -219,7 +218,7 @@ def troubles(case, runs):
     yield driver.trouble(name, runs.run(run.arguments(None)), run.wanted(None))
     styled = run.arguments(FORMATS[case.seed % len(FORMATS)])
     ample = Ample(styled, runs.run(styled), runs.run(in_json(styled)))
-    yield "" if ample.is_read_well() and ample.report == run.report() else f"{name}: another report"
+    yield "" if ample.is_read_well() and ample.report == run.report else f"{name}: another report"
     for _ in range(REFUSALS):
         number = int(10 ** chance.uniform(0, 4.5))
         ended = runs.run(styled, refused=number)

@@ -107,8 +107,7 @@ class Comparison:
             yield str(trouble)
 
     def chosen_lines(self, *tags):
-        """The files and lines of the scenarios that texts of tags choose. In a dry run no other
-        is skipped."""
+        """The files and lines of the scenarios that texts of tags choose. In a dry run no other is skipped."""
         features = self.report(["--dry-run", *flat(("--tags", text) for text in tags)]).features
         return {(feature.source, it.line) for feature in features for it in feature.cases if it.status != "skipped"}
 

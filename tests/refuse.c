@@ -38,9 +38,8 @@ extern void *__libc_realloc(void *place, size_t size);
 
 static long refused_number = -1;
 static long growths;
-static int is_met;
-static int is_retried;
 static size_t refused_size;
+static const char *met = "unmet\n";
 
 static int is_refused(size_t size) {
   if (refused_number < 0) {
@@ -48,9 +47,9 @@ static int is_refused(size_t size) {
     refused_number = number ? atol(number) : 0;
   }
   growths++;
-  if (is_met && growths == refused_number + 1) is_retried = size <= refused_size;
+  if (refused_number > 0 && growths == refused_number + 1 && size <= refused_size) met = "retried\n";
   if (growths != refused_number) return 0;
-  is_met = 1;
+  met = "met\n";
   refused_size = size;
   errno = ENOMEM;
   return 1;
@@ -67,15 +66,23 @@ static long number_of(const char *name) {
   return text ? atol(text) : 0;
 }
 
+/* How many bytes a call takes or gives, by the variable of its piece. */
+static size_t at_most(const char *piece, size_t count) {
+  size_t most = (size_t)number_of(piece);
+  return most && most < count ? most : count;
+}
+
+/* What a call returns that fails with the error of a variable, or takes or gives no byte. */
+static ssize_t fail(const char *error) {
+  errno = (int)number_of(error);
+  return errno ? -1 : 0;
+}
+
 ssize_t write(int file, const void *bytes, size_t count) {
   static long calls;
   if (file != 1) return syscall(SYS_write, file, bytes, count);
-  long piece = number_of("WRITE_PIECE");
-  if (++calls == number_of("WRITE_FAILS")) {
-    errno = (int)number_of("WRITE_ERROR");
-    return errno ? -1 : 0;
-  }
-  return syscall(SYS_write, file, bytes, piece && (size_t)piece < count ? (size_t)piece : count);
+  if (++calls == number_of("WRITE_FAILS")) return fail("WRITE_ERROR");
+  return syscall(SYS_write, file, bytes, at_most("WRITE_PIECE", count));
 }
 
 /* Several pieces in one call are a call for the first that isn't empty. */
@@ -88,12 +95,8 @@ ssize_t writev(int file, const struct iovec *pieces, int count) {
 ssize_t read(int file, void *bytes, size_t count) {
   static long calls;
   if (file < 3) return syscall(SYS_read, file, bytes, count);
-  long piece = number_of("READ_PIECE");
-  if (++calls == number_of("READ_FAILS")) {
-    errno = (int)number_of("READ_ERROR");
-    return errno ? -1 : 0;
-  }
-  return syscall(SYS_read, file, bytes, piece && (size_t)piece < count ? (size_t)piece : count);
+  if (++calls == number_of("READ_FAILS")) return fail("READ_ERROR");
+  return syscall(SYS_read, file, bytes, at_most("READ_PIECE", count));
 }
 
 /* Appends the name of a file that is opened to the log, where there is one. */
@@ -109,10 +112,7 @@ static void note_opened(const char *name) {
 int open(const char *name, int flags, ...) {
   const char *failing = getenv("OPEN_FAILS");
   note_opened(name);
-  if (failing && strcmp(failing, name) == 0) {
-    errno = (int)number_of("OPEN_ERROR");
-    return -1;
-  }
+  if (failing && strcmp(failing, name) == 0) return (int)fail("OPEN_ERROR");
   va_list more;
   va_start(more, flags);
   int mode = flags & O_CREAT ? va_arg(more, int) : 0;
@@ -124,9 +124,8 @@ int open64(const char *name, int flags, ...) __nonnull((1)) __attribute__((alias
 
 __attribute__((destructor)) static void tell(void) {
   const char *name = getenv("REFUSE_LOG");
-  const char *text = is_retried ? "retried\n" : is_met ? "met\n" : "unmet\n";
   int file = name ? open(name, O_WRONLY | O_CREAT | O_TRUNC, 0600) : -1;
   if (file < 0) return;
-  if (write(file, text, strlen(text)) < 0) _exit(70);
+  if (write(file, met, strlen(met)) < 0) _exit(70);
   close(file);
 }

@@ -284,6 +284,21 @@ def failures(report):
         yield f"Run: {AROUND}", []
 
 
+def explanation(report, nearest=""):
+    """What --explain prints of a run whose hooks are empty, if an entry is the nearest of each undefined step. The examples of an
+    outline have one column, a, with the number of the row."""
+    text, listed = "", ""
+    for heading, steps in failures(report):
+        row = re.search(r" -- @1\.(\d+)$", heading)
+        text += f"{heading} ... failed\n" + (f"  row {row[1]}: a={row[1]}\n" if row else "")
+        for step in steps:
+            is_named = nearest and step.endswith(" ... undefined")
+            text += f"{step}\n" + (f"      the nearest entry is: {nearest}\n" if is_named else "")
+        text += "\n"
+        listed += f"{heading}\n"
+    return text + listed + "\n" * bool(listed) + plain_tail(report)
+
+
 # ---- runs in which memory is refused
 
 MEMORY = b"gherkin_run: out of memory\n"
@@ -293,8 +308,7 @@ UNTESTED = re.compile(rb'(\d+)(?: untested(?:, \d+ memory)?|\}\}\})\n$')
 
 
 def marked_cases(case):
-    """A scenario in which memory is refused once: in a hook before it, in one after it or a cleanup, or in a step, after which
-    no other is reached."""
+    """A scenario with memory refused once: in a hook before it, in one after it or a cleanup, or in a step, which is the last."""
     untested = [it._replace(status="untested") for it in case.steps]
     yield from (case._replace(status="memory", around="memory", steps=it) for it in (case.steps, untested))
     for at, step in enumerate(case.steps):

@@ -2,7 +2,7 @@
 """What the random testers share: the runs of a case, and the smallest case that fails, with its files and arguments.
 
 tests/search.py TESTER [--seed N] [--count N] [--seconds N] tries cases of random_runs, random_changes or hostile_bytes.
-GHERKIN_RUN of the environment is the program, or without it the one that ./run runs.
+A failure names the seed of its case. GHERKIN_RUN of the environment is the program, or without it the one that ./run runs.
 """
 
 import argparse
@@ -23,23 +23,27 @@ BATCH = 12  # and how many of them to one at once
 SHRINKING = 60  # seconds for the case of one failure
 SHRUNK = 3  # failures; of others only the keys are printed
 
-# What differs between random testers: how many cases there are, whose keys are seeds; a function that makes the case of a
-# key; one that runs a case and yields, for each test of it, what is wrong, or nothing; and maybe one that has more keys.
-Tester = collections.namedtuple("Tester", "count case troubles more", defaults=(list,))
+
+class Tester(collections.namedtuple("Tester", "count case troubles more", defaults=(list,))):
+    """What differs between random testers: how many cases there are, whose keys are seeds; a function that makes the case of a key;
+    one that runs a case and yields, for each test of it, what is wrong, or nothing; and maybe one that has more keys."""
+
+    def keys(self):
+        return itertools.chain(range(1, self.count + 1), self.more())
 
 
 class Runs:
-    """Runs the program in a folder, and remembers how."""
+    """Runs the program in a folder, and remembers the last run."""
 
     def __init__(self, program, room, name):
-        self.program, self.room, self.folder, self.commands = program, room, os.path.join(room, name), []
+        self.program, self.room, self.folder, self.last = program, room, os.path.join(room, name), ""
 
     def write(self, files):
         driver.write(self.folder, files)
 
     def run(self, arguments, refused=None):
         """What a run gives. The growth of memory of this number may be refused."""
-        self.commands.append(("" if refused is None else f"with growth {refused} refused: ", arguments))
+        self.last = f"{'' if refused is None else f'with growth {refused} refused: '}{arguments}"
         environment = None if refused is None else driver.limited(self.room, REFUSE=refused)
         return driver.start(self.program, arguments, self.folder, environment)
 
@@ -62,8 +66,7 @@ def without(items, fails):
 
 
 def shrunk(value, fails):
-    """A value without the parts that it doesn't need to fail. Parts are items of a list or a dict, and fields, outside
-    in."""
+    """A value without the parts that it doesn't need to fail: items of a list or a dict, and fields, outside in."""
     if isinstance(value, dict):
         value = {it: value[it] for it in without(list(value), lambda names: fails({it: value[it] for it in names}))}
         for name in value:
@@ -118,7 +121,7 @@ class Search:
                 yield from filter(None, pool.map(self.tried, chunk, chunksize=BATCH))
 
     def first_trouble(self, case):
-        """The first thing that is wrong with a case, or nothing, and its folder and its commands as they are then."""
+        """The first thing that is wrong with a case, or nothing, and its folder and its last run as they are then."""
         runs = Runs(self.program, self.room, "smallest")
         shutil.rmtree(runs.folder, ignore_errors=True)
         return next(filter(None, self.troubles(case, runs)), ""), runs
@@ -134,32 +137,14 @@ class Search:
         case = self.smallest_case(key)
         found, runs = self.first_trouble(case)
         files = {it: driver.read(os.path.join(runs.folder, it)) for it in sorted(os.listdir(runs.folder))}
-        shown = [f"{name}: {text}" for name, text in files.items()] + [f"{refused}{words}" for refused, words in runs.commands[-1:]]
-        return "\n  ".join([f"case {key}, made as small as it fails: {found}", *shown])
+        shown = [f"{name}: {text}" for name, text in files.items()]
+        return "\n  ".join([f"case {key}, made as small as it fails: {found}", *shown, runs.last])
 
 
-def keys(tester, options):
-    """Seeds one after another: as many as the options say, or without these those of a tester, and its other keys."""
-    if options.count is None and options.seconds is not None:
-        return itertools.count(options.seed)
-    seeds = range(options.seed, options.seed + (tester.count if options.count is None else options.count))
-    return itertools.chain(seeds, tester.more() if options.count is None else [])
-
-
-def parser():
-    options = argparse.ArgumentParser()
-    options.add_argument("--seed", type=int, default=1, help="the seed of the first case (default: 1)")
-    options.add_argument("--count", type=int, help="how many cases")
-    options.add_argument("--seconds", type=float, help="how long to make cases")
-    return options
-
-
-def tried(tester, room, options):
-    """For each test of the cases of a tester what is wrong, or nothing. Of the first few failures that is the
-    smallest."""
-    end = time.monotonic() + (options.seconds or float("inf"))
+def tried(tester, room, keys, end=float("inf")):
+    """For each test of a tester's cases what is wrong, or nothing, until a time. The first few failures are made as small as they fail."""
     search, failed = Search(tester, driver.program(), room, end), 0
-    for key, troubles in search.all_tried(keys(tester, options)):
+    for key, troubles in search.all_tried(iter(keys)):
         if any(troubles):
             failed += 1
             troubles[troubles.index(next(filter(None, troubles)))] = (
@@ -168,12 +153,18 @@ def tried(tester, room, options):
 
 
 def main():
-    options = parser()
-    options.add_argument("tester", choices=("random_runs", "random_changes", "hostile_bytes"))
-    options, counts = options.parse_args(), collections.Counter()
+    words = argparse.ArgumentParser()
+    words.add_argument("tester", choices=("random_runs", "random_changes", "hostile_bytes"))
+    words.add_argument("--seed", type=int, default=1, help="the seed of the first case (default: 1)")
+    words.add_argument("--count", type=int, help="how many cases (default: those of the tests; with --seconds, without end)")
+    words.add_argument("--seconds", type=float, help="how long to try cases (default: until all are tried)")
+    options, counts = words.parse_args(), collections.Counter()
+    tester = importlib.import_module(options.tester).TESTER
+    count = options.count or (None if options.seconds else tester.count)
+    keys = itertools.islice(itertools.count(options.seed), count)
     with tempfile.TemporaryDirectory() as room:
         driver.build_shim(room)
-        for trouble in tried(importlib.import_module(options.tester).TESTER, room, options):
+        for trouble in tried(tester, room, keys, time.monotonic() + (options.seconds or float("inf"))):
             counts["failed" if trouble else "passed"] += 1
             print(trouble, end="\n" * bool(trouble))
     print(f"{counts['passed']} passed, {counts['failed']} failed")

@@ -31,13 +31,13 @@ Place = collections.namedtuple("Place", "path line text")
 
 # ---- sources
 
-def sources(*endings):
-    return [it for it in driver.repository_files() if it.startswith("crates/") and it.endswith(endings) and "/must-fail/" not in it]
+def files(pattern):
+    """The files of the repository whose whole paths fit a pattern."""
+    return [it for it in driver.repository_files() if re.fullmatch(pattern, it)]
 
 
-def code():
-    """The paths of the code: the .rt files below the folders src/ of the crates."""
-    return (path for path in sources(".rt") if path.split(os.sep)[2] == "src")
+CODE = files("crates/[^/]+/src/.*[.]rt")
+SOURCES = files("crates/.*[.](rt|antt)")
 
 
 def lines_of(path):
@@ -57,24 +57,19 @@ CLAUSE = re.compile(r"\s*(ensures|requires|(ghost )?invariant)\b")
 
 
 def contract_lines(path):
-    """The lines of the clauses of a file, with their numbers.
-
-    A clause ends where the braces that it has opened are closed."""
-    depth, has_opened, inside = 0, False, False
+    """The lines of the clauses of a file, with their numbers. A clause ends where its braces are closed."""
+    clause = ""
     for number, line in enumerate(lines_of(path), 1):
-        if not inside and CLAUSE.match(line):
-            depth, has_opened, inside = 0, False, True
-        if inside:
+        if clause or CLAUSE.match(line):
             yield number, line
-            bare = without_literals(line)
-            depth += bare.count("{") - bare.count("}")
-            has_opened = has_opened or "{" in bare
-            inside = depth > 0 or not has_opened
+            clause += without_literals(line)
+            if "{" in clause and clause.count("{") <= clause.count("}"):
+                clause = ""
 
 
 def wide_contract_lines():
     """Lines of contracts of more than WIDTH columns."""
-    for path in code():
+    for path in CODE:
         for number, line in contract_lines(path):
             if len(line) > WIDTH:
                 yield Place(path, number, f"{len(line)} columns")
@@ -82,30 +77,27 @@ def wide_contract_lines():
 
 # ---- arguments
 
-FUNCTION = re.compile(r"^[ \t]*(?P<before>(?:[a-z]+(?:\([a-z]+\))? )*)fn (?P<name>\w+)",
-                      re.MULTILINE)
+FUNCTION = re.compile(r"^[ \t]*(?P<before>(?:[a-z]+(?:\([a-z]+\))? )*)fn (?P<name>\w+)", re.MULTILINE)
 MARK = re.compile(r"[(\[{<]|[)\]}]|(?<![-=])>|(?<!:):(?!:)")
 
 
 def count_arguments(text, start):
     """The number of arguments of a function whose name ends there, except self. Each has a colon in the parentheses."""
-    depth, count, is_inside = 0, 0, False
+    depth = count = 0
     for mark in (it[0] for it in MARK.finditer(text, start)):
-        if mark == ":":
-            count += is_inside and depth == 1
-        elif mark in "([{<":
-            is_inside = is_inside or (depth, mark) == (0, "(")
-            depth += 1
-        else:
-            depth -= 1
-            if is_inside and depth == 0:
-                return count
+        if mark == "(" and depth == 0:
+            # What was counted before are bounds of types.
+            count = 0
+        depth += (mark in "([{<") - (mark in ")]}>")
+        count += mark == ":" and depth == 1
+        if mark == ")" and depth == 0:
+            return count
     raise ValueError(f"a list without end: {text[start:start + 80]}")
 
 
 def long_argument_lists():
     """Functions that aren't public, with more than ARGUMENTS arguments aside from self."""
-    for path in code():
+    for path in CODE:
         text = "\n".join(without_literals(line) for line in lines_of(path))
         for found in FUNCTION.finditer(text):
             count = count_arguments(text, found.end())
@@ -118,12 +110,10 @@ def long_argument_lists():
 
 def modules_without_spec():
     """Modules of src/ for which specs/ has no file of the same name."""
-    paths = set(sources(".rt", ".antt"))
-    with_specs = {os.path.dirname(os.path.dirname(it)) for it in paths if os.path.dirname(it).endswith("specs")}
-    for path in sorted(it for it in paths if re.fullmatch(r"crates/\w+/src/\w+[.]rt", it)):
-        crate, name = path.split("/src/")
-        specified = f"{crate}/specs/{name[:-3].title().replace('_', '')}.antt"
-        if crate in with_specs and specified not in paths and name[:-3] not in ROOTS:
+    for path in files(r"crates/\w+/src/\w+[.]rt"):
+        crate, name = path.removesuffix(".rt").split("/src/")
+        is_specified = f"{crate}/specs/{name.title().replace('_', '')}.antt" in SOURCES or name in ROOTS
+        if not is_specified and files(f"{crate}/specs/.*"):
             yield Place(path, 1, "no file of specs/")
 
 
@@ -137,9 +127,7 @@ def shape(line):
 
 
 def shapes_of(path):
-    """The numbers and shapes of the lines of a file.
-
-    Imports, comments, a constant that is a table, and lines without letters are left out."""
+    """The numbers and shapes of the lines of a file, without imports, comments, constants that are tables, and lines without letters."""
     is_left_out = False
     for number, line in enumerate(lines_of(path), 1):
         line = line.strip()
@@ -151,9 +139,8 @@ def shapes_of(path):
 
 
 def sharing_pairs(files):
-    """The pairs of places, each a path and an index, that share SHARED lines of one shape and don't overlap.
-
-    Lines of a few shapes that come again and again, as those of a table, aren't counted."""
+    """The pairs of places, each a path and an index, that share SHARED lines of one shape and don't overlap. Lines of a
+    few shapes that come again and again, as those of a table, aren't counted."""
     found = collections.defaultdict(list)
     for path, lines in files.items():
         for at in range(len(lines) - SHARED + 1):
@@ -166,17 +153,15 @@ def sharing_pairs(files):
 
 def repeated_places():
     """Pairs of places that share SHARED or more lines of one shape, each counted once, whole."""
-    files = {path: list(shapes_of(path)) for path in sources(".rt", ".antt")
-             if not WORKED_EXAMPLES.fullmatch(os.path.basename(path))}
-    pairs = sharing_pairs(files)
+    shapes = {path: list(shapes_of(path)) for path in SOURCES if not WORKED_EXAMPLES.fullmatch(os.path.basename(path))}
+    pairs = sharing_pairs(shapes)
     for one, at, other, place in sorted(pairs):
         if (one, at - 1, other, place - 1) in pairs:
             continue
         length = SHARED
         while (one, at + length - SHARED + 1, other, place + length - SHARED + 1) in pairs:
             length += 1
-        twin = f"{other}:{files[other][place][0]}"
-        yield Place(one, files[one][at][0], f"{length} lines as at {twin}")
+        yield Place(one, shapes[one][at][0], f"{length} lines as at {other}:{shapes[other][place][0]}")
 
 
 # ---- all of it

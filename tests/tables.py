@@ -1,5 +1,6 @@
 """The tables of the sources, and whether what tools/tables.py writes from them is up to date."""
 
+import glob
 import importlib.util
 import os
 import re
@@ -19,16 +20,26 @@ ACTIONS = written.actions()
 # The options by what is given with them.
 FLAGS = [f"--{it.name}" for it in OPTIONS if it.takes == "Nothing"]
 VALUED = [f"--{it.name}" for it in OPTIONS if it.takes != "Nothing"]
+REFUSED_BY_LINT = [f"--{it.name}" for it in OPTIONS if not it.beside_lint]
+
+# A value that an option takes, by the name of its value. The file is a library and hooks, too: it is empty.
+VALUES = {"T": "@a", "N": "3", "FILE": "/dev/null", "NAME=VALUE": "A=b", "NAME=PATH": "a=/dev/null", "F": FORMATS[-1]}
 
 # Changes of the tables, and in how many written files each has to be seen.
 CHANGES = (
     (written.OPTION_TABLE, 'name: "stop"', 'name: "halt"', "halt", 9),
     (written.OPTION_TABLE, "leave later scenarios untested", "leave others", "leave others", 5),
-    (written.FORMAT_TABLE, '"progress"', '"dots"', "dots", 5),
-    (written.DEFAULT_FILE, "step it fails =>", "step it breaks =>", "it breaks", 4),
+    (written.FORMAT_TABLE, '"progress"', '"dots"', "dots", 7),
+    (written.DEFAULT_FILE, "step it fails =>", "step it cracks =>", "it cracks", 4),
     (written.ACTION_TABLE, '["name", "n"]', '["name", "n", "by"]', "{by}", 1),
+    (written.DEFINITIONS, ", `Summary`", "", "`Summary`", 1),
     (written.VERSION_FILE, "\n", "-changed\n", "-changed", 3),
 )
+
+
+def given(option):
+    """The words of an option that is given once."""
+    return [f"--{option.name}", *([VALUES[option.value]] if option.value else [])]
 
 
 def unread():
@@ -49,6 +60,9 @@ def not_up_to_date():
 def copied(folder):
     """Copies tools/tables.py with all that it reads and writes. Returns how to call the copy."""
     sources = {written.OPTION_TABLE, written.FORMAT_TABLE, written.ACTION_TABLE, written.DEFAULT_FILE, written.VERSION_FILE}
+    sources |= {f"{written.RUNS}/{it}" for it in os.listdir(os.path.join(driver.HOME, written.RUNS))}
+    sources |= {f"docs/guide/{it}" for it in written.SECTIONS}
+    sources |= {os.path.relpath(it, driver.HOME) for it in glob.glob(os.path.join(driver.HOME, "crates", "*", "specs", "*.antt"))}
     for path in ("tools/tables.py", *sources, *written.texts()):
         driver.write(folder, {path: driver.text(path)})
     return lambda option: driver.start(sys.executable, [os.path.join(folder, "tools", "tables.py"), option])
@@ -64,3 +78,19 @@ def unseen(path, old, new, text, files):
         statuses = [call(it)[0] for it in ("--check", "--write", "--check", "--json")]
         found = [it for it in written.texts() if text in driver.text(it, folder)]
     return "" if (statuses, len(found)) == ([1, 0, 0, 0], files) else f"{new!r}: statuses {statuses}, seen in {found}"
+
+
+def miscounted():
+    """What is wrong with the numbers of edits in a copy without edits, and then with one for each number."""
+    numbers = driver.text(written.NUMBERS)
+    crate, *counts = numbers.splitlines()[0].split()
+    with tempfile.TemporaryDirectory() as folder:
+        call = copied(folder)
+        call("--write")
+        kept = driver.text(written.NUMBERS, folder)
+        yield "a number of edits falls" if kept != numbers else ""
+        driver.write(folder, {f"tests/edits/{crate}/{it}.edit": "" for it in range(int(counts[1]) + 1)})
+        ended, _, _ = call("--check")
+        call("--write")
+        wanted = numbers.replace(" ".join([crate, *counts]), f"{crate} {counts[0]} {int(counts[1]) + 1}")
+        yield "a new edit isn't counted" if (ended, driver.text(written.NUMBERS, folder)) != (1, wanted) else ""

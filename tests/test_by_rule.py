@@ -1,19 +1,25 @@
-"""What each row of the tables of options and actions refuses, with texts by rule.
+"""What each row of the tables of options and actions refuses, and what --lint says of each fault, with texts by rule.
 
-The texts are those of clap and of a library's faults. The stored runs of usage.md, usage_explain_lint.md and
-library_fields.md have one case of each kind, written by hand.
+The texts are those of clap, of a library's faults and of docs/FAULTS.md. The stored runs of usage.md, usage_explain_lint.md,
+library_fields.md and lint_faults.md have one case of each kind, written by hand.
 """
 
+import os
+import re
+
 import driver
+import stored_cases
 import tables
+from builder import HINTS
 from checks import Checks
 
 FEATURE = "Feature: one\n  Scenario: first\n    Given it passes\n"
 USAGE = "\nUsage: gherkin_run [OPTIONS] <FILE>...\n"
 HELP = "\nFor more information, try '--help'.\n"
-# A value that an option takes, by the name of its value.
-VALUES = {"T": "@a", "N": "3", "FILE": "a.feature", "NAME=VALUE": "A=b", "NAME=PATH": "a=a.feature", "F": "json"}
 KINDS = {"n": ":d"}
+# Faults of which --lint says more than the fix in docs/FAULTS.md.
+WITH_CAUSES = ("unexpected line", "unknown action", "missing field", "wrong kind of field", "ambiguous with an earlier line")
+FAULT = re.compile(r"gherkin_run: .*:\d+: (.*)\n")
 
 
 def named(option):
@@ -22,7 +28,7 @@ def named(option):
 
 
 def given(option):
-    return f"--{option.name}={VALUES[option.value]}" if option.value else f"--{option.name}"
+    return "=".join(tables.given(option))
 
 
 def pattern(fields, other=""):
@@ -87,3 +93,34 @@ class ByRule(Checks):
         for action in tables.ACTIONS:
             for field in action.uses:
                 self.library_refuses(f"step {pattern(action.uses, field)} => {action.name}", "wrong kind of field")
+
+
+class Hints(Checks):
+    """What --lint says of each fault of a stored run: the fault, its line, and the fix of docs/FAULTS.md."""
+
+    def faults(self):
+        """The stored runs that end with a fault of a line, each with the fault. They are without --lint, and could be with it."""
+        left_out = {"--lint", *tables.REFUSED_BY_LINT}
+        for case in stored_cases.cases():
+            fault = FAULT.fullmatch(case.stderr.decode(errors="replace"))
+            if case.status == 3 and fault and left_out.isdisjoint(map(os.fsdecode, case.arguments)):
+                yield case, fault
+
+    def linted(self, number, case):
+        """What --lint says of the files of a stored run, as lines."""
+        folder = os.path.join(self.room, str(number))
+        stored_cases.lay(case, folder)
+        ended = driver.start(self.program, ["--lint", *map(os.fsdecode, case.arguments)], folder)
+        return ended[2].decode(errors="replace").split("\n")
+
+    def test_each_fault(self):
+        hints = set()
+        for number, (case, fault) in enumerate(self.faults()):
+            lines = self.linted(number, case)
+            name = f"--lint of {case.page}.md, {case.name}"
+            begin = fault[0].removesuffix("\n")
+            self.unless(f"{name} lacks {begin}: {lines}", begin in lines)
+            if fault[1] not in WITH_CAUSES and begin in lines:
+                self.same(name, lines[lines.index(begin) + 2:][:1], [f"    {HINTS[fault[1]]}"])
+                hints.add(fault[1])
+        self.unless(f"only {hints} have hints", len(hints) >= 10)

@@ -11,6 +11,8 @@ import calling
 import driver
 import in_memory
 import pages
+import reports
+import tables
 from checks import Checks
 from driver import HOME
 from generator import Maker
@@ -160,8 +162,8 @@ class Calls(Checks):
         for number in range(RANDOM):
             (ending, begin, option), maker = KINDS[number % len(KINDS)], Maker(number)
             made = random_file(maker, ending, begin)
-            words = [*option, "other" if option else "made", f"--format={maker.chance.choice(['plain', 'progress', 'json'])}"]
-            words += [it for it in ("--dry-run", "--stop") if maker.chance.random() < 0.125]
+            words = [*option, "other" if option else "made", f"--format={maker.chance.choice(tables.FORMATS)}"]
+            words += [f"--{it.name}" for it in tables.written.flags() if maker.chance.random() < 0.125]
             files = [("made", made), ("other", OTHER)]
             self.library.own.refuse(0)
             found = self.library.run(words, files, SMALL)

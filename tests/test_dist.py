@@ -2,7 +2,6 @@
 
 import os
 import subprocess
-import tempfile
 
 import driver
 import pages
@@ -27,11 +26,8 @@ class Dist(Checks):
 
     def need_its_kit(self):
         """Leaves a test out if dist/ was built with another kit: then the bytes may differ."""
-        try:
-            kit = said("rt", "version")
-        except FileNotFoundError:
-            self.leave_out("there is no rt")
-        built_with = driver.read(os.path.join(DIST, "gherkin_run.kit"))
+        self.needs("rt")
+        kit, built_with = said("rt", "version"), driver.read(os.path.join(DIST, "gherkin_run.kit"))
         if kit != built_with:
             self.leave_out(f"dist/ was built with {built_with}, and here is {kit}")
 
@@ -67,20 +63,4 @@ class Dist(Checks):
 @pages.tests("debian.md")
 class Debian(Checks):
     NEEDS = ("dpkg", "dpkg-deb")
-
-    def setUp(self):
-        self.debs = [os.path.join(DIST, f"{it}_{VERSION}_amd64.deb") for it in ("gherkin-run", "libgherkin-run-dev")]
-        self.root = tempfile.mkdtemp(dir=self.room)
-        libc = "Package: libc6\nStatus: install ok installed\nVersion: 2.34\nArchitecture: amd64\nMaintainer: m\nDescription: d\n"
-        kept = {"available": "", "status": libc, "info/libc6.list": "", "updates/none": ""}
-        driver.write(self.root, {f"var/lib/dpkg/{it}": text for it, text in kept.items()})
-
-    def made(self):
-        """The packages that are made from dist/, by their names."""
-        folder = tempfile.mkdtemp(dir=self.room)
-        said("packaging/debian/make.sh", folder)
-        return driver.tree(folder)
-
-    def dpkg(self, *words):
-        words = [f"--root={self.root}", "--force-not-root", "--log=/dev/null", *words]
-        return driver.start("dpkg", words, environment={**os.environ, "PATH": f"{os.environ['PATH']}:/usr/sbin:/sbin"})[0]
+    debs = [os.path.join(DIST, f"{it}_{VERSION}_amd64.deb") for it in ("gherkin-run", "libgherkin-run-dev")]

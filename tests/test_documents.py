@@ -2,7 +2,6 @@
 
 import collections
 import functools
-import itertools
 import os
 import re
 import shutil
@@ -13,29 +12,31 @@ import calls
 import driver
 import pages
 import prose
+import shape
 from checks import Checks
 from driver import BUILT, HOME
 
 # Words that Rust's own documentation doesn't use so.
 WORDS = re.compile(r"\b(front|fronts|behind|tells|told|want of memory)\b", re.IGNORECASE)
-README_LINES = 120
 # The endings of files that pages name.
 SOURCES = (".rt", ".antt", ".py", ".sh", ".awk", ".c", ".feature", ".steps", ".edit", ".arguments", ".report", ".status", ".fault")
 
 FILES = driver.repository_files()
 CRATES = [line.split(":")[0].split()[0] for line in driver.text("crates.txt").splitlines() if line.strip()]
 COMMENTS = {".rt": "//.*", ".antt": "--.*"}
-# The crates of tests, whose texts are no faults of the program.
-TESTS = ("crates/gk_tests/", "crates/gk_cli_tests/")
-CODE = [it for it in FILES if re.fullmatch(r"crates/[^/]+/src/.*[.]rt", it)]
-DOCUMENTS = [it for it in FILES if it.endswith(".md")]
-PAGES = [it for it in DOCUMENTS if "/" not in it or it.startswith("docs/")]
+DOCUMENTS = shape.files(".*[.]md")
+PAGES = shape.files("([^/]+|docs/.*)[.]md")
+EDITS = shape.files("(crates|tests/edits)/.*[.]edit")
 
 
 @functools.cache
 def prose_of(page):
     """A page without its blocks. Their lines are left empty."""
     return blocks.without_blocks(driver.text(page))
+
+
+def lines_of(text):
+    return enumerate(text.split("\n"), 1)
 
 
 # ---- names
@@ -60,24 +61,21 @@ PLAIN_WORDS = set("""
     gherkin_world gherkin_scenario Andorra EN EU GHERKIN_RUN WEB_MODULE TEXT TO LINE KEYWORD VERDICT STATUS REASON TYPE
     jq malloc read_to_end write_all
 """.split())
-GUIDE = [it for it in PAGES if it.startswith("docs/guide/")]
+GUIDE = shape.files("docs/guide/.*[.]md")
 MAIN = ["README.md", "docs/FAULTS.md", *GUIDE]
 # Those of tests/runs/ and tests/side_by_side/ list what these folders have.
-READMES = [it for it in DOCUMENTS if it.endswith("/README.md") and it not in MAIN
-           and not it.startswith(("tests/runs/", "tests/side_by_side/"))]
-# The pages for users name words of features and libraries, not of the code: of them only names that can't
-# be anything else are looked up.
-USERS_PAGES = (*GUIDE, "docs/FAULTS.md", "bench/README.md", "bench/figures.md",
-               *(it for it in DOCUMENTS if it.startswith(("examples/", "tests/runs/", "tests/side_by_side/"))))
+READMES = shape.files("(?!docs/guide/|tests/runs/|tests/side_by_side/).*/README[.]md")
+# The pages for users name words of features and libraries: only names that can't be anything but code are looked up.
+USERS_PAGES = shape.files("(docs/guide/.*|docs/FAULTS|bench/(README|figures)|examples/.*|tests/(runs|side_by_side)/.*)[.]md")
 
 
 @functools.cache
 def members():
     """The functions, fields and variants of each type of the code, by the type's name."""
     found = collections.defaultdict(set)
-    for path in CODE:
+    for path in shape.CODE:
         own = set()
-        for line in driver.text(path).split("\n"):
+        for line in shape.lines_of(path):
             opened = re.match(r"\s*(?:pub(?:\([a-z]+\))? )?(?:impl(?:<.*?>)? (?:[A-Za-z:]+(?:<.*?>)? for )?|struct |enum |trait )"
                               r"(?:[a-z_]+::)*([A-Z][A-Za-z0-9_]*)", line)
             if opened and "fn " not in line:
@@ -100,30 +98,29 @@ def path_is_there(name, page):
     return is_below or "/" not in name and any(os.path.basename(it) == name for it in FILES)
 
 
-def wrong_names(page):
-    """Names in code style that nothing of the repository has, with their lines."""
-    names, owned, shown = code_names(), members(), names_shown_in(os.path.dirname(page))
-    for number, line in enumerate(prose_of(page).split("\n"), 1):
-        for text in re.findall(r"(?<!`)`([^`\n]+)`(?!`)", line):
-            if re.fullmatch(r"\.?[A-Za-z0-9_./-]+", text) and ("/" in text or text.endswith(SOURCES)):
-                if text.startswith(("/", "../")) or text in shown or "NAME" in text:
-                    continue
-                if not path_is_there(text.removeprefix("./"), page):
-                    yield number, f"no file {text}"
-            elif re.fullmatch(r"[A-Za-z_][A-Za-z0-9_]*(::[A-Za-z_][A-Za-z0-9_]*)*(\(\))?", text):
-                for part in text.removesuffix("()").split("::"):
-                    if part in names or part in PLAIN_WORDS:
-                        continue
-                    if page not in USERS_PAGES or "_" in part or "::" in text:
-                        yield number, f"no name {part} (in {text})"
-                owner, _, member = text.removesuffix("()").rpartition("::")
-                if owner in owned and member not in owned[owner]:
-                    yield number, f"no member {member} of {owner}"
-        if "TODO" in line:
-            yield number, "something is left to do"
+def wrong_names(line, page):
+    """Names in code style that nothing of the repository has."""
+    for text in re.findall(r"(?<!`)`([^`\n]+)`(?!`)", line):
+        if re.fullmatch(r"\.?[A-Za-z0-9_./-]+", text) and ("/" in text or text.endswith(SOURCES)):
+            is_elsewhere = text.startswith(("/", "../")) or text in names_shown_in(os.path.dirname(page)) or "NAME" in text
+            if not is_elsewhere and not path_is_there(text.removeprefix("./"), page):
+                yield f"no file {text}"
+        elif re.fullmatch(r"[A-Za-z_][A-Za-z0-9_]*(::[A-Za-z_][A-Za-z0-9_]*)*(\(\))?", text):
+            for part in {*text.removesuffix("()").split("::")} - code_names() - PLAIN_WORDS:
+                if page not in USERS_PAGES or "_" in part or "::" in text:
+                    yield f"no name {part} (in {text})"
+            yield from wrong_member(text.removesuffix("()"))
+    if "TODO" in line:
+        yield "something is left to do"
 
 
-def named_clauses(line):
+def wrong_member(name):
+    owner, _, member = name.rpartition("::")
+    if owner in members() and member not in members()[owner]:
+        yield f"no member {member} of {owner}"
+
+
+def named_clauses(line, _page=None):
     """What a line says of clauses that aren't there: `call`: `clause`, `clause` names clauses of one function."""
     clauses = clauses_by_function()
     for call, listed in re.findall(r"`([A-Za-z_][A-Za-z0-9_:]*)`: ((?:`[a-z_][a-z0-9_]*`(?:, | and )?)+)", line):
@@ -136,40 +133,29 @@ def named_clauses(line):
                 yield f"no clause {clause} of {call}"
 
 
-def wrong_clauses(page):
-    return ((number, it) for number, line in enumerate(prose_of(page).split("\n"), 1) for it in named_clauses(line))
-
-
 @functools.cache
 def clauses_by_function():
     found = collections.defaultdict(set)
-    for path in (it for it in FILES if it.startswith("crates/") and it.endswith(".rt")):
+    for path in shape.files("crates/.*[.]rt"):
         _, *parts = re.split(r"\bfn\s+(\w+)", driver.text(path))
         for function, text in zip(parts[::2], parts[1::2]):
             found[function].update(re.findall(r"(?m)^\s*(?:ensures|requires)\s+([a-z_][a-z0-9_]*)\s*\{", text))
     return found
 
 
-# ---- must-fail edits
-
-EDITS = [it for it in FILES if it.startswith(("crates/", "tests/edits/")) and it.endswith(".edit")]
-
+# ---- must-fail edits, and the pages that tools/read.py prints
 
 def edit_differences():
     """Edits that don't say what they break and what refuses them, and names in them that nothing has."""
-    names, owned = code_names(), members()
     for path in EDITS:
         why, by = driver.text(path).split("\n")[:2]
         if not (re.match(r"why: \S", why) and re.match(r"by: \S", by)):
             yield f"{path} doesn't begin with its lines why: and by:"
         for name in re.findall(r"`([A-Za-z0-9_:]+)`", by):
-            owner, _, member = name.rpartition("::")
-            if not set(name.split("::")) <= names or owner in owned and member not in owned[owner]:
+            if not set(name.split("::")) <= code_names() or [*wrong_member(name)]:
                 yield f"{path} names {name}, which isn't there"
         yield from (f"{path}: {it}" for it in named_clauses(by))
 
-
-# ---- pages that tools/read.py prints
 
 def public_functions(crate):
     """The names of the functions that lib.rt of a crate has or exports, and of those of the types that it exports."""
@@ -182,7 +168,7 @@ def reading_differences():
     """What tools/read.py doesn't print exactly once."""
     libraries = [it for it in CRATES if f"crates/{it}/specs/Lib.antt" in FILES and f"crates/{it}/src/lib.rt" in FILES]
     wanted = {"edits": [f"\n- `{os.path.basename(it)[:-5]}`:" for it in EDITS],
-              "definitions": [f"({it[7:]})\n" for it in FILES if re.fullmatch(r"crates/[^/]+/specs/(?!Lib).*[.]antt", it)],
+              "definitions": [f"({it[7:]})\n" for it in shape.files("crates/[^/]+/specs/(?!Lib).*[.]antt")],
               "claims": [f"\n- `{it}`:" for crate in libraries for it in public_functions(crate)]}
     for command, texts in wanted.items():
         status, printed, _ = driver.start(sys.executable, [os.path.join(HOME, "tools/read.py"), command])
@@ -193,34 +179,27 @@ def reading_differences():
 
 # ---- links
 
-def anchor(heading):
-    """The name by which a link reaches a heading."""
-    text = re.sub(r"[`*]", "", heading).strip().lower()
-    return re.sub(r"[^\w\- ]", "", text).replace(" ", "-")
-
-
 def anchors(page):
-    return {anchor(it) for it in re.findall(r"^#+ (.*)$", prose_of(page), re.MULTILINE)}
+    """The names by which links reach the headings of a page."""
+    headings = re.findall(r"^#+ (.*)$", prose_of(page).lower(), re.MULTILINE)
+    return {re.sub(r"[^\w\- ]", "", it.strip()).replace(" ", "-") for it in headings}
 
 
-def dead_links(page):
-    for number, line in enumerate(prose_of(page).split("\n"), 1):
-        for target in re.findall(r"\]\(([^)\s]+)\)", line):
-            if re.match(r"[a-z]+:", target):
-                continue
-            path, _, place = target.partition("#")
-            there = os.path.normpath(os.path.join(os.path.dirname(page), path)) if path else page
-            if not os.path.exists(os.path.join(HOME, there)):
-                yield number, f"a link to {target}, which isn't there"
-            elif place and there.endswith(".md") and place not in anchors(there):
-                yield number, f"a link to {target}, whose heading isn't there"
+def dead_links(line, page):
+    for target in re.findall(r"\]\((?![a-z]+:)([^)\s]+)\)", line):
+        path, _, place = target.partition("#")
+        there = os.path.normpath(os.path.join(os.path.dirname(page), path)) if path else page
+        if not os.path.exists(os.path.join(HOME, there)):
+            yield f"a link to {target}, which isn't there"
+        elif place and there.endswith(".md") and place not in anchors(there):
+            yield f"a link to {target}, whose heading isn't there"
 
 
 def unlisted_pages():
     """Pages of runs and of pairs to which the README of their folder doesn't link."""
-    for page in DOCUMENTS:
+    for page in shape.files("tests/(runs|side_by_side)/(?!README).*[.]md"):
         folder, name = os.path.split(page)
-        if folder in ("tests/runs", "tests/side_by_side") and name != "README.md" and f"]({name})" not in driver.text(f"{folder}/README.md"):
+        if f"]({name})" not in driver.text(f"{folder}/README.md"):
             yield f"{folder}/README.md doesn't link to {name}"
 
 
@@ -270,65 +249,51 @@ def run_differences(page, room):
             yield from ((block.line, it) for it in pages.troubles(folder, block, False))
 
 
-# ---- definitions
+# ---- definitions and modules
 
-# A definition: at the beginning of a line, or indented below a common parameter. An indented `pub NAME` is a
-# record's field.
+# A definition: at the beginning of a line, or indented below a common parameter, unlike the `pub NAME` of a record's field.
 DEFINITION = re.compile(r"(?:\s*(?:(?:abbrev|unfoldable) )+pub |pub (?!mod\b|use\b)|\s+pub (?=record |data ))(?:record |data )?(\S+)")
 
 
 def broken_comments(path):
-    """The definitions of a file of specs/ without a comment above them, or with one that is no sentence. Its source may
-    follow in parentheses."""
-    lines = driver.text(path).split("\n")
-    for number, line in enumerate(lines):
+    """The definitions of a file of specs/ without a sentence as a comment above them. Its source may follow in parentheses."""
+    comment = []
+    for number, line in lines_of(driver.text(path)):
         if found := DEFINITION.match(line):
-            above = itertools.takewhile(lambda it: it.lstrip().startswith("--"), reversed(lines[:number]))
-            comment = " ".join(it.strip()[2:].strip() for it in reversed(list(above)))
-            if not comment:
-                yield number + 1, f"{found.group(1)}: no comment above it"
-            elif "  " in comment or not comment[0].isupper() or not re.search(r"\.(\s*\(.*\))?$", comment):
-                yield number + 1, f"{found.group(1)}: its comment isn't a sentence, with single spaces"
+            text = " ".join(comment)
+            if not text:
+                yield number, f"{found[1]}: no comment above it"
+            elif "  " in text or not text[0].isupper() or not re.search(r"\.(\s*\(.*\))?$", text):
+                yield number, f"{found[1]}: its comment isn't a sentence, with single spaces"
+        comment = [*comment, line.strip()[2:].strip()] if line.lstrip().startswith("--") else []
 
-
-# ---- modules
 
 def shared_modules():
     """The modules that have the name of a module of another crate. Each crate may have its laws, and what its calls return."""
-    found = collections.defaultdict(set)
-    for path in FILES:
-        module = re.fullmatch(r"crates/(\w+)/(src|specs|proofs)/(\w+)\.(?:rt|antt)", path)
-        if module and module[3] not in ("lib", "main", "tests", "Lib", "laws", "Results"):
-            found[module[2], module[3]].add(module[1])
-    for (kind, name), crates in sorted(found.items()):
-        if len(crates) > 1:
-            yield f"a module {name} is in {kind}/ of {' and of '.join(sorted(crates))}"
+    modules = shape.files(r"crates/\w+/(src|specs|proofs)/(?!(lib|main|tests|Lib|laws|Results)[.])\w+[.](rt|antt)")
+    counts = collections.Counter(it.split("/", 2)[2] for it in modules)
+    return (it for it in modules if counts[it.split("/", 2)[2]] > 1)
 
 
 # ---- faults
 
 STATUSES = {"passed", "failed", "skipped", "undefined", "untested", "memory"}
+# What is to be done about each fault: its fix in docs/FAULTS.md begins so.
+HINTS = "crates/gk_findings/src/hints.rt"
+# Reasons that are one word; other single words in the code are keywords and names.
+REASONS_OF_ONE_WORD = {"absent", "present", "differs"}
 
 
 def fault_texts():
-    """The texts of faults and the reasons that the code prints."""
+    """The texts of faults and the reasons that the code prints, without those of the crates of tests."""
     texts = set()
-    for path in CODE:
-        if path.startswith(TESTS) or path == HINTS:
-            continue
+    for path in {*shape.files("crates/(?!gk_tests/|gk_cli_tests/)[^/]+/src/.*[.]rt")} - {HINTS}:
         code = re.sub(r"//.*", "", driver.text(path)).replace('\\n"', '"')
         for pattern in (r'#\[error\("([^"{}]+)"\)\]', r'write_str\("([^"{}]+)"\)', r'=>\s*"([^"{}]+)"',
-                        r'"gherkin_run: (?:\{name\}: )?([^"{}]+)"'):
+                        r'\btext: "([^"{}]+)",\s*hint: "', r'"gherkin_run: (?:\{name\}: )?([^"{}]+)"'):
             texts.update(it.removeprefix("gherkin_run: ") for it in re.findall(pattern, code))
     return {it for it in texts if re.fullmatch(r"[A-Za-z][A-Za-z0-9 -]+", it) and it not in STATUSES and "-- @" not in it
             and (" " in it or it in REASONS_OF_ONE_WORD or it.startswith("bad"))}
-
-
-# What is to be done about each fault: its fix in docs/FAULTS.md begins so.
-HINTS = "crates/gk_findings/src/hints.rt"
-
-# Reasons that are one word; other single words in the code are keywords and names.
-REASONS_OF_ONE_WORD = {"absent", "present", "differs"}
 
 
 def fault_differences():
@@ -341,15 +306,22 @@ def fault_differences():
         yield f"docs/FAULTS.md has an entry for `{text}`, which the program doesn't print"
 
 
+def fault_hints():
+    """The hints of the code: those of HINTS, and those beside the texts of faults."""
+    for path in shape.CODE:
+        code = re.sub(r"//.*", "", driver.text(path)).replace("\\\\", "\\")
+        yield from re.findall(r'"([^"]+)"' if path == HINTS else r'\btext: "[^"]+",\s*hint: "([^"]+)"', code)
+
+
 def hint_differences():
     """Hints of the code that begin no fix of docs/FAULTS.md."""
     page = re.sub(r"\[([^]]*)\]\([^)]*\)", r"\1", driver.text("docs/FAULTS.md")).replace("`", "").replace("\n", " ")
-    for hint in re.findall(r'"([^"]+)"', re.sub(r"//.*", "", driver.text(HINTS)).replace("\\\\", "\\")):
+    for hint in fault_hints():
         if f"**Fix:** {hint}" not in page:
             yield f"docs/FAULTS.md has no fix that begins with `{hint}`"
 
 
-# ---- pictures
+# ---- pictures and words
 
 # Each picture's script. One draws what the program prints, one the figures of bench/README.md.
 PICTURES = {"failing_run.svg": "docs/pictures/failing_run.py", "peers.svg": "bench/chart"}
@@ -363,12 +335,10 @@ def picture_differences():
             yield f"docs/pictures/{name} isn't what {script} draws"
 
 
-# ---- words
-
 def foreign_words():
     """Words of WORDS on pages at the top or of docs/."""
     for page in PAGES:
-        for number, line in enumerate(driver.text(page).split("\n"), 1):
+        for number, line in lines_of(driver.text(page)):
             # A name in code style is the code's own.
             if found := WORDS.search(re.sub(r"`[^`]*`|TODO\([^)]*\)", "", line)):
                 yield f"{page}:{number}: the word '{found.group(0)}'"
@@ -376,31 +346,26 @@ def foreign_words():
 
 # ---- all of it
 
-def hard_to_read(page):
-    return prose.hard_to_read(page, driver.text(page), prose_of(page))
-
-
-def too_many_words():
-    return prose.too_many_words(*([prose_of(it) for it in pages] for pages in (MAIN, READMES)))
-
-
-def too_many_lines():
-    length = driver.text("README.md").count("\n")
-    return [f"README.md has {length} lines"] * (length > README_LINES)
+def of_lines(look):
+    """Looks in each line of a page outside of its blocks."""
+    return lambda page: ((number, text) for number, line in lines_of(prose_of(page)) for text in look(line, page))
 
 
 # What is looked for in each of some files, with its lines, and in all together. Nothing may be found.
 OF_EACH = {
-    "names": (wrong_names, DOCUMENTS), "clauses": (wrong_clauses, PAGES), "links": (dead_links, DOCUMENTS),
-    "examples": (example_differences, PAGES), "prose": (hard_to_read, sorted({*MAIN, *READMES})),
-    "comments": (broken_comments, [it for it in FILES if re.fullmatch(r"crates/[^/]+/specs/.*[.]antt", it)]),
+    "names": (of_lines(wrong_names), DOCUMENTS),
+    "clauses": (of_lines(named_clauses), PAGES),
+    "links": (of_lines(dead_links), DOCUMENTS),
+    "examples": (example_differences, PAGES),
+    "prose": (lambda page: prose.hard_to_read(page, prose_of(page)), [*MAIN, *READMES]),
+    "comments": (broken_comments, shape.files("crates/[^/]+/specs/.*[.]antt")),
 }
 OF_ALL = {
     "must-fail edits": edit_differences, "files of the guide": shown_twice, "words": foreign_words,
-    "words of pages": too_many_words, "lines of README.md": too_many_lines, "lists of pages": unlisted_pages,
-    "pages of tools/read.py": reading_differences, "modules of the same name": shared_modules,
-    "entries of docs/FAULTS.md": fault_differences, "hints of docs/FAULTS.md": hint_differences,
-    "pictures": picture_differences,
+    "words of pages": lambda: prose.too_many_words(map(prose_of, MAIN), map(prose_of, READMES)),
+    "lists of pages": unlisted_pages, "pages of tools/read.py": reading_differences,
+    "modules of the same name": shared_modules, "entries of docs/FAULTS.md": fault_differences,
+    "hints of docs/FAULTS.md": hint_differences, "pictures": picture_differences,
 }
 
 
@@ -409,7 +374,7 @@ class Documents(Checks):
         """A run that a document shows gives that: a `console` block over the files above it, and those of the guide."""
         for page in PAGES:
             for number, difference in run_differences(page, self.room):
-                self.check_list(f"{page}:{number}", [difference] if difference else [])
+                self.check(difference and f"{page}:{number}: {difference}")
 
     def try_each(self, name, look, paths):
         for path in paths:

@@ -1,6 +1,5 @@
 """The problem matchers of examples/editors, and vim, find the places that editors.md says."""
 
-import collections
 import json
 import os
 import re
@@ -12,8 +11,6 @@ import driver
 from checks import Checks
 
 EDITORS = os.path.join(driver.HOME, "examples", "editors")
-PAGE = driver.read(os.path.join(driver.HOME, "tests", "editors.md")).decode()
-Run = collections.namedtuple("Run", "arguments files places")
 # The ends of lines of an explanation that end with `memory` if memory runs out there.
 ENDS = (r"\.\.\. undefined", r"\.\.\. failed: .+", r"\.\.\. failed")
 # Writes the places of vim's quickfix list.
@@ -21,33 +18,15 @@ PLACES = ("call writefile(map(filter(getqflist(), 'v:val.valid'), 'json_encode([
           "'places')\nqall!\n")
 
 
-def runs():
-    """The runs of editors.md: their arguments, the files, and the places that an editor finds in what is printed."""
-    for _, files, block in blocks.runs(PAGE):
-        (command, below), = blocks.commands(block)
-        places = (it.rpartition(":") for it in below.decode().splitlines())
-        yield Run(shlex.split(command.decode())[1:], files, [(name, int(line)) for name, _, line in places])
-
-
-def tasks():
-    return json.loads(driver.read(os.path.join(EDITORS, "tasks.json")))["tasks"]
-
-
-def matchers(name, arguments):
-    """The regular expressions of a file of problem matchers; of a file of tasks, those of the task for these
-    arguments."""
+def matched(name, text, arguments):
+    """The places that the problem matchers of a file find in a text, in order: each line is for the first that fits. In a
+    file of tasks they are those of the task for these arguments."""
     document = json.loads(driver.read(os.path.join(EDITORS, name)))
     found = document.get("problemMatcher") or document["tasks"]["--lint" in arguments]["problemMatcher"]
-    for matcher in found:
-        pattern = matcher["pattern"]
-        yield pattern[0] if isinstance(pattern, list) else pattern
-
-
-def matched(name, text, arguments):
-    """The places that the problem matchers of a file find in a text, in order: each line is for the first that fits."""
+    patterns = [it["pattern"][0] if isinstance(it["pattern"], list) else it["pattern"] for it in found]
     places = []
     for line in text.splitlines():
-        fits = [(it, re.search(it["regexp"], line)) for it in matchers(name, arguments)]
+        fits = [(it, re.search(it["regexp"], line)) for it in patterns]
         places += [(fit[it["file"]], int(fit[it["line"]])) for it, fit in fits if fit][:1]
     return places
 
@@ -65,17 +44,16 @@ class Places(Checks):
     @classmethod
     def setUpClass(cls):
         super().setUpClass()
-        os.makedirs(os.path.join(cls.room, "in a folder"))
-        for run in runs():
-            driver.write(cls.room, run.files)
-        cls.texts = [(it.arguments, cls.printed(it.arguments), it.places) for it in runs()]
+        cls.texts = []
+        for _, files, block in blocks.runs(driver.text("tests/editors.md")):
+            driver.write(cls.room, files)
+            (command, below), = blocks.commands(block)
+            arguments = shlex.split(command.decode())[1:]
+            printed = driver.start(driver.program(), arguments, cls.room, stderr=subprocess.STDOUT)[1].decode()
+            places = (it.rpartition(":") for it in below.decode().splitlines())
+            cls.texts.append((arguments, printed, [(name, int(line)) for name, _, line in places]))
         arguments, text, wanted = cls.texts[0]
         cls.texts += [(arguments, re.sub(f"{end}$", "... memory", text, flags=re.MULTILINE), wanted) for end in ENDS]
-
-    @classmethod
-    def printed(cls, arguments):
-        _, printed, _ = driver.start(driver.program(), arguments, cls.room, stderr=subprocess.STDOUT)
-        return printed.decode()
 
     def compare(self, editor, places):
         """Checks the places that an editor finds in each text."""
@@ -87,7 +65,7 @@ class Places(Checks):
 class Matchers(Places):
     def test_tasks(self):
         self.compare("tasks.json", lambda text, arguments: matched("tasks.json", text, arguments))
-        words = [it["args"] for it in tasks()]
+        words = [it["args"] for it in json.loads(driver.read(os.path.join(EDITORS, "tasks.json")))["tasks"]]
         self.unless(f"tasks.json runs {words}: a matcher finds only names from the workspace on",
                     words == [["--explain", "${relativeFile}"], ["--lint", "${relativeFile}"]])
 
@@ -111,9 +89,8 @@ class Vim(Places):
         os.makedirs(os.path.join(home, "bin"))
         os.symlink(self.program, os.path.join(home, "bin", "gherkin_run"))
         settings = {**os.environ, "HOME": home, "PATH": f"{home}/bin:{os.environ['PATH']}"}
-        subprocess.run(["sh", "-eu", "-c", *blocks.texts("editors.md", "sh")], cwd=driver.HOME, env=settings,
-                       check=True)
-        found = [in_vim(it.replace("login.feature", "a.feature"), self.room,
-                        settings) for it in blocks.texts("editors.md", "vim")]
+        subprocess.run(["sh", "-eu", "-c", *blocks.texts("editors.md", "sh")], cwd=driver.HOME, env=settings, check=True)
+        found = [in_vim(it.replace("login.feature", "a.feature"), self.room, settings)
+                 for it in blocks.texts("editors.md", "vim")]
         wanted = [[("a.feature", line) for line in (4, 6, 7, 9, 10)], [("a.feature", 7)]]
         self.unless(f"vim finds {found} as docs/guide/editors.md says, and not {wanted}", found == wanted)

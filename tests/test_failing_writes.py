@@ -19,80 +19,55 @@ BYTES_TRIED = 4096  # of a report that is longer only the pieces are
 # Errors of a call; 0 is none, where the call takes no byte.
 PIECE_ERRORS = (0, errno.EIO, errno.EINTR)
 BYTE_ERRORS = (0, errno.EIO, errno.ENOSPC, errno.EINTR)
-CANNOT_WRITE = b"gherkin_run: cannot write\n"
-
-
-class Case:
-    """A run, and what it does with a standard output that takes everything."""
-
-    def __init__(self, program, room, run, options):
-        self.program, self.room, self.arguments = program, room, [*options, *map(os.fsdecode, run.arguments)]
-        self.folder = os.path.join(room, "_".join([*run.name.split(), *options]))
-        stored_cases.lay(run, self.folder)
-        self.ample = driver.start(program, self.arguments, self.folder)
-
-    def beginnings(self):
-        """What was written before each piece of the report that isn't empty."""
-        ample = Ample(self.arguments, self.ample, driver.start(self.program, in_json(self.arguments), self.folder))
-        return [before for before, piece in zip(ample.beginnings, ample.pieces) if piece]
-
-    def trouble(self, name, wanted, **limits):
-        environment = driver.limited(self.room, **limits)
-        ended = driver.start(self.program, self.arguments, self.folder, environment)
-        return driver.trouble(f"{self.arguments}, {name}", ended, wanted)
-
-    def troubles(self):
-        """What is wrong with each run, or nothing.
-
-        Each piece is written by one call, and by one for each byte where a call takes one. Where a
-        call fails, or takes nothing, what was taken before it is all that is written."""
-        for piece in (1, 7):
-            yield self.trouble(f"{piece} bytes a call", self.ample, WRITE_PIECE=piece)
-        beginnings, everything = self.beginnings(), self.ample[1]
-        for number, before in enumerate(beginnings, 1):
-            for error in PIECE_ERRORS:
-                yield self.trouble(f"error {error} at piece {number}", (3, before, CANNOT_WRITE),
-                                   WRITE_FAILS=number, WRITE_ERROR=error)
-        yield self.trouble("no call left to fail", self.ample,
-                           WRITE_FAILS=len(beginnings) + 1, WRITE_ERROR=errno.EIO)
-        if len(everything) > BYTES_TRIED:
-            return
-        for number in range(1, len(everything) + 1):
-            error = BYTE_ERRORS[number % len(BYTE_ERRORS)]
-            wanted = (3, everything[:number - 1], CANNOT_WRITE)
-            yield self.trouble(f"error {error} at byte {number}", wanted,
-                               WRITE_PIECE=1, WRITE_FAILS=number, WRITE_ERROR=error)
-        yield self.trouble("no byte left to fail", self.ample,
-                           WRITE_PIECE=1, WRITE_FAILS=len(everything) + 1, WRITE_ERROR=errno.EIO)
-
-
-class UnknownCase(Case):
-    """A run with --explain, whose pieces are those of the features that have something to explain, and what it ends
-    with; or one with --lint, which has one piece or none."""
-
-    def beginnings(self):
-        """What was written before each piece, each time more of the text."""
-        everything, found = self.ample[1], []
-        while True:
-            environment = driver.limited(self.room, WRITE_FAILS=len(found) + 1, WRITE_ERROR=errno.EIO)
-            before = driver.start(self.program, self.arguments, self.folder, environment)[1]
-            if before == everything:
-                return found
-            if not everything.startswith(before) or found and len(before) <= len(found[-1]):
-                raise ValueError(f"{self.arguments}: before piece {len(found) + 1} was written {before}")
-            found.append(before)
 
 
 class FailingWrites(Refusing):
-    def try_all(self, kind, options, is_report):
-        cases = [kind(self.program, self.room, it, options) for it in stored_cases.cases("failing_writes.md")
-                 if is_report == {b"--explain", b"--lint"}.isdisjoint(it.arguments)]
-        for troubles in driver.on_all_processors(lambda case: list(case.troubles()), cases):
+    def beginnings(self, arguments, folder, ended):
+        """What was written before each piece that isn't empty. A report has the pieces of its features."""
+        if {"--explain", "--lint"}.isdisjoint(arguments):
+            ample = Ample(arguments, ended, driver.start(self.program, in_json(arguments), folder))
+            return [before for before, piece in zip(ample.beginnings, ample.pieces) if piece]
+        found = []
+        while (before := self.limited(arguments, folder, WRITE_FAILS=len(found) + 1, WRITE_ERROR=errno.EIO)[1]) != ended[1]:
+            if not ended[1].startswith(before) or found and len(before) <= len(found[-1]):
+                raise ValueError(f"{arguments}: before piece {len(found) + 1} was written {before}")
+            found.append(before)
+        return found
+
+    def limits(self, beginnings, everything):
+        """The limits of each run, and what is written with them: whole pieces, or single bytes."""
+        for piece in (1, 7):
+            yield {"WRITE_PIECE": piece}, everything
+        for number, before in enumerate(beginnings, 1):
+            for error in PIECE_ERRORS:
+                yield {"WRITE_FAILS": number, "WRITE_ERROR": error}, before
+        # No call is left to fail.
+        yield {"WRITE_FAILS": len(beginnings) + 1, "WRITE_ERROR": errno.EIO}, everything
+        if len(everything) <= BYTES_TRIED:
+            for number in range(1, len(everything) + 2):
+                error = BYTE_ERRORS[number % len(BYTE_ERRORS)] if number <= len(everything) else errno.EIO
+                yield {"WRITE_PIECE": 1, "WRITE_FAILS": number, "WRITE_ERROR": error}, everything[:number - 1]
+
+    def troubles(self, arguments, folder):
+        """What is wrong with each run, or nothing."""
+        ample = driver.start(self.program, arguments, folder)
+        for limits, written in self.limits(self.beginnings(arguments, folder, ample), ample[1]):
+            wanted = ample if written == ample[1] else (3, written, b"gherkin_run: cannot write\n")
+            yield driver.trouble(f"{arguments}, with {limits}", self.limited(arguments, folder, **limits), wanted)
+
+    def try_all(self, options, is_report):
+        cases = []
+        for run in stored_cases.cases("failing_writes.md"):
+            arguments = [*options, *map(os.fsdecode, run.arguments)]
+            if is_report == {"--explain", "--lint"}.isdisjoint(arguments):
+                cases.append((arguments, os.path.join(self.room, "_".join([*run.name.split(), *options]))))
+                stored_cases.lay(run, cases[-1][1])
+        for troubles in driver.on_all_processors(lambda case: list(self.troubles(*case)), cases):
             self.check_all(troubles)
 
     def test_reports(self):
         for style in FORMATS:
-            self.try_all(Case, ["--format", style], True)
+            self.try_all(["--format", style], True)
 
     def test_explanations_and_findings(self):
-        self.try_all(UnknownCase, [], False)
+        self.try_all([], False)

@@ -5,12 +5,8 @@ contents.
 """
 
 import collections
-import fcntl
 import os
 import shutil
-import signal
-import subprocess
-import tempfile
 
 import blocks
 import driver
@@ -18,12 +14,11 @@ import pages
 import stand_ins
 from checks import Checks
 from driver import HOME
-from ready import as_from_a_terminal, as_nobody
+from ready import as_nobody, begin  # pylint: disable=unused-import
 
 LIST = "share/gherkin_run/installed"
 DOC = "share/doc/gherkin_run"
 COPIES = (".gherkin_run-new", ".gherkin_run-old")
-GUIDE = os.path.join(HOME, "docs", "guide")
 # The commands that change files, and those that only read.
 CHANGING = ["chmod", "cp", "ln", "mkdir", "mv", "rm", "rmdir"]
 READING = ["awk", "cat", "dirname", "find", "flock", "grep", "readlink", "sed", "sort", "tac"]
@@ -53,20 +48,15 @@ def make_repository(folder, version):
 
 
 def files_of(tree):
-    return {it: found for it, found in tree.items() if found[1] is not None}
+    """The files of a tree. Of the list, in which the order of the other lines differs, the lines of files."""
+    found = {it: own for it, own in tree.items() if own[1] is not None}
+    if LIST in found:
+        found[LIST] = [it for it in found[LIST][1].splitlines() if it.startswith(b"file ")]
+    return found
 
 
 def files_in(folder):
     return files_of(driver.tree(folder))
-
-
-def without_list(found):
-    """The same without the list, in which the order of lines and the folders differ."""
-    return {it: own for it, own in found.items() if it != LIST}
-
-
-def listed_files(found):
-    return [it for it in found[LIST][1].splitlines() if it.startswith(b"file ")]
 
 
 class Copies(Checks):
@@ -75,7 +65,6 @@ class Copies(Checks):
     @classmethod
     def setUpClass(cls):
         super().setUpClass()
-        os.chmod(cls.room, 0o755)
         cls.first, cls.second = (make_repository(os.path.join(cls.room, it), it) for it in ("first", "second"))
         stand_ins.make(os.path.join(cls.room, "all"), CHANGING + READING)
         stand_ins.make(os.path.join(cls.room, "changing"), CHANGING)
@@ -87,8 +76,7 @@ class Copies(Checks):
     @classmethod
     def place(cls, earlier=None):
         """A folder to install into, in a folder where nothing else is, with a copy of what is installed in another one."""
-        above = tempfile.mkdtemp(dir=cls.room)
-        os.chmod(above, 0o755)
+        above = cls.new_folder()
         if earlier:
             shutil.copytree(earlier, os.path.join(above, "prefix"), symlinks=True)
         return os.path.join(above, "prefix")
@@ -96,17 +84,15 @@ class Copies(Checks):
     @classmethod
     def start(cls, repository, *words, at=0, how="fails", steps=None, umask=0o022, user=None, folder=None, first="", **more):
         """Begins ./install, which may be stopped at a step. `first` is a line of a shell that runs before."""
-        own = tempfile.mkdtemp(dir=cls.room)
-        os.chmod(own, 0o755)
+        own = cls.new_folder()
         driver.write(own, {"calls": "0\n"})
         os.mkdir(os.path.join(own, "empty"))
         os.chmod(os.path.join(own, "empty"), 0o777)
         path = f"{os.path.join(cls.room, steps)}:{os.environ['PATH']}" if steps else os.environ["PATH"]
         settings = {"PATH": path, "CALLS": os.path.join(own, "calls"), "AT": str(at), "HOW": how,
                     "TMPDIR": os.path.join(own, "empty"), **more}
-        process = subprocess.Popen(["sh", "-c", first + 'PID=$$ exec "$0" "$@"', os.path.join(repository, "install"), *words],
-                                   cwd=folder, env=settings, stdin=subprocess.DEVNULL, stdout=subprocess.PIPE, user=user, group=user,
-                                   stderr=subprocess.PIPE, text=True, umask=umask, preexec_fn=as_from_a_terminal)
+        command = ["sh", "-c", first + stand_ins.BEGIN, os.path.join(repository, "install"), *words]
+        process = begin(command, folder, settings, user, umask=umask, text=True)
         process.room = own
         return process
 
@@ -114,19 +100,19 @@ class Copies(Checks):
     def run_install(cls, repository, *words, **more):
         process = cls.start(repository, *words, **more)
         out, said = process.communicate(timeout=driver.PATIENCE)
-        calls = int(driver.read(os.path.join(process.room, "calls")))
+        calls = len(stand_ins.notes(os.path.join(process.room, "calls")))
         left = os.listdir(os.path.join(process.room, "empty"))
         shutil.rmtree(process.room)
         return Ended(process.returncode, out, said, calls, left)
 
     def is_new(self, folder, earlier):
         """Whether the second version is installed whole, and nothing else."""
-        found, wanted = files_in(folder), files_of(self.new if earlier else self.alone)
-        return LIST in found and without_list(found) == without_list(wanted) and listed_files(found) == listed_files(wanted)
+        return files_in(folder) == files_of(self.new if earlier else self.alone)
 
     def has_all(self, folder):
         """Whether the second version is installed, perhaps beside other files."""
-        return without_list(self.alone).items() <= driver.tree(folder).items()
+        found = driver.tree(folder)
+        return all(found.get(it) == own for it, own in self.alone.items() if it != LIST)
 
     def ends_well(self, folder, earlier):
         """Whether another ./install completes the work, and --remove removes all of it."""
@@ -145,27 +131,9 @@ class Copies(Checks):
         os.symlink(target, os.path.join(folder, name))
 
 
-def children_of(process, what="comm="):
-    """The names of the processes that a process began, or what else ps shows of them."""
-    done = subprocess.run(["ps", "-o", what, "--ppid", str(process)], stdout=subprocess.PIPE, check=False)
-    return done.stdout.split()
-
-
 @pages.tests("install.md")
 class PutIn(Copies):
     """What is put in and taken out, and what is refused."""
-
-    def there_and_back(self, prefix, *words, before=(), **settings):
-        """Runs ./install in a folder, ABOVE, and then ./install --remove. Says whether all was put in and taken out."""
-        above = os.path.dirname(self.place())
-        driver.write(above, dict(before))
-        words, settings = [it.replace("ABOVE", above) for it in words], {it: own.replace("ABOVE", above) for it, own in settings.items()}
-        before = driver.tree(above)
-        put_in = self.run_install(self.second, *words, folder=above, **settings)
-        is_put_in = self.has_all(os.path.join(above, prefix))
-        taken_out = self.run_install(self.second, *words, "--remove", folder=above, **settings)
-        holds = is_put_in and driver.tree(above) == before and [(it.status, it.left) for it in (put_in, taken_out)] == [(0, [])] * 2
-        return "put in, and taken out" if holds else (put_in, is_put_in, taken_out)
 
     def refused(self, *words, files=(), links=(), folder=None, repository=None, **more):
         """The line by which a call ends with status 1, with PREFIX in place of the folder, where it has written these files and
@@ -178,34 +146,6 @@ class PutIn(Copies):
         ended = self.run_install(repository or self.second, *(it.replace("PREFIX", folder) for it in words), **more)
         holds = ended.status == 1 and ended.said.count("\n") == 1 and not ended.left and driver.tree(os.path.dirname(folder)) == before
         return ended.said.rstrip("\n").replace(folder, "PREFIX") if holds else ended
-
-    def together(self, words, earlier=None):
-        """Runs several calls for one folder. Returns where, their statuses, and what they say."""
-        folder = self.place(earlier)
-        started = [self.start(self.second, *it, folder, steps="changing", SLOW="0.02") for it in words]
-        said = [process.communicate(timeout=2 * driver.PATIENCE)[1] for process in started]
-        return folder, [process.returncode for process in started], said
-
-    def test_signal_while_it_waits(self):
-        for number in (signal.SIGINT, signal.SIGTERM, signal.SIGHUP):
-            folder = self.place()
-            os.mkdir(folder)
-            lock = os.open(folder, os.O_RDONLY)
-            fcntl.flock(lock, fcntl.LOCK_EX)
-            process = self.start(self.second, folder)
-            # It waits in the command flock.
-            driver.wait_until(lambda: process.poll() is not None or b"flock" in children_of(process.pid))
-            process.send_signal(number)
-            for child in children_of(process.pid, "pid="):
-                os.kill(int(child), number)
-            try:
-                status = process.wait(10)
-            except subprocess.TimeoutExpired:
-                status = None
-            os.close(lock)
-            process.communicate()
-            left = os.listdir(folder) + os.listdir(os.path.join(process.room, "empty"))
-            self.unless(f"the signal {number.name} doesn't end what waits", status == 1 and not left, status, *left)
 
 
 class Stopped(Copies):
@@ -248,7 +188,7 @@ class Stopped(Copies):
         if not os.path.exists(os.path.join(folder, LIST)):
             return not files_in(folder)
         # Until files are gone, another message may say why.
-        is_said = how != "fails" or files_in(folder) == files_of(self.old) or "call ./install --remove again" in ended.said
+        is_said = how != "fails" or driver.tree(folder) == self.old or "call ./install --remove again" in ended.said
         return ended.status != 0 and is_said and self.run_install(self.second, "--remove", folder).status == 0 and not os.path.exists(folder)
 
     def has_old_or_new(self, folder):
@@ -274,12 +214,9 @@ class Whole(Checks):
     """The repository itself, installed by the commands of docs/guide/installing.md as they are printed."""
 
     def setUp(self):
-        self.top, self.home = tempfile.mkdtemp(dir=self.room), tempfile.mkdtemp(dir=self.room)
+        self.top, self.home = self.new_folder(), self.new_folder()
+        self.shown = blocks.shown("../docs/guide/installing.md")
         os.symlink(os.path.join(HOME, "install"), os.path.join(self.top, "install"))
-
-    def block(self, name):
-        text, = (it.text for it in blocks.blocks(driver.read(os.path.join(GUIDE, "installing.md")).decode()) if (it.kind, it.name) == ("sh", name))
-        return text
 
     def shell(self, text, *words, shell="sh", **more):
         """Runs commands with a user's own folder, from a folder that has ./install."""

@@ -14,6 +14,7 @@ import calling
 import driver
 import in_memory
 import pages
+import tables
 from checks import Checks
 
 WEB = os.path.join(driver.HOME, "bindings", "web")
@@ -24,14 +25,16 @@ MARKUP = "</textarea></pre><script>document.title = 'taken'</script> " \
          "<img src=x onerror=\"document.title = 'taken'\"> &amp; {page} ${1} \\u003c"
 SMALL = driver.feature("Given it passes")
 # Something in each field of the page.
-FULL = {"files": [["ä \"1\".feature", "Feature: ü <&> ~~~~~ ????? \U0001f600\n  Scenario: s\n\tGiven the lamp\n"],
+FULL = {**{tables.written.field(it): True for it in tables.written.flags()},
+        "files": [["ä \"1\".feature", "Feature: ü <&> ~~~~~ ????? \U0001f600\n  Scenario: s\n\tGiven the lamp\n"],
                   ["b.feature", "Feature: b\n"]],
         "library": "step the lamp => pass\n", "libraryName": "my.steps",
         "hooks": "before_all:\n  Given the lamp\n", "hooksName": "my.hooks",
         "written": "made\n", "writtenName": "made.txt",
         "tags": "~@a\n@b,~@c", "lines": "1 2, 3", "variables": "A=1\nB==\n",
-        "format": "json", "dryRun": True, "stop": True, "noSkipped": True, "tab": "report"}
-FLAGS = ("--dry-run", "--stop", "--no-skipped")
+        "format": "json", "tab": "report"}
+# Other texts, with a value of the option.
+FULL |= {tables.written.field(it): tables.VALUES[it.value] for it in tables.written.on_page() if tables.written.field(it) not in FULL}
 TABS = {"report": [], "explanation": ["--explain"], "findings": ["--lint"]}
 CONTROLS = {"textbox", "combobox", "button", "checkbox", "DisclosureTriangle", "region", "form", "tab", "tablist", "tabpanel"}
 # The state, the status, and the texts of the pieces of the output and of the errors.
@@ -124,12 +127,11 @@ def link_to(given):
 
 def taken(tab, arguments):
     """The arguments that the program takes on a tab."""
-    refused = {"report": [], "explanation": ["--dry-run", "--no-skipped", "--format"]}
-    refused["findings"] = [*refused["explanation"], "--stop", "--env"]
+    refused = [f"--{it.name}" for it in tables.OPTIONS if tab not in tables.written.accepting(it)]
     words = iter(arguments)
     for word in words:
-        value = [next(words)] if word.startswith("--") and word not in FLAGS else []
-        if word not in refused[tab]:
+        value = [next(words)] if word.startswith("--") and word not in tables.FLAGS else []
+        if word not in refused:
             yield from [word, *value]
 
 

@@ -1,5 +1,4 @@
-"""Random suites, changes and bytes. tests/search.py tries more of them, and says which case of a failure is
-smallest."""
+"""Random suites, changes and bytes. tests/search.py tries more of them, and finds the smallest case that fails."""
 
 import os
 import unittest.mock
@@ -15,7 +14,7 @@ from checks import Checks, Refusing
 
 class Random:
     def test_cases(self):
-        self.check_all(search.tried(self.TESTER, self.room, search.parser().parse_args([])))
+        self.check_all(search.tried(self.TESTER, self.room, self.TESTER.keys()))
 
 
 class RandomRuns(Random, Checks):
@@ -55,7 +54,7 @@ class Shrinking(Refusing):
         driver.write_program(planted,
                              f'#!/bin/sh\n"{self.program}" "$@" > printed\nstatus=$?\n{mistake}\nexit "$status"\n')
         found = search.Search(tester, planted, self.room, float("inf"))
-        key = next(it for it in search.keys(tester, search.parser().parse_args([])) if found.fails(tester.case(it)))
+        key = next(it for it in tester.keys() if found.fails(tester.case(it)))
         case = found.smallest_case(key)
         self.unless(f"the smallest case doesn't fail: {case}", found.fails(case))
         less = [it for it in smaller(case) if found.fails(it)]

@@ -16,9 +16,7 @@ import blocks
 import driver
 import pages
 from checks import Checks
-from driver import EXAMPLES
 
-RECIPES = os.path.join(EXAMPLES, "recipes")
 PATIENCE = 300  # seconds: a script starts many programs, also while proofs have the processors
 BAD = ("failed", "undefined", "memory")
 # A name with every control character but line feed, and with what Markdown, XML and GitHub read as their own.
@@ -34,21 +32,25 @@ def environment_of(folder, **more):
 
 def shell(folder, command, **more):
     """Runs a command of a shell. Returns its status, and what it printed on the two streams, with what it left over."""
-    status, printed, fault = driver.start("sh", ["-c", command], folder, environment_of(folder, **more),
-                                          patience=PATIENCE)
+    status, printed, fault = driver.start("sh", ["-c", command], folder, environment_of(folder, **more), patience=PATIENCE)
     left = os.listdir(os.path.join(folder, "temporary"))
     return status, printed, fault + (f"left over: {left}\n".encode() if left else b"")
 
 
-def rules_of(report):
-    return [it for one in report["features"] for it in one.get("rules", [])]
+def scenarios_of(report):
+    return [it for one in report["features"] for it in one["scenarios"]]
+
+
+def around(report):
+    """How the hooks and cleanups of each feature, of each rule and of the run ended."""
+    rules = [it for one in report["features"] for it in one.get("rules", [])]
+    return [*(it["around"] for it in [*report["features"], *rules]), report["run"]]
 
 
 def bad_places(report):
     """How many steps, and how many hooks and cleanups of scenarios, rules, features and the run, didn't pass."""
-    scenarios = [it for one in report["features"] for it in one["scenarios"]]
-    around = [it["around"] for it in [*report["features"], *rules_of(report), *scenarios]] + [report["run"]]
-    return sum(it in BAD for it in [*around, *(step["status"] for one in scenarios for step in one["steps"])])
+    inner = [status for one in scenarios_of(report) for status in (one["around"], *(it["status"] for it in one["steps"]))]
+    return sum(it in BAD for it in [*around(report), *inner])
 
 
 # ---- what each file makes, and what is wrong with it: what is found of each trouble
@@ -56,8 +58,8 @@ def bad_places(report):
 def annotations_troubles(report, printed):
     lines = printed.split("\n")[:-1]
     texts = [line.split("::", 2)[2].replace("%0A", "\n").replace("%25", "%") for line in lines if line.count("::") > 1]
-    steps = [escaped(f"{it['keyword']} {it['text']} ... {it['status']}") for one in report["features"]
-             for row in one["scenarios"] for it in row["steps"] if it["status"] in BAD]
+    steps = [escaped(f"{it['keyword']} {it['text']} ... {it['status']}") for one in scenarios_of(report)
+             for it in one["steps"] if it["status"] in BAD]
     return {"lines that are none": [
                 it for it in lines if not re.fullmatch(r"::error (file=[^,:]*,line=\d+,)?title=[^,:]*::[^\r]*", it)],
             "unescaped": re.findall("%(?!25|0A|3A|2C).{0,2}", printed), "control characters": CONTROL.findall(printed),
@@ -82,35 +84,30 @@ def junit_troubles(report, printed):
     except xml.etree.ElementTree.ParseError as error:
         return {"no XML": [error]}
     kinds = {"failures": "failure", "errors": "error", "skipped": "skipped"}
-    scenarios = [it for one in report["features"] for it in one["scenarios"]]
-    around = [*(it["around"] for it in [*report["features"], *rules_of(report)]), report["run"]]
-    statuses = collections.Counter([*(it["status"] for it in scenarios), *(it for it in around if it != "passed")])
+    scenarios = scenarios_of(report)
+    statuses = collections.Counter([*(it["status"] for it in scenarios), *(it for it in around(report) if it != "passed")])
     wanted = [statuses["failed"], statuses["memory"], statuses["skipped"] + statuses["untested"]]
     found = [len(root.findall(f".//{kind}")) for kind in kinds.values()]
     names = [it.get("name") for it in root.findall(".//testcase")]
     names = [it for it in names if not re.fullmatch(r"\((rule, line \d+: )?hooks and cleanups\)", it)]
+    readable = [re.sub("[\ufffe\uffff]", "\ufffd", escaped(it["name"], "\t\r")) for it in scenarios]
     return {"counts that aren't those of the cases": [
                 one for one in root.findall("testsuite") for count, kind in kinds.items()
                 if int(one.get(count)) != len(one.findall(f"testcase[{kind}]"))],
             f"and not {wanted}": [found] * (found != wanted),
-            "other names": [names] * (names != [readable(it["name"]) for it in scenarios])}
+            "other names": [names] * (names != readable)}
 
 
 def failed_troubles(report, printed):
-    wanted = sum(it["status"] in ("failed", "memory") for one in report["features"] for it in one["scenarios"])
-    wanted += sum(it["around"] in BAD for it in [*report["features"], *rules_of(report)]) + (report["run"] in BAD)
+    wanted = sum(it in BAD for it in [*(it["status"] for it in scenarios_of(report)), *around(report)])
     lines = printed.split("\n")[:-1]
     return {"another number of lines": [lines] * (len(lines) != wanted), "control characters": CONTROL.findall(printed),
             "commands of GitHub's": [it for it in lines if it.lstrip().startswith("::") or "##[" in it]}
 
 
-def escaped(text):
-    """A text with its control characters, apart from line feeds, escaped."""
-    return CONTROL.sub(lambda it: f"\\x{ord(it[0]):02x}", text)
-
-
-def readable(name):
-    return "".join("\ufffd" if it in "\ufffe\uffff" else f"\\x{ord(it):02x}" if CONTROL.match(it) and it not in "\t\r" else it for it in name)
+def escaped(text, kept=""):
+    """A text with its control characters escaped, apart from line feeds and those that are kept."""
+    return CONTROL.sub(lambda it: it[0] if it[0] in kept else f"\\x{ord(it[0]):02x}", text)
 
 
 def out_of_memory(report):
@@ -128,12 +125,6 @@ MAKERS = {"annotations": annotations_troubles, "summary": summary_troubles, "jun
 def troubles_of(maker, report, printed):
     """What is wrong with what a file of examples/recipes/ makes of a report."""
     return [f"{trouble}: {it}" for trouble, found in MAKERS[maker](report, printed.decode()).items() for it in found]
-
-
-def seconds_of(folder, command, **more):
-    """What a command printed, and the seconds of a processor that it took."""
-    before = driver.processor_time()
-    return shell(folder, command, **more), driver.processor_time() - before
 
 
 @pages.tests(*(f"recipes/{it}.md" for it in ("usage", "makers", "check", "again", "long", "escapes", "suite")))
@@ -156,12 +147,3 @@ class Recipes(Checks):
 
     def read_report(self, folder):
         return driver.read(os.path.join(folder, "report.json"))
-
-    def try_makers(self, folder, name, report):
-        """Checks what each file of examples/recipes/ makes of a report, if there is one."""
-        driver.write(folder, {"report.json": report})
-        for maker in MAKERS if report else ():
-            path = os.path.join(RECIPES, f"{maker}.jq")
-            status, text, fault = driver.start("jq", ["-r", "-f", path, "report.json"], folder)
-            found = troubles_of(maker, json.loads(report), text) if status == 0 else [fault.decode()]
-            self.check_list(f"{name}: {maker}.jq", found)

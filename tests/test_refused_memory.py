@@ -19,15 +19,16 @@ a report with which some run has to end. Some are run with --explain, too: then 
 written, or one event of it is memory, or it is as with ample memory.
 """
 
+import collections
 import itertools
 import os
 import re
 
 import driver
 import stored_cases
+import tables
 from checks import Refusing
 from reports import MEMORY, Ample, in_json
-from tables import FORMATS
 
 PAGES = ("refused_memory.md", "refused_hooks.md", "refused_rules.md")
 # The runs that are explained, too.
@@ -39,84 +40,60 @@ LAST = 8
 LINTED = ["Each finding", "Several files", "A fault in each of many files"]
 
 
+def options_named_nowhere():
+    """The run of two files with each option that no run of PAGES names."""
+    cases = list(stored_cases.cases(*PAGES))
+    named = {os.fsdecode(word) for it in cases for word in it.arguments}
+    two = next(it for it in cases if it.name == "Two files")
+    for option in tables.OPTIONS:
+        if option.beside_report and f"--{option.name}" not in named | {"--explain", "--lint"}:
+            yield f"{two.name} and --{option.name}", ([*tables.given(option), *map(os.fsdecode, two.arguments)], two.files, "")
+
+
+def scenarios_of_built_in_steps():
+    """A scenario for each built-in step, with a doc string below those that end with a colon."""
+    values = {"n:d": "1", "step": "it passes"}
+    for step in tables.STEPS:
+        text = re.sub(r"\{([^}]*)\}", lambda it: values.get(it[1], "x"), step.text)
+        yield f"Scenario: {text}\nGiven {text}\n" + '"""\nx\n"""\n' * text.endswith(":")
+
+
 def shown_runs():
     """The runs of PAGES by their names: the arguments, the files, and a report with which some run has to end, or
-    nothing. A part that has several pieces is written in each format."""
+    nothing. Options that no page names and the built-in steps are tried, too. A part that has several pieces is written in
+    each format."""
     for it in stored_cases.cases(*PAGES):
         yield it.name, (list(map(os.fsdecode, it.arguments)), it.files, it.stdout.decode())
+    yield from options_named_nowhere()
+    yield "Each built-in step", (["a.feature"], {"a.feature": "Feature: f\n" + "".join(scenarios_of_built_in_steps())}, "")
     long = next(it for it in stored_cases.cases("failing_writes.md") if it.name == "A part of several pieces")
-    for form in FORMATS:
+    for form in tables.FORMATS:
         yield f"{long.name} as {form}", (["--format", form, *map(os.fsdecode, long.arguments)], long.files, "")
 
 
 RUNS = dict(shown_runs())
 
 
-class Refusals:
-    def __init__(self, program, room, name, arguments, folder):
-        self.program, self.room, self.name = program, room, name
-        self.arguments, self.folder = arguments, folder
-        ended = self.start(arguments)
-        is_text = {"--explain", "--lint"} & {*arguments}
-        self.ample = AmpleText(ended, "--explain" in arguments) if is_text else Ample(arguments, ended, self.in_json())
-
-    def start(self, arguments, environment=None):
-        return driver.start(self.program, arguments, self.folder, environment)
-
-    def in_json(self):
-        return self.start(in_json(self.arguments))
-
-    def ending(self, number):
-        """How the run ends whose growth of a number is refused, and what was written.
-
-        The first is one of ENDINGS. An ending that isn't allowed is said in words."""
-        log = os.path.join(self.room, f"met.{number % 64}.{os.getpid()}")
-        if os.path.exists(log):
-            os.remove(log)
-        environment = driver.limited(self.room, REFUSE=number, REFUSE_LOG=log)
-        ended = self.start(self.arguments, environment)
-        met = driver.read(log).strip() if os.path.exists(log) else b"ended by a signal"
-        ending = self.ample.ending(ended)
-        if met == b"unmet" and ending == "unharmed":
-            return "unmet", ended[1]
-        if met == b"retried" and ending or met == b"met" and ending in ("stopped", "marked"):
-            return ending, ended[1]
-        if met == b"met" and ending == "unharmed" and ended[2]:
-            return "told", ended[1]
-        return f"{self.name}, growth {number} refused: {met.decode()}, {ended}", ended[1]
-
-    def endings(self):
-        """How each run ends, up to the first that meets no refusal."""
-        told = []
-        for first in itertools.count(1, 64):
-            numbers = range(first, first + 64)
-            for refused, ending in zip(numbers, driver.on_all_processors(self.ending, numbers)):
-                yield ending
-                if ending[0] == "told":
-                    told.append(refused)
-                if ending[0] == "unmet":
-                    yield from ((f"{self.name}, growth {it} refused: no trace", b"") for it in told if it < refused - LAST)
-                    return
+# A run, and what it does with ample memory.
+Case = collections.namedtuple("Case", "name arguments folder ample")
 
 
 class AmpleText:
     """What a run with --explain or --lint does with ample memory, and how a run with a refused growth ends beside it."""
 
     # It is no report, and its pieces aren't worked out.
-    report = None
+    beginnings = pieces = ()
 
     def __init__(self, ended, is_explained):
         self.ended, self.is_explained = ended, is_explained
 
     def is_read_well(self):
-        """Whether an explanation ends with the closing lines of a report, and whether something is found, or more than
-        one file doesn't read."""
+        """Whether an explanation ends with the counts of a report, or something is found, or several files don't read."""
         status, printed, complained = self.ended
         if self.is_explained:
             return complained == b"" and re.search(rb"(?m)^\d+ steps? passed, ", printed) is not None
-        if status == 1:
-            return complained == b"" and printed != b""
-        return status == 3 and printed == b"" and complained.count(b"gherkin_run: ") > 1
+        is_found, is_unread = complained == b"" and printed != b"", printed == b"" and complained.count(b"gherkin_run: ") > 1
+        return (status, is_found, is_unread) in ((1, True, False), (3, False, True))
 
     def ending(self, ended):
         """How a run ends: as one of ENDINGS but the last, or nothing where it ends otherwise.
@@ -140,21 +117,58 @@ ENDINGS = ("stopped", "marked", "unharmed", "told", "unmet", "before")
 class OfGrowths(Refusing):
     """The tests of both programs."""
 
-    def try_case(self, case):
-        """Makes all runs of a case. Returns how they ended, and what was written by those that end with a mark."""
-        self.unless(f"{case.name}: its rows give other counts or statuses", case.ample.is_read_well(), case.ample.ended)
-        written, marked, endings = set(), set(), []
-        for ending, printed in case.endings():
+    def start(self, arguments, folder, environment=None):
+        return driver.start(self.program, arguments, folder, environment)
+
+    def in_json(self, arguments, folder):
+        return self.start(in_json(arguments), folder)
+
+    def ending(self, case, number):
+        """How the run ends whose growth of a number is refused, and what was written.
+
+        The first is one of ENDINGS. An ending that isn't allowed is said in words."""
+        log = os.path.join(self.room, f"met.{number % 64}.{os.getpid()}")
+        if os.path.exists(log):
+            os.remove(log)
+        ended = self.start(case.arguments, case.folder, driver.limited(self.room, REFUSE=number, REFUSE_LOG=log))
+        met = driver.read(log).strip() if os.path.exists(log) else b"ended by a signal"
+        ending = "before" if ended == NOT_BEGUN else case.ample.ending(ended)
+        if ending == "before" or met == b"retried" and ending or met == b"met" and ending in ("stopped", "marked"):
+            return ending, ended[1]
+        if ending == "unharmed" and (met == b"unmet" or met == b"met" and ended[2]):
+            return "unmet" if met == b"unmet" else "told", ended[1]
+        return f"{case.name}, growth {number} refused: {met.decode()}, {ended}", ended[1]
+
+    def endings(self, case):
+        """How each run ends, up to the first that meets no refusal."""
+        told = []
+        for first in itertools.count(1, 64):
+            numbers = range(first, first + 64)
+            for refused, ending in zip(numbers, driver.on_all_processors(lambda it: self.ending(case, it), numbers)):
+                yield ending
+                if ending[0] == "told":
+                    told.append(refused)
+                if ending[0] == "unmet":
+                    yield from ((f"{case.name}, growth {it} refused: no trace", b"") for it in told if it < refused - LAST)
+                    return
+
+    def try_case(self, name, arguments, folder):
+        """Makes all runs of a case: what the one with ample memory does, how the others ended, and what each ending wrote."""
+        ended = self.start(arguments, folder)
+        if {"--explain", "--lint"} & {*arguments}:
+            ample = AmpleText(ended, "--explain" in arguments)
+        else:
+            ample = Ample(arguments, ended, self.in_json(arguments, folder))
+        self.unless(f"{name}: its rows give other counts or statuses", ample.is_read_well(), ended)
+        endings, written = [], collections.defaultdict(set)
+        for ending, printed in self.endings(Case(name, arguments, folder, ample)):
             self.check("" if ending in ENDINGS else ending)
             endings.append(ending)
-            if ending == "stopped":
-                written.add(printed)
-            if ending == "marked":
-                marked.add(printed.decode())
-        _, _, seen = RUNS.get(case.name, ("", "", ""))
+            written[ending].add(printed)
+        _, _, seen = RUNS.get(name, ("", "", ""))
         if seen:
-            self.unless(f"{case.name}: no run ended with\n{seen}", seen in marked)
-        return endings, written, marked
+            self.unless(f"{name}: no run ended with\n{seen}", seen.encode() in written["marked"])
+        return ample, endings, written
 
 
 class RefusedMemory(OfGrowths):
@@ -162,15 +176,12 @@ class RefusedMemory(OfGrowths):
         """Tries a run over files in a folder of its own, or from the top of the repository."""
         folder = driver.HOME if files is None else os.path.join(self.room, name.replace(" ", "_"))
         driver.write(folder, files or {})
-        case = Refusals(self.program, self.room, name, arguments, folder)
-        endings, written, _ = self.try_case(case)
+        ample, endings, written = self.try_case(name, arguments, folder)
         self.unless(f"{name}: no run stopped", "stopped" in endings)
-        if case.ample.report is not None:
-            # Each piece is made when those before it are written, so some run ends at each of them.
-            for before, piece in zip(case.ample.beginnings, case.ample.pieces):
-                if piece:
-                    self.unless(f"{name}: no run stopped after {len(before)} bytes, where a piece is made",
-                                before in written)
+        # Each piece is made when those before it are written, so some run ends at each of them.
+        for before in (it for it, piece in zip(ample.beginnings, ample.pieces) if piece):
+            self.unless(f"{name}: no run stopped after {len(before)} bytes, where a piece is made",
+                        before in written["stopped"])
 
     def test_examples(self):
         for arguments in driver.examples():
@@ -182,9 +193,9 @@ class RefusedMemory(OfGrowths):
                 self.try_run(case.name, [it.decode() for it in case.arguments], case.files)
 
 
-def add_test(name, arguments, files):
+def add_test(name, *run):
     words = "_".join(re.findall("[a-z0-9]+", name.lower()))
-    setattr(RefusedMemory, f"test_{words}", lambda self: self.try_run(name, arguments, files))
+    setattr(RefusedMemory, f"test_{words}", lambda self: self.try_run(name, *run))
 
 
 for _name, (_arguments, _files, _) in RUNS.items():
@@ -221,34 +232,6 @@ REMOVED = [f"removal {removal}, next {following}\nin the layer {is_there}\nafter
                                                 ("Ok(())", "Ok(())", "false"))]
 
 
-class Inside(Refusals):
-    """The runs of one case through `run_suite`, each with one growth refused."""
-
-    def start(self, arguments, environment=None):
-        """Runs the program, and answers what gherkin_run would have ended with.
-
-        Where the sandbox isn't empty afterwards, or the status isn't that of the answer, it is what
-        the program said, which no run of gherkin_run ends with."""
-        status, printed, err = driver.start(self.program, arguments, self.folder, environment)
-        said = {b"Ok(%d)\n" % status if isinstance(status, int) else b"": b"",
-                b"Err(Memory)\n": MEMORY}
-        answer = err.removesuffix(EMPTY)
-        if err.endswith(EMPTY) and answer in said:
-            return status, printed, said[answer]
-        return status, printed, err
-
-    def in_json(self):
-        """The report of gherkin_run itself."""
-        hooks = ["--hooks", HOOKS] if HOOKS in self.arguments else []
-        return driver.start(driver.program(), ["--format", "json", *hooks, FEATURE], self.folder)
-
-    def ending(self, number):
-        """How the run ends whose growth of a number is refused, `before` where it wasn't begun."""
-        environment = driver.limited(self.room, REFUSE=number)
-        ended = driver.start(self.program, self.arguments, self.folder, environment)
-        return ("before", b"") if ended == NOT_BEGUN else super().ending(number)
-
-
 class RefusedInside(OfGrowths):
     """The test program of crates/gk_refusals runs through `run_suite`.
 
@@ -266,20 +249,33 @@ class RefusedInside(OfGrowths):
         if "GHERKIN_REFUSALS" not in os.environ and not os.path.exists(BUILT):
             cls.leave_out("rt run in crates/gk_refusals builds its program")
 
+    def start(self, arguments, folder, environment=None):
+        """Runs the program, and answers what gherkin_run would have ended with.
+
+        Where the sandbox isn't empty afterwards, or the status isn't that of the answer, it is what
+        the program said, which no run of gherkin_run ends with."""
+        status, printed, err = super().start(arguments, folder, environment)
+        said = {b"Ok(%d)\n" % status if isinstance(status, int) else b"": b"", b"Err(Memory)\n": MEMORY}
+        is_empty = err.endswith(EMPTY) and err.removesuffix(EMPTY) in said
+        return status, printed, said[err.removesuffix(EMPTY)] if is_empty else err
+
+    def in_json(self, arguments, folder):
+        """The report of gherkin_run itself."""
+        hooks = ["--hooks", HOOKS] if HOOKS in arguments else []
+        return driver.start(driver.program(), ["--format", "json", *hooks, FEATURE], folder)
+
     def try_inside(self, name, files):
         folder = os.path.join(self.room, re.sub(r"\W+", "_", name))
         driver.write(folder, files)
         arguments = [it for it in (FEATURE, HOOKS) if it in files]
         self.assertEqual(len(arguments), len(files), name)
-        case = Inside(self.program, self.room, name, arguments, folder)
-        self.unless(f"{name}: with ample memory it ended with {case.ample.ended}", case.ample.report is not None)
-        endings, _, marked = self.try_case(case)
+        ample, endings, written = self.try_case(name, arguments, folder)
+        self.unless(f"{name}: with ample memory it ended with {ample.ended}", ample.report is not None)
         # Growths are refused in their order, so all that come before the run have lower numbers.
-        is_begun = [it in ("stopped", "marked") for it in endings]
-        first = is_begun.index(True) if True in is_begun else len(endings)
-        self.unless(f"{name}: a later run wasn't begun", "before" not in endings[first:])
+        begun = itertools.dropwhile(lambda it: it not in ("stopped", "marked"), endings)
+        self.unless(f"{name}: a later run wasn't begun", "before" not in begun)
         if name != NOT_BEGUN_FEATURE:
-            self.unless(f"{name}: no run ended with a mark of memory", marked)
+            self.unless(f"{name}: no run ended with a mark of memory", written["marked"])
 
     def test_runs(self):
         for name in NAMES:

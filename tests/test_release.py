@@ -5,30 +5,22 @@ folder for temporary files, and one line says why.
 """
 
 import contextlib
-import glob
 import os
 import shutil
 
 import blocks
 import driver
 import pages
+import ready
 import stand_ins
 from checks import Checks
-from ready import Clone
 
 RELEASED = ("dist", "bindings/web")
 VERSION = driver.text("packaging/version").strip()
 WHEEL = f"dist/gherkin_run-{VERSION}-py3-none-manylinux_2_34_x86_64.whl"
-# The programs of the toolchain. Each fails if a variable says so.
-TOOLCHAIN = blocks.shown("release.md")
 # The commands that ./release and what it calls change files with, those that read, and others.
 STEPS = "chmod cp dpkg-deb ln mkdir mktemp mv rm cat cut find python3 readlink sha256sum sort".split()
 OTHERS = "basename env grep gzip head install ln md5sum nproc sed tar tr uname wc".split()
-# The commands of a pipe run at the same time; each takes the next number that is free.
-STEP_OF_A_PIPE = stand_ins.STEP.replace('echo $((calls', """until (set -C; : > "$CALLS.$((calls + 1))") 2> /dev/null; do
-    calls=$((calls + 1))
-done
-echo $((calls""", 1)
 
 
 class Released(Checks):
@@ -37,27 +29,24 @@ class Released(Checks):
     @classmethod
     def setUpClass(cls):
         super().setUpClass()
-        cls.clone = Clone(cls.room)
+        cls.clone = ready.Clone(cls.room)
         cls.clone.change()
         assert cls.clone.run(with_rt=True)[0] == 0
         # Otherwise the page would be the same.
-        driver.write(cls.clone.folder, {"bindings/web/source/page.html": cls.text("bindings/web/source/page.html") + b"<!-- another page -->\n"})
-        cls.commands, cls.steps, kit = cls.clone.commands(True), os.path.join(cls.room, "steps"), os.path.join(cls.room, "kit")
+        page = "bindings/web/source/page.html"
+        driver.write(cls.clone.folder, {page: driver.text(page) + "<!-- another page -->\n"})
+        cls.commands, cls.steps, kit = cls.clone.commands(False), os.path.join(cls.room, "steps"), os.path.join(cls.room, "kit")
         for name in OTHERS:
             os.symlink(shutil.which(name), os.path.join(cls.commands, name))
-        driver.write(kit, TOOLCHAIN, 0o755)
-        os.rename(os.path.join(cls.commands, "rt"), os.path.join(kit, "bin/rt"))
+        # The stand-ins for the programs of the toolchain.
+        driver.write(kit, {**blocks.shown("release.md"), "bin/rt": ready.STAND_IN}, 0o755)
         os.symlink(os.path.join(kit, "bin/rt"), os.path.join(cls.commands, "rt"))
-        stand_ins.make(cls.steps, STEPS, STEP_OF_A_PIPE)
+        stand_ins.make(cls.steps, STEPS)
         cls.kept = cls.copied("kept")
         cls.before = cls.state()
         cls.first = cls.release()
         cls.after, cls.new = cls.state(), cls.copied("new")
         cls.put_back()
-
-    @classmethod
-    def text(cls, name):
-        return driver.read(cls.clone.path(name))
 
     @classmethod
     def copied(cls, name):
@@ -85,15 +74,15 @@ class Released(Checks):
     def release(cls, at=0, how="fails", umask=0o022, script="./release", **more):
         """Runs ./release: its status, what it says on both streams, and how many steps it took."""
         calls = os.path.join(cls.room, "steps taken")
-        for it in glob.glob(glob.escape(calls) + ".[0-9]*"):
+        for it in stand_ins.notes(calls):
             os.remove(it)
         driver.write(cls.room, {"steps taken": "0\n"})
         # The stand-in for the toolchain notes its calls in the same variable.
         settings = {"PATH": f"{cls.steps}:{cls.commands}", "CALLS": calls, "AT": str(at), "HOW": how, "TMPDIR": cls.clone.temporary, **more}
-        program, *words = [*stand_ins.BEGIN, script]
-        status, *printed = driver.start(program, words, cls.clone.folder, settings, patience=2 * driver.PATIENCE,
-                                        before=lambda: os.umask(umask))
-        return status, *(it.decode("utf-8", "replace") for it in printed), len(glob.glob(glob.escape(calls) + ".[0-9]*"))
+        command = ["sh", "-c", stand_ins.BEGIN, script]
+        process = ready.begin(command, cls.clone.folder, settings, umask=umask, text=True, errors="replace")
+        printed = process.communicate(timeout=2 * driver.PATIENCE)
+        return process.returncode, *printed, len(stand_ins.notes(calls))
 
     def tearDown(self):
         self.put_back()
@@ -107,20 +96,12 @@ class Released(Checks):
 
     @contextlib.contextmanager
     def moved(self, name):
-        """Keeps a file or a folder of the clone away."""
-        path = self.clone.path(name)
-        os.rename(path, f"{path}.away")
-        yield
+        """Keeps a file or a folder of the clone away. Another one may take its place."""
+        path, away = self.clone.path(name), os.path.join(self.new_folder(), "away")
+        os.rename(path, away)
+        yield driver.contents(away)
         shutil.rmtree(path, ignore_errors=True)
-        os.rename(f"{path}.away", path)
-
-    @contextlib.contextmanager
-    def changed(self, name):
-        """Adds a line to a file of the clone."""
-        was = self.text(name)
-        self.clone.change(name)
-        yield
-        driver.write(self.clone.folder, {name: was})
+        os.rename(away, path)
 
 
 class Stopped(Released):

@@ -1,5 +1,4 @@
-"""The stored runs of tests/runs/, and those of streams, as commands of a shell. Each is a test, whose name has the words of its page
-and its heading."""
+"""The stored runs of tests/runs/, and those of streams, as commands of a shell. A test's name has the words of its page and heading."""
 
 import collections
 import os

@@ -5,16 +5,13 @@ import re
 
 import driver
 import pages
+import tables
 from checks import Checks
 from driver import EXAMPLES, HOME
 
 SHARE = os.path.join(HOME, "packaging")
 # A value of each option that has one.
-VALUES = {"--tags": "@a", "--line": "3", "--env": "A=b", "--file": f"A={HOME}/README.md", "--library": f"{EXAMPLES}/default.steps",
-          "--hooks": f"{EXAMPLES}/hooks.hooks", "--format": "plain"}
-# Completes the words; says first if it is left to bash to complete files.
-BASH = """. "$0"; compopt() { by_bash=no; }; by_bash=yes; COMP_CWORD=$1; shift; COMP_WORDS=(gherkin_run "$@"); _gherkin_run
-echo $by_bash "${COMPREPLY[@]}" """
+VALUES = {f"--{it.name}": tables.VALUES[it.value] for it in tables.OPTIONS if it.value}
 
 
 @pages.tests("share.md")
@@ -40,8 +37,3 @@ class Share(Checks):
         """The status of a reader of the man page, what it says, and whether it shows the page."""
         status, out, said = driver.start(reader, [*words, os.path.join(SHARE, "gherkin_run.1")], environment={**os.environ, "LC_ALL": "C"})
         return status, said, b"run the scenarios of Gherkin feature files" in out and b"--no-skipped" in out
-
-    def completed(self, *words, cursor=None):
-        """What bash completes at a word: the last one, or another."""
-        ended = driver.start("bash", ["-c", BASH, os.path.join(SHARE, "gherkin_run.bash"), str(cursor or len(words)), *words])
-        return ended[1].decode().strip()

@@ -17,7 +17,7 @@ import driver
 from checks import Checks
 
 PAIRS = os.path.join(driver.HOME, "tests", "side_by_side")
-SUITES = [os.path.join(driver.HOME, "examples", it) for it in ("from_behave", "from_cucumber")]
+SUITES = ("examples/from_behave/", "examples/from_cucumber/")
 LEAKS = os.path.join(driver.HOME, "examples", "leaks")
 # behave's steps, as the README shows them.
 STEPS = blocks.shown("side_by_side/README.md")["steps.py"]
@@ -30,33 +30,23 @@ QUIET = ["--no-capture", "--no-color", "--no-timings", "--format=plain"]
 
 
 def pairs(room):
-    """The folders in which the pairs and the suites are laid out, each with its name and its commands."""
+    """The commands of the pairs and the suites: the folder in which each is laid out, its name, words, and what it says."""
+    for folder, name, block in laid(room):
+        for command, below in blocks.commands(block):
+            yield folder, name, shlex.split(command.decode()), below.decode().splitlines()
+
+
+def laid(room):
+    """Lays out the pairs as behave wants them, with the steps in a folder of theirs, and the suites."""
     for page in sorted(os.listdir(PAIRS)):
-        if page.endswith(".md"):
-            for heading, files, block in blocks.runs(driver.read(os.path.join(PAIRS, page)).decode()):
-                name = f"{page.removesuffix('.md')}.{heading.replace(' ', '_')}"
-                yield lay(os.path.join(room, name), files), f"tests/side_by_side/{page}: {heading}", said(block)
-    for top in SUITES:
-        for folder, _, names in os.walk(top):
-            if "says" in names:
-                name = os.path.relpath(folder, driver.HOME)
-                text = driver.read(os.path.join(folder, "says")).decode()
-                yield shutil.copytree(folder, os.path.join(room, name.replace(os.sep, "."))), name, \
-                    said(blocks.Block(0, "console", "", text))
-
-
-def lay(folder, files):
-    """Writes the files of a pair to a folder as behave wants them: the steps in a folder of theirs. Returns the
-    folder."""
-    own = {"own.py": files.pop("steps.py")} if "steps.py" in files else {}
-    driver.write(folder, files)
-    driver.write(os.path.join(folder, "steps"), {"steps.py": STEPS, **own})
-    return folder
-
-
-def said(block):
-    """The commands of a block, each as its words and the lines below it."""
-    return [(shlex.split(command.decode()), below.decode().splitlines()) for command, below in blocks.commands(block)]
+        for heading, files, block in blocks.runs(driver.text(os.path.join(PAIRS, page))):
+            folder = os.path.join(room, f"{page.removesuffix('.md')}.{heading.replace(' ', '_')}")
+            own = {"steps/own.py" if it == "steps.py" else it: text for it, text in files.items()}
+            driver.write(folder, {**own, "steps/steps.py": STEPS})
+            yield folder, f"tests/side_by_side/{page}: {heading}", block
+    for name in (os.path.dirname(it) for it in driver.repository_files() if it.startswith(SUITES) and it.endswith("/says")):
+        folder = shutil.copytree(os.path.join(driver.HOME, name), os.path.join(room, name.replace(os.sep, ".")))
+        yield folder, name, blocks.Block(0, "console", "", driver.text("says", folder))
 
 
 def said_of(status, printed):
@@ -76,8 +66,7 @@ class Pairs:
         return "" if found == wanted else "\n".join([f"{name}: {shlex.join(words)}", *shown])
 
     def test_pairs(self):
-        jobs = [(folder, name, words, wanted) for folder, name, commands in pairs(self.room)
-                for words, wanted in commands if words[0] == self.WHO]
+        jobs = [it for it in pairs(self.room) if it[2][0] == self.WHO]
         self.check_all(driver.on_all_processors(self.pair_trouble, jobs))
 
     def test_leaks(self):
@@ -95,7 +84,7 @@ class SideBySide(Pairs, Checks):
 
     def test_no_pair_is_linked_twice(self):
         """test_documents finds links to pairs that are missing."""
-        linked = [it for page in PAGES for it in LINKED.findall(driver.read(os.path.join(driver.HOME, page)).decode())]
+        linked = [it for page in PAGES for it in LINKED.findall(driver.text(page))]
         counts = collections.Counter(linked)
         self.check_list("links", (f"the pages link {count} times to {it}" for it, count in counts.items() if count > 1))
 

@@ -5,7 +5,6 @@ import re
 
 import calls
 import driver
-import edit_notes
 import pages
 import shape
 import tables
@@ -21,9 +20,7 @@ class Shape(Checks):
             self.same(f"{name} in tests/shape.limits ({advice})", str(count), limits.pop(name, None))
         self.check_list("limits of nothing", limits)
 
-
-class Calls(Checks):
-    def test_each_public_function(self):
+    def test_each_public_function_is_called(self):
         self.check_all(calls.troubles())
 
 
@@ -37,6 +34,9 @@ class Tables(Checks):
     def test_changes_are_seen(self):
         """In a copy, a change of a table is found, and written into each file that repeats it."""
         self.check_all(tables.unseen(*it) for it in tables.CHANGES)
+
+    def test_numbers_of_edits(self):
+        self.check_all(tables.miscounted())
 
 
 class Edits(Checks):
@@ -53,17 +53,28 @@ class Edits(Checks):
 @pages.tests("edits.md")
 class EditNotes(Checks):
     def test_edits_apply(self):
-        """Each edit changes the code as it is."""
-        self.check_all(edit_notes.unapplied())
+        """Each edit of the repository, also of those that `rt ci` passes over, changes the code as it is."""
+        for path in driver.repository_files():
+            if path.startswith(("crates/", "tests/edits/")) and path.endswith(".edit"):
+                folder = "crates/" + re.match(r"(?:crates|tests/edits)/(\w+)/", path)[1]
+                found = application_trouble(folder, driver.text(path))
+                self.check(found and f"{path}: {found}")
 
-    def noted(self, **environment):
-        """A repository in which the edits of two small crates were tried and noted."""
-        made = edit_notes.Repository(self.room)
-        made.ended = made.run(**environment)
-        return made
 
-    def failing(self, repository, **environment):
-        """The crates of which `tests/edits.sh --check` says that it fails."""
-        ended_well, said = repository.run("--check", **environment)
-        found = re.findall(r"^edits: (\w+)", said, re.MULTILINE)
-        return " ".join(sorted(set(found))) if ended_well == (not found) else said
+def application_trouble(crate, edit):
+    """Why an edit can't be applied to a crate, or nothing. Each text has to be in its file once, after earlier changes."""
+    texts, path, old = {}, "", ""
+    for word, text in re.findall(r"^(file|old|new):(?: (.*))?$", edit, re.MULTILINE):
+        if word == "file":
+            path = f"{crate}/{text}"
+            if not text.startswith("src/") or path not in driver.repository_files():
+                return f"there is no file of code {text}"
+            texts.setdefault(path, driver.text(path))
+        elif word == "old":
+            old = text
+        elif texts.get(path, "").count(old) != 1 or not old:
+            return f"this text is in {path} {texts.get(path, '').count(old)} times: {old}"
+        else:
+            texts[path] = texts[path].replace(old, text)
+    unchanged = all(text == driver.text(it) for it, text in texts.items())
+    return "it changes nothing" if unchanged else ""

@@ -6,15 +6,12 @@ may be left over, also when a signal ends the script. A command in place of ssh 
 """
 
 import os
-import signal
-import subprocess
-import tempfile
 
 import blocks
 import driver
 import pages
 from checks import Checks
-from ready import is_running
+from ready import begin, is_running  # pylint: disable=unused-import
 
 PROGRAM = driver.program()
 SPREAD = os.path.join(driver.EXAMPLES, "spread.sh")
@@ -29,14 +26,11 @@ FILES = sorted(SUITE)
 
 
 class Place:
-    """A folder for runs of the script, with programs, a home, a folder for temporary files, and what the programs
-    note."""
+    """A folder for runs of the script, with programs and what they note, a home, and a folder for temporary files."""
 
-    def __init__(self, room, suite, programs):
-        self.folder, self.suite = tempfile.mkdtemp(dir=room), suite
-        for name, text in programs.items():
-            if text.startswith("#!"):
-                driver.write_program(self.path(name), text)
+    def __init__(self, folder, suite, files):
+        self.folder, self.suite = folder, suite
+        driver.write(folder, {name: text for name, text in files.items() if text.startswith("#!")}, 0o755)
         for name in ("home", "temporary"):
             os.mkdir(self.path(name))
 
@@ -44,21 +38,16 @@ class Place:
         return os.path.join(self.folder, name)
 
     def environment(self, **more):
-        """A program in the folder may be called by its name."""
+        """A program in the folder may be called by its name. A variable is left out if None is given for it."""
         own = {"PROGRAM": PROGRAM, "PLACE": self.folder, "HOME": self.path("home"), "TMPDIR": self.path("temporary"),
                "PATH": self.folder + ":" + os.environ["PATH"]}
-        return {**os.environ, **own, **more}
+        return {name: it for name, it in {**os.environ, **own, **more}.items() if it is not None}
 
-    def start(self, program, words, folder=None, environment=None):
-        """Runs the script, or a shell that does. Returns its status and what it printed; what it left over is a part of
-        that."""
-        environment = environment or self.environment()
-        ended = driver.start(program, words, folder or self.suite, environment, patience=PATIENCE)
-        left = self.left(environment.get("TMPDIR", "temporary"))
+    def spread(self, *words, program=SPREAD, folder=None, **more):
+        """Runs the script, or a shell that does. Returns its status and what it printed, with what it left over."""
+        ended = driver.start(program, words, folder or self.suite, self.environment(**more), patience=PATIENCE)
+        left = self.left(more.get("TMPDIR") or "temporary")
         return (*ended[:2], ended[2] + f"left over: {left}\n".encode()) if left else ended
-
-    def spread(self, *words, folder=None, **environment):
-        return self.start(SPREAD, words, folder, self.environment(**environment))
 
     def left(self, temporary="temporary"):
         """What is in the home and among the temporary files."""
@@ -67,10 +56,6 @@ class Place:
 
     def noted(self, name, end="\n"):
         return os.fsdecode(driver.read(self.path(name))).split(end)[:-1] if os.path.exists(self.path(name)) else []
-
-    def words(self):
-        """The words of the last run of the program `record`, and its TMPDIR."""
-        return self.noted("words", "\0")
 
 
 @pages.tests("recipes/spread.md", "recipes/spread_jobs.md", "recipes/spread_runs.md")
@@ -83,8 +68,8 @@ class Spread(Checks):
         cls.suite, cls.suite_files = os.path.join(cls.room, "suite"), SUITE
         driver.write(cls.suite, {**SUITE, **SHOWN})
 
-    def place(self, programs=()):
-        return Place(self.room, self.suite, dict(programs))
+    def place(self, files=()):
+        return Place(self.new_folder(), self.suite, dict(files))
 
     def each(self, work, cases):
         for found in driver.on_all_processors(lambda case: list(work(case)), cases):
@@ -92,26 +77,3 @@ class Spread(Checks):
 
     def whole(self, *options, files=FILES, folder=None):
         return driver.start(PROGRAM, [*options, "--format", "json", "--", *files], folder or self.suite)
-
-    def ended_by(self, place, number, machines):
-        """What is wrong after a signal has ended a script whose jobs wait."""
-        name = f"ended by {number.name}, {machines}"
-        words = [*machines, "--files", "2", place.path("waiting"), "--", *FILES]
-        with subprocess.Popen([SPREAD, *words], cwd=self.suite, env=place.environment(), stdin=subprocess.DEVNULL,
-                              stdout=subprocess.PIPE, stderr=subprocess.STDOUT, start_new_session=True,
-                              preexec_fn=lambda: signal.signal(number, signal.SIG_DFL)) as process:
-            driver.wait_until(lambda: place.noted("begun"))
-            process.send_signal(number)
-            try:
-                printed = process.communicate(timeout=40)[0]
-            except subprocess.TimeoutExpired:
-                os.killpg(process.pid, signal.SIGKILL)
-                yield f"{name}: it goes on"
-                return
-        # A machine ends its job within a second after it has lost the connection.
-        driver.wait_until(lambda: not any(map(is_running, place.noted("begun"))), 40)
-        waiting = [it for it in place.noted("begun") if is_running(it)]
-        yield driver.unless(f"{name}: status {process.returncode}", process.returncode == 128 + number)
-        yield driver.unless(f"{name}: something is printed", printed == b"", printed)
-        yield driver.unless(f"{name}: something is left", not place.left(), *place.left())
-        yield driver.unless(f"{name}: a job goes on", not waiting)

@@ -138,17 +138,29 @@ class Build:
         self.jobs = jobs
         self.progress = Progress(self.crates)
         self.running = {}
+        self.is_stopped = False
+        self.lock = threading.Lock()
+
+    def begin(self, name, words, home):
+        """Begins a command of the toolchain for a crate, unless the build was stopped: its process, or None."""
+        with self.lock:
+            if self.is_stopped:
+                return None
+            process = subprocess.Popen(["rt", *words], cwd=crate(name, home), text=True, stdin=subprocess.DEVNULL,
+                                       stdout=subprocess.PIPE, stderr=subprocess.STDOUT, errors="replace",
+                                       start_new_session=True)
+            self.running[name] = process
+            return process
 
     def prove(self, name, jobs, home=HOME):
         """Proves a crate in a tree, and builds the program if it is the last one. Returns whether it is proved."""
         words = ["run", "--jobs", str(jobs), "--", "--help"] if name == PROGRAM else ["lib", "--jobs", str(jobs)]
         began = time.monotonic()
-        self.progress.starts(name)
         with open(log_of(name), "w", encoding="utf-8") as log:
-            process = subprocess.Popen(["rt", *words], cwd=os.path.join(home, "crates", name), text=True,
-                                       stdin=subprocess.DEVNULL, stdout=subprocess.PIPE, stderr=subprocess.STDOUT,
-                                       errors="replace", start_new_session=True)
-            self.running[name] = process
+            process = self.begin(name, words, home)
+            if process is None:
+                return False
+            self.progress.starts(name)
             for line in process.stdout:
                 log.write(line)
                 self.progress.reads(name, line)
@@ -177,9 +189,9 @@ class Build:
         """Proves crates side by side; the largest has the processors that the others leave."""
         largest, *others = sorted(names, key=size, reverse=True)
         with ThreadPoolExecutor(len(names)) as pool:
-            shares = [pool.submit(self.prove, largest, max(self.jobs - len(others), 1))]
-            shares += [pool.submit(self.prove_apart, name, 1) for name in others]
             try:
+                shares = [pool.submit(self.prove, largest, max(self.jobs - len(others), 1))]
+                shares += [pool.submit(self.prove_apart, name, 1) for name in others]
                 return all([share.result() for share in shares])
             except KeyboardInterrupt:
                 # The pool waits for what runs in it.
@@ -197,7 +209,9 @@ class Build:
         return True
 
     def stop(self):
-        """Ends what runs, with everything that it began."""
+        """Ends what runs, with everything that it began. Nothing begins afterwards."""
+        with self.lock:
+            self.is_stopped = True
         for process in list(self.running.values()):
             for number in (signal.SIGTERM, signal.SIGKILL):
                 try:

@@ -2,7 +2,8 @@
 """Writes what repeats the tables of the sources: tools/tables.py --write | --check | --json
 
     --write   renews the man page, the completions, the options of Python's calls and of the page, the tables of the guide,
-              the stored help, examples/default.steps, and the version
+              the stored help, the lists of stored runs and of definitions, the numbers of edits, examples/default.steps, and
+              the version
     --check   names those that differ from what --write would write; the status is 1 if there are any
     --json    prints the tables: options, formats, steps and actions
 
@@ -12,6 +13,7 @@ crates/gk_report; the version is packaging/version. A written part of several li
 """
 
 import collections
+import itertools
 import json
 import os
 import re
@@ -23,18 +25,30 @@ HOME = os.path.dirname(os.path.dirname(os.path.realpath(__file__)))
 # Where the tables are.
 OPTION_TABLE, FORMAT_TABLE = "crates/gk_cli/src/option_table.rt", "crates/gk_report/src/report.rt"
 ACTION_TABLE, DEFAULT_FILE = "crates/gk_steps/src/action.rt", "crates/gk_steps/src/default_file.rt"
+# The stored runs, and the number of edits of each crate: those of its must-fail/, and those of tests/edits/.
+RUNS, NUMBERS = "tests/runs", "tests/edits/numbers"
+DEFINITIONS = "docs/DEFINITIONS.md"
+
+# A part that is written: the line before it, its name and its text.
+MARKED = re.compile(r"(^[^\n]*tools/tables\.py: ([^\n]*?)(?: -->)?\n)(.*?)(^[^\n]*tools/tables\.py: end)", re.M | re.S)
 
 # ---- texts that the sources lack
 
-# The page of the guide on an option.
-PAGES = {
-    "tags": "choosing.md#tags", "line": "choosing.md#lines", "library": "own_steps.md", "hooks": "hooks.md",
-    "env": "choosing.md#variables-from-the-command-line", "file": "checking.md", "dry-run": "choosing.md#dry-runs",
-    "stop": "choosing.md#stopping-at-the-first-failure", "format": "reports.md#formats", "explain": "explaining.md",
-    "lint": "linting.md", "no-steps": "linting_others.md",
+# The page of the guide on an option, unless it is the section of a page of SECTIONS whose first paragraph names the option.
+PAGES = {"tags": "choosing.md#tags", "library": "own_steps.md", "hooks": "hooks.md", "file": "checking.md", "explain": "explaining.md",
+         "lint": "linting.md", "no-steps": "linting_others.md"}
+SECTIONS = ("choosing.md", "reports.md")
+# The label of an option's control on the page in the browser, unless it follows from the option's name.
+LABELS = {
+    "tags": "Tags: one <code>--tags</code> expression per line", "line": "Lines: numbers for <code>--line</code>, separated by spaces",
+    "env": "Variables: one <code>NAME=TEXT</code> for <code>--env</code> per line",
+    "library": "Own steps, in place of the built-in steps", "file": "A file that steps find",
+    "stop": "Stop at the first failure", "no-skipped": "Leave out skipped scenarios",
 }
-# The label of a flag on the page in the browser, unless it is its name.
-LABELS = {"stop": "Stop at the first failure", "no-skipped": "Leave out skipped scenarios"}
+# The name of the option's field there, unless it is the option's.
+FIELDS = {"line": "lines", "env": "variables", "file": "written"}
+# The labels of the name and of the text of a file there, and the name at first.
+FILES = {"library": ("Name of the library file", "Library file", "own.steps"), "file": ("Name of the file", "Its text", "out.txt")}
 # The tables of the guide's page on steps, each with its first action.
 STEP_TABLES = {"write_file": "Files", "set_env": "Variables", "set_value": "Values and numbers", "at_cleanup": "Others"}
 
@@ -221,7 +235,7 @@ def type_in_python(option):
     return ("bool = False" if option.takes == "Nothing" else 'Format = "plain"' if option.name == "format"
             else "Optional[Mapping[str, WorldFile]] = None" if option.name == "file"
             else "Optional[Mapping[str, str]] = None" if "=" in option.value
-            else f"Union[{several}, Iterable[{several}], None] = None")
+            else f"Union[{several}, Iterable[{several}], None] = None" if several else "Optional[str] = None")
 
 
 def python_options(tab):
@@ -238,28 +252,94 @@ def python_formats():
 
 def field(option):
     """The name of an option's field on the page."""
-    first, *others = option.name.split("-")
+    first, *others = FIELDS.get(option.name, option.name).split("-")
     return first + "".join(map(str.capitalize, others))
 
 
+def label(option):
+    """The label of an option's control on the page."""
+    several = f": one for <code>--{option.name}</code> per line" if option.takes == "Texts" else ""
+    return LABELS.get(option.name, option.name.replace("-", " ").capitalize() + several)
+
+
+def kind_on_page(option):
+    """What the field of an option holds: a flag, the text of a file, that of a file that steps find, or one argument in each part."""
+    return ("flag" if option.takes == "Nothing" else "file" if takes_file(option)
+            else "put" if option.value.endswith("=PATH") else "text")
+
+
+def on_page():
+    """The options of the page. It always has steps to look up."""
+    return [it for it in options() if not asked_for(it) and it.beside_report]
+
+
 def flags():
-    """The flags of the page. It always has steps to look up."""
-    return [it for it in options() if it.takes == "Nothing" and not asked_for(it) and it.beside_report]
+    return [it for it in on_page() if kind_on_page(it) == "flag"]
+
+
+def texts_on_page():
+    """The options whose field is a text."""
+    return [it for it in on_page() if kind_on_page(it) == "text" and it.name != "format"]
 
 
 def page_flags():
     for it in flags():
-        label = LABELS.get(it.name, it.name.replace("-", " ").capitalize())
-        yield f'            <label class="option"><input type="checkbox" id="{field(it)}"> {label}</label>'
+        yield f'            <label class="option"><input type="checkbox" id="{field(it)}"> {label(it)}</label>'
 
 
 def page_formats():
     yield from (f"                <option>{it}</option>" for it in formats())
 
 
-def script_flags():
-    for it in flags():
-        yield f'    {{ option: "--{it.name}", field: "{field(it)}", kind: "flag", tabs: {json.dumps(accepting(it))} }},'
+def labels_of_file(option):
+    """The labels of a file's name and text on the page, and its name at first."""
+    return FILES.get(option.name, (f"Name of the {option.name} file", f"{option.name.capitalize()} file", f"own.{option.name}"))
+
+
+def page_files():
+    for it in on_page():
+        if kind_on_page(it) not in ("file", "put"):
+            continue
+        name, text, _ = labels_of_file(it)
+        yield f'        <details id="{field(it)}Part" class="option"><summary>{label(it)}</summary>'
+        yield f'            <label class="above" for="{field(it)}Name">{name}</label>'
+        yield f'            <input class="name" id="{field(it)}Name" spellcheck="false">'
+        yield f'            <label class="above" for="{field(it)}">{text}</label>'
+        yield f'            <textarea id="{field(it)}" spellcheck="false" rows="5"></textarea>'
+        yield "        </details>"
+
+
+def page_texts():
+    rows = texts_on_page()
+    *first, last = (FIELDS.get(it.name, it.name).replace("-", " ") for it in rows)
+    heading = f"{', '.join(first)} and {last}".capitalize()
+    yield f'        <details id="choicePart"><summary>{heading}</summary>'
+    for it in rows:
+        begin, end = ("<textarea", ' rows="2"></textarea>') if it.takes == "Texts" else ("<input", ">")
+        yield '            <div class="option">'
+        yield f'                <label class="above" for="{field(it)}">{label(it)}</label>'
+        yield f'                {begin} id="{field(it)}" spellcheck="false"{end}'
+        yield "            </div>"
+    yield "        </details>"
+
+
+def script_row(option):
+    """The members of an option's row in the script of the page. Their values are code."""
+    kind = kind_on_page(option)
+    yield from (("option", f'"--{option.name}"'), ("field", f'"{field(option)}"'), ("kind", f'"{kind}"'))
+    if kind == "text":
+        yield "between", r"/[\s,]+/" if option.takes == "Lines" else r'"\n"'
+    if kind in ("file", "put"):
+        yield "name", json.dumps(labels_of_file(option)[2])
+    if option.name == "format":
+        yield "first", json.dumps(formats()[0])
+    yield "tabs", json.dumps(accepting(option))
+
+
+def script_options():
+    for it in on_page():
+        members = ", ".join(f"{name}: {value}" for name, value in script_row(it))
+        yield f"    {{ {members} }},"
 
 
 # ---- the help, as clap prints it
@@ -275,6 +355,13 @@ def stored_help(command):
         width = max(map(len, names))
         yield from ["", f"{heading}:", *(f"      {name:{width}}  {it.help}" for name, it in zip(names, rows))]
     yield from ["", "Example:", "  gherkin_run --tags @smoke --stop --format progress login.feature cart.feature", "```"]
+
+
+def refused_format(words, name):
+    """The block of a run with a name that no format has."""
+    yield from ["```console", f"$ gherkin_run {words} 2> stderr", "$ echo $?", "2", "$ cat stderr",
+                f"error: invalid value '{name}' for '--format <F>'", f"  [possible values: {', '.join(formats())}]", "",
+                "Usage: gherkin_run [OPTIONS] <FILE>...", "", "For more information, try '--help'.", "```"]
 
 
 # ---- the guide
@@ -297,9 +384,25 @@ def markdown_of_option(option):
     return re.sub(rf"(?<!\S)(?:{'|'.join(option.value.split('='))})\b(?!`)", r"`\g<0>`", text) if option.value else text
 
 
+def page_of(option):
+    """The page of the guide on an option, or nothing."""
+    found = [PAGES[option.name]] if option.name in PAGES else []
+    for page in SECTIONS:
+        for heading, paragraph in re.findall(r"^## (.*)\n\n(.*(?:\n.+)*)", read(f"docs/guide/{page}"), re.M):
+            if re.search(rf"`--{option.name}\b(?!-)", paragraph):
+                found.append(f"{page}#{heading.lower().replace(' ', '-')}")
+    return found[0] if found else ""
+
+
+def argument_row(option):
+    """The row of an option in the table of arguments."""
+    page = page_of(option)
+    return [f"[`{given(option)}`]({page})" if page else code(given(option)), markdown_of_option(option)]
+
+
 def guide_options():
     files = [[code("FILE"), "A feature file; at least one; they run in this order"]]
-    rows = [[f"[`{given(it)}`]({PAGES[it.name]})" if it.name in PAGES else code(given(it)), markdown_of_option(it)] for it in options()]
+    rows = [argument_row(it) for it in options()]
     own = [["`--help`, `-h`", "Print the help"], ["`--version`, `-V`", "Print the version"]]
     yield from table(["Argument", "Means"], [*files, *rows, *own])
     yield ""
@@ -348,6 +451,54 @@ def guide_actions():
                      ([code(it.name), fields(it), ", ".join(shortened(of_action(it)))] for it in actions()))
 
 
+# ---- pages of stored runs, and edits
+
+def stored_pages():
+    """A link to each page of stored runs."""
+    names = sorted(it for it in os.listdir(os.path.join(HOME, RUNS)) if it != "README.md")
+    for name in names:
+        heading = read(f"{RUNS}/{name}").partition("\n")[0].removeprefix("# ")
+        yield f"- [{heading}]({name})"
+
+
+def edits_in(folder):
+    path = os.path.join(HOME, folder)
+    return sum(it.endswith(".edit") for it in os.listdir(path)) if os.path.isdir(path) else 0
+
+
+def numbers_of_edits():
+    """The lines of NUMBERS, higher for crates with new edits. No number falls, so that `tests/edits.sh --check` finds a lost edit."""
+    for line in read(NUMBERS).splitlines():
+        crate, *before = line.split()
+        now = [edits_in(f"crates/{crate}/must-fail"), edits_in(f"tests/edits/{crate}")]
+        yield " ".join([crate, *(str(max(int(old), new)) for old, new in zip(before, now))])
+
+
+# ---- files of definitions
+
+def definition_files(crate):
+    """The files of a crate's definitions in reading order, without those that only the proofs need."""
+    listed, _, _ = read(f"crates/{crate}/specs/Lib.antt").partition("\n-- Proof machinery")
+    names = re.findall(r"^pub mod (\w+)$", listed, re.M)
+    return [it for it in names if not read(f"crates/{crate}/specs/{it}.antt").startswith("-- Proof machinery")]
+
+
+def definition_rows():
+    """The table of files of definitions. A new file comes after the one before it in reading order."""
+    header, line, *rows = MARKED.search(read(DEFINITIONS))[3].splitlines()
+    by_crate = {}
+    for row in rows:
+        crate = re.match(r"\| `(\w+)`", row)
+        by_crate.setdefault(crate[1] if crate else list(by_crate)[-1], []).append(row)
+    yield from (header, line)
+    for crate, own in by_crate.items():
+        text = "\n".join(own)
+        for before, name in itertools.pairwise(["", *definition_files(crate)]):
+            if f"`{name}`" not in text and before:
+                text = text.replace(f"`{before}`", f"`{before}`, `{name}`", 1)
+        yield text
+
+
 # ---- writing and checking
 
 PARTS = {
@@ -361,16 +512,25 @@ PARTS = {
         "explain": lambda: python_options("explanation"),
         "lint": lambda: python_options("findings"),
     },
-    "bindings/web/source/page.html": {"formats": page_formats, "flags": page_flags},
-    "bindings/web/source/page.js": {"flags": script_flags},
+    "bindings/web/source/page.html": {"formats": page_formats, "flags": page_flags, "files": page_files, "texts": page_texts},
+    "bindings/web/source/page.js": {"options": script_options},
     "docs/guide/command_line.md": {"options": guide_options},
     "docs/guide/steps.md": {"steps": guide_steps},
     "docs/guide/library_files.md": {"actions": guide_actions},
+    DEFINITIONS: {"files": definition_rows},
     "tests/runs/arguments.md": {
         "--help": lambda: stored_help("gherkin_run --help"),
         "-h": lambda: stored_help("gherkin_run -h"),
         "--help among others": lambda: stored_help("gherkin_run a.feature --help no.feature"),
     },
+    "tests/runs/usage.md": {
+        "upper case": lambda: refused_format("--format JSON a.feature", "JSON"),
+        "unknown": lambda: refused_format("--format xml a.feature", "xml"),
+        "empty": lambda: refused_format("--format= a.feature", ""),
+        "spaces": lambda: refused_format("--format=' json ' a.feature", " json "),
+    },
+    "tests/runs/first_fault.md": {"unknown format": lambda: refused_format("--format xml no.feature", "xml")},
+    "tests/runs/README.md": {"pages": stored_pages},
 }
 # Before the first release the version is 0, which the program and its header call unreleased.
 VERSION_FILE = "packaging/version"
@@ -381,7 +541,6 @@ VERSIONS = {
     "bindings/python/gherkin_run/__init__.py": r'(?m)(?<=^__version__ = ").*(?="$)',
     "packaging/gherkin_run.pc": r"(?m)(?<=^Version: ).*$",
 }
-MARKED = re.compile(r"(^[^\n]*tools/tables\.py: ([^\n]*?)(?: -->)?\n)(.*?)(^[^\n]*tools/tables\.py: end)", re.M | re.S)
 
 
 def renewed(path):
@@ -405,7 +564,7 @@ def with_version(path):
 def texts():
     """The text that each written file should have."""
     return {**{path: renewed(path) for path in PARTS}, **{path: with_version(path) for path in VERSIONS},
-            "examples/default.steps": default_text()}
+            NUMBERS: "".join(f"{it}\n" for it in numbers_of_edits()), "examples/default.steps": default_text()}
 
 
 def differing():

@@ -45,7 +45,7 @@ enum {
 };
 
 typedef struct {
-    size_t out_length;    /* of the whole output; `out` has as much of it as fits */
+    size_t out_length;    /* of all the output that was made, a part if memory ran out; `out` has as much as fits */
     size_t errors_length; /* of all that the program writes to standard error; `errors` has as much of it as fits */
     size_t name_length;   /* of the name of the file that a fault is in, or 0; the name begins at GHERKIN_NAME_AT */
     uint32_t line;        /* the line that the fault is in, or 0 */

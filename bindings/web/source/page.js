@@ -9,23 +9,27 @@ const TABS = {
 };
 // The program's options. Each has a field, and the tabs on which the program takes it. A text is one argument for each of its
 // parts, a flag is one if it is checked. A file is its name if the field of its text isn't empty, and one that steps find is
-// put under that name.
+// put under that name. `name` is the name at first, and `first` the text.
 const OPTIONS = [
-    { option: "--library", field: "library", kind: "file", tabs: ["report", "explanation", "findings"] },
-    { option: "--hooks", field: "hooks", kind: "file", tabs: ["report", "explanation", "findings"] },
+    // tools/tables.py: options
     { option: "--tags", field: "tags", kind: "text", between: "\n", tabs: ["report", "explanation", "findings"] },
     { option: "--line", field: "lines", kind: "text", between: /[\s,]+/, tabs: ["report", "explanation", "findings"] },
+    { option: "--library", field: "library", kind: "file", name: "own.steps", tabs: ["report", "explanation", "findings"] },
+    { option: "--hooks", field: "hooks", kind: "file", name: "own.hooks", tabs: ["report", "explanation", "findings"] },
     { option: "--env", field: "variables", kind: "text", between: "\n", tabs: ["report", "explanation", "findings"] },
-    { option: "--file", field: "written", kind: "put", tabs: ["report", "explanation"] },
-    // tools/tables.py: flags
+    { option: "--file", field: "written", kind: "put", name: "out.txt", tabs: ["report", "explanation"] },
     { option: "--dry-run", field: "dryRun", kind: "flag", tabs: ["report"] },
     { option: "--stop", field: "stop", kind: "flag", tabs: ["report", "explanation"] },
+    { option: "--format", field: "format", kind: "text", between: "\n", first: "plain", tabs: ["report"] },
     { option: "--no-skipped", field: "noSkipped", kind: "flag", tabs: ["report"] },
     // tools/tables.py: end
-    { option: "--format", field: "format", kind: "text", between: "\n", tabs: ["report"] },
 ];
 // The fields with a text, and what they hold at first.
-const TEXTS = { library: "", libraryName: "own.steps", hooks: "", hooksName: "own.hooks", written: "", writtenName: "out.txt", tags: "", lines: "", variables: "", format: "plain" };
+const TEXTS = {};
+for (const { field, kind, name, first = "" } of OPTIONS) {
+    if (kind !== "flag") TEXTS[field] = first;
+    if (name !== undefined) TEXTS[`${field}Name`] = name;
+}
 const FLAGS = OPTIONS.filter((it) => it.kind === "flag").map((it) => it.field);
 // The texts that only some values can be.
 const CHOICES = { format: [...$("format").options].map((it) => it.value), tab: Object.keys(TABS) };
@@ -98,10 +102,9 @@ function show(given) {
     for (const [name, text] of given.files) addFile(name, text);
     for (const [name, first] of Object.entries(TEXTS)) $(name).value = given[name] ?? first;
     for (const name of FLAGS) $(name).checked = given[name] ?? false;
-    $("libraryPart").open = $("library").value !== "";
-    $("hooksPart").open = $("hooks").value !== "";
-    $("writtenPart").open = $("written").value !== "";
-    $("choicePart").open = ["tags", "lines", "variables"].some((name) => $(name).value !== "");
+    for (const part of document.querySelectorAll("#options details")) {
+        part.open = OPTIONS.some(({ field }) => part.contains($(field)) && $(field).value !== "");
+    }
     $("text").scrollTop = 0;
     select(given.tab ?? "report");
     runNow();
@@ -116,8 +119,7 @@ function select(name) {
     }
     $("text").setAttribute("aria-labelledby", tab);
     for (const { field, tabs } of OPTIONS) {
-        const control = $(field).closest(".option");
-        if (control) control.hidden = !tabs.includes(tab);
+        $(field).closest(".option").hidden = !tabs.includes(tab);
     }
 }
 

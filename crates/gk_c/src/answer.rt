@@ -6,7 +6,8 @@ ghost use Rattle.gk_c.specs.Answer.{put_over};
 #[repr(C)]
 #[derive(Clone, Copy)]
 pub struct Answer {
-    /// The length of the whole output in bytes. As much of it is written as there is room for.
+    /// The length in bytes of all the output that was made, a part of it if memory ran out. As much of it is written as
+    /// there is room for.
     pub out_length: usize,
     /// The length of the whole text of standard error in bytes. As much of it is written as there is room for.
     pub errors_length: usize,

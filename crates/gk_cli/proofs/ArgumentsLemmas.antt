@@ -1,5 +1,5 @@
 -- The command that reads the arguments, and what its matches hold.
-use Rattle.std.proofs.Common.{◌≡◌, ◌≢◌, ◌⊎◌, ◌∙◌, ◌<◌, ◌≤◌, ◌&&◌, ◌||◌, ◌==◌, ◌+◌, ◌++◌, ap, ap₂, sym, subst, refl, inl, inr, arith, zero, suc, ℕ, Bool, true, false, not, List, [], ◌∷◌, length, map, codes, drop, fold, take, is_some, get_or, Option, Some, None, Result, Ok, Err}
+use Rattle.std.proofs.Common.{◌≡◌, ◌≢◌, ◌⊎◌, ◌∙◌, ◌<◌, ◌≤◌, ◌&&◌, ◌||◌, ◌==◌, ◌+◌, ◌++◌, ap, ap₂, sym, subst, refl, inl, inr, arith, zero, suc, ℕ, Bool, true, false, not, List, [], ◌∷◌, length, map, codes, drop, drop-cons, fold, take, is_some, get_or, Option, Some, None, Result, Ok, Err}
 use Rattle.std.specs.Prelude.{IsOk, cond, find, if◌then◌else◌, option_map, unwrap_or, IsErrAnd}
 use Rattle.std.specs.Option.{option_map_or}
 use Rattle.std.specs.List.{All, after_first, before_first, slice_index_or, list_all}
@@ -8,7 +8,7 @@ use Rattle.std.specs.Str.Parse.{ParsesBool, ParsesUnsigned}
 use Rattle.std.specs.Borrow.{Bor}
 use Rattle.std.specs.Prelude.{String, string_bytes}
 use Rattle.std.specs.declared.alloc.Global.{Global}
-use Rattle.std.proofs.lemmas.List.{append-nil, append_assoc, drop_all, get_or-map, length-map, map_push, take_all}
+use Rattle.std.proofs.lemmas.List.{append-nil, append_assoc, drop_all, get_or-map, length-map, map-append, map_push, take-append-drop, take_all}
 use Rattle.std.proofs.lemmas.List.Elements.{All-nil, All-map, All-push}
 use Rattle.std.proofs.lemmas.Bool.Decides.{nat_tests}
 use Rattle.std.proofs.lemmas.Grind.{common_steps}
@@ -37,7 +37,7 @@ use Rattle.clap.specs.declared.error.kind.ErrorKind.TheVariants.{ArgumentConflic
 use Rattle.gk_report.specs.declared.report.Format.{Format}
 use Rattle.gk_report.specs.declared.report.Format.TheVariants.{Plain, Progress, Json}
 use Rattle.gk_report.specs.Report.{format_name}
-use Rattle.gk_cli.specs.Arguments.{HasRule, IsAskedBy, IsCommand, IsFaultBy, IsLineNumber, PairValue, SaysArguments, SaysMatches, SaysPair, command, split_at_equals, faults_in, files_rule, format_asked, found_in, has_equals, is_format, line_number, values_of, is_clash, is_given, with_version}
+use Rattle.gk_cli.specs.Arguments.{HasRule, IsAskedBy, IsCommand, IsFaultBy, IsFirstWithout, IsLineNumber, PairValue, SaysArguments, SaysMatches, SaysPair, command, split_at_equals, faults_in, files_rule, format_asked, found_in, has_equals, is_format, line_number, values_of, is_clash, is_given, with_version}
 use Rattle.gk_cli.specs.OptionTable.{option_value, rule_of_option}
 use Rattle.gk_cli.specs.declared.arguments.Words.{Words}
 use Rattle.gk_cli.specs.declared.arguments.WordsFault.{WordsFault}
@@ -396,6 +396,17 @@ one_pair_more f done more v texts i d lt grown same all before =
     let rest = map split_at_equals (map (λ (t : Bor Text). t.now) (drop (i + 1) texts)) in
     ap (λ l. map f l ++ rest) grown ∙ ap (λ l. l ++ rest) (map_push f done v) ∙ append_assoc (map f done) (f v ∷ []) rest
     ∙ ap (λ x. map f done ++ x ∷ rest) same ∙ ap (λ l. map f done ++ map split_at_equals (map (λ (t : Bor Text). t.now) l)) (sym split) ∙ before
+
+-- the first text without an `=`
+pub first_without : (texts : List (Bor Text)) (i : ℕ) (d : Bor Text) → i < length texts → All (λ text. has_equals text ≡ true) (map (λ t. t.now) (take i texts)) → has_equals (get_or texts i d).now ≡ false
+    → IsFirstWithout (map (λ t. t.now) texts) (get_or texts i d).now
+first_without texts i d lt before none = record {
+  before = map (λ t. t.now) (take i texts);
+  after = map (λ t. t.now) (drop (suc i) texts);
+  whole = ap (map (λ t. t.now)) (sym (take-append-drop i texts) ∙ ap (λ l. take i texts ++ l) (drop-cons texts i d lt)) ∙ map-append (λ t. t.now) (take i texts) (get_or texts i d ∷ drop (suc i) texts);
+  equals = before;
+  none = none;
+}
 
 pub all_pairs : {X : Type 0} (f : X → PairValue) (done : List X) (texts : List (Bor Text)) (i : ℕ) → length texts ≤ i
     → map f done ++ map split_at_equals (map (λ t. t.now) (drop i texts)) ≡ map split_at_equals (map (λ t. t.now) texts)

@@ -12,7 +12,7 @@ use Rattle.gk_run.specs.OpenSection.{Run}
 use Rattle.gk_run.specs.Chosen.{ChosenValue}
 use Rattle.gk_run.specs.DryRun.{AreDryFeatures}
 use Rattle.gk_run.specs.Ending.{has_passed}
-use Rattle.gk_run.specs.Events.{Event, ended_in, Told as Heard, tells, happens, has_ended}
+use Rattle.gk_run.specs.Events.{Event, ended_in, Told, tells, happens, has_ended}
 use Rattle.gk_run.specs.Judged.{Judged, uncut, plain_results, DryRunsAreJudged, UnfinishedDryRunsAreJudged}
 use Rattle.gk_report.specs.declared.report.Style.{Style}
 use Rattle.gk_report.specs.Report.{head, parts, parts_from, tail, report, is_empty, ReportsGrowByParts}
@@ -25,7 +25,7 @@ use Rattle.gk_request.specs.Counted.{one_more}
 use Rattle.gk_cli.specs.Suite.{IsReported}
 use Rattle.gk_cli.specs.Writing.{Device, IsUntouched, IsWritten, StopsBy, IsStopped}
 use Rattle.gk_cli.specs.GrowingReport.{style_of, prints_nothing, results_with, Stays, AddsPart, ClosesByTail}
-use Rattle.gk_cli.specs.declared.told_run.Told.{Told}
+use Rattle.gk_cli.specs.declared.told_run.CountingReporter.{CountingReporter}
 use Rattle.gk_cli.specs.ToldRun.{stays, stays_begun, reporter_of, counts_of, TellsFeature, TellsDryFeature, TellsFeatures, TellsFirst, IsWholeText, IsTextSoFar, IsToldRun, IsToldUpTo, AreTold, AreToldUpTo, IsClosed, StopsClosing}
 use Rattle.gk_cli.specs.WrittenRun.{IsWhole, IsPrefix}
 
@@ -171,7 +171,7 @@ none_changed R same g (x ∷ xs) h told = none_changed R same told.0 xs h told.2
 events_stay : (g : GrowingReport) (events : List Event) (h : GrowingReport) → FoldsTo Stays g events h → h ≡ g
 events_stay = none_changed Stays (λ g x h is. is)
 
-told_stays : (g : GrowingReport) (x : Heard) (h : GrowingReport) → tells Stays Stays g x h → h ≡ g
+told_stays : (g : GrowingReport) (x : Told) (h : GrowingReport) → tells Stays Stays g x h → h ≡ g
 told_stays g (happens event) h is = is
 told_stays g (has_ended ended) h is = is
 
@@ -257,14 +257,14 @@ run_stopped law run contents features first style old there new fault styles non
     (so_far.0, so_far.1, stopped_within old new (head style ++ text) so_far.2.0 (report style so_far.0) fault so_far.2.1 (stopped_after old there new (head style) text fault headed stopped))
 
 -- The parts of a dry run that was told.
-dry_parts : (library : LibraryValue) (features : List ChosenValue) (rows : List FeatureRow) (so_far : Told GrowingReport) (text : List ℕ) (last : GrowingReport) (style : Style) → style_of (reporter_of so_far) ≡ style → prints_nothing (reporter_of so_far) ≡ true →
+dry_parts : (library : LibraryValue) (features : List ChosenValue) (rows : List FeatureRow) (so_far : CountingReporter GrowingReport) (text : List ℕ) (last : GrowingReport) (style : Style) → style_of (reporter_of so_far) ≡ style → prints_nothing (reporter_of so_far) ≡ true →
     TellsFeatures (TellsDryFeature Stays AddsPart) stays_begun true features rows text so_far.reporter last → (text ≡ parts style rows) × (last.style ≡ style)
 dry_parts library features rows so_far text last style styles none told =
     let all = adds_parts (TellsDryFeature Stays AddsPart) stays_begun adds_dry_part true features rows text so_far.reporter last told in
     (new_parts style so_far.reporter rows text styles none all.0, all.1 ∙ styles)
 
 -- A dry run that was told whole has its report written.
-pub dry_reported : DryRunsAreJudged → (run : Run) → run.dry_run ≡ true → (contents : Contents) (features : List ChosenValue) (so_far end : Told GrowingReport) (style : Style) (old headed there new : Device) (answer : ℕ) →
+pub dry_reported : DryRunsAreJudged → (run : Run) → run.dry_run ≡ true → (contents : Contents) (features : List ChosenValue) (so_far end : CountingReporter GrowingReport) (style : Style) (old headed there new : Device) (answer : ℕ) →
     style_of (reporter_of so_far) ≡ style → prints_nothing (reporter_of so_far) ≡ true → counts_of so_far ≡ summary_of [] → IsWritten old headed (head style) →
     AreTold (TellsDryFeature Stays AddsPart) stays_begun (AreDryFeatures run.library) true features headed so_far there end → IsClosed ClosesByTail end statuses.Passed there new answer → IsWhole run contents features style old new answer
 dry_reported judge run dry contents features so_far end style old headed there new answer styles none counts head_written told closed =
@@ -279,7 +279,7 @@ dry_reported judge run dry contents features so_far end style old headed there n
     )
 
 -- Its last text wasn't written whole.
-pub dry_close_stopped : DryRunsAreJudged → (run : Run) → run.dry_run ≡ true → (contents : Contents) (features : List ChosenValue) (so_far end : Told GrowingReport) (style : Style) (old headed there new : Device) (fault : RunFault) →
+pub dry_close_stopped : DryRunsAreJudged → (run : Run) → run.dry_run ≡ true → (contents : Contents) (features : List ChosenValue) (so_far end : CountingReporter GrowingReport) (style : Style) (old headed there new : Device) (fault : RunFault) →
     style_of (reporter_of so_far) ≡ style → prints_nothing (reporter_of so_far) ≡ true → counts_of so_far ≡ summary_of [] → IsWritten old headed (head style) →
     AreTold (TellsDryFeature Stays AddsPart) stays_begun (AreDryFeatures run.library) true features headed so_far there end → StopsClosing ClosesByTail end statuses.Passed there new fault → IsPrefix run contents features style old new fault
 dry_close_stopped judge run dry contents features so_far end style old headed there new fault styles none counts head_written told stops =
@@ -300,7 +300,7 @@ dry_close_stopped judge run dry contents features so_far end style old headed th
     (results, judge run contents features told.rows dry told.results, stopped)
 
 -- Not all of its features were told and written.
-pub dry_run_stopped : ReportsGrowByParts → UnfinishedDryRunsAreJudged → (run : Run) → run.dry_run ≡ true → (contents : Contents) (features : List ChosenValue) (so_far : Told GrowingReport) (style : Style) (old headed new : Device) (fault : RunFault) →
+pub dry_run_stopped : ReportsGrowByParts → UnfinishedDryRunsAreJudged → (run : Run) → run.dry_run ≡ true → (contents : Contents) (features : List ChosenValue) (so_far : CountingReporter GrowingReport) (style : Style) (old headed new : Device) (fault : RunFault) →
     style_of (reporter_of so_far) ≡ style → prints_nothing (reporter_of so_far) ≡ true → IsWritten old headed (head style) →
     AreToldUpTo (TellsDryFeature Stays AddsPart) stays_begun (AreDryFeatures run.library) true features headed so_far new fault → IsPrefix run contents features style old new fault
 dry_run_stopped law begins run dry contents features so_far style old headed new fault styles none head_written part =

@@ -8,7 +8,7 @@ use Rattle.gk_world.specs.Sandbox.{SandboxValue, IsSame}
 use Rattle.gk_run.specs.declared.results.Status.{Status}
 use Rattle.gk_run.specs.declared.section.Level.TheVariants as levels
 use Rattle.gk_run.specs.Results.{CaseRow, FeatureRow, RuleRow, Results, is_memory, is_failed, is_undefined, is_untested, is_passed}
-use Rattle.gk_run.specs.Events.{Stand, stand_of, result_of}
+use Rattle.gk_run.specs.Events.{SectionNow, section_now, result_of}
 use Rattle.gk_run.specs.Section.{happened, before_passed}
 use Rattle.gk_run.specs.OpenSection.{Run, IsBegun, section_state, section_events}
 use Rattle.gk_run.specs.Chosen.{ChosenValue}
@@ -43,14 +43,14 @@ kept_through a b d p q = q ∙ ap (λ (x : SuiteValue). record x { has_failed = 
 
 -- And what the sandbox is.
 pub same_through : (a b d : SandboxValue) → IsSame a b → IsSame b d → IsSame a d
-same_through a b d p q = record { contents = q.contents ∙ p.contents; saved = q.saved ∙ p.saved; marks = q.marks ∙ p.marks; recorded = q.recorded ∙ p.recorded }
+same_through a b d p q = record { contents = q.contents ∙ p.contents; saved = q.saved ∙ p.saved; starts = q.starts ∙ p.starts; recorded = q.recorded ∙ p.recorded }
 
 -- A run that was begun is so still after features that leave the sandbox as it was.
-pub begun_still : (run : Run) (old started without_first : SandboxValue) (suite left : SuiteValue) → (start : IsStarted run old started suite) → IsKept suite left → IsSame started without_first → IsBegun run levels.Run [] (state_of old.now) start.opened.first left.before (stand_of without_first left.cleanups)
+pub begun_still : (run : Run) (old started without_first : SandboxValue) (suite left : SuiteValue) → (start : IsStarted run old started suite) → IsKept suite left → IsSame started without_first → IsBegun run levels.Run [] (state_of old.now) start.opened.first left.before (section_now without_first left.cleanups)
 begun_still run old started without_first suite left start kept same =
     let begins = start.opened.begins in
-    let stand : Contents → Stand = λ x. record { state = state_of x; cleanups = suite.cleanups } in
-    subst (λ (x : SuiteValue). IsBegun run levels.Run [] (state_of old.now) start.opened.first x.before (stand_of without_first x.cleanups)) (sym kept) (record { so_far = begins.so_far; ends = begins.ends; stands = ap stand same.contents ∙ begins.stands })
+    let section : Contents → SectionNow = λ x. record { state = state_of x; cleanups = suite.cleanups } in
+    subst (λ (x : SuiteValue). IsBegun run levels.Run [] (state_of old.now) start.opened.first x.before (section_now without_first x.cleanups)) (sym kept) (record { so_far = begins.so_far; ends = begins.ends; leaves = ap section same.contents ∙ begins.leaves })
 
 -- A run that was begun, whose features were run, and that was finished.
 pub judged_by : FinishedRunsAreJudged → (run : Run) (old started without_first : SandboxValue) (suite left : SuiteValue) (around : Status) (features : List ChosenValue) (rows : List FeatureRow) →

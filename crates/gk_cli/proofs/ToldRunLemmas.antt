@@ -16,13 +16,13 @@ use Rattle.gk_run.specs.DryRun.{dry_features_of, AreDryFeatures}
 use Rattle.gk_run.specs.Ending.{has_passed, is_memory_ending}
 use Rattle.gk_run.specs.Features.{FeatureCuts, features_of}
 use Rattle.gk_run.specs.Judged.{Judged, BeginsJudged}
-use Rattle.gk_run.specs.Events.{result_of, Event, SoFar, Stand, left_by, stand_of}
+use Rattle.gk_run.specs.Events.{result_of, Event, SoFar, SectionNow, left_by, section_now}
 use Rattle.gk_run.specs.OpenRun.{AreFeatures, FinishedRunsAreJudged, IsFinishTold, IsKept, IsStarted, SuiteValue, opens_features}
-use Rattle.gk_run.specs.SectionHooks.{begun as begun_by, entered}
+use Rattle.gk_run.specs.SectionHooks.{before_events, entered}
 use Rattle.gk_report.specs.Summary.{summary_of}
 use Rattle.gk_request.specs.declared.run_fault.RunFault.{RunFault}
 use Rattle.gk_request.specs.declared.run_fault.RunFault.TheVariants.{Memory}
-use Rattle.gk_cli.specs.declared.told_run.Told.{Told}
+use Rattle.gk_cli.specs.declared.told_run.CountingReporter.{CountingReporter}
 use Rattle.gk_cli.specs.Writing.{Device, IsWritten, IsStopped}
 use Rattle.gk_cli.specs.GrowingReport.{results_with}
 use Rattle.gk_cli.specs.Reporter.{StopsAdding}
@@ -108,7 +108,7 @@ told_last tells next first_open first done rows text is_open told held =
     (subst (λ ts. TellsFeatures tells next first_open (done ++ []) (rows ++ []) ts first told) (append-nil text) (held [] [] [] told (refl, refl))))
 
 -- The features that aren't left were told, and the text of them was written.
-pub record Telling {R : Type 0} (tells : Bool → ChosenValue → FeatureRow → List ℕ → R → R → Type 0) (next : Bool → FeatureRow → Bool) (Rows : List ChosenValue → List FeatureRow → Bool → Type 0) (first_open : Bool) (all : List ChosenValue) (old : Device) (so_far : Told R) (left : List ChosenValue) (is_open : Bool) (there : Device) (grown : Told R) : Type 0 where
+pub record Telling {R : Type 0} (tells : Bool → ChosenValue → FeatureRow → List ℕ → R → R → Type 0) (next : Bool → FeatureRow → Bool) (Rows : List ChosenValue → List FeatureRow → Bool → Type 0) (first_open : Bool) (all : List ChosenValue) (old : Device) (so_far : CountingReporter R) (left : List ChosenValue) (is_open : Bool) (there : Device) (grown : CountingReporter R) : Type 0 where
   pub done : List ChosenValue
   pub rows : List FeatureRow
   pub text : List ℕ
@@ -118,13 +118,13 @@ pub record Telling {R : Type 0} (tells : Bool → ChosenValue → FeatureRow →
   pub written : IsWritten old there text
   pub counted : so_far.summary ≡ summary_of [] → grown.summary ≡ summary_of rows
 
-pub telling_first : {R : Type 0} (tells : Bool → ChosenValue → FeatureRow → List ℕ → R → R → Type 0) (next : Bool → FeatureRow → Bool) (Rows : List ChosenValue → List FeatureRow → Bool → Type 0) (first_open : Bool) (all : List ChosenValue) (old : Device) (so_far : Told R) →
+pub telling_first : {R : Type 0} (tells : Bool → ChosenValue → FeatureRow → List ℕ → R → R → Type 0) (next : Bool → FeatureRow → Bool) (Rows : List ChosenValue → List FeatureRow → Bool → Type 0) (first_open : Bool) (all : List ChosenValue) (old : Device) (so_far : CountingReporter R) →
     Rows [] [] first_open → Telling tells next Rows first_open all old so_far all first_open old so_far
 telling_first tells next Rows first_open all old so_far none =
     record { done = []; rows = []; text = []; whole = refl; are = none; told = λ left more later end h. h; written = written_none old; counted = λ e. e }
 
-pub telling_next : {R : Type 0} (tells : Bool → ChosenValue → FeatureRow → List ℕ → R → R → Type 0) (next : Bool → FeatureRow → Bool) (Rows : List ChosenValue → List FeatureRow → Bool → Type 0) (Result : FeatureRow → Type 0) (first_open : Bool) (all : List ChosenValue) (old : Device) (so_far : Told R)
-    (f : ChosenValue) (left : List ChosenValue) (is_open still : Bool) (there : Device) (h : Told R) (new : Device) (grown : Told R) →
+pub telling_next : {R : Type 0} (tells : Bool → ChosenValue → FeatureRow → List ℕ → R → R → Type 0) (next : Bool → FeatureRow → Bool) (Rows : List ChosenValue → List FeatureRow → Bool → Type 0) (Result : FeatureRow → Type 0) (first_open : Bool) (all : List ChosenValue) (old : Device) (so_far : CountingReporter R)
+    (f : ChosenValue) (left : List ChosenValue) (is_open still : Bool) (there : Device) (h : CountingReporter R) (new : Device) (grown : CountingReporter R) →
     ((done : List ChosenValue) (rows : List FeatureRow) (row : FeatureRow) → Result row → Rows done rows is_open → Rows (done ++ f ∷ []) (rows ++ row ∷ []) still) → ((row : FeatureRow) → Result row → still ≡ next is_open row) →
     TellsNext tells Result is_open f there h new grown → Telling tells next Rows first_open all old so_far (f ∷ left) is_open there h → Telling tells next Rows first_open all old so_far left still new grown
 telling_next tells next Rows Result first_open all old so_far f left is_open still there h new grown more opens one was = record {
@@ -139,8 +139,8 @@ telling_next tells next Rows Result first_open all old so_far f left is_open sti
   counted = λ e. one.counted was.rows (was.counted e);
 }
 
-pub telling_last : {R : Type 0} (tells : Bool → ChosenValue → FeatureRow → List ℕ → R → R → Type 0) (next : Bool → FeatureRow → Bool) (Rows : List ChosenValue → List FeatureRow → Bool → Type 0) (Give : List ChosenValue → List FeatureRow → Type 0) (first_open : Bool) (all : List ChosenValue) (old : Device) (so_far : Told R)
-    (left : List ChosenValue) (is_open : Bool) (there : Device) (grown : Told R) → left ≡ [] → ((done : List ChosenValue) (rows : List FeatureRow) → Rows done rows is_open → Give done rows) →
+pub telling_last : {R : Type 0} (tells : Bool → ChosenValue → FeatureRow → List ℕ → R → R → Type 0) (next : Bool → FeatureRow → Bool) (Rows : List ChosenValue → List FeatureRow → Bool → Type 0) (Give : List ChosenValue → List FeatureRow → Type 0) (first_open : Bool) (all : List ChosenValue) (old : Device) (so_far : CountingReporter R)
+    (left : List ChosenValue) (is_open : Bool) (there : Device) (grown : CountingReporter R) → left ≡ [] → ((done : List ChosenValue) (rows : List FeatureRow) → Rows done rows is_open → Give done rows) →
     Telling tells next Rows first_open all old so_far left is_open there grown → AreTold tells next Give first_open all old so_far there grown
 telling_last tells next Rows Give first_open all old so_far left is_open there grown none gives was =
     let done : was.done ≡ all = sym (was.whole ∙ ap (λ (fs : List ChosenValue). was.done ++ fs) none ∙ append-nil was.done) in
@@ -154,8 +154,8 @@ telling_last tells next Rows Give first_open all old so_far left is_open there g
       counted = was.counted;
     }
 
-pub telling_stopped : {R : Type 0} (tells : Bool → ChosenValue → FeatureRow → List ℕ → R → R → Type 0) (next : Bool → FeatureRow → Bool) (Rows : List ChosenValue → List FeatureRow → Bool → Type 0) (Give : List ChosenValue → List FeatureRow → Type 0) (Result : FeatureRow → Type 0) (first_open : Bool) (all : List ChosenValue) (old : Device) (so_far : Told R)
-    (f : ChosenValue) (left : List ChosenValue) (is_open : Bool) (there : Device) (h : Told R) (new : Device) (fault : RunFault) →
+pub telling_stopped : {R : Type 0} (tells : Bool → ChosenValue → FeatureRow → List ℕ → R → R → Type 0) (next : Bool → FeatureRow → Bool) (Rows : List ChosenValue → List FeatureRow → Bool → Type 0) (Give : List ChosenValue → List FeatureRow → Type 0) (Result : FeatureRow → Type 0) (first_open : Bool) (all : List ChosenValue) (old : Device) (so_far : CountingReporter R)
+    (f : ChosenValue) (left : List ChosenValue) (is_open : Bool) (there : Device) (h : CountingReporter R) (new : Device) (fault : RunFault) →
     ((done : List ChosenValue) (rows : List FeatureRow) → Rows done rows is_open → Give done rows) → ((done : List ChosenValue) (rows : List FeatureRow) (row : FeatureRow) → Result row → Rows done rows is_open → Give (done ++ f ∷ []) (rows ++ row ∷ [])) →
     EndsNext tells Result is_open f there h new fault → Telling tells next Rows first_open all old so_far (f ∷ left) is_open there h → AreToldUpTo tells next Give first_open all old so_far new fault
 telling_stopped tells next Rows Give Result first_open all old so_far f left is_open there h new fault gives gives_more (inl refused) was = record {
@@ -186,27 +186,27 @@ telling_stopped tells next Rows Give Result first_open all old so_far f left is_
     }
 
 -- The text of the next feature wasn't written whole.
-pub next_stopped : {R : Type 0} (adds : R → FeatureRow → List ℕ → R → Type 0) (tells : Bool → ChosenValue → FeatureRow → List ℕ → R → R → Type 0) (Result : FeatureRow → Type 0) (is_open : Bool) (f : ChosenValue) (row : FeatureRow) (heard : R) (so_far : Told R) (there new : Device) (fault : RunFault) →
+pub next_stopped : {R : Type 0} (adds : R → FeatureRow → List ℕ → R → Type 0) (tells : Bool → ChosenValue → FeatureRow → List ℕ → R → R → Type 0) (Result : FeatureRow → Type 0) (is_open : Bool) (f : ChosenValue) (row : FeatureRow) (heard : R) (so_far : CountingReporter R) (there new : Device) (fault : RunFault) →
     Result row → ((text : List ℕ) (told : R) → adds heard row text told → tells is_open f row text so_far.reporter told) → StopsAdding adds row heard there new fault → EndsNext tells Result is_open f there so_far new fault
 next_stopped adds tells Result is_open f row heard so_far there new fault result told (inl refused) = inl refused
 next_stopped adds tells Result is_open f row heard so_far there new fault result told (inr (text, after, added, stopped)) = inr (row, text, after, result, told text after added, stopped)
 
 -- What is told of a run, so far.
-abbrev pub TellingRun : {R : Type 0} → (Bool → ChosenValue → FeatureRow → List ℕ → R → R → Type 0) → Run → State → Bool → List ChosenValue → Device → Told R → List ChosenValue → Bool → Device → Told R → Type 0
+abbrev pub TellingRun : {R : Type 0} → (Bool → ChosenValue → FeatureRow → List ℕ → R → R → Type 0) → Run → State → Bool → List ChosenValue → Device → CountingReporter R → List ChosenValue → Bool → Device → CountingReporter R → Type 0
 TellingRun tells run first first_open = Telling tells (stays run) (RowsSoFar run first first_open) first_open
 
 -- The same of a dry run.
-abbrev pub TellingDryRun : {R : Type 0} → (Bool → ChosenValue → FeatureRow → List ℕ → R → R → Type 0) → LibraryValue → List ChosenValue → Device → Told R → List ChosenValue → Device → Told R → Type 0
+abbrev pub TellingDryRun : {R : Type 0} → (Bool → ChosenValue → FeatureRow → List ℕ → R → R → Type 0) → LibraryValue → List ChosenValue → Device → CountingReporter R → List ChosenValue → Device → CountingReporter R → Type 0
 TellingDryRun tells library all old so_far left there grown = Telling tells stays_begun (DryRowsSoFar library) true all old so_far left true there grown
 
 -- ---- the run around its features
 
 -- A section whose before list passed whole stands where the list leaves it.
-passed_stand : (ended : Ending) (all first : List Event) (start now : Stand) → SoFar false (is_memory_ending ended) all [] first → now ≡ left_by start first → has_passed ended ≡ true → now ≡ left_by start all
-passed_stand endings.Passed all first start now told is passed = is ∙ ap (left_by start) (sym (told ∙ append-nil first))
-passed_stand endings.Failed all first start now told is passed = absurd cc
-passed_stand endings.Skipped all first start now told is passed = absurd cc
-passed_stand endings.Memory all first start now told is passed = absurd cc
+passed_section : (ended : Ending) (all first : List Event) (start now : SectionNow) → SoFar false (is_memory_ending ended) all [] first → now ≡ left_by start first → has_passed ended ≡ true → now ≡ left_by start all
+passed_section endings.Passed all first start now told is passed = is ∙ ap (left_by start) (sym (told ∙ append-nil first))
+passed_section endings.Failed all first start now told is passed = absurd cc
+passed_section endings.Skipped all first start now told is passed = absurd cc
+passed_section endings.Memory all first start now told is passed = absurd cc
 
 -- The beginning of a run and its features were told.
 pub first_told : {S : Type 0} (hears : S → Event → S → Type 0) (tells : Run → State → Bool → ChosenValue → FeatureRow → List ℕ → S → S → Type 0) (run : Run) (old started : SandboxValue) (suite : SuiteValue) (first begun : S) (features : List ChosenValue) (rows : List FeatureRow) (text : List ℕ) (told : S) →
@@ -216,13 +216,13 @@ first_told hears tells run old started suite first begun features rows text told
     let outside = state_of old.now in
     let events = start.opened.first in
     let begins = start.opened.begins in
-    let all = begun_by run.library run.hooks levels.Run [] outside in
+    let all = before_events run.library run.hooks levels.Run [] outside in
     record {
       begun = begun;
       opens = subst (λ (e : Ending). SoFar false (is_memory_ending e) all [] events) begins.ends begins.so_far;
       start = opening;
       state = state_of started.now;
-      from = λ passed. ap (λ (x : Stand). x.state) (passed_stand suite.before all events (entered outside) (stand_of started suite.cleanups) begins.so_far begins.stands (ap has_passed begins.ends ∙ passed));
+      from = λ passed. ap (λ (x : SectionNow). x.state) (passed_section suite.before all events (entered outside) (section_now started suite.cleanups) begins.so_far begins.leaves (ap has_passed begins.ends ∙ passed));
       told = subst (λ b. TellsFeatures (tells run (state_of started.now)) (stays run) b features rows text begun told) (start.opens ∙ ap has_passed begins.ends) told_so;
     }
 
@@ -243,7 +243,7 @@ run_told hears tells law run old started later suite left first begun told last 
 }
 
 -- All of a run was told and written.
-pub whole_told : {S : Type 0} (hears : S → Event → S → Type 0) (tells : Run → State → Bool → ChosenValue → FeatureRow → List ℕ → S → S → Type 0) (closes : S → Results → List ℕ → Type 0) (run : Run) (contents : Contents) (opening : List Event) (features : List ChosenValue) (rows : List FeatureRow) (around : Status) (parts : List ℕ) (first told : S) (end : Told S) (old there new : Device) (answer : ℕ) →
+pub whole_told : {S : Type 0} (hears : S → Event → S → Type 0) (tells : Run → State → Bool → ChosenValue → FeatureRow → List ℕ → S → S → Type 0) (closes : S → Results → List ℕ → Type 0) (run : Run) (contents : Contents) (opening : List Event) (features : List ChosenValue) (rows : List FeatureRow) (around : Status) (parts : List ℕ) (first told : S) (end : CountingReporter S) (old there new : Device) (answer : ℕ) →
     end.summary ≡ summary_of rows → IsRunTold hears tells run contents opening features rows around parts first told end.reporter → IsWritten old there parts → IsClosed closes end around there new answer → IsToldRun hears tells closes run contents features first old new answer
 whole_told hears tells closes run contents opening features rows around parts first told end old there new answer counted so written closed =
     let done = closed rows counted in
@@ -257,7 +257,7 @@ whole_told hears tells closes run contents opening features rows around parts fi
     }
 
 -- All of a run was told, and its last text wasn't written whole.
-pub whole_stopped : {S : Type 0} (hears : S → Event → S → Type 0) (tells : Run → State → Bool → ChosenValue → FeatureRow → List ℕ → S → S → Type 0) (closes : S → Results → List ℕ → Type 0) (run : Run) (contents : Contents) (opening : List Event) (features : List ChosenValue) (rows : List FeatureRow) (around : Status) (parts : List ℕ) (first told : S) (end : Told S) (old there new : Device) (fault : RunFault) →
+pub whole_stopped : {S : Type 0} (hears : S → Event → S → Type 0) (tells : Run → State → Bool → ChosenValue → FeatureRow → List ℕ → S → S → Type 0) (closes : S → Results → List ℕ → Type 0) (run : Run) (contents : Contents) (opening : List Event) (features : List ChosenValue) (rows : List FeatureRow) (around : Status) (parts : List ℕ) (first told : S) (end : CountingReporter S) (old there new : Device) (fault : RunFault) →
     end.summary ≡ summary_of rows → IsRunTold hears tells run contents opening features rows around parts first told end.reporter → IsWritten old there parts → StopsClosing closes end around there new fault → IsToldUpTo hears tells closes run contents features first old new fault
 whole_stopped hears tells closes run contents opening features rows around parts first told end old there new fault counted so written (inl refused) = (
   parts,
@@ -282,7 +282,7 @@ whole_stopped hears tells closes run contents opening features rows around parts
     )
 
 -- Not all features of a run were told and written.
-pub part_told : {S : Type 0} (hears : S → Event → S → Type 0) (tells : Run → State → Bool → ChosenValue → FeatureRow → List ℕ → S → S → Type 0) (closes : S → Results → List ℕ → Type 0) (run : Run) (old started : SandboxValue) (suite : SuiteValue) (first : S) (features : List ChosenValue) (before : Device) (so_far : Told S) (new : Device) (fault : RunFault) →
+pub part_told : {S : Type 0} (hears : S → Event → S → Type 0) (tells : Run → State → Bool → ChosenValue → FeatureRow → List ℕ → S → S → Type 0) (closes : S → Results → List ℕ → Type 0) (run : Run) (old started : SandboxValue) (suite : SuiteValue) (first : S) (features : List ChosenValue) (before : Device) (so_far : CountingReporter S) (new : Device) (fault : RunFault) →
     (start : IsStarted run old started suite) → FoldsTo hears first start.opened.first so_far.reporter →
     ((done others : List ChosenValue) (rows : List FeatureRow) → AreFeatures run (state_of started.now) (opens_features suite) done rows → BeginsJudged run old.now (done ++ others) rows) →
     AreToldUpTo (tells run (state_of started.now)) (stays run) (AreFeatures run (state_of started.now) (opens_features suite)) (opens_features suite) features before so_far new fault → IsToldUpTo hears tells closes run old.now features first before new fault

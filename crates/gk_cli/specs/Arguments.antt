@@ -1,6 +1,6 @@
 -- What the command-line arguments ask for.
-use Rattle.std.specs.Prelude.{◌≡◌, ◌≢◌, ◌≤◌, ◌==◌, ◌&&◌, not, is_some, ℕ, Bool, List, [], ◌∷◌, true, false, Option, Some, None, Result, Ok, Err, if◌then◌else◌, codes, string_bytes, map, fold, option_map, unwrap_or}
-use Rattle.std.specs.List.{All, Any, after_first, before_first, list_any}
+use Rattle.std.specs.Prelude.{◌≡◌, ◌++◌, ◌≢◌, ◌≤◌, ◌==◌, ◌&&◌, not, is_some, ℕ, Bool, List, [], ◌∷◌, true, false, Option, Some, None, Result, Ok, Err, if◌then◌else◌, codes, string_bytes, map, fold, option_map, unwrap_or}
+use Rattle.std.specs.List.{All, after_first, before_first, list_any}
 use Rattle.std.specs.Option.{option_map_or}
 use Rattle.std.specs.Str.{bytes_eq}
 use Rattle.std.specs.Str.Parse.{digits_value, without_leading_plus}
@@ -136,14 +136,18 @@ abbrev pub SaysPair : Text → Option (String Global × String Global) → Type 
 SaysPair text (Some pair) = (has_equals text ≡ true) × (pair_value pair ≡ split_at_equals text)
 SaysPair text None = has_equals text ≡ false
 
--- One of these texts, which has no `=`.
-abbrev pub IsOneWithout : List Text → Text → Type 0
-IsOneWithout texts text = Any (λ one. one ≡ text) texts × (has_equals text ≡ false)
+-- The first of these texts that has no `=`.
+pub record IsFirstWithout (texts : List Text) (text : Text) : Type 0 where
+  pub before : List Text
+  pub after : List Text
+  pub whole : texts ≡ before ++ text ∷ after
+  pub equals : All (λ one. has_equals one ≡ true) before
+  pub none : has_equals text ≡ false
 
--- The parts of each text, in order, if each has an `=`; otherwise one that has none.
+-- The parts of each text, in order, if each has an `=`; otherwise the first that has none.
 abbrev pub SaysPairs : List Text → Result (Vec (String Global × String Global) Global) (String Global) → Type 0
 SaysPairs texts (Ok pairs) = All (λ text. has_equals text ≡ true) texts × (map pair_value pairs.items ≡ map split_at_equals texts)
-SaysPairs texts (Err text) = IsOneWithout texts (string_bytes text)
+SaysPairs texts (Err text) = IsFirstWithout texts (string_bytes text)
 
 -- The options are those that clap found.
 pub record AreAsked (rows : List Row) (options : Options) : Type 0 where
@@ -166,12 +170,12 @@ pub record IsAskedBy (rows : List Row) (w : Words) : Type 0 where
   pub world_files : map pair_value w.world_files.items ≡ map split_at_equals (values_of (codes "file") rows)
   pub file_equals : All (λ text. has_equals text ≡ true) (values_of (codes "file") rows)
 
--- What the arguments ask for, from what clap found. `Env` comes if an `--env` has no `=`, with what was to be written and that value, and otherwise `File` if a `--file` has none.
+-- What the arguments ask for, from what clap found. `Env` comes if an `--env` has no `=`, with what was to be written and the first such value, and otherwise `File` if a `--file` has none.
 abbrev pub SaysMatches : List Row → Result Words WordsFault → Type 0
 SaysMatches rows (Ok w) = IsAskedBy rows w
 SaysMatches rows (Err (Usage e)) = ⊥
-SaysMatches rows (Err (Env mode value)) = (mode ≡ mode_asked rows) × IsOneWithout (values_of (codes "env") rows) (string_bytes value)
-SaysMatches rows (Err File) = All (λ text. has_equals text ≡ true) (values_of (codes "env") rows) × Any (λ text. has_equals text ≡ false) (values_of (codes "file") rows)
+SaysMatches rows (Err (Env mode value)) = (mode ≡ mode_asked rows) × IsFirstWithout (values_of (codes "env") rows) (string_bytes value)
+SaysMatches rows (Err File) = All (λ text. has_equals text ≡ true) (values_of (codes "env") rows) × ((value : Text) × IsFirstWithout (values_of (codes "file") rows) value)
 SaysMatches rows (Err Memory) = Unit {0}
 
 -- Arguments without a fault give what clap finds in them: at least one file, and no line 0. `Usage` has one of their faults and comes before `Env`, and that before `File`. `Memory` can come instead of any other result.

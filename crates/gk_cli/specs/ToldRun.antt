@@ -18,7 +18,7 @@ use Rattle.gk_report.specs.declared.summary.Summary.{Summary}
 use Rattle.gk_report.specs.Summary.{status, status_of, summary_of, CountsOneMore}
 use Rattle.gk_request.specs.declared.run_fault.RunFault.{RunFault}
 use Rattle.gk_request.specs.declared.run_fault.RunFault.TheVariants.{Memory}
-use Rattle.gk_cli.specs.declared.told_run.Told.{Told}
+use Rattle.gk_cli.specs.declared.told_run.CountingReporter.{CountingReporter}
 use Rattle.gk_cli.specs.GrowingReport.{results_with}
 use Rattle.gk_cli.specs.Writing.{Device, IsWritten, IsStopped}
 
@@ -99,15 +99,15 @@ abbrev pub IsToldUpTo : {S : Type 0} → (S → Event → S → Type 0) → (Run
 IsToldUpTo hears tells closes run contents features first old new fault = (text : List ℕ) × IsTextSoFar hears tells closes run contents features first text × IsStopped old new text fault
 
 -- Proof machinery, from here on: the reporter of a run.
-abbrev pub reporter_of : {R : Type 0} → Told R → R
+abbrev pub reporter_of : {R : Type 0} → CountingReporter R → R
 reporter_of told = told.reporter
 
 -- The counts of the features that it was told.
-abbrev pub counts_of : {R : Type 0} → Told R → Summary
+abbrev pub counts_of : {R : Type 0} → CountingReporter R → Summary
 counts_of told = told.summary
 
 -- The next feature was told to a reporter, and its text was written.
-pub record TellsNext {R : Type 0} (tells : Bool → ChosenValue → FeatureRow → List ℕ → R → R → Type 0) (Result : FeatureRow → Type 0) (is_open : Bool) (f : ChosenValue) (old : Device) (so_far : Told R) (new : Device) (grown : Told R) : Type 0 where
+pub record TellsNext {R : Type 0} (tells : Bool → ChosenValue → FeatureRow → List ℕ → R → R → Type 0) (Result : FeatureRow → Type 0) (is_open : Bool) (f : ChosenValue) (old : Device) (so_far : CountingReporter R) (new : Device) (grown : CountingReporter R) : Type 0 where
   pub row : FeatureRow
   pub result : Result row
   pub text : List ℕ
@@ -116,7 +116,7 @@ pub record TellsNext {R : Type 0} (tells : Bool → ChosenValue → FeatureRow �
   pub counted : CountsOneMore so_far.summary row grown.summary
 
 -- The next feature has no result, or its text wasn't written whole.
-abbrev pub EndsNext : {R : Type 0} → (Bool → ChosenValue → FeatureRow → List ℕ → R → R → Type 0) → (FeatureRow → Type 0) → Bool → ChosenValue → Device → Told R → Device → RunFault → Type 0
+abbrev pub EndsNext : {R : Type 0} → (Bool → ChosenValue → FeatureRow → List ℕ → R → R → Type 0) → (FeatureRow → Type 0) → Bool → ChosenValue → Device → CountingReporter R → Device → RunFault → Type 0
 EndsNext {R} tells Result is_open f old so_far new fault =
     ((old ≡ new) × (fault ≡ Memory))
     ⊎ ((row : FeatureRow) × (text : List ℕ) × (told : R) × Result row × tells is_open f row text so_far.reporter told × IsStopped old new text fault)
@@ -134,7 +134,7 @@ abbrev pub IsDryResult : LibraryValue → ChosenValue → FeatureRow → Type 0
 IsDryResult library f row = (cuts : FeatureCuts) × (row ≡ dry_feature_of library cuts f)
 
 -- Features were told to a reporter, and its text of them was written.
-pub record AreTold {R : Type 0} (tells : Bool → ChosenValue → FeatureRow → List ℕ → R → R → Type 0) (next : Bool → FeatureRow → Bool) (Give : List ChosenValue → List FeatureRow → Type 0) (is_open : Bool) (features : List ChosenValue) (old : Device) (so_far : Told R) (new : Device) (grown : Told R) : Type 0 where
+pub record AreTold {R : Type 0} (tells : Bool → ChosenValue → FeatureRow → List ℕ → R → R → Type 0) (next : Bool → FeatureRow → Bool) (Give : List ChosenValue → List FeatureRow → Type 0) (is_open : Bool) (features : List ChosenValue) (old : Device) (so_far : CountingReporter R) (new : Device) (grown : CountingReporter R) : Type 0 where
   pub rows : List FeatureRow
   pub results : Give features rows
   pub text : List ℕ
@@ -143,7 +143,7 @@ pub record AreTold {R : Type 0} (tells : Bool → ChosenValue → FeatureRow →
   pub counted : so_far.summary ≡ summary_of [] → grown.summary ≡ summary_of rows
 
 -- The first of some features were told to a reporter, and a prefix of its text of them was written.
-pub record AreToldUpTo {R : Type 0} (tells : Bool → ChosenValue → FeatureRow → List ℕ → R → R → Type 0) (next : Bool → FeatureRow → Bool) (Give : List ChosenValue → List FeatureRow → Type 0) (is_open : Bool) (features : List ChosenValue) (old : Device) (so_far : Told R) (new : Device) (fault : RunFault) : Type 0 where
+pub record AreToldUpTo {R : Type 0} (tells : Bool → ChosenValue → FeatureRow → List ℕ → R → R → Type 0) (next : Bool → FeatureRow → Bool) (Give : List ChosenValue → List FeatureRow → Type 0) (is_open : Bool) (features : List ChosenValue) (old : Device) (so_far : CountingReporter R) (new : Device) (fault : RunFault) : Type 0 where
   pub done : List ChosenValue
   pub others : List ChosenValue
   pub whole : features ≡ done ++ others
@@ -155,18 +155,18 @@ pub record AreToldUpTo {R : Type 0} (tells : Bool → ChosenValue → FeatureRow
   pub stopped : IsStopped old new text fault
 
 -- For any results with these counts, the last text was written, and their status is returned.
-pub record IsClosedWith {R : Type 0} (closes : R → Results → List ℕ → Type 0) (told : Told R) (around : Status) (old new : Device) (answer : ℕ) (rows : List FeatureRow) : Type 0 where
+pub record IsClosedWith {R : Type 0} (closes : R → Results → List ℕ → Type 0) (told : CountingReporter R) (around : Status) (old new : Device) (answer : ℕ) (rows : List FeatureRow) : Type 0 where
   pub text : List ℕ
   pub closed : closes told.reporter (results_with rows around) text
   pub written : IsWritten old new text
   pub returned : answer ≡ status_of rows around
 
 -- The end of the run was told and its last text written, whatever features had been told before, if their counts are these.
-abbrev pub IsClosed : {R : Type 0} → (R → Results → List ℕ → Type 0) → Told R → Status → Device → Device → ℕ → Type 0
+abbrev pub IsClosed : {R : Type 0} → (R → Results → List ℕ → Type 0) → CountingReporter R → Status → Device → Device → ℕ → Type 0
 IsClosed closes told around old new answer = (rows : List FeatureRow) → told.summary ≡ summary_of rows → IsClosedWith closes told around old new answer rows
 
 -- The last text wasn't written whole: memory was refused and nothing was written, or a prefix was.
-abbrev pub StopsClosing : {R : Type 0} → (R → Results → List ℕ → Type 0) → Told R → Status → Device → Device → RunFault → Type 0
+abbrev pub StopsClosing : {R : Type 0} → (R → Results → List ℕ → Type 0) → CountingReporter R → Status → Device → Device → RunFault → Type 0
 StopsClosing closes told around old new fault =
     ((old ≡ new) × (fault ≡ Memory))
     ⊎ ((rows : List FeatureRow) → told.summary ≡ summary_of rows → (text : List ℕ) × closes told.reporter (results_with rows around) text × IsStopped old new text fault)

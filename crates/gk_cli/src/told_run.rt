@@ -39,22 +39,22 @@ pub struct RunParts<'a> {
 
 /// A reporter of a run, and the counts of the features that it was told.
 #[derive(Drop)]
-pub struct Told<R> {
+pub struct CountingReporter<R> {
     reporter: R,
     summary: Summary,
 }
 
-impl<R> Told<R> {
+impl<R> CountingReporter<R> {
     ghost use Rattle.std.specs.Prelude.{◌≡◌, []};
     ghost use Rattle.gk_report.specs.Summary.{summary_of};
     ghost use Rattle.gk_cli.specs.ToldRun.{reporter_of, counts_of};
 
     /// Returns a reporter that was told no feature.
-    pub fn new(reporter: R) -> Told<R>
+    pub fn new(reporter: R) -> CountingReporter<R>
         ensures reporter { reporter_of result ≡ reporter }
         ensures counts { counts_of result ≡ summary_of [] }
     {
-        Told {
+        CountingReporter {
             reporter,
             summary: Summary::new(),
         }
@@ -65,7 +65,7 @@ impl<R> Told<R> {
 // they were.
 fn add_feature<R: Reporter, W: Write>(
     alloc: Global,
-    told: &mut Told<R>,
+    told: &mut CountingReporter<R>,
     feature: &FeatureResult,
     out: &mut Counted<W>,
 ) -> Result<(), RunFault>
@@ -88,7 +88,7 @@ fn tell_next<R: Reporter, W: Write>(
     parts: &RunParts<'_>,
     sandbox: &mut Sandbox,
     suite: &mut Suite,
-    told: &mut Told<R>,
+    told: &mut CountingReporter<R>,
     feature: Chosen,
     out: &mut Counted<W>,
 ) -> Result<(), RunFault>
@@ -132,7 +132,7 @@ fn tell_features<R: Reporter, W: Write>(
     parts: &RunParts<'_>,
     sandbox: &mut Sandbox,
     suite: &mut Suite,
-    told: &mut Told<R>,
+    told: &mut CountingReporter<R>,
     features: Vec<Chosen>,
     out: &mut Counted<W>,
 ) -> Result<(), RunFault>
@@ -163,7 +163,7 @@ fn tell_features<R: Reporter, W: Write>(
 fn tell_dry_next<R: Reporter, W: Write>(
     alloc: Global,
     library: &Library,
-    told: &mut Told<R>,
+    told: &mut CountingReporter<R>,
     feature: Chosen,
     out: &mut Counted<W>,
 ) -> Result<(), RunFault>
@@ -190,7 +190,7 @@ fn tell_dry_next<R: Reporter, W: Write>(
 pub fn tell_dry_features<R: Reporter, W: Write>(
     alloc: Global,
     library: &Library,
-    told: &mut Told<R>,
+    told: &mut CountingReporter<R>,
     features: Vec<Chosen>,
     out: &mut Counted<W>,
 ) -> Result<(), RunFault>
@@ -211,7 +211,7 @@ pub fn tell_dry_features<R: Reporter, W: Write>(
 /// Tells a reporter the end of the run, and writes its last text. Returns the status of the run.
 pub fn close<R: Reporter, W: Write>(
     alloc: Global,
-    told: Told<R>,
+    told: CountingReporter<R>,
     around: Status,
     out: &mut Counted<W>,
 ) -> Result<u8, RunFault>
@@ -220,7 +220,7 @@ pub fn close<R: Reporter, W: Write>(
     ensures err { IfErr result (StopsClosing R.closes told around
         (device_of W.contents out.old) (device_of W.contents out.new)) }
 {
-    let Told { reporter, summary } = told;
+    let CountingReporter { reporter, summary } = told;
     let text = reporter.run_ended(alloc, &summary, around)?;
     write_piece(out, text.as_str())?;
     Ok(summary.status(around))
@@ -262,7 +262,7 @@ pub fn tell_run<R: Reporter, W: Write>(
     } = *parts;
     let mut reporter = reporter;
     let mut suite = Suite::start_watched(alloc, sandbox, library, hooks, stop, &mut reporter);
-    let mut told = Told::new(reporter);
+    let mut told = CountingReporter::new(reporter);
     let written = tell_features(parts, sandbox, &mut suite, &mut told, features, out);
     let around = suite.finish_watched(alloc, sandbox, library, hooks, &mut told.reporter);
     match written {

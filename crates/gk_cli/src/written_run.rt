@@ -9,7 +9,7 @@ ghost use Rattle.gk_cli.specs.Writing.{device_of};
 ghost use Rattle.gk_cli.specs.WrittenRun.{IsWhole, IsPrefix};
 
 use crate::growing_report::{GrowingReport, write_head};
-use crate::told_run::{RunParts, Told, close, tell_dry_features, tell_run};
+use crate::told_run::{CountingReporter, RunParts, close, tell_dry_features, tell_run};
 use gk_report::reports_grow_by_parts;
 use gk_request::{Counted, Options, ReadInputs, RunFault};
 use gk_run::{Status, dry_runs_are_judged, unfinished_dry_runs_are_judged};
@@ -50,7 +50,7 @@ pub fn write_run<W: Write>(
     write_head(alloc, options.style, out)?;
     let report = GrowingReport::new(options.style);
     if options.dry_run {
-        let mut told = Told::new(report);
+        let mut told = CountingReporter::new(report);
         tell_dry_features(alloc, &library, &mut told, features, out)?;
         return close(alloc, told, Status::Passed, out);
     }

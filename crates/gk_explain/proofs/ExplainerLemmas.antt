@@ -14,7 +14,7 @@ use Rattle.gk_run.specs.declared.section.Stage.{Stage}
 use Rattle.gk_run.specs.Acting.{CleanupValue, act, done_of}
 use Rattle.gk_run.specs.SectionHooks.{clean_each, after_lists, before_list, entered, walk_each}
 use Rattle.gk_run.specs.Ending.{ending_of, has_passed}
-use Rattle.gk_run.specs.Events.{Event as Told, of_step, of_cleanup, Stand, cut_at, ended_in, left_by, refused}
+use Rattle.gk_run.specs.Events.{Event as RunEvent, of_step, of_cleanup, SectionNow, cut_at, ended_in, left_by, refused}
 use Rattle.gk_run.specs.OpenSection.{Run}
 use Rattle.gk_run.specs.Running.{alone}
 use Rattle.gk_run.specs.Section.{Cut, nowhere, in_before, in_steps, in_after, in_cleanups, Events, after_of, before_of, happened, in_order, has_event, site_of}
@@ -26,15 +26,15 @@ use Rattle.gk_explain.specs.Explanation.{ExplanationValue, with_section, with_ca
 use Rattle.gk_explain.specs.Explainer.{is_cut, said, Hears, CasesAreExplained}
 
 -- Events are all of one level.
-abbrev pub AllAt : Level → List Told → Type 0
+abbrev pub AllAt : Level → List RunEvent → Type 0
 AllAt level [] = Unit {0}
 AllAt level (t ∷ ts) = (level_of t ≡ level) × AllAt level ts
 
-at_both : (level : Level) (xs ys : List Told) → AllAt level xs → AllAt level ys → AllAt level (xs ++ ys)
+at_both : (level : Level) (xs ys : List RunEvent) → AllAt level xs → AllAt level ys → AllAt level (xs ++ ys)
 at_both level [] ys a b = b
 at_both level (x ∷ xs) ys a b = (a.0, at_both level xs ys a.1 b)
 
-at_if : (level : Level) (test : Bool) (xs : List Told) → AllAt level xs → AllAt level (cond test xs [])
+at_if : (level : Level) (test : Bool) (xs : List RunEvent) → AllAt level xs → AllAt level (cond test xs [])
 at_if level true xs a = a
 at_if level false xs a = tt
 
@@ -51,21 +51,21 @@ at_steps library endings.Failed s (step ∷ steps) = (refl, at_steps library end
 at_steps library endings.Skipped s (step ∷ steps) = (refl, at_steps library endings.Skipped s steps)
 at_steps library endings.Memory s (step ∷ steps) = (refl, at_steps library endings.Memory s steps)
 
-at_each : (library : LibraryValue) (level : Level) (stand : Stand) (lists : List (List StepValue)) → AllAt level (walk_each library level stand lists)
-at_each library level stand [] = tt
-at_each library level stand (steps ∷ others) =
-    let this = walk library (after_of level) stand.state steps in
-    at_both _ this _ (at_walk library (after_of level) stand.state steps) (at_each library level (left_by stand this) others)
+at_each : (library : LibraryValue) (level : Level) (section : SectionNow) (lists : List (List StepValue)) → AllAt level (walk_each library level section lists)
+at_each library level section [] = tt
+at_each library level section (steps ∷ others) =
+    let this = walk library (after_of level) section.state steps in
+    at_both _ this _ (at_walk library (after_of level) section.state steps) (at_each library level (left_by section this) others)
 
 at_in_turn : (library : LibraryValue) (level : Level) (s : State) (cleanups : List CleanupValue) → AllAt level (clean_each library level s cleanups)
 at_in_turn library level s [] = tt
 at_in_turn library level s (c ∷ cs) = let done = done_of (act library sites.Cleanup c.found c.block s) in (refl, at_in_turn library level done.state cs)
 
-at_refused : {level : Level} (s : State) (t : Told) → level_of t ≡ level → level_of (refused s t) ≡ level
+at_refused : {level : Level} (s : State) (t : RunEvent) → level_of t ≡ level → level_of (refused s t) ≡ level
 at_refused s (of_step place step mark cleanups s') a = a
 at_refused s (of_cleanup level cleanup outcome s') a = a
 
-at_cut : (level : Level) (n : ℕ) (s : State) (ts : List Told) → AllAt level ts → AllAt level (cut_at n s ts)
+at_cut : (level : Level) (n : ℕ) (s : State) (ts : List RunEvent) → AllAt level ts → AllAt level (cut_at n s ts)
 at_cut level n s [] a = tt
 at_cut level zero s (t ∷ ts) a = (at_refused s t a.0, tt)
 at_cut level (suc n) s (t ∷ ts) a = (a.0, at_cut level n s ts a.1)
@@ -105,7 +105,7 @@ abbrev with_scenario : SectionValue → ExplanationValue → ExplanationValue
 with_scenario scenario e = record e { scenario = scenario }
 
 -- An explainer that isn't cut keeps of a scenario what all its events make, which it was told.
-hears_all : (ts : List Told) (old new : Explainer) → AllAt levels.Scenario ts → FoldsTo Hears old ts new → is_cut new ≡ false →
+hears_all : (ts : List RunEvent) (old new : Explainer) → AllAt levels.Scenario ts → FoldsTo Hears old ts new → is_cut new ≡ false →
     (is_cut old ≡ false) × (said new ≡ with_scenario (after_events (said old).library (said old).names ts (said old).scenario) (said old))
 hears_all [] old new a h uncut =
     subst (λ (e : Explainer). (is_cut e ≡ false) × (said new ≡ with_scenario (said e).scenario (said e))) (sym h) (uncut, refl)

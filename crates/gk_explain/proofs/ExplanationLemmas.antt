@@ -8,7 +8,7 @@ use Rattle.gk_world.specs.State.{State}
 use Rattle.gk_run.specs.declared.results.Mark.{Mark}
 use Rattle.gk_run.specs.declared.section.Stage.{Stage}
 use Rattle.gk_run.specs.Acting.{CleanupValue}
-use Rattle.gk_run.specs.Events.{Event as Told, of_step}
+use Rattle.gk_run.specs.Events.{Event as RunEvent, of_step}
 use Rattle.gk_run.specs.declared.section.Level.{Level}
 use Rattle.gk_run.specs.declared.section.Level.TheVariants as levels
 use Rattle.gk_explain.specs.Details.{event_details}
@@ -29,24 +29,24 @@ pub in_scenario : (e : ExplanationValue) (level : Level) (change : SectionValue 
 in_scenario e level change new is becomes = ap (λ (new : SectionValue). record e { scenario = new }) becomes ∙ ap (λ (level : Level). with_section level change e) (sym is)
 
 -- What an event makes of a section, where its file has this name.
-abbrev pub added : ExplanationValue → Told → List ℕ → SectionValue → SectionValue
+abbrev pub added : ExplanationValue → RunEvent → List ℕ → SectionValue → SectionValue
 added e told source old = after_event e.library (record { hooks = e.names.hooks; source = source }) told old
 
-pub added_by : {T E : Type 0} (result : Result T E) (e : ExplanationValue) (told : Told) (old : SectionValue) (kept : LibraryValue) (source : List ℕ) (new : SectionValue) (put : LibraryValue → ExplanationValue) → (new ≡ after_event e.library e.names told old → put e.library ≡ with_event told e) → kept ≡ e.library → source ≡ e.names.source → OnOk result (new ≡ added e told source old) → OnOk result (put kept ≡ with_event told e)
+pub added_by : {T E : Type 0} (result : Result T E) (e : ExplanationValue) (told : RunEvent) (old : SectionValue) (kept : LibraryValue) (source : List ℕ) (new : SectionValue) (put : LibraryValue → ExplanationValue) → (new ≡ after_event e.library e.names told old → put e.library ≡ with_event told e) → kept ≡ e.library → source ≡ e.names.source → OnOk result (new ≡ added e told source old) → OnOk result (put kept ≡ with_event told e)
 added_by result e told old kept source new put step stays named said =
     subst (λ (library : LibraryValue). OnOk result (put library ≡ with_event told e)) (sym stays)
     (on_ok_weaker result (λ becomes. step (becomes ∙ ap (λ (source : List ℕ). added e told source old) named)) said)
 
-pub run_added : {T E : Type 0} (result : Result T E) (e : ExplanationValue) (told : Told) (kept : LibraryValue) (source : List ℕ) (new : SectionValue) → level_of told ≡ levels.Run → kept ≡ e.library → source ≡ e.names.source → OnOk result (new ≡ added e told source e.run) → OnOk result (record e { library = kept; run = new } ≡ with_event told e)
+pub run_added : {T E : Type 0} (result : Result T E) (e : ExplanationValue) (told : RunEvent) (kept : LibraryValue) (source : List ℕ) (new : SectionValue) → level_of told ≡ levels.Run → kept ≡ e.library → source ≡ e.names.source → OnOk result (new ≡ added e told source e.run) → OnOk result (record e { library = kept; run = new } ≡ with_event told e)
 run_added result e told kept source new is = added_by result e told e.run kept source new (λ library. record e { library = library; run = new }) (in_run e (level_of told) (after_event e.library e.names told) new is)
 
-pub feature_added : {T E : Type 0} (result : Result T E) (e : ExplanationValue) (told : Told) (kept : LibraryValue) (source : List ℕ) (new : SectionValue) → level_of told ≡ levels.Feature → kept ≡ e.library → source ≡ e.names.source → OnOk result (new ≡ added e told source e.feature) → OnOk result (record e { library = kept; feature = new } ≡ with_event told e)
+pub feature_added : {T E : Type 0} (result : Result T E) (e : ExplanationValue) (told : RunEvent) (kept : LibraryValue) (source : List ℕ) (new : SectionValue) → level_of told ≡ levels.Feature → kept ≡ e.library → source ≡ e.names.source → OnOk result (new ≡ added e told source e.feature) → OnOk result (record e { library = kept; feature = new } ≡ with_event told e)
 feature_added result e told kept source new is = added_by result e told e.feature kept source new (λ library. record e { library = library; feature = new }) (in_feature e (level_of told) (after_event e.library e.names told) new is)
 
-pub rule_added : {T E : Type 0} (result : Result T E) (e : ExplanationValue) (told : Told) (kept : LibraryValue) (source : List ℕ) (new : SectionValue) → level_of told ≡ levels.Rule → kept ≡ e.library → source ≡ e.names.source → OnOk result (new ≡ added e told source e.rule) → OnOk result (record e { library = kept; rule = new } ≡ with_event told e)
+pub rule_added : {T E : Type 0} (result : Result T E) (e : ExplanationValue) (told : RunEvent) (kept : LibraryValue) (source : List ℕ) (new : SectionValue) → level_of told ≡ levels.Rule → kept ≡ e.library → source ≡ e.names.source → OnOk result (new ≡ added e told source e.rule) → OnOk result (record e { library = kept; rule = new } ≡ with_event told e)
 rule_added result e told kept source new is = added_by result e told e.rule kept source new (λ library. record e { library = library; rule = new }) (in_rule e (level_of told) (after_event e.library e.names told) new is)
 
-pub scenario_added : {T E : Type 0} (result : Result T E) (e : ExplanationValue) (told : Told) (kept : LibraryValue) (source : List ℕ) (new : SectionValue) → level_of told ≡ levels.Scenario → kept ≡ e.library → source ≡ e.names.source → OnOk result (new ≡ added e told source e.scenario) → OnOk result (record e { library = kept; scenario = new } ≡ with_event told e)
+pub scenario_added : {T E : Type 0} (result : Result T E) (e : ExplanationValue) (told : RunEvent) (kept : LibraryValue) (source : List ℕ) (new : SectionValue) → level_of told ≡ levels.Scenario → kept ≡ e.library → source ≡ e.names.source → OnOk result (new ≡ added e told source e.scenario) → OnOk result (record e { library = kept; scenario = new } ≡ with_event told e)
 scenario_added result e told kept source new is = added_by result e told e.scenario kept source new (λ library. record e { library = library; scenario = new }) (in_scenario e (level_of told) (after_event e.library e.names told) new is)
 
 -- What a step registered isn't said.

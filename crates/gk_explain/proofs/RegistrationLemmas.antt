@@ -26,7 +26,7 @@ use Rattle.gk_run.specs.declared.section.Stage.{Stage}
 use Rattle.gk_run.specs.Acting.{ActionEffect as Result, CleanupValue, ArgumentsValue, act, does_at_site, table, skip_outcome, done_of, fails, arguments_of, is_pass, may_register, registers as registers_found, without_cleanups}
 use Rattle.gk_run.specs.SectionHooks.{clean_each, after_lists, before_list, entered, walk_each}
 use Rattle.gk_run.specs.Ending.{ending_of, has_passed}
-use Rattle.gk_run.specs.Events.{Event as Told, of_step, Stand, after_event, ended_in, left_by}
+use Rattle.gk_run.specs.Events.{Event as RunEvent, of_step, SectionNow, after_event, ended_in, left_by}
 use Rattle.gk_run.specs.Running.{alone}
 use Rattle.gk_run.specs.Section.{after_of, before_of, in_order, site_of, steps_of_case}
 use Rattle.gk_run.specs.Walk.{looked_up, one_step, stepped, steps_from, walk}
@@ -101,11 +101,11 @@ by_found None library site s step r = none
 by_found (Some f) library site s step r = (let action = action_of library f in by_does (row_of action).does action site library (arguments_of library f step.block) s r)
 
 -- What is registered by events that lead from some cleanups to others, and come to no cleanup that runs.
-record Adds (library : LibraryValue) (ts : List Told) (before after : List CleanupValue) : Type 0 where
+record Adds (library : LibraryValue) (ts : List RunEvent) (before after : List CleanupValue) : Type 0 where
   added : List CleanupValue
   paired : ArePaired (flat_map (registered_by library) ts) (flat_map placed_by ts) added
   is_after : after ≡ before ++ added
-  passes : (rs : List Registration) (later : List Told) → placed_cleanups library rs (ts ++ later) ≡ placed_cleanups library (rs ++ flat_map (registered_by library) ts) later
+  passes : (rs : List Registration) (later : List RunEvent) → placed_cleanups library rs (ts ++ later) ≡ placed_cleanups library (rs ++ flat_map (registered_by library) ts) later
 
 adds_none : (library : LibraryValue) (c : List CleanupValue) → Adds library [] c c
 adds_none library c = record {
@@ -115,10 +115,10 @@ adds_none library c = record {
   passes = λ rs later. ap (λ (rs : List Registration). placed_cleanups library rs later) (sym (append-nil rs));
 }
 
-adds_first : (library : LibraryValue) (place : Stage) (step : StepValue) (mark : Mark) (s : State) (ts : List Told) (c registered after : List CleanupValue) →
+adds_first : (library : LibraryValue) (place : Stage) (step : StepValue) (mark : Mark) (s : State) (ts : List RunEvent) (c registered after : List CleanupValue) →
     ArePaired (registered_by library (of_step place step mark registered s)) (placed_by (of_step place step mark registered s)) registered → Adds library ts (c ++ registered) after → Adds library (of_step place step mark registered s ∷ ts) c after
 adds_first library place step mark s ts c registered after first rest =
-    let t : Told = of_step place step mark registered s in
+    let t : RunEvent = of_step place step mark registered s in
     record {
       added = registered ++ rest.added;
       paired = both first rest.paired;
@@ -127,7 +127,7 @@ adds_first library place step mark s ts c registered after first rest =
           ∙ ap (λ (rs : List Registration). placed_cleanups library rs later) (append_assoc rs (registered_by library t) (flat_map (registered_by library) ts));
     }
 
-adds_both : (library : LibraryValue) (ts us : List Told) (c c' c'' : List CleanupValue) → Adds library ts c c' → Adds library us c' c'' → Adds library (ts ++ us) c c''
+adds_both : (library : LibraryValue) (ts us : List RunEvent) (c c' c'' : List CleanupValue) → Adds library ts c c' → Adds library us c' c'' → Adds library (ts ++ us) c c''
 adds_both library ts us c c' c'' a b =
     let places = flat_map-append (registered_by library) ts us in
     let placing = flat_map-append placed_by ts us in
@@ -141,17 +141,17 @@ adds_both library ts us c c' c'' a b =
     }
 
 -- Where a section stands.
-abbrev at : State → List CleanupValue → Stand
+abbrev at : State → List CleanupValue → SectionNow
 at s cleanups = record { state = s; cleanups = cleanups }
 
 -- What events add to the cleanups that are registered before them.
-abbrev AddsFrom : LibraryValue → Stand → List Told → Type 0
-AddsFrom library stand ts = Adds library ts stand.cleanups (left_by stand ts).cleanups
+abbrev AddsFrom : LibraryValue → SectionNow → List RunEvent → Type 0
+AddsFrom library section ts = Adds library ts section.cleanups (left_by section ts).cleanups
 
 -- A walk that goes on, or doesn't.
-adds_if : (test : Bool) (library : LibraryValue) (stand : Stand) (ts : List Told) → AddsFrom library stand ts → AddsFrom library stand (cond test ts [])
-adds_if true library stand ts a = a
-adds_if false library stand ts a = adds_none library stand.cleanups
+adds_if : (test : Bool) (library : LibraryValue) (section : SectionNow) (ts : List RunEvent) → AddsFrom library section ts → AddsFrom library section (cond test ts [])
+adds_if true library section ts a = a
+adds_if false library section ts a = adds_none library section.cleanups
 
 adds_walk : (library : LibraryValue) (place : Stage) (s : State) (c : List CleanupValue) (steps : List StepValue) → AddsFrom library (at s c) (walk library place s steps)
 adds_walk library place s c [] = adds_none library c
@@ -178,20 +178,20 @@ adds_steps library endings.Skipped s c (step ∷ steps) = adds_first library ste
 adds_steps library endings.Memory s c (step ∷ steps) =
     adds_first library steps_of_case step (looked_up library Skipped step) s _ c [] _ (not_carried_out (is_some (found library step.step_type step.text)) _ _) (adds_steps library endings.Memory s (c ++ []) steps)
 
-left_both : (stand : Stand) (xs ys : List Told) → left_by stand (xs ++ ys) ≡ left_by (left_by stand xs) ys
-left_both stand [] ys = refl
-left_both stand (x ∷ xs) ys = left_both (after_event stand x) xs ys
+left_both : (section : SectionNow) (xs ys : List RunEvent) → left_by section (xs ++ ys) ≡ left_by (left_by section xs) ys
+left_both section [] ys = refl
+left_both section (x ∷ xs) ys = left_both (after_event section x) xs ys
 
-adds_on : (library : LibraryValue) (stand : Stand) (xs ys : List Told) → AddsFrom library stand xs → AddsFrom library (left_by stand xs) ys → AddsFrom library stand (xs ++ ys)
-adds_on library stand xs ys a b =
-    let mid = left_by stand xs in
-    subst (λ (last : Stand). Adds library (xs ++ ys) stand.cleanups last.cleanups) (sym (left_both stand xs ys)) (adds_both library xs ys stand.cleanups mid.cleanups (left_by mid ys).cleanups a b)
+adds_on : (library : LibraryValue) (section : SectionNow) (xs ys : List RunEvent) → AddsFrom library section xs → AddsFrom library (left_by section xs) ys → AddsFrom library section (xs ++ ys)
+adds_on library section xs ys a b =
+    let mid = left_by section xs in
+    subst (λ (last : SectionNow). Adds library (xs ++ ys) section.cleanups last.cleanups) (sym (left_both section xs ys)) (adds_both library xs ys section.cleanups mid.cleanups (left_by mid ys).cleanups a b)
 
-adds_each : (library : LibraryValue) (level : Level) (stand : Stand) (lists : List (List StepValue)) → AddsFrom library stand (walk_each library level stand lists)
-adds_each library level stand [] = adds_none library stand.cleanups
-adds_each library level stand (steps ∷ others) =
-    let this = walk library (after_of level) stand.state steps in
-    adds_on library stand this (walk_each library level (left_by stand this) others) (adds_walk library (after_of level) stand.state stand.cleanups steps) (adds_each library level (left_by stand this) others)
+adds_each : (library : LibraryValue) (level : Level) (section : SectionNow) (lists : List (List StepValue)) → AddsFrom library section (walk_each library level section lists)
+adds_each library level section [] = adds_none library section.cleanups
+adds_each library level section (steps ∷ others) =
+    let this = walk library (after_of level) section.state steps in
+    adds_on library section this (walk_each library level (left_by section this) others) (adds_walk library (after_of level) section.state section.cleanups steps) (adds_each library level (left_by section this) others)
 
 -- The last of what something was pushed to, and the rest.
 one_less : (xs : List Registration) (x : Registration) → length (xs ++ x ∷ []) - 1 ≡ length xs
@@ -239,7 +239,7 @@ placed_by_their_steps run section c =
     let all = adds_both library told.before (told.steps ++ told.after) [] opened.cleanups each.cleanups
     (adds_walk library (before_of levels.Scenario) (enter section) [] (before_list run.hooks levels.Scenario c.own_tags)) inner in
     let pairs = all.paired.pairs in
-    let order : in_order told ≡ first ++ told.cleanups = sym (append_assoc told.before (told.steps ++ told.after) told.cleanups ∙ ap (λ (ts : List Told). told.before ++ ts) (append_assoc told.steps told.after told.cleanups)) in
+    let order : in_order told ≡ first ++ told.cleanups = sym (append_assoc told.before (told.steps ++ told.after) told.cleanups ∙ ap (λ (ts : List RunEvent). told.before ++ ts) (append_assoc told.steps told.after told.cleanups)) in
     let places : flat_map (registered_by library) first ≡ reverse (map place_in (reverse pairs)) =
     all.paired.is_places ∙ sym (reverse_map place_in (reverse pairs) ∙ ap (map place_in) (reverse-reverse pairs)) in
     let cleanups : reverse each.cleanups ≡ map cleanup_in (reverse pairs) =

@@ -16,7 +16,7 @@ use Rattle.gk_run.specs.declared.section.Level.TheVariants as levels
 use Rattle.gk_run.specs.declared.section.Part.TheVariants as parts
 use Rattle.gk_run.specs.Acting.{CleanupValue}
 use Rattle.gk_run.specs.Results.{CaseRow, FeatureRow}
-use Rattle.gk_run.specs.Events.{Event as Told, of_step, of_cleanup}
+use Rattle.gk_run.specs.Events.{Event as RunEvent, of_step, of_cleanup}
 use Rattle.gk_report.specs.ReportTexts.{status_text, reason_text}
 use Rattle.gk_report.specs.PlainReport.{status_line}
 use Rattle.gk_steps.specs.declared.action.Action.TheVariants as actions
@@ -52,7 +52,7 @@ abbrev begun : ExplanationValue
 begun = with_source (codes "f") (nothing_said [] (codes "h") [])
 
 -- Events, one after another.
-abbrev after_events : List Told → ExplanationValue → ExplanationValue
+abbrev after_events : List RunEvent → ExplanationValue → ExplanationValue
 after_events [] e = e
 after_events (told ∷ others) e = after_events others (with_event told e)
 

@@ -17,7 +17,7 @@ use Rattle.gk_run.specs.declared.results.Outcome.TheVariants.{Failed}
 use Rattle.gk_run.specs.declared.results.Reason.{Reason}
 use Rattle.gk_run.specs.declared.results.Reason.TheVariants as reasons
 use Rattle.gk_run.specs.Acting.{ArgumentsValue, arguments_of}
-use Rattle.gk_run.specs.Events.{Event as Told, of_step, of_cleanup}
+use Rattle.gk_run.specs.Events.{Event as RunEvent, of_step, of_cleanup}
 use Rattle.gk_report.specs.ReportTexts.{line_feed}
 use Rattle.gk_explain.specs.declared.differences.Position.{Position}
 use Rattle.gk_explain.specs.Differences.{first_difference}
@@ -83,11 +83,6 @@ word_of Value = codes "value"
 unfoldable pub absent_line : ActsOn → List ℕ → List ℕ
 absent_line acts_on name = codes "      there is no " ++ (word_of acts_on ++ (codes " \"" ++ (shown name ++ codes "\"\n")))
 
--- The text that is in an action's way: the one under its name or, if a file is renamed, the one under the new name.
-abbrev pub present_text : Action → ArgumentsValue → State → List ℕ
-present_text actions.RenameFile g s = unwrap_or (s.files g.to) []
-present_text action g s = found_text action g s
-
 -- The line with a number that is to be added.
 unfoldable pub added_number : ℤ → List ℕ
 added_number n = codes "      to be added: " ++ (signed_decimal n ++ line_feed)
@@ -124,7 +119,7 @@ text_length count = codes "      the text has " ++ (decimal count ++ codes " byt
 abbrev pub details : LibraryValue → Action → ArgumentsValue → Reason → State → List ℕ
 details library action g reasons.Differs s = difference action g (found_text action g s)
 details library action g reasons.Absent s = absent_line (row_of action).acts_on g.name
-details library action g reasons.Present s = found_below (present_text action g s)
+details library action g reasons.Present s = found_below (found_text action g s)
 details library action g reasons.NotNumber s = found_below (found_text action g s)
 details library action g reasons.OutOfRange s = sum_out_of_range (found_text action g s) g.number
 details library action g reasons.OtherLayer s = in_outer_layer (found_text action g s)
@@ -151,6 +146,6 @@ mark_details library step Undefined s = nearest_told library step.text
 mark_details library step mark s = []
 
 -- The text below the line of an event. The library finds the action of a step; that of a cleanup was found before. The state is the one that the event left. A check, or a change that is refused, leaves what it found.
-unfoldable pub event_details : LibraryValue → Told → List ℕ
+unfoldable pub event_details : LibraryValue → RunEvent → List ℕ
 event_details library (of_step place step mark cleanups s) = mark_details library step mark s
 event_details library (of_cleanup level cleanup outcome s) = outcome_details library cleanup.found cleanup.block outcome s

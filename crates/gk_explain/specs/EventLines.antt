@@ -9,7 +9,7 @@ use Rattle.gk_run.specs.declared.section.Part.{Part}
 use Rattle.gk_run.specs.declared.section.Part.TheVariants as parts
 use Rattle.gk_run.specs.declared.section.Stage.{Stage}
 use Rattle.gk_run.specs.Ending.{status_of_mark, reason_of_mark}
-use Rattle.gk_run.specs.Events.{Event as Told, of_step, of_cleanup}
+use Rattle.gk_run.specs.Events.{Event as RunEvent, of_step, of_cleanup}
 use Rattle.gk_steps.specs.Finding.{LibraryValue}
 use Rattle.gk_report.specs.PlainReport.{status_line, step_verdict}
 use Rattle.gk_explain.specs.declared.event_lines.Names.{Names}
@@ -62,10 +62,10 @@ line_of_step names place step mark =
     status_line (codes "  " ++ place_text (file_of names place.part) step.line ++ part_text place.part ++ step.keyword ++ codes " " ++ escaped step.text) (mark_text mark)
 
 -- The line of an event of a section with these cleanups still to run. A cleanup that runs is the last of them.
-abbrev pub event_line : NamesValue → List Registration → Told → List ℕ
+abbrev pub event_line : NamesValue → List Registration → RunEvent → List ℕ
 event_line names registered (of_step place step mark cleanups s) = line_of_step names place step mark
 event_line names registered (of_cleanup level cleanup outcome s) = line_of_cleanup names (last_of registered) outcome
 
 -- The lines of an event: its own, and the text below it.
-abbrev pub event_lines : LibraryValue → NamesValue → List Registration → Told → List ℕ
+abbrev pub event_lines : LibraryValue → NamesValue → List Registration → RunEvent → List ℕ
 event_lines library names registered told = event_line names registered told ++ event_details library told

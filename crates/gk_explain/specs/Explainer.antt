@@ -3,10 +3,10 @@ use Rattle.std.specs.Prelude.{◌≡◌, ◌≤◌, ℕ, Bool, false, List, leng
 use Rattle.gk_select.specs.Case.{CaseValue}
 use Rattle.gk_world.specs.State.{State}
 use Rattle.gk_run.specs.declared.results.Status.{Status}
-use Rattle.gk_run.specs.Running.{is_bad, IsCaseTold, alone, reached_row}
+use Rattle.gk_run.specs.Running.{is_failed_or_memory, IsCaseTold, alone, reached_row}
 use Rattle.gk_run.specs.Results.{CaseRow}
 use Rattle.gk_run.specs.OpenSection.{Run}
-use Rattle.gk_run.specs.Events.{Event as Told, EndTold, of_case, of_rule}
+use Rattle.gk_run.specs.Events.{Event as RunEvent, EndTold, of_case, of_rule}
 use Rattle.gk_run.specs.Section.{Cut, happened, in_order}
 use Rattle.gk_explain.specs.declared.explainer.Explainer.{Explainer}
 use Rattle.gk_explain.specs.SectionLines.{SectionValue, untold, after_events}
@@ -25,12 +25,12 @@ abbrev pub Becomes : Explainer → (ExplanationValue → ExplanationValue) → E
 Becomes old change new = is_cut new ≡ false → (is_cut old ≡ false) × (said new ≡ change (said old))
 
 -- An explainer was told an event.
-abbrev pub Hears : Explainer → Told → Explainer → Type 0
+abbrev pub Hears : Explainer → RunEvent → Explainer → Type 0
 Hears old told new = Becomes old (with_event told) new
 
 -- An end that neither failed nor was refused memory cuts no explainer: memory is asked for only if there is something to explain.
-abbrev pub IsCutOnlyByBad : Status → Explainer → Explainer → Type 0
-IsCutOnlyByBad status old new = is_bad status ≡ false → is_cut new ≡ is_cut old
+abbrev pub IsCutOnlyByFailure : Status → Explainer → Explainer → Type 0
+IsCutOnlyByFailure status old new = is_failed_or_memory status ≡ false → is_cut new ≡ is_cut old
 
 -- A feature whose file's name fits the room that is kept for it cuts no explainer: memory is asked for only if the name is longer.
 abbrev pub IsCutOnlyByLongName : List ℕ → Explainer → Explainer → Type 0
@@ -43,7 +43,7 @@ told_status (of_rule r) = r.around
 
 -- An explainer was told that a scenario or a rule has ended.
 abbrev pub HearsEnd : Explainer → EndTold → Explainer → Type 0
-HearsEnd old ended new = Becomes old (with_ended ended) new × IsCutOnlyByBad (told_status ended) old new
+HearsEnd old ended new = Becomes old (with_ended ended) new × IsCutOnlyByFailure (told_status ended) old new
 
 -- What is kept of a case after its events, in order, with these cut at one of them.
 abbrev pub case_told : Explainer → Run → State → CaseValue → Cut → SectionValue

@@ -6,7 +6,7 @@ use Rattle.gk_run.specs.declared.results.Status.{Status}
 use Rattle.gk_run.specs.declared.section.Level.{Level}
 use Rattle.gk_run.specs.declared.section.Level.TheVariants as levels
 use Rattle.gk_run.specs.Results.{CaseRow, RuleRow, FeatureRow}
-use Rattle.gk_run.specs.Events.{Event as Told, EndTold, of_case, of_rule}
+use Rattle.gk_run.specs.Events.{Event as RunEvent, EndTold, of_case, of_rule}
 use Rattle.gk_explain.specs.declared.explanation.Explanation.{Explanation}
 use Rattle.gk_explain.specs.Event.{level_of}
 use Rattle.gk_explain.specs.EventLines.{NamesValue}
@@ -58,7 +58,7 @@ with_section levels.Rule change e = record e { rule = change e.rule }
 with_section levels.Scenario change e = record e { scenario = change e.scenario }
 
 -- One more event, added to its section.
-abbrev pub with_event : Told → ExplanationValue → ExplanationValue
+abbrev pub with_event : RunEvent → ExplanationValue → ExplanationValue
 with_event told e = with_section (level_of told) (after_event e.library e.names told) e
 
 -- Something has ended with a status, under a heading and with the lines of its events. It is ready, and in the list, if it failed or was refused memory.

@@ -2,7 +2,7 @@
 use Rattle.std.specs.Prelude.{ℕ, cond, List, [], ◌∷◌, ◌++◌, codes}
 use Rattle.gk_run.specs.declared.results.Status.{Status}
 use Rattle.gk_run.specs.Results.{CaseRow, RuleRow, FeatureRow, case_row, rule_row, feature_row}
-use Rattle.gk_run.specs.Running.{is_bad}
+use Rattle.gk_run.specs.Running.{is_failed_or_memory}
 use Rattle.gk_report.specs.ReportTexts.{status_text, line_feed}
 use Rattle.gk_report.specs.PlainReport.{status_line}
 use Rattle.gk_explain.specs.declared.headings.ExplainedEnd.{ExplainedEnd}
@@ -50,11 +50,11 @@ explanation_text heading status lines = status_line heading (status_text status)
 
 -- The explanation of what ended with this status, if it failed or was refused memory; otherwise nothing.
 abbrev pub explained : List ℕ → Status → List ℕ → List ℕ
-explained heading status lines = cond (is_bad status) (explanation_text heading status lines) []
+explained heading status lines = cond (is_failed_or_memory status) (explanation_text heading status lines) []
 
 -- Its line in the list of what failed, if it failed or was refused memory; otherwise nothing.
 abbrev pub listed : List ℕ → Status → List ℕ
-listed heading status = cond (is_bad status) (heading ++ line_feed) []
+listed heading status = cond (is_failed_or_memory status) (heading ++ line_feed) []
 
 -- The list of what failed, followed by an empty line unless the list is empty.
 abbrev pub failures_text : List ℕ → List ℕ

@@ -12,7 +12,7 @@ use Rattle.gk_run.specs.declared.results.Mark.{Mark}
 use Rattle.gk_run.specs.declared.results.Mark.TheVariants.{Acted}
 use Rattle.gk_run.specs.Acting.{CleanupValue, is_pass}
 use Rattle.gk_run.specs.OpenSection.{Run}
-use Rattle.gk_run.specs.Events.{Event as Told, of_step, of_cleanup}
+use Rattle.gk_run.specs.Events.{Event as RunEvent, of_step, of_cleanup}
 use Rattle.gk_run.specs.Section.{in_order}
 use Rattle.gk_run.specs.Running.{alone}
 use Rattle.gk_explain.specs.declared.registrations.Registration.{Registration}
@@ -37,7 +37,7 @@ abbrev pub registers : LibraryValue → StepValue → Mark → Bool
 registers library step mark = is_passed mark && found_registers library (found library step.step_type step.text)
 
 -- The place where an event registered a cleanup, if it did: the part of its section that contains the step, and the step's line.
-abbrev pub registered_by : LibraryValue → Told → List Registration
+abbrev pub registered_by : LibraryValue → RunEvent → List Registration
 registered_by library (of_step place step mark cleanups s) = cond (registers library step mark) (record { part = place.part; line = step.line } ∷ []) []
 registered_by library (of_cleanup level cleanup outcome s) = []
 
@@ -50,7 +50,7 @@ abbrev pub all_but_last : List Registration → List Registration
 all_but_last registered = take (length registered - 1) registered
 
 -- The places of the cleanups that are still to run after an event of their section, in the order of registration. If the event registered a cleanup, its place is added; if the event is a cleanup, that was the last, and its place is removed. (behave's documentation: cleanups)
-abbrev pub left_to_run : LibraryValue → Told → List Registration → List Registration
+abbrev pub left_to_run : LibraryValue → RunEvent → List Registration → List Registration
 left_to_run library (of_step place step mark cleanups s) registered = registered ++ registered_by library (of_step place step mark cleanups s)
 left_to_run library (of_cleanup level cleanup outcome s) registered = all_but_last registered
 
@@ -60,13 +60,13 @@ pub record PlacedCleanup : Type 0 where
   pub cleanup : CleanupValue
 
 -- The cleanups that run among events, in order, after these registrations. Each has the last place of those that are still to run.
-abbrev pub placed_cleanups : LibraryValue → List Registration → List Told → List PlacedCleanup
+abbrev pub placed_cleanups : LibraryValue → List Registration → List RunEvent → List PlacedCleanup
 placed_cleanups library registered [] = []
 placed_cleanups library registered (of_step place step mark cleanups s ∷ events) = placed_cleanups library (left_to_run library (of_step place step mark cleanups s) registered) events
 placed_cleanups library registered (of_cleanup level cleanup outcome s ∷ events) = record { at = last_of registered; cleanup = cleanup } ∷ placed_cleanups library (all_but_last registered) events
 
 -- The cleanups that an event registered, each with the place of its step.
-abbrev pub placed_by : Told → List PlacedCleanup
+abbrev pub placed_by : RunEvent → List PlacedCleanup
 placed_by (of_step place step mark cleanups s) = map (λ cleanup. record { at = Some (record { part = place.part; line = step.line }); cleanup = cleanup }) cleanups
 placed_by (of_cleanup level cleanup outcome s) = []
 

@@ -1,7 +1,7 @@
 -- The lines and registrations that are kept of an open section.
 use Rattle.std.specs.Prelude.{ℕ, List, [], ◌∷◌, ◌++◌, string_bytes}
 use Rattle.gk_steps.specs.Finding.{LibraryValue}
-use Rattle.gk_run.specs.Events.{Event as Told}
+use Rattle.gk_run.specs.Events.{Event as RunEvent}
 use Rattle.gk_explain.specs.declared.registrations.Registration.{Registration}
 use Rattle.gk_explain.specs.declared.section_lines.SectionLines.{SectionLines}
 use Rattle.gk_explain.specs.Registrations.{left_to_run}
@@ -21,10 +21,10 @@ abbrev pub untold : SectionValue
 untold = record { lines = []; registered = [] }
 
 -- A section after one more event.
-abbrev pub after_event : LibraryValue → NamesValue → Told → SectionValue → SectionValue
+abbrev pub after_event : LibraryValue → NamesValue → RunEvent → SectionValue → SectionValue
 after_event library names told section = record { lines = section.lines ++ event_lines library names section.registered told; registered = left_to_run library told section.registered }
 
 -- A section after more events, one after another.
-abbrev pub after_events : LibraryValue → NamesValue → List Told → SectionValue → SectionValue
+abbrev pub after_events : LibraryValue → NamesValue → List RunEvent → SectionValue → SectionValue
 after_events library names [] section = section
 after_events library names (told ∷ events) section = after_events library names events (after_event library names told section)

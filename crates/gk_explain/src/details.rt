@@ -153,17 +153,6 @@ fn push_absent(out: &mut String, acts_on: ActsOn, name: &str) -> Result<(), Allo
     out.push_str("\"\n")
 }
 
-// Returns the text that is in an action's way.
-fn present_text<'a>(action: Action, given: &Arguments<'_>, sandbox: &'a Sandbox) -> &'a str
-    ensures { result.now ≡ spec.present_text action (arguments_value given.now)
-        (state_of sandbox.now.now) }
-{
-    match action {
-        Action::RenameFile => sandbox.file(given.to).unwrap_or(""),
-        _ => found_text(action, given, sandbox),
-    }
-}
-
 // Appends the line with a number that is to be added.
 fn push_added(out: &mut String, number: i64) -> Result<(), AllocError>
     ensures { Pushes out.old (spec.added_number number) result out.new }
@@ -273,8 +262,7 @@ fn push_details(
     match failure.reason {
         Reason::Differs => push_difference(alloc, out, action, given, found),
         Reason::Absent => push_absent(out, action.row().acts_on, given.name),
-        Reason::Present => push_text(alloc, out, "found   ", present_text(action, given, sandbox)),
-        Reason::NotNumber => push_text(alloc, out, "found   ", found),
+        Reason::Present | Reason::NotNumber => push_text(alloc, out, "found   ", found),
         Reason::OutOfRange => push_sum(alloc, out, found, given.number),
         Reason::OtherLayer => push_in_outer_layer(alloc, out, found),
         Reason::BadTable => push_table(out, given.block),

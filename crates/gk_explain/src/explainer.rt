@@ -7,7 +7,7 @@ ghost use Rattle.gk_explain.specs.Registrations.{CleanupsAreOfTheirSteps};
 ghost use Rattle.gk_explain.specs.Headings.{failures_text};
 ghost use Rattle.gk_explain.specs.Explanation.{nothing_said, with_source, with_feature, with_run, with_taken};
 ghost use Rattle.gk_explain.specs.Explainer as spec;
-ghost use Rattle.gk_explain.specs.Explainer.{said, Becomes, Hears, HearsEnd, CasesAreExplained, IsCutOnlyByBad, IsCutOnlyByLongName};
+ghost use Rattle.gk_explain.specs.Explainer.{said, Becomes, Hears, HearsEnd, CasesAreExplained, IsCutOnlyByFailure, IsCutOnlyByLongName};
 
 use crate::event::{CleanupEvent, Event, StepEvent};
 use crate::explanation::Explanation;
@@ -95,7 +95,7 @@ impl<'a> Explainer<'a> {
     /// is asked for unless they failed or were refused memory.
     pub fn end_feature(&mut self, feature: &FeatureResult)
         ensures becomes { Becomes self.old (with_feature (feature_row feature.now)) self.new }
-        ensures kept { IsCutOnlyByBad feature.now.around self.old self.new }
+        ensures kept { IsCutOnlyByFailure feature.now.around self.old self.new }
     {
         if self.cut {
             return;
@@ -109,7 +109,7 @@ impl<'a> Explainer<'a> {
     /// none is asked for unless they failed or were refused memory.
     pub fn end_run(&mut self, around: Status)
         ensures becomes { Becomes self.old (with_run around) self.new }
-        ensures kept { IsCutOnlyByBad around self.old self.new }
+        ensures kept { IsCutOnlyByFailure around self.old self.new }
     {
         if self.cut {
             return;

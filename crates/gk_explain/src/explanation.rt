@@ -13,7 +13,7 @@ use crate::headings::{ExplainedEnd, ended_status, push_explanation, push_heading
 use crate::nearest_lines::NearestLines;
 use crate::row_lines::{row_at, rows_from};
 use crate::section_lines::SectionLines;
-use gk_run::{CaseResult, FeatureResult, Level, RuleResult, Status, is_bad};
+use gk_run::{CaseResult, FeatureResult, Level, RuleResult, Status, is_failed_or_memory};
 use gk_select::ExampleRow;
 use gk_steps::Library;
 use std::alloc::{AllocError, Global};
@@ -80,10 +80,10 @@ impl Explained {
             (headings.listed (headings.heading_of source.now ended.entry)
             (headings.ended_status ended.entry)) result self.new.failures }
         ensures section { OnOk result (section_value section.new ≡ untold) }
-        ensures free { cases.is_bad (headings.ended_status ended.entry) ≡ false →
+        ensures free { cases.is_failed_or_memory (headings.ended_status ended.entry) ≡ false →
             OnErr result ⊥ }
     {
-        if is_bad(ended_status(ended)) {
+        if is_failed_or_memory(ended_status(ended)) {
             self.add(source, ended, row, section.lines())?;
         }
         section.clear();
@@ -161,7 +161,7 @@ impl<'a> Explanation<'a> {
     pub fn end_feature(&mut self, feature: &FeatureResult) -> Result<(), AllocError>
         ensures ended { OnOk result (explanation_value self.new
             ≡ with_feature (feature_row feature.now) (explanation_value self.old)) }
-        ensures free { cases.is_bad feature.now.around ≡ false → OnErr result ⊥ }
+        ensures free { cases.is_failed_or_memory feature.now.around ≡ false → OnErr result ⊥ }
     {
         let source = self.source.as_str();
         self.explained.end(
@@ -197,7 +197,7 @@ impl<'a> Explanation<'a> {
     pub fn end_case(&mut self, case: &CaseResult) -> Result<(), AllocError>
         ensures ended { OnOk result (explanation_value self.new
             ≡ with_case (case_row case.now) (explanation_value self.old)) }
-        ensures free { cases.is_bad case.now.status ≡ false → OnErr result ⊥ }
+        ensures free { cases.is_failed_or_memory case.now.status ≡ false → OnErr result ⊥ }
     {
         self.rows = rows_from(self.rows, case.line);
         let row = row_at(self.rows, case.line);
@@ -214,7 +214,7 @@ impl<'a> Explanation<'a> {
     pub fn end_rule(&mut self, rule: &RuleResult) -> Result<(), AllocError>
         ensures ended { OnOk result (explanation_value self.new
             ≡ with_rule (rule_row rule.now) (explanation_value self.old)) }
-        ensures free { cases.is_bad rule.now.around ≡ false → OnErr result ⊥ }
+        ensures free { cases.is_failed_or_memory rule.now.around ≡ false → OnErr result ⊥ }
     {
         let source = self.source.as_str();
         self.explained
@@ -225,7 +225,7 @@ impl<'a> Explanation<'a> {
     pub fn end_run(&mut self, around: Status) -> Result<(), AllocError>
         ensures ended { OnOk result (explanation_value self.new
             ≡ with_run around (explanation_value self.old)) }
-        ensures free { cases.is_bad around ≡ false → OnErr result ⊥ }
+        ensures free { cases.is_failed_or_memory around ≡ false → OnErr result ⊥ }
     {
         let source = self.source.as_str();
         self.explained

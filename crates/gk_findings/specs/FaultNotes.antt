@@ -12,7 +12,7 @@ use Rattle.gk_steps.specs.declared.library_fault.LibraryFault.{LibraryFault}
 use Rattle.gk_explain.specs.Shown.{shown}
 use Rattle.gk_request.specs.declared.run_fault.RunFault.{RunFault}
 use Rattle.gk_request.specs.declared.run_fault.RunFault.TheVariants.{Read, Library}
-use Rattle.gk_findings.specs.Hints.{hint, place_hint}
+use Rattle.gk_findings.specs.Hints.{hint}
 use Rattle.gk_findings.specs.TagHints.{tags_hint}
 use Rattle.gk_request.specs.Source.{SourceValue}
 use Rattle.gk_request.specs.Request.{FilesValue}
@@ -38,9 +38,9 @@ quote_of (Some file) None = []
 quote_of (Some file) (Some n) = quote (line_text file.bytes n)
 
 -- The hint for an unexpected line of a feature file, by its cause, if the file has the line.
-abbrev pub cause_hint : Option Cause → List ℕ
-cause_hint None = place_hint
-cause_hint (Some cause) = cause_text cause
+abbrev pub cause_hint : RunFault → Option Cause → List ℕ
+cause_hint fault None = hint fault
+cause_hint fault (Some cause) = cause_text cause
 
 -- The lines of a file, without the byte-order mark that it may begin with. Bytes that aren't UTF-8 appear as U+FFFD.
 abbrev pub lines_in : List ℕ → List (List ℕ)
@@ -53,7 +53,7 @@ library_cause_hint fault (Some cause) = library_cause_text cause
 
 -- The hint for a fault in a file, if it is in one. That for an unexpected line of a feature file goes by what is above the line, and that for a fault of a library by its line and those above.
 abbrev pub hint_in : Option SourceValue → RunFault → List ℕ
-hint_in (Some file) (Read input (Unexpected n)) = cause_hint (cause_at (lines_in file.bytes) (n - 1))
+hint_in (Some file) (Read input (Unexpected n)) = cause_hint (Read input (Unexpected n)) (cause_at (lines_in file.bytes) (n - 1))
 hint_in (Some file) (Library fault) = library_cause_hint fault (library_cause (lines_in file.bytes) fault)
 hint_in file fault = hint fault
 

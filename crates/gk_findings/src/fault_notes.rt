@@ -11,7 +11,7 @@ ghost use Rattle.gk_request.specs.Request.{suite_value};
 ghost use Rattle.gk_findings.specs.FaultNotes as spec;
 
 use crate::finding_lines::{place_of, text_lines};
-use crate::hints::{hint, place_hint};
+use crate::hints::hint;
 use crate::tag_hints::tags_hint;
 use gk_explain::push_shown;
 use gk_gherkin::ReadFault;
@@ -99,22 +99,27 @@ fn cause_in(alloc: Global, bytes: &[u8], line: u32) -> Result<Option<Cause>, All
 }
 
 // Returns the hint for an unexpected line.
-fn cause_hint(alloc: Global, cause: Option<Cause>) -> Result<String, AllocError>
-    ensures { IfOk result (λ text. string_bytes text ≡ spec.cause_hint cause) }
+fn cause_hint(alloc: Global, cause: Option<Cause>, fault: RunFault) -> Result<String, AllocError>
+    ensures { IfOk result (λ text. string_bytes text ≡ spec.cause_hint fault cause) }
 {
     match cause {
         Some(cause) => cause.text(alloc),
-        None => String::from_str(alloc, place_hint()),
+        None => String::from_str(alloc, hint(fault)),
     }
 }
 
 // Returns the hint for an unexpected line of a feature file.
-fn unexpected_hint(alloc: Global, file: &Source, line: u32) -> Result<String, AllocError>
-    ensures { IfOk result (λ text. string_bytes text ≡ spec.cause_hint (cause_of_lines
+fn unexpected_hint(
+    alloc: Global,
+    file: &Source,
+    line: u32,
+    fault: RunFault,
+) -> Result<String, AllocError>
+    ensures { IfOk result (λ text. string_bytes text ≡ spec.cause_hint fault (cause_of_lines
         (spec.lines_in (source_value file.now).bytes) (line - 1))) }
 {
     let cause = cause_in(alloc, file.bytes.as_slice(), line)?;
-    cause_hint(alloc, cause)
+    cause_hint(alloc, cause, fault)
 }
 
 // Returns what a fault of a library with these bytes concerns, if it can be named.
@@ -165,7 +170,7 @@ fn hint_in(alloc: Global, file: Option<&Source>, fault: RunFault) -> Result<Stri
             fault: ReadFault::Unexpected { line },
             ..
         } => match file {
-            Some(file) => unexpected_hint(alloc, file, line),
+            Some(file) => unexpected_hint(alloc, file, line, fault),
             None => String::from_str(alloc, hint(fault)),
         },
         RunFault::Library(of_library) => match file {

@@ -5,7 +5,7 @@ use Rattle.gk_gherkin.specs.declared.hook_headings.HooksClass.TheVariants.{HookL
 use Rattle.gk_gherkin.specs.declared.class.Class.TheVariants.{Blank, Comment, RowLine, StepLine}
 use Rattle.gk_gherkin.specs.declared.class.Class.{Class}
 use Rattle.gk_gherkin.specs.declared.read_fault.ReadFault.{ReadFault}
-use Rattle.gk_gherkin.specs.HooksReader.{HooksReader, InHook, NoHook, OpenedValue, begun, hook_after, hook_of, hooks_of, hooks_readers, on, on_hook, on_hook_body, on_plain_line, has_heading, takes_text}
+use Rattle.gk_gherkin.specs.HooksReader.{HooksReader, InHook, NoHook, OpenedValue, hook_begun, hook_after, hook_of, hooks_of, hooks_readers, on, on_hook, on_hook_body, on_plain_line, has_heading, takes_text}
 use Rattle.gk_gherkin.specs.Reading.{Outside, State, finish, reading, run, step}
 use Rattle.gk_gherkin.specs.OpenParts.{Body, NoSteps, Steps, on_body, steps_of}
 use Rattle.gk_gherkin.specs.Hooks.{HookValue}
@@ -74,7 +74,7 @@ unfolding on_hook
 heading_step reader hook l is w n f =
     hook_line reader (InHook (record { before = hooks_of reader; kind = hook.kind; tag = hook.tag; line = hook.line }) NoSteps) l is
     (ap (λ (r : Option HookHeadingValue). hook_after r (hooks_of reader) l) w
-    ∙ ap (λ (b : Bool). begun b (hooks_of reader) (heading_of hook) l) f
+    ∙ ap (λ (b : Bool). hook_begun b (hooks_of reader) (heading_of hook) l) f
     ∙ ap (λ (n : ℕ). let r : Result HooksReader ReadFault = Ok (InHook (record { before = hooks_of reader; kind = hook.kind; tag = hook.tag; line = n }) NoSteps) in r) (sym n))
 
 run_hook : {ls rest : Lines} (reader : HooksReader) (hook : HookValue) → IsHook ls hook rest → has_heading (heading_of hook) (hooks_of reader) ≡ false

@@ -4,7 +4,7 @@ use Rattle.gk_gherkin.specs.declared.hook_headings.HooksClass.TheVariants.{HookL
 use Rattle.gk_gherkin.specs.declared.class.Class.TheVariants.{Blank, Comment, StepLine}
 use Rattle.gk_gherkin.specs.declared.class.Class.{Class}
 use Rattle.gk_gherkin.specs.declared.hook_headings.HooksClass.{HooksClass}
-use Rattle.gk_gherkin.specs.HooksReader.{HooksReader, InHook, NoHook, OpenedValue, begun, hook_after, hook_of, hooks_of, hooks_readers, on, on_hook, on_hook_body, on_plain_line, opened_from, has_heading}
+use Rattle.gk_gherkin.specs.HooksReader.{HooksReader, InHook, NoHook, OpenedValue, hook_begun, hook_after, hook_of, hooks_of, hooks_readers, on, on_hook, on_hook_body, on_plain_line, opened_from, has_heading}
 use Rattle.gk_gherkin.specs.Reading.{Outside, InText, State, finish, opened, reading, run}
 use Rattle.gk_gherkin.specs.OpenParts.{Body, NoSteps, Steps, steps_of}
 use Rattle.gk_gherkin.specs.Hooks.{HookValue}
@@ -53,15 +53,15 @@ closed_hooks (InHook opened body) whole rest p =
     (Many-push o.hooks made, distinct_push opened.before (hook_of opened (steps_of body)) o.distinct o.fresh)
 
 -- a heading
-begun-built : (b : Bool) (hooks : List HookValue) (heading : HookHeadingValue) (whole mid rest : Lines) (l : LineValue) (t : HooksReader) → has_heading heading hooks ≡ b → hooks_class l ≡ HookLine → hook_heading l ≡ Some heading → Many IsHook whole hooks mid → AreDistinct hooks → Next IsIgnored mid l rest → begun b hooks heading l ≡ Ok t → ReaderBuilt t whole rest
-begun-built true hooks heading whole mid rest l t s c w many d n e = no_ok e
-begun-built false hooks heading whole mid rest l t s c w many d n e =
+hook_begun-built : (b : Bool) (hooks : List HookValue) (heading : HookHeadingValue) (whole mid rest : Lines) (l : LineValue) (t : HooksReader) → has_heading heading hooks ≡ b → hooks_class l ≡ HookLine → hook_heading l ≡ Some heading → Many IsHook whole hooks mid → AreDistinct hooks → Next IsIgnored mid l rest → hook_begun b hooks heading l ≡ Ok t → ReaderBuilt t whole rest
+hook_begun-built true hooks heading whole mid rest l t s c w many d n e = no_ok e
+hook_begun-built false hooks heading whole mid rest l t s c w many d n e =
     let made : OpenedBuilt (opened_from hooks heading l) whole rest = record { mid = mid; hooks = many; line = l; next = n; is = c; heading = w; number = refl; distinct = d; fresh = fresh_so heading hooks s } in
     subst (λ t. ReaderBuilt t whole rest) (ok_same e) (rest, made, refl)
 
 heading-built : (r : Option HookHeadingValue) (hooks : List HookValue) (whole mid rest : Lines) (l : LineValue) (t : HooksReader) → hook_heading l ≡ r → hooks_class l ≡ HookLine → Many IsHook whole hooks mid → AreDistinct hooks → Next IsIgnored mid l rest → hook_after r hooks l ≡ Ok t → ReaderBuilt t whole rest
 heading-built None hooks whole mid rest l t w c many d n e = no_ok e
-heading-built (Some heading) hooks whole mid rest l t w c many d n e = begun-built (has_heading heading hooks) hooks heading whole mid rest l t refl c w many d n e
+heading-built (Some heading) hooks whole mid rest l t w c many d n e = hook_begun-built (has_heading heading hooks) hooks heading whole mid rest l t refl c w many d n e
 
 on_hook-built : (reader : HooksReader) (whole mid rest : Lines) (l : LineValue) (t : HooksReader) → hooks_class l ≡ HookLine → ReaderBuilt reader whole mid → Next IsIgnored mid l rest → on_hook reader l ≡ Ok t → ReaderBuilt t whole rest
 unfolding on_hook

@@ -8,7 +8,7 @@ use Rattle.gk_gherkin.specs.declared.read_fault.ReadFault.TheVariants.{BadHook, 
 use Rattle.gk_gherkin.specs.declared.class.Class.{Class}
 use Rattle.gk_gherkin.specs.declared.read_fault.ReadFault.{ReadFault}
 use Rattle.gk_gherkin.specs.declared.hook_headings.HooksClass.{HooksClass}
-use Rattle.gk_gherkin.specs.HooksReader.{HooksReader, InHook, Needs, NoHook, after_text, begun, hook_after, hooks_of, hooks_readers, on, on_hook, on_hook_body, on_plain_line, opened_from, has_heading, takes_text}
+use Rattle.gk_gherkin.specs.HooksReader.{HooksReader, InHook, Needs, NoHook, after_text, hook_begun, hook_after, hooks_of, hooks_readers, on, on_hook, on_hook_body, on_plain_line, opened_from, has_heading, takes_text}
 use Rattle.gk_gherkin.specs.Reading.{Outside, FailsAs, FailsBy, InText, State, finish, opened, opening, reading, run, step}
 use Rattle.gk_gherkin.specs.OpenParts.{Body, NoSteps, Steps, on_body}
 use Rattle.gk_gherkin.specs.Hooks.{HookValue, hooks_value}
@@ -107,7 +107,7 @@ plain_says before reader l c e r is bare same h =
 -- where a hook line stands, one with a fresh heading may
 heading_step : (reader : HooksReader) (l : LineValue) (heading : HookHeadingValue) → hooks_class l ≡ HookLine → hook_heading l ≡ Some heading → has_heading heading (hooks_of reader) ≡ false → step hooks_readers (Outside reader) l ≡ Ok (Outside (InHook (opened_from (hooks_of reader) heading l) NoSteps))
 unfolding on_hook
-heading_step reader l heading is w f = hook_line reader (InHook (opened_from (hooks_of reader) heading l) NoSteps) l is (ap (λ (r : Option HookHeadingValue). hook_after r (hooks_of reader) l) w ∙ ap (λ (b : Bool). begun b (hooks_of reader) heading l) f)
+heading_step reader l heading is w f = hook_line reader (InHook (opened_from (hooks_of reader) heading l) NoSteps) l is (ap (λ (r : Option HookHeadingValue). hook_after r (hooks_of reader) l) w ∙ ap (λ (b : Bool). hook_begun b (hooks_of reader) heading l) f)
 
 may_stand : (before : Lines) (reader : HooksReader) (l : LineValue) → run hooks_readers (Outside NoHook) before ≡ Ok (Outside reader) → hooks_class l ≡ HookLine → SomeLikeIt AreHooksReadable hooks_class before l
 may_stand before reader l r is =
@@ -145,13 +145,13 @@ named_bad before reader l e r is named bad =
     let fault : IsBadHook before l = record { is = is; fits = may_stand before reader l r is; bad = bad } in
     subst (λ e. Says e before l) named (refl, fault)
 
-begun_says : (b : Bool) (before : Lines) (reader : HooksReader) (l : LineValue) (heading : HookHeadingValue) (e : ReadFault) → run hooks_readers (Outside NoHook) before ≡ Ok (Outside reader) → hooks_class l ≡ HookLine → hook_heading l ≡ Some heading → has_heading heading (hooks_of reader) ≡ b → begun b (hooks_of reader) heading l ≡ Err e → Says e before l
-begun_says true before reader l heading e r is w s h = named_bad before reader l e r is (err_same h) (inr (stood before reader l heading r w s))
-begun_says false before reader l heading e r is w s h = no_err h
+hook_begun_says : (b : Bool) (before : Lines) (reader : HooksReader) (l : LineValue) (heading : HookHeadingValue) (e : ReadFault) → run hooks_readers (Outside NoHook) before ≡ Ok (Outside reader) → hooks_class l ≡ HookLine → hook_heading l ≡ Some heading → has_heading heading (hooks_of reader) ≡ b → hook_begun b (hooks_of reader) heading l ≡ Err e → Says e before l
+hook_begun_says true before reader l heading e r is w s h = named_bad before reader l e r is (err_same h) (inr (stood before reader l heading r w s))
+hook_begun_says false before reader l heading e r is w s h = no_err h
 
 hook_says : (o : Option HookHeadingValue) (before : Lines) (reader : HooksReader) (l : LineValue) (e : ReadFault) → run hooks_readers (Outside NoHook) before ≡ Ok (Outside reader) → hooks_class l ≡ HookLine → hook_heading l ≡ o → hook_after o (hooks_of reader) l ≡ Err e → Says e before l
 hook_says None before reader l e r is w h = named_bad before reader l e r is (err_same h) (inl w)
-hook_says (Some heading) before reader l e r is w h = begun_says (has_heading heading (hooks_of reader)) before reader l heading e r is w refl h
+hook_says (Some heading) before reader l e r is w h = hook_begun_says (has_heading heading (hooks_of reader)) before reader l heading e r is w refl h
 
 on_hook_says : (before : Lines) (reader : HooksReader) (l : LineValue) (e : ReadFault) → run hooks_readers (Outside NoHook) before ≡ Ok (Outside reader) → hooks_class l ≡ HookLine → on_hook reader l ≡ Err e → Says e before l
 unfolding on_hook

@@ -13,50 +13,22 @@ module _ (OfLines : ReadFault → Lines → Type 0) (one_of_lines : (ls : Lines)
   too_long bytes faults.Memory k f g = absurd (k refl)
   too_long bytes faults.TooLong k f g = refl
   too_long bytes (faults.NotUtf8 m) k f g = short bytes f g.0
-  too_long bytes (faults.Unexpected m) k f g = short bytes f g.0.0
-  too_long bytes (faults.BadTag m) k f g = short bytes f g.0.0
-  too_long bytes (faults.CellCount m) k f g = short bytes f g.0.0
-  too_long bytes (faults.UnclosedText m) k f g = short bytes f g.0.0
-  too_long bytes (faults.TagsAtEnd m) k f g = short bytes f g.0.0
-  too_long bytes (faults.Language m) k f g = short bytes f g.0.0
-  too_long bytes (faults.BadRow m) k f g = short bytes f g.0.0
-  too_long bytes (faults.BadHook m) k f g = short bytes f g.0.0
+  too_long bytes _ k f g = short bytes f g.0.0
 
   not_utf8 : (bytes : List ℕ) (n : ℕ) (other : ReadFault) → other ≢ faults.Memory → IsNotUtf8At bytes n → FaultSays OfLines other bytes → faults.NotUtf8 n ≡ other
   not_utf8 bytes n faults.Memory k f g = absurd (k refl)
   not_utf8 bytes n faults.TooLong k f g = short bytes g f.0
   not_utf8 bytes n (faults.NotUtf8 m) k f g = ap faults.NotUtf8 (f.2 ∙ sym g.2)
-  not_utf8 bytes n (faults.Unexpected m) k f g = absurd (f.1 g.0.1)
-  not_utf8 bytes n (faults.BadTag m) k f g = absurd (f.1 g.0.1)
-  not_utf8 bytes n (faults.CellCount m) k f g = absurd (f.1 g.0.1)
-  not_utf8 bytes n (faults.UnclosedText m) k f g = absurd (f.1 g.0.1)
-  not_utf8 bytes n (faults.TagsAtEnd m) k f g = absurd (f.1 g.0.1)
-  not_utf8 bytes n (faults.Language m) k f g = absurd (f.1 g.0.1)
-  not_utf8 bytes n (faults.BadRow m) k f g = absurd (f.1 g.0.1)
-  not_utf8 bytes n (faults.BadHook m) k f g = absurd (f.1 g.0.1)
+  not_utf8 bytes n _ k f g = absurd (f.1 g.0.1)
 
   of_lines : (bytes : List ℕ) (one other : ReadFault) → one ≢ faults.Memory → other ≢ faults.Memory → IsText bytes → OfLines one (lines_of bytes) → FaultSays OfLines other bytes → one ≡ other
   of_lines bytes one faults.Memory m k t f g = absurd (k refl)
   of_lines bytes one faults.TooLong m k t f g = short bytes g t.0
   of_lines bytes one (faults.NotUtf8 o) m k t f g = absurd (g.1 t.1)
-  of_lines bytes one (faults.Unexpected o) m k t f g = one_of_lines (lines_of bytes) one (faults.Unexpected o) m k f g.1
-  of_lines bytes one (faults.BadTag o) m k t f g = one_of_lines (lines_of bytes) one (faults.BadTag o) m k f g.1
-  of_lines bytes one (faults.CellCount o) m k t f g = one_of_lines (lines_of bytes) one (faults.CellCount o) m k f g.1
-  of_lines bytes one (faults.UnclosedText o) m k t f g = one_of_lines (lines_of bytes) one (faults.UnclosedText o) m k f g.1
-  of_lines bytes one (faults.TagsAtEnd o) m k t f g = one_of_lines (lines_of bytes) one (faults.TagsAtEnd o) m k f g.1
-  of_lines bytes one (faults.Language o) m k t f g = one_of_lines (lines_of bytes) one (faults.Language o) m k f g.1
-  of_lines bytes one (faults.BadRow o) m k t f g = one_of_lines (lines_of bytes) one (faults.BadRow o) m k f g.1
-  of_lines bytes one (faults.BadHook o) m k t f g = one_of_lines (lines_of bytes) one (faults.BadHook o) m k f g.1
+  of_lines bytes one other m k t f g = one_of_lines (lines_of bytes) one other m k f g.1
 
   pub one_fault : HaveOneFault OfLines
   one_fault bytes faults.Memory other m k f g = absurd (m refl)
   one_fault bytes faults.TooLong other m k f g = too_long bytes other k f g
   one_fault bytes (faults.NotUtf8 n) other m k f g = not_utf8 bytes n other k f g
-  one_fault bytes (faults.Unexpected n) other m k f g = of_lines bytes (faults.Unexpected n) other m k f.0 f.1 g
-  one_fault bytes (faults.BadTag n) other m k f g = of_lines bytes (faults.BadTag n) other m k f.0 f.1 g
-  one_fault bytes (faults.CellCount n) other m k f g = of_lines bytes (faults.CellCount n) other m k f.0 f.1 g
-  one_fault bytes (faults.UnclosedText n) other m k f g = of_lines bytes (faults.UnclosedText n) other m k f.0 f.1 g
-  one_fault bytes (faults.TagsAtEnd n) other m k f g = of_lines bytes (faults.TagsAtEnd n) other m k f.0 f.1 g
-  one_fault bytes (faults.Language n) other m k f g = of_lines bytes (faults.Language n) other m k f.0 f.1 g
-  one_fault bytes (faults.BadRow n) other m k f g = of_lines bytes (faults.BadRow n) other m k f.0 f.1 g
-  one_fault bytes (faults.BadHook n) other m k f g = of_lines bytes (faults.BadHook n) other m k f.0 f.1 g
+  one_fault bytes one other m k f g = of_lines bytes one other m k f.0 f.1 g

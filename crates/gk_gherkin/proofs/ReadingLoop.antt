@@ -28,16 +28,7 @@ module _ {S : Type 0} (step : S → LineValue → Result S ReadFault) (s : S) (a
 
   pub ends : (f : ReadFault) → Fails f (step s (line_at n text)) → run_by step s (numbered_from n (drop i all)) ≡ total → Fails f total
   ends faults.Memory r so_far = tt
-  ends (faults.NotUtf8 n) r so_far = err (faults.NotUtf8 n) r so_far
-  ends (faults.Unexpected n) r so_far = err (faults.Unexpected n) r so_far
-  ends (faults.BadTag n) r so_far = err (faults.BadTag n) r so_far
-  ends (faults.CellCount n) r so_far = err (faults.CellCount n) r so_far
-  ends (faults.UnclosedText n) r so_far = err (faults.UnclosedText n) r so_far
-  ends (faults.TagsAtEnd n) r so_far = err (faults.TagsAtEnd n) r so_far
-  ends (faults.Language n) r so_far = err (faults.Language n) r so_far
-  ends (faults.BadRow n) r so_far = err (faults.BadRow n) r so_far
-  ends (faults.BadHook n) r so_far = err (faults.BadHook n) r so_far
-  ends faults.TooLong r so_far = err faults.TooLong r so_far
+  ends f r so_far = err f r so_far
 
 pub is_done : {S : Type 0} (step : S → LineValue → Result S ReadFault) (s : S) (all : List (List ℕ)) (i n : ℕ) (total : Result S ReadFault) → length all ≤ i → run_by step s (numbered_from n (drop i all)) ≡ total → total ≡ Ok s
 unfolding run_by

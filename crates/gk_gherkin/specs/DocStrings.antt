@@ -8,7 +8,7 @@ use Rattle.gk_gherkin.specs.declared.class.Fence.TheVariants.{Quotes, Backticks}
 use Rattle.gk_gherkin.specs.Class.{fence_text}
 use Rattle.gk_gherkin.specs.Text.{begins}
 
--- Whether a line closes the doc string that a fence opened: its trimmed text is that fence alone. (Cucumber's Gherkin reference: doc strings)
+-- Whether a line closes the doc string that a fence opened: its trimmed text is that fence alone. (Cucumber's Gherkin reference: doc strings; that nothing may follow is this project's profile)
 unfoldable pub closes : Fence → LineValue → Bool
 closes fence line = begins (trim line.text) (fence_text fence) && (length (trim line.text) == 3)
 

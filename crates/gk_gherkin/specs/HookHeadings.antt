@@ -22,12 +22,12 @@ pub record HookHeadingValue : Type 0 where
   pub kind : HookKind
   pub tag : Option (List ℕ)
 
--- A heading without a tag, and its kind. (behave's documentation: environment file functions)
+-- A heading without a tag, and its kind. (behave's documentation: environment file functions; those of a rule are this project's profile)
 pub record PlainHeading : Type 0 where
   pub text : List ℕ
   pub kind : HookKind
 
--- All headings without a tag. (behave's documentation: environment file functions)
+-- All headings without a tag. (behave's documentation: environment file functions; those of a rule are this project's profile)
 abbrev pub plain_headings : List PlainHeading
 plain_headings =
     record { text = codes "before_all:"; kind = BeforeAll } ∷ record { text = codes "after_all:"; kind = AfterAll }

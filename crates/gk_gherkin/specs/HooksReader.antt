@@ -47,14 +47,14 @@ abbrev pub opened_from : List HookValue → HookHeadingValue → LineValue → O
 opened_from hooks heading line = record { before = hooks; kind = heading.kind; tag = heading.tag; line = line.line }
 
 -- The reader after a heading, given whether one of the hooks before has it; or the heading's fault.
-abbrev pub begun : Bool → List HookValue → HookHeadingValue → LineValue → Result HooksReader ReadFault
-begun true hooks heading line = Err (BadHook line.line)
-begun false hooks heading line = Ok (InHook (opened_from hooks heading line) NoSteps)
+abbrev pub hook_begun : Bool → List HookValue → HookHeadingValue → LineValue → Result HooksReader ReadFault
+hook_begun true hooks heading line = Err (BadHook line.line)
+hook_begun false hooks heading line = Ok (InHook (opened_from hooks heading line) NoSteps)
 
 -- The reader after a hook line, given its heading, if it is one; or the line's fault.
 abbrev pub hook_after : Option HookHeadingValue → List HookValue → LineValue → Result HooksReader ReadFault
 hook_after None hooks line = Err (BadHook line.line)
-hook_after (Some heading) hooks line = begun (has_heading heading hooks) hooks heading line
+hook_after (Some heading) hooks line = hook_begun (has_heading heading hooks) hooks heading line
 
 -- The reader after a hook line, or the line's fault.
 unfoldable pub on_hook : HooksReader → LineValue → Result HooksReader ReadFault

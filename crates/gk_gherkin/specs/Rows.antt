@@ -41,7 +41,7 @@ cells_of_parts None = None
 cells_of_parts (Some []) = None
 cells_of_parts (Some (part ∷ parts)) = Some (map cell_of (part ∷ parts))
 
--- The cells of a row, between the bar at its beginning and an unescaped bar at its end; `None` if one of these is missing, or if both are the same bar. (Cucumber's Gherkin reference: data tables)
+-- The cells of a row, between the bar at its beginning and an unescaped bar at its end; `None` if one of these is missing, or if both are the same bar. (Cucumber's Gherkin reference: data tables; `None` is this project's profile)
 unfoldable pub cells_of : LineValue → Option (List (List ℕ))
 cells_of line = if begins (trim line.text) (codes "|") then cells_of_parts (parts_of (drop 1 (trim line.text))) else None
 

@@ -105,7 +105,7 @@ fn first_position(hooks: &[Hook], positions: &[usize], kind: HookKind, tag: Opti
 }
 
 /// Returns the first hook for this kind and this tag; without a tag, the first for this kind that
-/// has none. The time it takes doesn't grow with the hooks for other tags.
+/// has none. The time it takes hardly grows with the hooks for other tags.
 pub fn find_hook<'a>(
     hooks: &'a [Hook],
     index: &HookIndex,

@@ -58,7 +58,7 @@ impl<'a> HookTable<'a> {
     }
 
     /// Returns the first hook for this kind and this tag; without a tag, the first for this kind
-    /// that has none. With an index, the time it takes doesn't grow with the hooks for other tags.
+    /// that has none. With an index, the time it takes hardly grows with the hooks for other tags.
     /// (this project's profile)
     pub fn hook(&self, kind: HookKind, tag: Option<&str>) -> Option<&'a Hook>
         ensures { option_map (λ hook. hook_value hook.now) result

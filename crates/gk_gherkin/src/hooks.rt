@@ -6,7 +6,8 @@ ghost use Rattle.gk_gherkin.specs.Hooks as spec;
 use crate::feature::Step;
 
 /// When the steps of a hook run: before or after the whole run, a feature, a rule, a scenario, or
-/// anything with the hook's tag. (behave's documentation: environment file functions)
+/// anything with the hook's tag. (behave's documentation: environment file functions; those of a rule
+/// are this project's profile)
 #[derive(Clone, Copy, Debug, PartialEq, Eq)]
 pub enum HookKind {
     BeforeAll,

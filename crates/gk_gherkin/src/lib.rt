@@ -47,5 +47,5 @@ pub use laws::{
     rules_are_counted,
 };
 pub use lines::{BorrowedLine, Document, LIMIT, Line, Place, borrowed_line, read_lines, text_of};
-pub use read_fault::{ReadFault, Refused};
+pub use read_fault::{AllocationError, FaultText, ReadFault};
 pub use text::trim_back;

@@ -5,7 +5,7 @@ use Rattle.std.specs.declared.alloc.Global.{Global}
 use Rattle.std.specs.List.{All, Any}
 use Rattle.std.specs.Io.KnownBytes.{Appends, Keeps}
 use Rattle.std.proofs.lemmas.Option.{slice_get-map, slice_get_read}
-use Rattle.std.proofs.lemmas.List.{append-nil, drop_all, get_or-map, length-map, map_push, take_all}
+use Rattle.std.proofs.lemmas.List.{append-nil, drop_all, map-append, map_push, take-append-drop, take_all}
 use Rattle.std.proofs.lemmas.List.Elements.{All-push}
 use Rattle.std.proofs.Math.Seq.{drop-cons, take-suc}
 use Rattle.gk_world.specs.State.{Contents, nothing_yet}
@@ -29,7 +29,7 @@ use Rattle.gk_cli.specs.declared.arguments.Words.{Words}
 use Rattle.gk_request.specs.declared.run_fault.RunFault.{RunFault}
 use Rattle.gk_request.specs.declared.run_fault.RunFault.TheVariants as run
 use Rattle.gk_program.specs.Files.{AreRead, IsFaultOfFiles, IsFileFault, Reading, StopsHere, StopsReading, files_in_order, name_of}
-use Rattle.gk_program.specs.Program.{AreGiven, AreTaken, IsFaultAs, IsFaultOfGiven, IsFaultOfRun, IsFlushedRun, IsGiven, IsRefused, IsRun, SaysCallsOfRun, IsRunFrom, SaysProgram, SaysRunFrom, SaysSuite, SaysVariables, contents_given, variables_given, with_variables, hinted}
+use Rattle.gk_program.specs.Program.{AreGiven, AreTaken, IsFaultAs, IsFaultOfGiven, IsFaultOfRun, IsFirstRefused, IsFlushedRun, IsGiven, IsRefused, IsRun, SaysCallsOfRun, IsRunFrom, SaysProgram, SaysRunFrom, SaysSuite, SaysVariables, contents_given, variables_given, with_variables, hinted}
 use Rattle.gk_program.specs.Asked.{files_to_put, names_given}
 use Rattle.gk_program.specs.WorldFiles.{ArePut, StopsPutting}
 use Rattle.gk_findings.specs.declared.env_notes.EnvMistake.{EnvMistake}
@@ -164,32 +164,38 @@ all_taken P f xs i le good = subst (λ l. All P (map f l)) (take_all i xs le) go
 
 -- what a refusal says of the program's fault
 same_fault : (mode : Mode) (variables : List PairValue) (old new : SandboxValue) (mistake : EnvMistake) (name : List ℕ) (fault : Fault) → IsEnvFault mode mistake name fault
-    → ((notes : String Global) → fault ≡ Env notes → Any (IsRefused mode (Env notes)) variables) → SaysVariables mode variables old new (Err fault)
+    → ((notes : String Global) → fault ≡ Env notes → IsFirstRefused mode (Env notes) variables) → SaysVariables mode variables old new (Err fault)
 same_fault mode variables old new mistake name (Env notes) is any = any notes refl
 same_fault mode variables old new mistake name Memory is any = tt
 same_fault mode variables old new mistake name _ is any = absurd is
 
 told_so : (mode : Mode) (variables : List PairValue) (old new : SandboxValue) (v : PairValue) (by : WorldFault) (fault : Fault) → put_refusal v.name v.text ≡ Some by → IsFaultOfVariable mode v.name by fault → IsEnvFault mode (mistake_of by) v.name fault
-    → (IsRefused mode fault v → Any (IsRefused mode fault) variables) → SaysVariables mode variables old new (Err fault)
+    → (IsRefused mode fault v → IsFirstRefused mode fault variables) → SaysVariables mode variables old new (Err fault)
 told_so mode variables old new v by fault h is env any = same_fault mode variables old new (mistake_of by) v.name fault env
-    (λ notes same. subst (λ f. Any (IsRefused mode f) variables) same (any (subst (λ r. IsSomeAnd r (λ reason. IsFaultOfVariable mode v.name reason fault)) (sym h) is)))
+    (λ notes same. subst (λ f. IsFirstRefused mode f variables) same (any (subst (λ r. IsSomeAnd r (λ reason. IsFaultOfVariable mode v.name reason fault)) (sym h) is)))
 
 pub refused : (mode : Mode) (variables : List PairValue) (old new : SandboxValue) (v : PairValue) (by : WorldFault) (fault : Fault) → IsFault (put_refusal v.name v.text) by → IsFaultOfVariable mode v.name by fault
-    → (IsRefused mode fault v → Any (IsRefused mode fault) variables) → SaysVariables mode variables old new (Err fault)
+    → (IsRefused mode fault v → IsFirstRefused mode fault variables) → SaysVariables mode variables old new (Err fault)
 refused mode variables old new v world.Memory fault h is any = subst (λ x. SaysVariables mode variables old new (Err x)) (sym is) tt
 refused mode variables old new v world.Absent fault h is any = told_so mode variables old new v world.Absent fault h is is any
 refused mode variables old new v world.TextTooLong fault h is any = told_so mode variables old new v world.TextTooLong fault h is is any
 refused mode variables old new v world.BadName fault h is any = told_so mode variables old new v world.BadName fault h is is any
 refused mode variables old new v world.OtherLayer fault h is any = told_so mode variables old new v world.OtherLayer fault h is is any
 
-pub refused_here : {X : Type 0} (P : PairValue → Type 0) (f : X → PairValue) (xs : List X) (i : ℕ) (x : X) → i < length xs → x ≡ get_or xs i x → P (f x) → Any P (map f xs)
-refused_here P f xs i x lt is here =
-    let less : i < length (map f xs) = rw length-map lt in
-    (i, f x, less, get_or-map f xs i x (f x) lt ∙ ap f (sym is), here)
+pub refused_here : {X : Type 0} (mode : Mode) (fault : Fault) (f : X → PairValue) (xs : List X) (i : ℕ) (x : X) → i < length xs → x ≡ get_or xs i x → All (λ v. put_refusal v.name v.text ≡ None) (map f (take i xs))
+    → IsRefused mode fault (f x) → IsFirstRefused mode fault (map f xs)
+refused_here mode fault f xs i x lt is taken here = record {
+  before = map f (take i xs);
+  variable = f x;
+  after = map f (drop (suc i) xs);
+  whole = ap (map f) (sym (take-append-drop i xs) ∙ ap (λ l. take i xs ++ l) (drop-cons xs i x lt ∙ ap (λ y. y ∷ drop (suc i) xs) (sym is))) ∙ map-append f (take i xs) (x ∷ drop (suc i) xs);
+  taken = taken;
+  refused = here;
+}
 
 pub of_variables : {S : Type 0} (r : Reading S) (w : Words) (s : S) (d : Device) (variables : List (String Global × String Global)) (old new : SandboxValue) (fault : Fault) → variables ≡ w.env.items
     → SaysVariables w.mode (map pair_value variables) old new (Err fault) → SaysProgram r w s s d d fault
-of_variables r w s d variables old new (Env notes) same says = inl (subst (λ xs. Any (IsRefused w.mode (Env notes)) (map pair_value xs)) same says, refl, untouched d)
+of_variables r w s d variables old new (Env notes) same says = inl (subst (λ xs. IsFirstRefused w.mode (Env notes) (map pair_value xs)) same says, refl, untouched d)
 of_variables r w s d variables old new Memory same says = inl (refl, untouched d)
 of_variables r w s d variables old new _ same says = absurd says
 

@@ -60,6 +60,7 @@ stops_putting reads given left next before between after old middle fault so_far
   between = between;
   all = so_far.all;
   read = so_far.read;
+  texts = so_far.texts;
   stops = stops;
 }
 

@@ -19,10 +19,10 @@ is_lint mode = false
 abbrev pub notes_in : Mode → EnvMistake → List ℕ → List ℕ
 notes_in mode mistake name = if is_lint mode then notes_on_env mistake name else []
 
--- The fault of an `--env` with this mistake and this text before its `=`. Memory may be refused for its notes.
+-- The fault of an `--env` with this mistake and this text before its `=`. Memory may be refused only for notes, so only with `--lint`.
 abbrev pub IsEnvFault : Mode → EnvMistake → List ℕ → Fault → Type 0
 IsEnvFault mode mistake name (Env notes) = string_bytes notes ≡ notes_in mode mistake name
-IsEnvFault mode mistake name Memory = Unit {0}
+IsEnvFault mode mistake name Memory = is_lint mode ≡ true
 IsEnvFault mode mistake name fault = ⊥
 
 -- What is wrong with a variable that the world refuses for this reason.

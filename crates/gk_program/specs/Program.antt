@@ -1,5 +1,5 @@
 -- What the program returns and writes.
-use Rattle.std.specs.Prelude.{◌≡◌, ◌⊎◌, ◌<◌, ◌≤◌, ◌+◌, ℕ, Bool, true, false, List, [], ◌∷◌, map, None, Result, Ok, Err, IsSomeAnd, option_map, string_bytes}
+use Rattle.std.specs.Prelude.{◌≡◌, ◌⊎◌, ◌<◌, ◌≤◌, ◌+◌, ◌++◌, ℕ, Bool, true, false, List, [], ◌∷◌, map, None, Result, Ok, Err, IsSomeAnd, option_map, string_bytes}
 use Rattle.std.specs.Io.KnownBytes.{Keeps}
 use Rattle.std.specs.List.{All, Any}
 use Rattle.clap.specs.Words.{Text}
@@ -83,10 +83,19 @@ IsRefused mode fault v = IsSomeAnd (put_refusal v.name v.text) (λ reason. IsFau
 abbrev pub AreTaken : List PairValue → Type 0
 AreTaken variables = All (λ v. put_refusal v.name v.text ≡ None) variables
 
--- The variables are in the sandbox, and its layers are unchanged; or one of them is refused. Nothing is said of refused memory.
+-- The first of these variables that no sandbox takes, with its fault.
+pub record IsFirstRefused (mode : Mode) (fault : Fault) (variables : List PairValue) : Type 0 where
+  pub before : List PairValue
+  pub variable : PairValue
+  pub after : List PairValue
+  pub whole : variables ≡ before ++ variable ∷ after
+  pub taken : AreTaken before
+  pub refused : IsRefused mode fault variable
+
+-- The variables are in the sandbox, and its layers are unchanged; or the first that is refused has the fault. Nothing is said of refused memory.
 abbrev pub SaysVariables : Mode → List PairValue → SandboxValue → SandboxValue → Result (Unit {0}) Fault → Type 0
 SaysVariables mode variables old new (Ok u) = (new.now ≡ with_variables old.now variables) × (new.saved ≡ old.saved) × AreTaken variables
-SaysVariables mode variables old new (Err (Env notes)) = Any (IsRefused mode (Env notes)) variables
+SaysVariables mode variables old new (Err (Env notes)) = IsFirstRefused mode (Env notes) variables
 SaysVariables mode variables old new (Err Memory) = Unit {0}
 SaysVariables mode variables old new (Err _) = ⊥
 
@@ -190,7 +199,7 @@ SaysRunFrom reads w contents before after old new fault = IsFaultOfGiven reads w
 
 -- A variable is refused, or memory. The system is unchanged, and standard output was not called.
 abbrev pub IsFaultOfVariables : {S : Type 0} → Words → S → S → Device → Device → Fault → Type 0
-IsFaultOfVariables w before after old new (Env notes) = Any (IsRefused w.mode (Env notes)) (variables_given w) × (before ≡ after) × IsUntouched old new
+IsFaultOfVariables w before after old new (Env notes) = IsFirstRefused w.mode (Env notes) (variables_given w) × (before ≡ after) × IsUntouched old new
 IsFaultOfVariables w before after old new Memory = (before ≡ after) × IsUntouched old new
 IsFaultOfVariables w before after old new fault = ⊥
 

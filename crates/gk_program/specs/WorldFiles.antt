@@ -42,13 +42,13 @@ pub record ArePut {S : Type 0} (reads : Reading S) (given : List PairValue) (bef
   pub texts : All IsText files
   pub put : new ≡ with_files old files
 
--- Why a file with a good name isn't put: its path can't be read, its bytes aren't UTF-8 or are too many, or memory was refused.
+-- Why a file with a good name isn't put: its path can't be read, which has no hint; its bytes aren't UTF-8, or they are and are too many, or it has more than any file may have; or memory was refused.
 abbrev pub IsFaultOfFile : {S : Type 0} → Reading S → S → PairValue → S → Fault → Type 0
-IsFaultOfFile reads before given after (CannotRead path hinted) = (string_bytes path ≡ given.text) × reads before given.text (Err reading.Device) after
+IsFaultOfFile reads before given after (CannotRead path hinted) = (string_bytes path ≡ given.text) × (hinted ≡ false) × reads before given.text (Err reading.Device) after
 IsFaultOfFile reads before given after (NotText path) = (string_bytes path ≡ given.text) × ((bytes : List ℕ) × reads before given.text (Ok bytes) after × (IsUtf8 bytes → ⊥))
 IsFaultOfFile reads before given after (TextTooLong path) =
     (string_bytes path ≡ given.text)
-    × (reads before given.text (Err reading.TooLong) after ⊎ ((bytes : List ℕ) × reads before given.text (Ok bytes) after × (is_too_long bytes ≡ true)))
+    × (reads before given.text (Err reading.TooLong) after ⊎ ((bytes : List ℕ) × reads before given.text (Ok bytes) after × IsUtf8 bytes × (is_too_long bytes ≡ true)))
 IsFaultOfFile {S} reads before given after Memory = (before ≡ after) ⊎ ((answer : Result (List ℕ) SourceFault) × reads before given.text answer after)
 IsFaultOfFile reads before given after fault = ⊥
 
@@ -65,6 +65,7 @@ pub record StopsPutting {S : Type 0} (reads : Reading S) (given : List PairValue
   pub between : S
   pub all : map given_of files ++ next ∷ left ≡ given
   pub read : AreRead reads before (map read_of files) between
+  pub texts : All IsText files
   pub stops : IsNotPut reads between next after fault
 
 -- One file was read and put.
@@ -77,7 +78,7 @@ pub record IsPut {S : Type 0} (reads : Reading S) (given : PairValue) (before af
 
 -- The fault of a path that can't be read.
 abbrev pub IsFaultOfPath : List ℕ → SourceFault → Fault → Type 0
-IsFaultOfPath path reading.Device (CannotRead name hinted) = string_bytes name ≡ path
+IsFaultOfPath path reading.Device (CannotRead name hinted) = (string_bytes name ≡ path) × (hinted ≡ false)
 IsFaultOfPath path reading.TooLong (TextTooLong name) = string_bytes name ≡ path
 IsFaultOfPath path reading.Memory Memory = Unit {0}
 IsFaultOfPath path by fault = ⊥
@@ -86,6 +87,6 @@ IsFaultOfPath path by fault = ⊥
 abbrev pub SaysText : List ℕ → List ℕ → List ℕ → SandboxValue → SandboxValue → Result (Unit {0}) Fault → Type 0
 SaysText name bytes path old new (Ok u) = IsUtf8 bytes × (put_refusal name bytes ≡ None) × (new.now ≡ with_file old.now name bytes) × (new.saved ≡ old.saved)
 SaysText name bytes path old new (Err (NotText p)) = (string_bytes p ≡ path) × (IsUtf8 bytes → ⊥)
-SaysText name bytes path old new (Err (TextTooLong p)) = (string_bytes p ≡ path) × (is_too_long bytes ≡ true)
+SaysText name bytes path old new (Err (TextTooLong p)) = (string_bytes p ≡ path) × IsUtf8 bytes × (is_too_long bytes ≡ true)
 SaysText name bytes path old new (Err Memory) = Unit {0}
 SaysText name bytes path old new (Err fault) = ⊥

@@ -171,11 +171,12 @@ impl<'a> PartPieces<'a> {
     }
 
     /// Makes and returns the next piece, which is never empty. Returns `None` if nothing is left, or if the style hides
-    /// the feature. An error comes only if a growth was refused, and it leaves the rest of the part as it was.
+    /// the feature; then nothing is left in later calls either. An error comes only if a growth was refused, and it leaves the rest of the part as it was.
     pub fn next(&mut self, alloc: Global) -> Result<Option<String>, AllocError>
         ensures piece { IfOk result (λ piece. IfSome piece (λ text.
             IsPiece (rest self.old) (string_bytes text) (rest self.new))) }
         ensures none { IfOk result (λ piece. IfNone piece (rest self.old ≡ [])) }
+        ensures ended { IfOk result (λ piece. IfNone piece (rest self.new ≡ [])) }
         ensures err { OnErr result (rest self.new ≡ rest self.old) }
     {
         let mut later = *self;

@@ -56,16 +56,7 @@ hooks_stop (Some s) bytes fault given says named = inr (Hooks fault, [], (subst 
 -- The fault of a hooks file, as a run names it.
 pub says_of_hooks : (file : Option SourceValue) (fault : ReadFault) → SaysHooks (bytes_of file) fault → SaysOfFiles (hooks_files file) (Err (hooks_fault fault))
 says_of_hooks file read_faults.Memory h = tt
-says_of_hooks file read_faults.TooLong h = hooks_stop file h.0 read_faults.TooLong h.1 h.2 (λ e. cc)
-says_of_hooks file (read_faults.NotUtf8 n) h = hooks_stop file h.0 (read_faults.NotUtf8 n) h.1 h.2 (λ e. cc)
-says_of_hooks file (read_faults.Unexpected n) h = hooks_stop file h.0 (read_faults.Unexpected n) h.1 h.2 (λ e. cc)
-says_of_hooks file (read_faults.BadTag n) h = hooks_stop file h.0 (read_faults.BadTag n) h.1 h.2 (λ e. cc)
-says_of_hooks file (read_faults.CellCount n) h = hooks_stop file h.0 (read_faults.CellCount n) h.1 h.2 (λ e. cc)
-says_of_hooks file (read_faults.UnclosedText n) h = hooks_stop file h.0 (read_faults.UnclosedText n) h.1 h.2 (λ e. cc)
-says_of_hooks file (read_faults.TagsAtEnd n) h = hooks_stop file h.0 (read_faults.TagsAtEnd n) h.1 h.2 (λ e. cc)
-says_of_hooks file (read_faults.Language n) h = hooks_stop file h.0 (read_faults.Language n) h.1 h.2 (λ e. cc)
-says_of_hooks file (read_faults.BadRow n) h = hooks_stop file h.0 (read_faults.BadRow n) h.1 h.2 (λ e. cc)
-says_of_hooks file (read_faults.BadHook n) h = hooks_stop file h.0 (read_faults.BadHook n) h.1 h.2 (λ e. cc)
+says_of_hooks file fault h = hooks_stop file h.0 fault h.1 h.2 (λ e. cc)
 
 -- A source that reads.
 pub source_reads : (place : ℕ) (bytes : List ℕ) (reading : Option FeatureValue) → IsReadAs bytes reading → AreFaultsOf (source_at place bytes ∷ []) []

@@ -207,29 +207,13 @@ tags_unread r select_faults.Memory h = tt
 -- The same, after the texts of tags.
 pub library_unread : (r : Request) (rules : List Expression) (fault : LibraryFault) → AreRules r.tags rules → SaysLibrary r.library fault → IsUnread r (library_fault fault)
 library_unread r rules library_faults.Memory tags h = tt
-library_unread r rules library_faults.TooLong tags h = record { rules = rules; tags = tags; bytes = h.0; given = h.1; says = h.2; named = λ e. cc }
-library_unread r rules (library_faults.NotUtf8 n) tags h = record { rules = rules; tags = tags; bytes = h.0; given = h.1; says = h.2; named = λ e. cc }
-library_unread r rules (library_faults.BadType n) tags h = record { rules = rules; tags = tags; bytes = h.0; given = h.1; says = h.2; named = λ e. cc }
-library_unread r rules (library_faults.BadPattern n) tags h = record { rules = rules; tags = tags; bytes = h.0; given = h.1; says = h.2; named = λ e. cc }
-library_unread r rules (library_faults.UnknownAction n) tags h = record { rules = rules; tags = tags; bytes = h.0; given = h.1; says = h.2; named = λ e. cc }
-library_unread r rules (library_faults.MissingField n) tags h = record { rules = rules; tags = tags; bytes = h.0; given = h.1; says = h.2; named = λ e. cc }
-library_unread r rules (library_faults.FieldKind n) tags h = record { rules = rules; tags = tags; bytes = h.0; given = h.1; says = h.2; named = λ e. cc }
-library_unread r rules (library_faults.Ambiguous n) tags h = record { rules = rules; tags = tags; bytes = h.0; given = h.1; says = h.2; named = λ e. cc }
+library_unread r rules fault tags h = record { rules = rules; tags = tags; bytes = h.0; given = h.1; says = h.2; named = λ e. cc }
 
 -- The same, after the texts of tags and the library.
 pub hooks_unread : (r : Request) (rules : List Expression) (entries : LibraryValue) (fault : ReadFault) →
     AreRules r.tags rules → IsLibrary r.library entries → SaysHooks r.hooks fault → IsUnread r (hooks_fault fault)
 hooks_unread r rules entries read_faults.Memory tags library h = tt
-hooks_unread r rules entries read_faults.TooLong tags library h = record { rules = rules; tags = tags; entries = entries; library = library; bytes = h.0; given = h.1; says = h.2; named = λ e. cc }
-hooks_unread r rules entries (read_faults.NotUtf8 n) tags library h = record { rules = rules; tags = tags; entries = entries; library = library; bytes = h.0; given = h.1; says = h.2; named = λ e. cc }
-hooks_unread r rules entries (read_faults.Unexpected n) tags library h = record { rules = rules; tags = tags; entries = entries; library = library; bytes = h.0; given = h.1; says = h.2; named = λ e. cc }
-hooks_unread r rules entries (read_faults.BadTag n) tags library h = record { rules = rules; tags = tags; entries = entries; library = library; bytes = h.0; given = h.1; says = h.2; named = λ e. cc }
-hooks_unread r rules entries (read_faults.CellCount n) tags library h = record { rules = rules; tags = tags; entries = entries; library = library; bytes = h.0; given = h.1; says = h.2; named = λ e. cc }
-hooks_unread r rules entries (read_faults.UnclosedText n) tags library h = record { rules = rules; tags = tags; entries = entries; library = library; bytes = h.0; given = h.1; says = h.2; named = λ e. cc }
-hooks_unread r rules entries (read_faults.TagsAtEnd n) tags library h = record { rules = rules; tags = tags; entries = entries; library = library; bytes = h.0; given = h.1; says = h.2; named = λ e. cc }
-hooks_unread r rules entries (read_faults.Language n) tags library h = record { rules = rules; tags = tags; entries = entries; library = library; bytes = h.0; given = h.1; says = h.2; named = λ e. cc }
-hooks_unread r rules entries (read_faults.BadRow n) tags library h = record { rules = rules; tags = tags; entries = entries; library = library; bytes = h.0; given = h.1; says = h.2; named = λ e. cc }
-hooks_unread r rules entries (read_faults.BadHook n) tags library h = record { rules = rules; tags = tags; entries = entries; library = library; bytes = h.0; given = h.1; says = h.2; named = λ e. cc }
+hooks_unread r rules entries fault tags library h = record { rules = rules; tags = tags; entries = entries; library = library; bytes = h.0; given = h.1; says = h.2; named = λ e. cc }
 
 -- The fault of a source, after the texts of tags, the library and the hooks.
 pub sources_unread : (r : Request) (rules : List Expression) (entries : LibraryValue) (hooks : List HookValue) (fault : RunFault) →

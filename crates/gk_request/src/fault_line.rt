@@ -89,7 +89,12 @@ impl fmt::Display for NamedFault<'_> {
     fn fmt<W: fmt::Write>(&self, f: &mut fmt::Formatter<W>) -> fmt::Result {
         match &self.fault {
             RunFault::Read { fault, .. } => write_placed(f, self.name, fault.line(), fault),
-            RunFault::Library(fault) => write_placed(f, self.name, fault.line(), &fault.text()),
+            RunFault::Library(fault) => write_placed(
+                f,
+                self.name,
+                fault.line(),
+                &fault.said().text,
+            ),
             RunFault::Hooks(fault) => write_placed(f, self.name, fault.line(), fault),
             RunFault::Select {
                 input: Some(_),

@@ -127,12 +127,12 @@ acted_so : (ws : List (Bool × WorldFault)) (r : Result ⊤ WorldFault) (old new
     → IsActed (unless (state_of old.now) (reasons_of ws) after) old (outcome_of r) new
 acted_so ws (Ok x) old new changed after ok answer err e = record {
   carried_out = carried (state_of old.now) ws after (state_of new.now) answer (ap state_of ok.contents ∙ e);
-  layers = record { layers = ok.layers; marks = ok.marks };
+  layers = record { layers = ok.layers; starts = ok.starts };
   kept = λ m. let no : ⊥ = cc in absurd no;
 }
 acted_so ws (Err fault) old new changed after ok answer err e =
     let P : SandboxValue → Type 0 = λ v. IsActed (unless (state_of old.now) (reasons_of ws) after) old (outcome_of {A = ⊤} (Err fault)) v in
-    subst P (sym err) (record { carried_out = refused (state_of old.now) ws after fault answer; layers = record { layers = refl; marks = refl }; kept = λ m. none_written _ old old refl })
+    subst P (sym err) (record { carried_out = refused (state_of old.now) ws after fault answer; layers = record { layers = refl; starts = refl }; kept = λ m. none_written _ old old refl })
 
 -- a change of the world by one call
 pub acted : (ws : List (Bool × WorldFault)) (r : Result ⊤ WorldFault) (o : Outcome) (old new : SandboxValue) (changed : Contents) (after : State) → o ≡ outcome_of r
@@ -210,9 +210,9 @@ skip_free sites.Hook = refl
 skip_free sites.Cleanup = refl
 
 stayed_so : (old : SandboxValue) (o : Outcome) → refuses o ≡ false → IsActed (stays (state_of old.now) o) old o old
-stayed_so old outcomes.Passed free = record { carried_out = (refl, refl); layers = record { layers = refl; marks = refl }; kept = λ m. refl }
-stayed_so old outcomes.Skip free = record { carried_out = (refl, refl); layers = record { layers = refl; marks = refl }; kept = λ m. refl }
-stayed_so old (outcomes.Failed why) free = record { carried_out = (refl, refl); layers = record { layers = refl; marks = refl }; kept = λ m. refl }
+stayed_so old outcomes.Passed free = record { carried_out = (refl, refl); layers = record { layers = refl; starts = refl }; kept = λ m. refl }
+stayed_so old outcomes.Skip free = record { carried_out = (refl, refl); layers = record { layers = refl; starts = refl }; kept = λ m. refl }
+stayed_so old (outcomes.Failed why) free = record { carried_out = (refl, refl); layers = record { layers = refl; starts = refl }; kept = λ m. refl }
 stayed_so old outcomes.Memory free = absurd (true≢false free)
 
 -- an action that changes nothing
@@ -265,7 +265,7 @@ part_passes file this next old mid new written o is h puts k =
     let e : both ≡ and_then file this (next this.state) = ap (λ p. cond (is_pass p) both this) first.carried_out.0 in
     subst Q e (record {
       carried_out = went_on (next this.state) both.files o (state_of new.now) second.carried_out;
-      layers = record { layers = second.layers.layers ∙ first.layers.layers; marks = second.layers.marks ∙ first.layers.marks };
+      layers = record { layers = second.layers.layers ∙ first.layers.layers; starts = second.layers.starts ∙ first.layers.starts };
       kept = λ m. inr (mid, puts is, second.kept m);
     })
 
@@ -342,7 +342,7 @@ row_ended rows i row held old new o some is items never h =
 -- no row is left
 pub rows_end : (rows : List RowInMemory) (i : ℕ) (s : SandboxValue) → length rows ≤ i → RowsActed (drop i rows) s outcomes.Passed s
 rows_end rows i s none =
-    subst (λ (rs : List RowInMemory). RowsActed rs s outcomes.Passed s) (sym (drop_all i rows none)) (record { carried_out = (refl, refl); layers = record { layers = refl; marks = refl }; kept = λ m. refl })
+    subst (λ (rs : List RowInMemory). RowsActed rs s outcomes.Passed s) (sym (drop_all i rows none)) (record { carried_out = (refl, refl); layers = record { layers = refl; starts = refl }; kept = λ m. refl })
 
 -- a sum that no `i64` has
 pub not_in_range : (z : ℤ) → (FitsSigned w64 z → ⊥) → is_i64 z ≡ false

@@ -11,14 +11,14 @@ use Rattle.gk_run.specs.declared.section.Level.{Level}
 use Rattle.gk_run.specs.Acting.{CleanupValue, Done, IsDone}
 use Rattle.gk_run.specs.SectionHooks.{clean_each, cleanup_done}
 use Rattle.gk_run.specs.Ending.{ending_of, is_memory_ending, worse}
-use Rattle.gk_run.specs.Events.{Event, Stand, of_cleanup, outcomes_of}
+use Rattle.gk_run.specs.Events.{Event, SectionNow, of_cleanup, outcomes_of}
 use Rattle.gk_run.specs.PrivateContracts.{Goes, Happens}
 use Rattle.gk_run.proofs.EventLemmas.{outcomes_append}
 use Rattle.gk_run.proofs.GoesLemmas.{begin, behind, chain, unrefused, with_rest}
 use Rattle.gk_run.proofs.WalkLemmas.{at}
 
 -- one cleanup happened, with this outcome
-abbrev OneCleanup : {S : Type 0} → (S → Event → S → Type 0) → Event → Outcome → Stand → Stand → S → S → Type 0
+abbrev OneCleanup : {S : Type 0} → (S → Event → S → Type 0) → Event → Outcome → SectionNow → SectionNow → S → S → Type 0
 OneCleanup hears event o start now first last = (g : Happens hears endings.Passed (event ∷ []) start now (ending_of (Acted o)) first last) × (outcomes_of g.told ≡ o ∷ [])
 
 -- what a cleanup leaves, as an event
@@ -36,16 +36,16 @@ one_goes hears level c done outcomes.Memory s new cs first last d h = (
     heard = (last, h, refl);
     so_far = record { front = []; event = event_by level c done.outcome done.state; rest = []; left = new; whole = refl; cut = refl };
     ends = refl;
-    stands = refl;
+    leaves = refl;
   },
   refl,
 )
 one_goes hears level c done outcomes.Passed s new cs first last d h =
-    (record { told = of_cleanup level c outcomes.Passed new ∷ []; heard = (last, h, refl); so_far = ap (λ x. x ∷ []) (exactly level c done outcomes.Passed new d); ends = refl; stands = refl }, refl)
+    (record { told = of_cleanup level c outcomes.Passed new ∷ []; heard = (last, h, refl); so_far = ap (λ x. x ∷ []) (exactly level c done outcomes.Passed new d); ends = refl; leaves = refl }, refl)
 one_goes hears level c done outcomes.Skip s new cs first last d h =
-    (record { told = of_cleanup level c outcomes.Skip new ∷ []; heard = (last, h, refl); so_far = ap (λ x. x ∷ []) (exactly level c done outcomes.Skip new d); ends = refl; stands = refl }, refl)
+    (record { told = of_cleanup level c outcomes.Skip new ∷ []; heard = (last, h, refl); so_far = ap (λ x. x ∷ []) (exactly level c done outcomes.Skip new d); ends = refl; leaves = refl }, refl)
 one_goes hears level c done (outcomes.Failed why) s new cs first last d h =
-    (record { told = of_cleanup level c (outcomes.Failed why) new ∷ []; heard = (last, h, refl); so_far = ap (λ x. x ∷ []) (exactly level c done (outcomes.Failed why) new d); ends = refl; stands = refl }, refl)
+    (record { told = of_cleanup level c (outcomes.Failed why) new ∷ []; heard = (last, h, refl); so_far = ap (λ x. x ∷ []) (exactly level c done (outcomes.Failed why) new d); ends = refl; leaves = refl }, refl)
 
 -- where memory wasn't refused, the state is the one that the cleanup leaves
 left_state : (done : Done) (o : Outcome) (new : State) → is_memory_ending (ending_of (Acted o)) ≡ false → IsDone done o new → new ≡ done.state
@@ -55,14 +55,14 @@ left_state done outcomes.Skip new n d = d.1
 left_state done (outcomes.Failed why) new n d = d.1
 
 -- what a loop over cleanups keeps: what happened so far, and that the outcomes are those of it
-pub record CleansSoFar {S : Type 0} (hears : S → Event → S → Type 0) (all rest : List Event) (start now : Stand) (ended : Ending) (reported : List Outcome) (first last : S) : Type 0 where
+pub record CleansSoFar {S : Type 0} (hears : S → Event → S → Type 0) (all rest : List Event) (start now : SectionNow) (ended : Ending) (reported : List Outcome) (first last : S) : Type 0 where
   pub goes : Goes hears endings.Passed all rest start now ended first last
   pub outcomes : reported ≡ outcomes_of goes.told
 
-pub cleans_first : {S : Type 0} (hears : S → Event → S → Type 0) (all : List Event) (start : Stand) (first : S) → CleansSoFar hears all all start start endings.Passed [] first first
+pub cleans_first : {S : Type 0} (hears : S → Event → S → Type 0) (all : List Event) (start : SectionNow) (first : S) → CleansSoFar hears all all start start endings.Passed [] first first
 cleans_first hears all start first = record { goes = begin hears endings.Passed all start first; outcomes = refl }
 
-pub cleans_on : {S : Type 0} (hears : S → Event → S → Type 0) (library : LibraryValue) (level : Level) (c : CleanupValue) (left : List CleanupValue) (o : Outcome) (s new : State) (cs : List CleanupValue) (all : List Event) (start : Stand) (ended : Ending) (reported more : List Outcome) (first here last : S) →
+pub cleans_on : {S : Type 0} (hears : S → Event → S → Type 0) (library : LibraryValue) (level : Level) (c : CleanupValue) (left : List CleanupValue) (o : Outcome) (s new : State) (cs : List CleanupValue) (all : List Event) (start : SectionNow) (ended : Ending) (reported more : List Outcome) (first here last : S) →
     is_memory_ending ended ≡ false → IsDone (cleanup_done library c s) o new → hears here (of_cleanup level c o new) last → more ≡ reported ++ o ∷ [] →
     CleansSoFar hears all (clean_each library level s (c ∷ left)) start (at s cs) ended reported first here → CleansSoFar hears all (clean_each library level new left) start (at new cs) (worse ended (ending_of (Acted o))) more first last
 cleans_on hears library level c left o s new cs all start ended reported more first here last m d h pushed so_far =

@@ -5,7 +5,7 @@ use Rattle.std.proofs.lemmas.List.Folds.{list_any-append}
 use Rattle.gk_run.specs.declared.ending.Ending.{Ending}
 use Rattle.gk_run.specs.declared.ending.Ending.TheVariants as endings
 use Rattle.gk_run.specs.declared.results.Mark.{Mark}
-use Rattle.gk_run.specs.Ending.{ended_of, has_passed, is_bad_mark, is_memory_ending, is_memory_mark, is_skip_mark, worse}
+use Rattle.gk_run.specs.Ending.{ended_of, has_passed, is_failed_or_undefined, is_memory_ending, is_memory_mark, is_skip_mark, worse}
 
 abbrev ended_by : Bool → Bool → Bool → Ending
 ended_by m b s = cond m endings.Memory (cond b endings.Failed (cond s endings.Skipped endings.Passed))
@@ -24,10 +24,10 @@ worse_by false false false n c t = refl
 
 pub ended_append : (xs ys : List Mark) → ended_of (xs ++ ys) ≡ worse (ended_of xs) (ended_of ys)
 ended_append xs ys =
-    ap (λ m. ended_by m (list_any is_bad_mark (xs ++ ys)) (list_any is_skip_mark (xs ++ ys))) (list_any-append is_memory_mark xs ys)
-    ∙ ap (λ b. ended_by (list_any is_memory_mark xs || list_any is_memory_mark ys) b (list_any is_skip_mark (xs ++ ys))) (list_any-append is_bad_mark xs ys)
-    ∙ ap (λ s. ended_by (list_any is_memory_mark xs || list_any is_memory_mark ys) (list_any is_bad_mark xs || list_any is_bad_mark ys) s) (list_any-append is_skip_mark xs ys)
-    ∙ worse_by (list_any is_memory_mark xs) (list_any is_bad_mark xs) (list_any is_skip_mark xs) (list_any is_memory_mark ys) (list_any is_bad_mark ys) (list_any is_skip_mark ys)
+    ap (λ m. ended_by m (list_any is_failed_or_undefined (xs ++ ys)) (list_any is_skip_mark (xs ++ ys))) (list_any-append is_memory_mark xs ys)
+    ∙ ap (λ b. ended_by (list_any is_memory_mark xs || list_any is_memory_mark ys) b (list_any is_skip_mark (xs ++ ys))) (list_any-append is_failed_or_undefined xs ys)
+    ∙ ap (λ s. ended_by (list_any is_memory_mark xs || list_any is_memory_mark ys) (list_any is_failed_or_undefined xs || list_any is_failed_or_undefined ys) s) (list_any-append is_skip_mark xs ys)
+    ∙ worse_by (list_any is_memory_mark xs) (list_any is_failed_or_undefined xs) (list_any is_skip_mark xs) (list_any is_memory_mark ys) (list_any is_failed_or_undefined ys) (list_any is_skip_mark ys)
 
 pub worse_assoc : (a b c : Ending) → worse (worse a b) c ≡ worse a (worse b c)
 worse_assoc endings.Passed b c = refl

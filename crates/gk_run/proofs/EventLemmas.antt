@@ -4,8 +4,8 @@ use Rattle.std.proofs.Common.{List, [], ap, cond, length, refl, subst, suc, sym,
 use Rattle.std.proofs.lemmas.List.{map-append}
 use Rattle.gk_world.specs.State.{State}
 use Rattle.gk_run.specs.declared.ending.Ending.TheVariants as endings
-use Rattle.gk_run.specs.Ending.{ended_of, is_bad_mark, is_memory_mark, is_skip_mark, worse}
-use Rattle.gk_run.specs.Events.{Event, Stand, after_event, cut_at, ended_in, event_marks, left_by, mark_of, of_cleanup, of_step, outcomes_of, refused}
+use Rattle.gk_run.specs.Ending.{ended_of, is_failed_or_undefined, is_memory_mark, is_skip_mark, worse}
+use Rattle.gk_run.specs.Events.{Event, SectionNow, after_event, cut_at, ended_in, event_marks, left_by, mark_of, of_cleanup, of_step, outcomes_of, refused}
 use Rattle.gk_run.specs.Section.{has_event}
 use Rattle.gk_run.proofs.EndingLemmas.{ended_append, or_true, worse_memory}
 
@@ -24,9 +24,9 @@ outcomes_append [] ys = refl
 outcomes_append (of_step place step mark registered s ∷ xs) ys = outcomes_append xs ys
 outcomes_append (of_cleanup level cleanup outcome s ∷ xs) ys = ap (λ os. outcome ∷ os) (outcomes_append xs ys)
 
-pub left_both : (stand : Stand) (xs ys : List Event) → left_by stand (xs ++ ys) ≡ left_by (left_by stand xs) ys
-left_both stand [] ys = refl
-left_both stand (x ∷ xs) ys = left_both (after_event stand x) xs ys
+pub left_both : (section : SectionNow) (xs ys : List Event) → left_by section (xs ++ ys) ≡ left_by (left_by section xs) ys
+left_both section [] ys = refl
+left_both section (x ∷ xs) ys = left_both (after_event section x) xs ys
 
 -- telling one after another
 pub heard_both : {S A : Type 0} (hears : S → A → S → Type 0) (a : S) (xs : List A) (b : S) (ys : List A) (c : S) → FoldsTo hears a xs b → FoldsTo hears b ys c → FoldsTo hears a (xs ++ ys) c
@@ -56,4 +56,4 @@ cut_is_memory (x ∷ xs) (suc n) s h = ap (λ b. is_memory_mark (mark_of x) || b
 pub cut_ends : (events : List Event) (n : ℕ) (s : State) → has_event n events ≡ true → ended_in (cut_at n s events) ≡ endings.Memory
 cut_ends events n s h =
     let marks = event_marks (cut_at n s events) in
-    ap (λ b. cond b endings.Memory (cond (list_any is_bad_mark marks) endings.Failed (cond (list_any is_skip_mark marks) endings.Skipped endings.Passed))) (cut_is_memory events n s h)
+    ap (λ b. cond b endings.Memory (cond (list_any is_failed_or_undefined marks) endings.Failed (cond (list_any is_skip_mark marks) endings.Skipped endings.Passed))) (cut_is_memory events n s h)

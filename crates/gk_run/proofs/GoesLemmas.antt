@@ -3,7 +3,7 @@ use Rattle.std.proofs.Common.{Bool, List, [], ap, append_assoc, cond, false, ref
 use Rattle.gk_run.specs.declared.ending.Ending.{Ending}
 use Rattle.gk_run.specs.declared.ending.Ending.TheVariants as endings
 use Rattle.gk_run.specs.Ending.{has_passed, is_memory_ending, worse}
-use Rattle.gk_run.specs.Events.{Event, IsCutOff, SoFar, Stand, ended_in, left_by, refused}
+use Rattle.gk_run.specs.Events.{Event, IsCutOff, SoFar, SectionNow, ended_in, left_by, refused}
 use Rattle.gk_run.specs.PrivateContracts.{Goes}
 use Rattle.gk_run.proofs.EndingLemmas.{memory_of, worse_assoc, worse_passed}
 use Rattle.gk_run.proofs.EventLemmas.{ended_both, heard_both, left_both}
@@ -32,7 +32,7 @@ chained false false false all rest part more xs ys k l p r q =
     p ∙ ap (λ zs. xs ++ zs) (r refl ∙ ap (λ zs. zs ++ more) (q ∙ append-nil ys)) ∙ sym (append_assoc xs ys more)
 
 -- one part after another
-abbrev pub chain : {S : Type 0} {hears : S → Event → S → Type 0} {before mid_end end : Ending} {all rest part : List Event} (more : List Event) {start mid now : Stand} {first here last : S} →
+abbrev pub chain : {S : Type 0} {hears : S → Event → S → Type 0} {before mid_end end : Ending} {all rest part : List Event} (more : List Event) {start mid now : SectionNow} {first here last : S} →
     Goes hears before all rest start mid mid_end first here → (is_memory_ending mid_end ≡ false → rest ≡ part ++ more) → Goes hears mid_end part [] mid now end here last → Goes hears before all more start now end first last
 chain {S} {hears} {before} {mid_end} {end} {all} {rest} {part} more {start} {mid} {now} {first} {here} {last} g r h = record {
   told = g.told ++ h.told;
@@ -40,7 +40,7 @@ chain {S} {hears} {before} {mid_end} {end} {all} {rest} {part} more {start} {mid
   so_far = chained (is_memory_ending before) (is_memory_ending mid_end) (is_memory_ending end) all rest part more g.told h.told
       (stays_refused before (ended_in g.told) mid_end g.ends) (stays_refused mid_end (ended_in h.told) end h.ends) g.so_far r h.so_far;
   ends = h.ends ∙ ap (λ e. worse e (ended_in h.told)) g.ends ∙ worse_assoc before (ended_in g.told) (ended_in h.told) ∙ ap (worse before) (sym (ended_both g.told h.told));
-  stands = h.stands ∙ ap (λ s. left_by s h.told) g.stands ∙ sym (left_both start g.told h.told);
+  leaves = h.leaves ∙ ap (λ s. left_by s h.told) g.leaves ∙ sym (left_both start g.told h.told);
 }
 
 pub other_rest : (b0 b1 : Bool) (all rest other told : List Event) → (b1 ≡ false → rest ≡ other) → SoFar b0 b1 all rest told → SoFar b0 b1 all other told
@@ -49,14 +49,14 @@ other_rest false true all rest other told r h = h
 other_rest false false all rest other told r h = h ∙ ap (λ xs. told ++ xs) (r refl)
 
 -- what is left, in other words
-abbrev pub with_rest : {S : Type 0} {hears : S → Event → S → Type 0} {before end : Ending} {all rest : List Event} (other : List Event) {start now : Stand} {first last : S} →
+abbrev pub with_rest : {S : Type 0} {hears : S → Event → S → Type 0} {before end : Ending} {all rest : List Event} (other : List Event) {start now : SectionNow} {first last : S} →
     Goes hears before all rest start now end first last → (is_memory_ending end ≡ false → rest ≡ other) → Goes hears before all other start now end first last
 with_rest {S} {hears} {before} {end} {all} {rest} other {start} {now} {first} {last} g r = record {
   told = g.told;
   heard = g.heard;
   so_far = other_rest (is_memory_ending before) (is_memory_ending end) all rest other g.told r g.so_far;
   ends = g.ends;
-  stands = g.stands;
+  leaves = g.leaves;
 }
 
 pub so_under : (b c e d : Bool) (all rest told : List Event) → b ≡ c → e ≡ d → SoFar b e all rest told → SoFar c d all rest told
@@ -66,17 +66,17 @@ pub unrefused : (a b : Ending) → is_memory_ending a ≡ false → is_memory_en
 unrefused a b h = sym (memory_of a b ∙ ap (λ x. x || is_memory_ending b) h)
 
 -- the same after what ended so before it, in which no memory was refused
-abbrev pub under : {S : Type 0} {hears : S → Event → S → Type 0} {before end : Ending} {all rest : List Event} (earlier whole : Ending) {start now : Stand} {first last : S} → is_memory_ending earlier ≡ false → whole ≡ worse earlier before →
+abbrev pub under : {S : Type 0} {hears : S → Event → S → Type 0} {before end : Ending} {all rest : List Event} (earlier whole : Ending) {start now : SectionNow} {first last : S} → is_memory_ending earlier ≡ false → whole ≡ worse earlier before →
     Goes hears before all rest start now end first last → Goes hears whole all rest start now (worse earlier end) first last
 under {S} {hears} {before} {end} {all} {rest} earlier whole {start} {now} {first} {last} h is g = record {
   told = g.told;
   heard = g.heard;
   so_far = so_under (is_memory_ending before) (is_memory_ending whole) (is_memory_ending end) (is_memory_ending (worse earlier end)) all rest g.told (unrefused earlier before h ∙ ap is_memory_ending (sym is)) (unrefused earlier end h) g.so_far;
   ends = ap (worse earlier) g.ends ∙ sym (worse_assoc earlier before (ended_in g.told)) ∙ ap (λ x. worse x (ended_in g.told)) (sym is);
-  stands = g.stands;
+  leaves = g.leaves;
 }
 
-abbrev pub behind : {S : Type 0} {hears : S → Event → S → Type 0} {end : Ending} {all rest : List Event} (earlier : Ending) {start now : Stand} {first last : S} → is_memory_ending earlier ≡ false →
+abbrev pub behind : {S : Type 0} {hears : S → Event → S → Type 0} {end : Ending} {all rest : List Event} (earlier : Ending) {start now : SectionNow} {first last : S} → is_memory_ending earlier ≡ false →
     Goes hears endings.Passed all rest start now end first last → Goes hears earlier all rest start now (worse earlier end) first last
 behind earlier h g = under earlier earlier h (sym (worse_passed earlier)) g
 
@@ -85,16 +85,16 @@ begun_so true all = refl
 begun_so false all = refl
 
 -- before the first event
-abbrev pub begin : {S : Type 0} (hears : S → Event → S → Type 0) (before : Ending) (all : List Event) (start : Stand) (first : S) → Goes hears before all all start start before first first
-begin hears before all start first = record { told = []; heard = refl; so_far = begun_so (is_memory_ending before) all; ends = sym (worse_passed before); stands = refl }
+abbrev pub begin : {S : Type 0} (hears : S → Event → S → Type 0) (before : Ending) (all : List Event) (start : SectionNow) (first : S) → Goes hears before all all start start before first first
+begin hears before all start first = record { told = []; heard = refl; so_far = begun_so (is_memory_ending before) all; ends = sym (worse_passed before); leaves = refl }
 
 pub so_refused : (b : Bool) (all : List Event) → b ≡ true → SoFar b b all [] []
 so_refused true all h = refl
 so_refused false all h = absurd (true≢false (sym h))
 
 -- after refused memory nothing happens
-abbrev pub nothing : {S : Type 0} (hears : S → Event → S → Type 0) (e : Ending) (all : List Event) (start : Stand) (first : S) → is_memory_ending e ≡ true → Goes hears e all [] start start e first first
-nothing hears e all start first h = record { told = []; heard = refl; so_far = so_refused (is_memory_ending e) all h; ends = sym (worse_passed e); stands = refl }
+abbrev pub nothing : {S : Type 0} (hears : S → Event → S → Type 0) (e : Ending) (all : List Event) (start : SectionNow) (first : S) → is_memory_ending e ≡ true → Goes hears e all [] start start e first first
+nothing hears e all start first h = record { told = []; heard = refl; so_far = so_refused (is_memory_ending e) all h; ends = sym (worse_passed e); leaves = refl }
 
 -- all that was told, where no memory was refused
 pub all_told : (b : Bool) (all told : List Event) → b ≡ false → SoFar false b all [] told → told ≡ all
@@ -106,7 +106,7 @@ pub worse_told : {a b : Ending} (xs ys : List Event) → a ≡ ended_in xs → b
 worse_told {a} {b} xs ys p q = ap (λ x. worse x b) p ∙ ap (worse (ended_in xs)) q ∙ sym (ended_both xs ys)
 
 -- what passed goes on with the rest
-pub passing : {S : Type 0} {hears : S → Event → S → Type 0} {before : Ending} {all : List Event} (rest : List Event) {start now : Stand} (end : Ending) {first last : S} → has_passed end ≡ true →
+pub passing : {S : Type 0} {hears : S → Event → S → Type 0} {before : Ending} {all : List Event} (rest : List Event) {start now : SectionNow} (end : Ending) {first last : S} → has_passed end ≡ true →
     Goes hears before all (cond (has_passed end) rest []) start now end first last → Goes hears before all rest start now endings.Passed first last
 passing rest endings.Passed passes g = g
 passing rest endings.Failed passes g = absurd (true≢false (sym passes))

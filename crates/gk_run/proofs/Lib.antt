@@ -20,4 +20,4 @@ pub mod DryRunLemmas
 pub mod JudgedLemmas
 pub mod OpenRunLemmas
 pub mod OneList
-pub mod JudgedWordsLemmas
+pub mod JudgedPartsLemmas

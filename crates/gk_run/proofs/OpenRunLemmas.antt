@@ -9,7 +9,7 @@ use Rattle.gk_gherkin.specs.declared.hooks.HookFile.{HookFile}
 use Rattle.gk_steps.specs.declared.library.Library.{Library}
 use Rattle.gk_run.specs.Chosen.{ChosenValue}
 use Rattle.gk_run.specs.Ending.{has_passed, is_memory_ending}
-use Rattle.gk_run.specs.Events.{Event, ended_in, stand_of, EndTold, result_of}
+use Rattle.gk_run.specs.Events.{Event, ended_in, section_now, EndTold, result_of}
 use Rattle.gk_run.specs.Running.{first_or, without_first, stays_open}
 use Rattle.gk_run.specs.Features.{FeatureCuts, feature_of, features_of, uncut_feature}
 use Rattle.gk_run.specs.Judged.{Cuts, results_of}
@@ -48,7 +48,7 @@ judged_all run old new suite features rows around started known_by last end =
     let first = started.opened.first in
     let begins = started.opened.begins in
     let passed = started.opens in
-    let known = known_by outside (λ o. passed_state run levels.Run [] start first suite.before (stand_of new suite.cleanups) begins (sym passed ∙ o)) in
+    let known = known_by outside (λ o. passed_state run levels.Run [] start first suite.before (section_now new suite.cleanups) begins (sym passed ∙ o)) in
     let cuts : Cuts = record { own = end.cut; features = known.0 } in
     let with_features : List FeatureRow → Results = λ rs. record { features = rs; around = around } in
     let with_open : Bool → Results = λ x. record { features = result_of (features_of run outside x known.0 features); around = around } in
@@ -71,7 +71,7 @@ judged_so_far run old new suite features others rows started known_by =
     let first = started.opened.first in
     let begins = started.opened.begins in
     let passed = started.opens in
-    let known = known_by outside (λ o. passed_state run levels.Run [] start first suite.before (stand_of new suite.cleanups) begins (sym passed ∙ o)) in
+    let known = known_by outside (λ o. passed_state run levels.Run [] start first suite.before (section_now new suite.cleanups) begins (sym passed ∙ o)) in
     let opened = opened_cut (section_events run levels.Run [] start) first (is_memory_ending suite.before) begins.so_far in
     let opens_so = ap has_passed begins.ends ∙ ap (λ es. has_passed (ended_in es)) opened.1 in
     let cuts : Cuts = record { own = opened.0; features = cuts_of_all known.0 features } in

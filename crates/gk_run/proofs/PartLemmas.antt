@@ -9,7 +9,7 @@ use Rattle.gk_run.specs.declared.section.Level.{Level}
 use Rattle.gk_run.specs.declared.section.Level.TheVariants as levels
 use Rattle.gk_run.specs.declared.section.Stage.{Stage}
 use Rattle.gk_run.specs.Ending.{ending_of, has_passed, is_memory_ending}
-use Rattle.gk_run.specs.Events.{Event, EndTold, IsRan, Ran, SoFar, Stand, Told, cut_at, ended_in, happens, tells}
+use Rattle.gk_run.specs.Events.{Event, EndTold, IsRan, Ran, SoFar, SectionNow, Told, cut_at, ended_in, happens, tells}
 use Rattle.gk_run.specs.Features.{IsToldInPart, PrecedesCase, StopsBeforeCase}
 use Rattle.gk_run.specs.OpenSection.{IsBegun, section_events, section_of, section_state, Run}
 use Rattle.gk_run.specs.Section.{Cut, before_of, before_passed, happened, site_of}
@@ -131,7 +131,7 @@ told_further {S} {C} {A} told whole rest behind begin here last left part others
 -- ---- a section
 
 -- a section that was begun and didn't come to its end
-pub section_in_part : {S A : Type 0} (hears : S → Event → S → Type 0) (ends : S → EndTold → S → Type 0) (run : Run) (level : Level) (tags : List (List ℕ)) (outside : State) (first : List Event) (ended : Ending) (now : Stand) (passed : Bool) (inside : State → Bool → Ran A) (begin opened last : S) →
+pub section_in_part : {S A : Type 0} (hears : S → Event → S → Type 0) (ends : S → EndTold → S → Type 0) (run : Run) (level : Level) (tags : List (List ℕ)) (outside : State) (first : List Event) (ended : Ending) (now : SectionNow) (passed : Bool) (inside : State → Bool → Ran A) (begin opened last : S) →
     OpensCases (before_of level) → IsBegun run level tags outside first ended now → passed ≡ has_passed ended → FoldsTo hears begin first opened →
     IsToldInPart (tells hears ends) (inside (section_state run level tags outside) passed) opened last →
     (cut : Cut) × IsToldInPart (tells hears ends) (section_of run level tags outside true cut inside) begin last

@@ -11,9 +11,9 @@ use Rattle.gk_run.specs.declared.results.Status.{Status}
 use Rattle.gk_run.specs.declared.section.Level.{Level}
 use Rattle.gk_run.specs.declared.section.Level.TheVariants as levels
 use Rattle.gk_run.specs.Acting.{CleanupValue}
-use Rattle.gk_run.specs.SectionHooks.{cleaned, after_lists, begun, entered, walk_each}
+use Rattle.gk_run.specs.SectionHooks.{cleaned, after_lists, before_events, entered, walk_each}
 use Rattle.gk_run.specs.Ending.{around_status, has_passed, is_memory_ending, verdict_status, worse}
-use Rattle.gk_run.specs.Events.{Event, IsCutOff, SoFar, Stand, cut_at, ended_in, event_marks, left_by, outcomes_of, stand_of}
+use Rattle.gk_run.specs.Events.{Event, IsCutOff, SoFar, SectionNow, cut_at, ended_in, event_marks, left_by, outcomes_of, section_now}
 use Rattle.gk_run.specs.OpenSection.{EndsAround, IsBegun, IsSectionEnd, section_events, section_state, Run}
 use Rattle.gk_run.specs.Results.{CaseRow, StepRow}
 use Rattle.gk_run.specs.Running.{AreEventsTold, alone, row_of_case, verdict_of}
@@ -92,14 +92,14 @@ of_other true c all other told r h = h
 of_other false c all other told r h = subst (λ xs. SoFar false c xs [] told) (r refl) h
 
 -- where a part leaves a section in which no memory was refused
-left_whole : (b : Bool) (all told : List Event) (start now : Stand) → b ≡ false → SoFar false b all [] told → now ≡ left_by start told → now ≡ left_by start all
+left_whole : (b : Bool) (all told : List Event) (start now : SectionNow) → b ≡ false → SoFar false b all [] told → now ≡ left_by start told → now ≡ left_by start all
 left_whole b all told start now n h is = is ∙ ap (left_by start) (all_told b all told n h)
 
 -- ---- a case
 
 -- a case was told with its result
-pub case_told : {S : Type 0} (hears : S → Event → S → Type 0) (run : Run) (section : State) (c : CaseValue) (b e l : Ending) (opened mid : Stand) (reported : List Outcome) (rows : List StepRow) (first here there last : S) →
-    Happens hears endings.Passed (begun run.library run.hooks levels.Scenario c.own_tags section) (entered section) opened b first here →
+pub case_told : {S : Type 0} (hears : S → Event → S → Type 0) (run : Run) (section : State) (c : CaseValue) (b e l : Ending) (opened mid : SectionNow) (reported : List Outcome) (rows : List StepRow) (first here there last : S) →
+    Happens hears endings.Passed (before_events run.library run.hooks levels.Scenario c.own_tags section) (entered section) opened b first here →
     (steps : Happens hears b (steps_from run.library b opened.state c.steps) opened mid e here there) → rows ≡ rows_of_steps c.steps (event_marks steps.told) →
     IsClosing hears run.library levels.Scenario (after_lists run.hooks levels.Scenario c.own_tags) e mid l reported there last →
     AreEventsTold hears run section c (record { keyword = c.keyword; name = c.name; line = c.line; status = verdict_status (worse e l); around = around_status (worse b l); cleanups = reported; steps = rows }) first last
@@ -114,17 +114,17 @@ case_told hears run section c b e l opened mid reported rows first here there la
     let k : mb ≡ true → me ≡ true = stays_refused b (ended_in steps.told) e steps.ends in
     let k2 : me ≡ true → ma ≡ true = stays_refused e (ended_in after.told) closing.between after.ends in
     let k3 : ma ≡ true → is_memory_ending closing.end ≡ true = stays_refused closing.between (ended_in cleanups.told) closing.end cleanups.ends in
-    let opens : mb ≡ false → opened ≡ left_by (entered section) es.before = λ n. left_whole mb es.before before.told (entered section) opened n before.so_far before.stands in
+    let opens : mb ≡ false → opened ≡ left_by (entered section) es.before = λ n. left_whole mb es.before before.told (entered section) opened n before.so_far before.leaves in
     let same_steps : mb ≡ false → steps_from run.library b opened.state c.steps ≡ es.steps = λ n.
-    ap (λ x. steps_from run.library x opened.state c.steps) (before.ends ∙ ap ended_in (all_told mb es.before before.told n before.so_far)) ∙ ap (λ (x : Stand). steps_from run.library (ended_in es.before) x.state c.steps) (opens n) in
+    ap (λ x. steps_from run.library x opened.state c.steps) (before.ends ∙ ap ended_in (all_told mb es.before before.told n before.so_far)) ∙ ap (λ (x : SectionNow). steps_from run.library (ended_in es.before) x.state c.steps) (opens n) in
     let steps_are : SoFar mb me es.steps [] steps.told = of_other mb me (steps_from run.library b opened.state c.steps) es.steps steps.told same_steps steps.so_far in
     let mids : me ≡ false → mid ≡ left_by (left_by (entered section) es.before) es.steps = λ n.
     let m = earlier mb me k n in
-    left_whole me es.steps steps.told opened mid n (subst (λ x. SoFar x me es.steps [] steps.told) m steps_are) steps.stands ∙ ap (λ x. left_by x es.steps) (opens m) in
+    left_whole me es.steps steps.told opened mid n (subst (λ x. SoFar x me es.steps [] steps.told) m steps_are) steps.leaves ∙ ap (λ x. left_by x es.steps) (opens m) in
     let after_is : SoFar me ma es.after [] after.told = of_other me ma (walk_each run.library levels.Scenario mid lists) es.after after.told (λ n. ap (λ x. walk_each run.library levels.Scenario x lists) (mids n)) after.so_far in
     let lasts : ma ≡ false → closing.mid ≡ left_by (left_by (left_by (entered section) es.before) es.steps) es.after = λ n.
     let m = earlier me ma k2 n in
-    left_whole ma es.after after.told mid closing.mid n (subst (λ x. SoFar x ma es.after [] after.told) m after_is) after.stands ∙ ap (λ x. left_by x es.after) (mids m) in
+    left_whole ma es.after after.told mid closing.mid n (subst (λ x. SoFar x ma es.after [] after.told) m after_is) after.leaves ∙ ap (λ x. left_by x es.after) (mids m) in
     let cleanups_are : SoFar ma (is_memory_ending closing.end) es.cleanups [] cleanups.told =
     of_other ma (is_memory_ending closing.end) (cleaned run.library levels.Scenario closing.mid) es.cleanups cleanups.told (λ n. ap (cleaned run.library levels.Scenario) (lasts n)) cleanups.so_far in
     let told = parts before.told steps.told after.told cleanups.told in
@@ -154,7 +154,7 @@ no_steps : (b : Bool) → SoFar b b [] [] []
 no_steps true = refl
 no_steps false = refl
 
-pub section_ends : {S : Type 0} (hears : S → Event → S → Type 0) (run : Run) (level : Level) (tags : List (List ℕ)) (b : Ending) (now : Stand) (l : Ending) (reported : List Outcome) (first last : S) →
+pub section_ends : {S : Type 0} (hears : S → Event → S → Type 0) (run : Run) (level : Level) (tags : List (List ℕ)) (b : Ending) (now : SectionNow) (l : Ending) (reported : List Outcome) (first last : S) →
     IsClosing hears run.library level (after_lists run.hooks level tags) b now l reported first last → EndsAround hears run level tags b now (around_status (worse b l)) first last
 section_ends hears run level tags b now l reported first last closing outside xs begins =
     let es = section_events run level tags outside in
@@ -165,11 +165,11 @@ section_ends hears run level tags b now l reported first last closing outside xs
     let ma = is_memory_ending closing.between in
     let k2 : mb ≡ true → ma ≡ true = stays_refused b (ended_in after.told) closing.between after.ends in
     let k3 : ma ≡ true → is_memory_ending closing.end ≡ true = stays_refused closing.between (ended_in cleanups.told) closing.end cleanups.ends in
-    let opens : mb ≡ false → now ≡ left_by (entered outside) es.before = λ n. left_whole mb es.before xs (entered outside) now n begins.so_far begins.stands in
+    let opens : mb ≡ false → now ≡ left_by (entered outside) es.before = λ n. left_whole mb es.before xs (entered outside) now n begins.so_far begins.leaves in
     let after_is : SoFar mb ma es.after [] after.told = of_other mb ma (walk_each run.library level now lists) es.after after.told (λ n. ap (λ x. walk_each run.library level x lists) (opens n)) after.so_far in
     let lasts : ma ≡ false → closing.mid ≡ left_by (left_by (entered outside) es.before) es.after = λ n.
     let m = earlier mb ma k2 n in
-    left_whole ma es.after after.told now closing.mid n (subst (λ x. SoFar x ma es.after [] after.told) m after_is) after.stands ∙ ap (λ x. left_by x es.after) (opens m) in
+    left_whole ma es.after after.told now closing.mid n (subst (λ x. SoFar x ma es.after [] after.told) m after_is) after.leaves ∙ ap (λ x. left_by x es.after) (opens m) in
     let cleanups_are : SoFar ma (is_memory_ending closing.end) es.cleanups [] cleanups.told =
     of_other ma (is_memory_ending closing.end) (cleaned run.library level closing.mid) es.cleanups cleanups.told (λ n. ap (cleaned run.library level) (lasts n)) cleanups.so_far in
     let told = parts xs [] after.told cleanups.told in
@@ -182,16 +182,16 @@ section_ends hears run level tags b now l reported first last closing outside xs
     )
 
 -- a section whose before list passed whole has its state
-pub passed_state : (run : Run) (level : Level) (tags : List (List ℕ)) (outside : State) (first : List Event) (ended : Ending) (now : Stand) → IsBegun run level tags outside first ended now → has_passed ended ≡ true →
+pub passed_state : (run : Run) (level : Level) (tags : List (List ℕ)) (outside : State) (first : List Event) (ended : Ending) (now : SectionNow) → IsBegun run level tags outside first ended now → has_passed ended ≡ true →
     now.state ≡ section_state run level tags outside
 passed_state run level tags outside first ended now begins p =
-    ap (λ (x : Stand). x.state) (left_whole (is_memory_ending ended) (begun run.library run.hooks level tags outside) first (entered outside) now (passed_unrefused ended p) begins.so_far begins.stands)
+    ap (λ (x : SectionNow). x.state) (left_whole (is_memory_ending ended) (before_events run.library run.hooks level tags outside) first (entered outside) now (passed_unrefused ended p) begins.so_far begins.leaves)
 
 -- a section that was begun is so still if the sandbox has the same contents
 pub begun_still : (run : Run) (level : Level) (tags : List (List ℕ)) (outside : State) (first : List Event) (ended : Ending) (cleanups : List CleanupValue) (old new : SandboxValue) → new.now ≡ old.now →
-    IsBegun run level tags outside first ended (stand_of old cleanups) → IsBegun run level tags outside first ended (stand_of new cleanups)
+    IsBegun run level tags outside first ended (section_now old cleanups) → IsBegun run level tags outside first ended (section_now new cleanups)
 begun_still run level tags outside first ended cleanups old new same begins =
-    record { so_far = begins.so_far; ends = begins.ends; stands = ap (λ x. at (state_of x) cleanups) same ∙ begins.stands }
+    record { so_far = begins.so_far; ends = begins.ends; leaves = ap (λ x. at (state_of x) cleanups) same ∙ begins.leaves }
 
 -- whether it passed whole is that of the cut
 pub ready : (run : Run) (level : Level) (tags : List (List ℕ)) (outside : State) (around : Status) (first last : List Event) (ended : Ending) → ended ≡ ended_in first → (end : IsSectionEnd run level tags outside around first last) →

@@ -22,7 +22,7 @@ use Rattle.gk_run.specs.declared.section.Level.{Level}
 use Rattle.gk_run.specs.declared.section.Stage.{Stage}
 use Rattle.gk_run.specs.Acting.{ActionEffect as ActedValue, CleanupValue, ArgumentsValue, arguments_by_uses, act, at_site, done_of, IsDone, HasRegistered, WritesFirst}
 use Rattle.gk_run.specs.Ending.{ending_of, has_passed, is_memory_ending, is_memory_mark, worse}
-use Rattle.gk_run.specs.Events.{Event, SoFar, Stand, ended_in, event_marks, left_by, mark_of, of_step}
+use Rattle.gk_run.specs.Events.{Event, SoFar, SectionNow, ended_in, event_marks, left_by, mark_of, of_step}
 use Rattle.gk_run.specs.Results.{StepRow}
 use Rattle.gk_run.specs.Section.{after_of, site_of, steps_of_case}
 use Rattle.gk_run.specs.SectionHooks.{hook_steps, walk_each}
@@ -32,7 +32,7 @@ use Rattle.gk_run.proofs.ActingLemmas.{called_is, used_given}
 use Rattle.gk_run.proofs.GoesLemmas.{all_told, begin, behind, chain, unrefused, with_rest}
 
 -- where a section stands
-abbrev pub at : State → List CleanupValue → Stand
+abbrev pub at : State → List CleanupValue → SectionNow
 at s cleanups = record { state = s; cleanups = cleanups }
 
 -- ---- one step
@@ -48,7 +48,7 @@ exact_step this cs Skipped new left n t = t
 exact_step this cs Untested new left n t = t
 
 -- one event happened, of which this became
-abbrev pub OneEvent : {S : Type 0} → (S → Event → S → Type 0) → Ending → Event → Mark → Stand → Stand → Ending → S → S → Type 0
+abbrev pub OneEvent : {S : Type 0} → (S → Event → S → Type 0) → Ending → Event → Mark → SectionNow → SectionNow → Ending → S → S → Type 0
 OneEvent hears before event m start now ended first last = (g : Happens hears before (event ∷ []) start now ended first last) × (event_marks g.told ≡ m ∷ [])
 
 told_exactly : (m : Mark) (event told : Event) → is_memory_ending (ending_of m) ≡ false → event ≡ told → SoFar false (is_memory_ending (ending_of m)) (event ∷ []) [] (told ∷ [])
@@ -62,7 +62,7 @@ exact_goes hears place step this s new cs left m first last n t h = (
     heard = h;
     so_far = told_exactly m (event_of place step this) (of_step place step m this.registered new) n (sym (ap (λ x. of_step place step x this.registered new) t.0 ∙ ap (λ x. of_step place step this.mark this.registered x) t.1));
     ends = refl;
-    stands = ap (at new) t.2;
+    leaves = ap (at new) t.2;
   },
   refl,
 )
@@ -76,7 +76,7 @@ step_goes hears place step this s new cs left (Acted outcomes.Memory) first last
     heard = h [];
     so_far = record { front = []; event = event_of place step this; rest = []; left = new; whole = refl; cut = refl };
     ends = refl;
-    stands = ap (at new) (t ∙ sym (append-nil cs));
+    leaves = ap (at new) (t ∙ sym (append-nil cs));
   },
   refl,
 )
@@ -90,7 +90,7 @@ step_goes hears place step this s new cs left Untested first last t h = exact_go
 -- ---- a walk
 
 -- one step more of a walk
-pub walk_on : {S : Type 0} (hears : S → Event → S → Type 0) (library : LibraryValue) (place : Stage) (step : StepValue) (steps : List StepValue) (s new : State) (cs left : List CleanupValue) (m : Mark) (all : List Event) (start : Stand) (first here last : S) →
+pub walk_on : {S : Type 0} (hears : S → Event → S → Type 0) (library : LibraryValue) (place : Stage) (step : StepValue) (steps : List StepValue) (s new : State) (cs left : List CleanupValue) (m : Mark) (all : List Event) (start : SectionNow) (first here last : S) →
     Goes hears endings.Passed all (walk library place s (step ∷ steps)) start (at s cs) endings.Passed first here → IsStepRun (one_step library (site_of place) s step) cs m new left →
     ((registered : List CleanupValue) → FoldsTo hears here (of_step place step m registered new ∷ []) last) → Goes hears endings.Passed all (cond (has_passed (ending_of m)) (walk library place new steps) []) start (at new left) (ending_of m) first last
 walk_on hears library place step steps s new cs left m all start first here last g t h =
@@ -100,7 +100,7 @@ walk_on hears library place step steps s new cs left m all start first here last
     (λ n. let known = exact_step this cs m new left n t in sym (ap (λ x. rest x new) known.0 ∙ ap (rest this.mark) known.1))
 
 -- a walk whose first step becomes this, through one list and then another
-after_step : (place : Stage) (step : StepValue) (registered : List CleanupValue) (s new : State) (cs : List CleanupValue) (m : Mark) (later : Stand → List Event) (xs both : List Event) →
+after_step : (place : Stage) (step : StepValue) (registered : List CleanupValue) (s new : State) (cs : List CleanupValue) (m : Mark) (later : SectionNow → List Event) (xs both : List Event) →
     both ≡ xs ++ cond (has_passed (ended_in xs)) (later (left_by (at new (cs ++ registered)) xs)) [] →
     of_step place step m registered new ∷ cond (has_passed (ending_of m)) both [] ≡
     (let w = of_step place step m registered new ∷ cond (has_passed (ending_of m)) xs [] in w ++ cond (has_passed (ended_in w)) (later (left_by (at s cs) w)) [])
@@ -121,26 +121,26 @@ walk_append library place s cs (x ∷ xs) ys =
     after_step place x this.registered s this.state cs this.mark (λ left. walk library place left.state ys) (walk library place this.state xs) (walk library place this.state (xs ++ ys)) (walk_append library place this.state (cs ++ this.registered) xs ys)
 
 -- one list more of a list that is walked as one
-pub list_on : {S : Type 0} (hears : S → Event → S → Type 0) (library : LibraryValue) (place : Stage) (xs ys : List StepValue) (s : State) (cs : List CleanupValue) (now : Stand) (e : Ending) (all : List Event) (start : Stand) (first here last : S) →
+pub list_on : {S : Type 0} (hears : S → Event → S → Type 0) (library : LibraryValue) (place : Stage) (xs ys : List StepValue) (s : State) (cs : List CleanupValue) (now : SectionNow) (e : Ending) (all : List Event) (start : SectionNow) (first here last : S) →
     Goes hears endings.Passed all (walk library place s (xs ++ ys)) start (at s cs) endings.Passed first here → Happens hears endings.Passed (walk library place s xs) (at s cs) now e here last →
     Goes hears endings.Passed all (cond (has_passed e) (walk library place now.state ys) []) start now e first last
 list_on hears library place xs ys s cs now e all start first here last g h =
     let w = walk library place s xs in
-    let rest : Ending → Stand → List Event = λ x left. cond (has_passed x) (walk library place left.state ys) [] in
+    let rest : Ending → SectionNow → List Event = λ x left. cond (has_passed x) (walk library place left.state ys) [] in
     with_rest (rest e now) (chain (rest (ended_in w) (left_by (at s cs) w)) g (λ _. walk_append library place s cs xs ys) h)
     (λ n. let told = all_told (is_memory_ending e) w h.told n h.so_far in
-    sym (ap (λ x. rest x now) h.ends ∙ ap (rest (ended_in h.told)) h.stands ∙ ap (λ es. rest (ended_in es) (left_by (at s cs) es)) told))
+    sym (ap (λ x. rest x now) h.ends ∙ ap (rest (ended_in h.told)) h.leaves ∙ ap (λ es. rest (ended_in es) (left_by (at s cs) es)) told))
 
 -- ---- lists that are walked each by itself
 
-pub each_on : {S : Type 0} (hears : S → Event → S → Type 0) (library : LibraryValue) (level : Level) (xs : List StepValue) (others : List (List StepValue)) (mid now : Stand) (ended e : Ending) (all : List Event) (start : Stand) (first here last : S) → is_memory_ending ended ≡ false →
+pub each_on : {S : Type 0} (hears : S → Event → S → Type 0) (library : LibraryValue) (level : Level) (xs : List StepValue) (others : List (List StepValue)) (mid now : SectionNow) (ended e : Ending) (all : List Event) (start : SectionNow) (first here last : S) → is_memory_ending ended ≡ false →
     Goes hears endings.Passed all (walk_each library level mid (xs ∷ others)) start mid ended first here → Happens hears endings.Passed (walk library (after_of level) mid.state xs) mid now e here last →
     Goes hears endings.Passed all (walk_each library level now others) start now (worse ended e) first last
 each_on hears library level xs others mid now ended e all start first here last m g h =
     let w = walk library (after_of level) mid.state xs in
     with_rest (walk_each library level now others) (chain (walk_each library level (left_by mid w) others) g (λ _. refl) (behind ended m h))
     (λ n. let told = all_told (is_memory_ending e) w h.told (unrefused ended e m ∙ n) h.so_far in
-    sym (ap (λ left. walk_each library level left others) h.stands ∙ ap (λ es. walk_each library level (left_by mid es) others) told))
+    sym (ap (λ left. walk_each library level left others) h.leaves ∙ ap (λ es. walk_each library level (left_by mid es) others) told))
 
 -- ---- the steps of a case
 
@@ -173,7 +173,7 @@ unrun_goes hears stood s new cs left step m planned first last n stays is p q h 
         (subst (λ b. SoFar false b (unrun_step step planned s ∷ []) [] (of_step steps_of_case step m [] new ∷ [])) (sym (ap is_memory_ending stays ∙ n))
         (sym (ap (λ x. unrun_step step x new ∷ []) is ∙ ap (λ x. unrun_step step planned x ∷ []) p)));
     ends = refl;
-    stands = unchanged s new cs left p q ∙ ap (λ x. at x (cs ++ [])) (sym p);
+    leaves = unchanged s new cs left p q ∙ ap (λ x. at x (cs ++ [])) (sym p);
   },
   refl,
 )
@@ -196,7 +196,7 @@ refused_goes hears s new cs left step m planned first last is p q h =
         heard = subst (λ x. FoldsTo hears first (of_step steps_of_case step x [] new ∷ []) last) is h;
         so_far = record { front = []; event = unrun_step step planned s; rest = []; left = new; whole = refl; cut = refl };
         ends = refl;
-        stands = unchanged s new cs left p q ∙ ap (λ x. at x (cs ++ [])) (sym p);
+        leaves = unchanged s new cs left p q ∙ ap (λ x. at x (cs ++ [])) (sym p);
       },
       refl,
     )
@@ -207,7 +207,7 @@ next_goes hears library endings.Memory s new cs left step steps m first last t h
   part = steps_from library endings.Memory s (step ∷ steps);
   more = [];
   splits = sym (append-nil (steps_from library endings.Memory s (step ∷ steps)));
-  goes = record { told = []; heard = h []; so_far = refl; ends = refl; stands = ap (λ x. at x left) t.1 ∙ ap (at s) t.2 };
+  goes = record { told = []; heard = h []; so_far = refl; ends = refl; leaves = ap (λ x. at x left) t.1 ∙ ap (at s) t.2 };
   marks = refl;
   later = λ n. absurd (true≢false n);
 }
@@ -287,15 +287,15 @@ shown_last endings.Failed rows all ms h = sym (append-nil rows) ∙ h [] ∙ ap 
 shown_last endings.Skipped rows all ms h = sym (append-nil rows) ∙ h [] ∙ ap (rows_of_steps all) (append-nil ms)
 
 -- what a loop over a case's steps keeps
-pub record StepsSoFar {S : Type 0} (hears : S → Event → S → Type 0) (library : LibraryValue) (before : Ending) (start : Stand) (all : List StepValue) (stood : Ending) (now : Stand) (left : List StepValue) (rows : List StepRow) (first last : S) : Type 0 where
+pub record StepsSoFar {S : Type 0} (hears : S → Event → S → Type 0) (library : LibraryValue) (before : Ending) (start : SectionNow) (all : List StepValue) (stood : Ending) (now : SectionNow) (left : List StepValue) (rows : List StepRow) (first last : S) : Type 0 where
   pub goes : Goes hears before (steps_from library before start.state all) (steps_from library stood now.state left) start now stood first last
   pub shown : Shows stood left rows all (event_marks goes.told)
 
-pub steps_first : {S : Type 0} (hears : S → Event → S → Type 0) (library : LibraryValue) (before : Ending) (start : Stand) (all : List StepValue) (first : S) → StepsSoFar hears library before start all before start all [] first first
+pub steps_first : {S : Type 0} (hears : S → Event → S → Type 0) (library : LibraryValue) (before : Ending) (start : SectionNow) (all : List StepValue) (first : S) → StepsSoFar hears library before start all before start all [] first first
 steps_first hears library before start all first =
     record { goes = begin hears before (steps_from library before start.state all) start first; shown = shown_any before all [] all [] (λ more. refl) }
 
-pub steps_on : {S : Type 0} (hears : S → Event → S → Type 0) (library : LibraryValue) (before : Ending) (start : Stand) (all : List StepValue) (stood next : Ending) (s new : State) (cs left : List CleanupValue) (step : StepValue) (steps : List StepValue) (m : Mark) (rows more : List StepRow) (first here last : S) →
+pub steps_on : {S : Type 0} (hears : S → Event → S → Type 0) (library : LibraryValue) (before : Ending) (start : SectionNow) (all : List StepValue) (stood next : Ending) (s new : State) (cs left : List CleanupValue) (step : StepValue) (steps : List StepValue) (m : Mark) (rows more : List StepRow) (first here last : S) →
     IsNext library stood s cs step m new left → ((registered : List CleanupValue) → FoldsTo hears here (told_next stood (of_step steps_of_case step m registered new)) last) → next ≡ worse stood (ending_of m) → more ≡ rows ++ row_of_step step m ∷ [] →
     StepsSoFar hears library before start all stood (at s cs) (step ∷ steps) rows first here → StepsSoFar hears library before start all next (at new left) steps more first last
 steps_on hears library before start all stood next s new cs left step steps m rows more first here last t h ends pushed so_far =
@@ -312,11 +312,11 @@ steps_on hears library before start all stood next s new cs left step steps m ro
     (subst (λ rs. StepsSoFar hears library before start all e (at new left) steps rs first last) (sym pushed) whole)
 
 -- after the last step
-pub record AllSteps {S : Type 0} (hears : S → Event → S → Type 0) (library : LibraryValue) (before : Ending) (start now : Stand) (all : List StepValue) (ended : Ending) (rows : List StepRow) (first last : S) : Type 0 where
+pub record AllSteps {S : Type 0} (hears : S → Event → S → Type 0) (library : LibraryValue) (before : Ending) (start now : SectionNow) (all : List StepValue) (ended : Ending) (rows : List StepRow) (first last : S) : Type 0 where
   pub goes : Happens hears before (steps_from library before start.state all) start now ended first last
   pub rows_are : rows ≡ rows_of_steps all (event_marks goes.told)
 
-pub steps_last : {S : Type 0} (hears : S → Event → S → Type 0) (library : LibraryValue) (before : Ending) (start now : Stand) (all : List StepValue) (ended : Ending) (left : List StepValue) (rows : List StepRow) (first last : S) → left ≡ [] →
+pub steps_last : {S : Type 0} (hears : S → Event → S → Type 0) (library : LibraryValue) (before : Ending) (start now : SectionNow) (all : List StepValue) (ended : Ending) (left : List StepValue) (rows : List StepRow) (first last : S) → left ≡ [] →
     StepsSoFar hears library before start all ended now left rows first last → AllSteps hears library before start now all ended rows first last
 steps_last hears library before start now all ended left rows first last none so_far =
     let here : StepsSoFar hears library before start all ended now [] rows first last = subst (λ xs. StepsSoFar hears library before start all ended now xs rows first last) none so_far in

@@ -15,7 +15,7 @@ use Rattle.gk_run.specs.declared.results.Outcome.TheVariants as outcomes
 use Rattle.gk_run.specs.declared.section.Stage.{Stage}
 use Rattle.gk_run.specs.Acting.{CleanupValue}
 use Rattle.gk_run.specs.Ending.{ending_of, has_passed}
-use Rattle.gk_run.specs.Events.{Event, Stand, event_marks, left_by}
+use Rattle.gk_run.specs.Events.{Event, SectionNow, event_marks, left_by}
 use Rattle.gk_run.specs.Section.{site_of, steps_of_case}
 use Rattle.gk_run.specs.Walk.{event_of, looked_up, one_step, stepped, steps_from, unrun_step, walk, LaterSteps, CarriesOut, EndsAt, EndsAtTheLeastStop, HasNoStop, IsStop, StepsEndAtTheLeastStop, StoppedCasesRunNoStep, Stops, StopsAt, WalksEndAtTheLeastStop, after, carried_on, event_at, outcome_from, unrun_steps}
 
@@ -62,22 +62,22 @@ module _ (library : LibraryValue) (site : Site) (s : State) (step : StepValue) w
 
 -- ---- a list, its first step and the rest of it
 
-module _ (library : LibraryValue) (site : Site) (start : Stand) (step : StepValue) (steps : List StepValue) where
+module _ (library : LibraryValue) (site : Site) (start : SectionNow) (step : StepValue) (steps : List StepValue) where
   -- the state and the cleanups after the first step
-  abbrev next : Stand
+  abbrev next : SectionNow
   next = carried_on library site start (Some step)
 
   -- the first k + 1 steps are the first step and then k more
   after_first : (k : ℕ) → after library site start (step ∷ steps) (suc k) ≡ after library site next steps k
   after_first zero = refl
-  after_first (suc k) = ap (λ (x : Stand). carried_on library site x (slice_get steps k)) (after_first k)
+  after_first (suc k) = ap (λ (x : SectionNow). carried_on library site x (slice_get steps k)) (after_first k)
 
   -- a later step stops as it does in the rest
   into_rest : (k : ℕ) → StopsAt library site start (step ∷ steps) (suc k) → StopsAt library site next steps k
-  into_rest k h = (h.0, h.1, subst (λ (x : Stand). Stops library site x.state h.0) (after_first k) h.2)
+  into_rest k h = (h.0, h.1, subst (λ (x : SectionNow). Stops library site x.state h.0) (after_first k) h.2)
 
   out_of_rest : (k : ℕ) → StopsAt library site next steps k → StopsAt library site start (step ∷ steps) (suc k)
-  out_of_rest k h = (h.0, h.1, subst (λ (x : Stand). Stops library site x.state h.0) (sym (after_first k)) h.2)
+  out_of_rest k h = (h.0, h.1, subst (λ (x : SectionNow). Stops library site x.state h.0) (sym (after_first k)) h.2)
 
   first_stops : StopsAt library site start (step ∷ steps) 0 → Stops library site start.state step
   first_stops h = subst (λ (x : StepValue). Stops library site start.state x) (sym (same_Some step h.0 h.1)) h.2
@@ -93,19 +93,19 @@ module _ (library : LibraryValue) (site : Site) (start : Stand) (step : StepValu
   either_later n (inl h) = inl (suc h.0, (out_of_rest h.0 h.1.0, none_before h.0 n h.1.1))
   either_later n (inr h) = inr (λ i st. none_before i n (λ j l. h j) i (omega arith) st)
 
-none_in : (library : LibraryValue) (site : Site) (start : Stand) (k : ℕ) → StopsAt library site start [] k → ⊥
+none_in : (library : LibraryValue) (site : Site) (start : SectionNow) (k : ℕ) → StopsAt library site start [] k → ⊥
 none_in library site start k h = let e = h.1 in let no : ⊥ = cc in no
 
 -- ---- the events of a list by those of the rest of it
 
-module _ (library : LibraryValue) (place : Stage) (start : Stand) (step : StepValue) (steps : List StepValue) where
+module _ (library : LibraryValue) (place : Stage) (start : SectionNow) (step : StepValue) (steps : List StepValue) where
   abbrev site : Site
   site = site_of place
 
   abbrev first : Event
   first = event_of place step (one_step library site start.state step)
 
-  abbrev onward : Stand
+  abbrev onward : SectionNow
   onward = next library site start step steps
 
   carries_first : (others : List Event) → left_by onward others ≡ onward → CarriesOut library place start (step ∷ steps) (first ∷ others) 1 0 others
@@ -122,7 +122,7 @@ module _ (library : LibraryValue) (place : Stage) (start : Stand) (step : StepVa
       each_later : (i : ℕ) → i < suc count → slice_get (first ∷ events) i ≡ event_at library place start (step ∷ steps) i
       each_later zero l = refl
       each_later (suc i) l =
-          let its_event : Stand → Option Event = λ before. option_map (λ (x : StepValue). event_of place x (one_step library site before.state x)) (slice_get steps i) in
+          let its_event : SectionNow → Option Event = λ before. option_map (λ (x : StepValue). event_of place x (one_step library site before.state x)) (slice_get steps i) in
           e.each i (omega (arith, l)) ∙ sym (ap its_event (after_first library site start step steps i))
 
       passes_later : (i : ℕ) → i < suc passed → slice_get (event_marks (first ∷ events)) i ≡ Some (Acted outcomes.Passed)
@@ -149,7 +149,7 @@ module _ (library : LibraryValue) (place : Stage) (start : Stand) (step : StepVa
       ends_later zero h = absurd (go.1 (first_stops library site start step steps h.0))
       ends_later (suc k) h =
           let e = later.ends k (is_later library site start step steps k h) in
-          let others : Stand → List Event = λ x. above (ending_of e.0) x.state (drop (suc k) steps) in
+          let others : SectionNow → List Event = λ x. above (ending_of e.0) x.state (drop (suc k) steps) in
           let same = sym (ap others (after_first library site start step steps (suc k))) in
           (e.0, e.1, subst (CarriesOut library place start (step ∷ steps) (first ∷ events) (suc (suc k)) (suc k)) same (carries_later events (suc k) k (others (after library site onward steps (suc k))) go.0 e.2))
 
@@ -159,8 +159,8 @@ module _ (library : LibraryValue) (place : Stage) (above : LaterSteps) (events_o
     (none : (s : State) → events_of s [] ≡ [])
     (more : (s : State) (step : StepValue) (steps : List StepValue) →
     (let this = one_step library (site_of place) s step in events_of s (step ∷ steps) ≡ event_of place step this ∷ cond (has_passed (ending_of this.mark)) (events_of this.state steps) (above (ending_of this.mark) this.state steps)))
-    (keeps : (stand : Stand) (ended : Ending) (steps : List StepValue) → left_by stand (above ended stand.state steps) ≡ stand) where
-  by_first : (start : Stand) (step : StepValue) (steps : List StepValue) → (let n = onward library place start step steps in EndsAtTheLeastStop library place n steps above (events_of n.state steps)) →
+    (keeps : (section : SectionNow) (ended : Ending) (steps : List StepValue) → left_by section (above ended section.state steps) ≡ section) where
+  by_first : (start : SectionNow) (step : StepValue) (steps : List StepValue) → (let n = onward library place start step steps in EndsAtTheLeastStop library place n steps above (events_of n.state steps)) →
       (Stops library (site_of place) start.state step) ⊎ GoesOn library (site_of place) start.state step → EndsAtTheLeastStop library place start (step ∷ steps) above (events_of start.state (step ∷ steps))
   by_first start step steps later (inl st) =
       let this = one_step library (site_of place) start.state step in
@@ -176,7 +176,7 @@ module _ (library : LibraryValue) (place : Stage) (above : LaterSteps) (events_o
       let split = more start.state step steps ∙ ap (λ (m : Mark). event ∷ cond (has_passed (ending_of m)) (events_of this.state steps) others) go.0 in
       subst (EndsAtTheLeastStop library place start (step ∷ steps) above) (sym split) (when_passed library place start step steps above (events_of this.state steps) go later)
 
-  in_words : (start : Stand) (steps : List StepValue) → EndsAtTheLeastStop library place start steps above (events_of start.state steps)
+  in_words : (start : SectionNow) (steps : List StepValue) → EndsAtTheLeastStop library place start steps above (events_of start.state steps)
   in_words start [] =
       subst (EndsAtTheLeastStop library place start [] above) (sym (none start.state))
       (record {
@@ -188,7 +188,7 @@ module _ (library : LibraryValue) (place : Stage) (above : LaterSteps) (events_o
       by_first start step steps (in_words (onward library place start step steps) steps) (decided_by library (site_of place) start.state step (found library step.step_type step.text) refl)
 
 pub walks_in_words : WalksEndAtTheLeastStop
-walks_in_words library place start steps = in_words library place (λ ended s others. []) (walk library place) (λ s. refl) (λ s step steps. refl) (λ stand ended steps. refl) start steps
+walks_in_words library place start steps = in_words library place (λ ended s others. []) (walk library place) (λ s. refl) (λ s step steps. refl) (λ section ended steps. refl) start steps
 
 -- ---- the steps of a case
 
@@ -209,11 +209,11 @@ steps_by library endings.Skipped s steps = unrun_all library endings.Skipped s s
 steps_by library endings.Memory s steps = unrun_all library endings.Memory s steps (λ e. cc)
 
 -- steps that aren't carried out leave all as it was
-unrun_leave : (library : LibraryValue) (stand : Stand) (ended : Ending) (steps : List StepValue) → left_by stand (unrun_steps library ended stand.state steps) ≡ stand
-unrun_leave library stand ended [] = refl
-unrun_leave library stand ended (step ∷ steps) =
-    let at : List CleanupValue → Stand = λ cs. record { state = stand.state; cleanups = cs } in
-    ap (λ (cs : List CleanupValue). left_by (at cs) (unrun_steps library ended stand.state steps)) (append-nil stand.cleanups) ∙ unrun_leave library stand ended steps
+unrun_leave : (library : LibraryValue) (section : SectionNow) (ended : Ending) (steps : List StepValue) → left_by section (unrun_steps library ended section.state steps) ≡ section
+unrun_leave library section ended [] = refl
+unrun_leave library section ended (step ∷ steps) =
+    let at : List CleanupValue → SectionNow = λ cs. record { state = section.state; cleanups = cs } in
+    ap (λ (cs : List CleanupValue). left_by (at cs) (unrun_steps library ended section.state steps)) (append-nil section.cleanups) ∙ unrun_leave library section ended steps
 
 pub steps_in_words : StepsEndAtTheLeastStop
 steps_in_words library start steps =

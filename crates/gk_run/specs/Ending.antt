@@ -26,10 +26,10 @@ reason_of_mark (Acted (outcomes.Failed why)) = Some why
 reason_of_mark _ = None
 
 -- Whether a mark is that of a step or a cleanup that failed or is undefined.
-abbrev pub is_bad_mark : Mark → Bool
-is_bad_mark (Acted (outcomes.Failed why)) = true
-is_bad_mark Undefined = true
-is_bad_mark _ = false
+abbrev pub is_failed_or_undefined : Mark → Bool
+is_failed_or_undefined (Acted (outcomes.Failed why)) = true
+is_failed_or_undefined Undefined = true
+is_failed_or_undefined _ = false
 
 -- Whether a mark is that of a step or a cleanup whose action skipped the scenario.
 abbrev pub is_skip_mark : Mark → Bool
@@ -45,7 +45,7 @@ is_memory_mark _ = false
 abbrev pub ended_of : List Mark → Ending
 ended_of marks =
     cond (list_any is_memory_mark marks) endings.Memory
-    (cond (list_any is_bad_mark marks) endings.Failed
+    (cond (list_any is_failed_or_undefined marks) endings.Failed
     (cond (list_any is_skip_mark marks) endings.Skipped endings.Passed))
 
 -- How one step or cleanup with this mark ends by itself.

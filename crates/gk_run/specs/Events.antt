@@ -40,23 +40,23 @@ outcomes_of (of_step stage step mark registered s ∷ events) = outcomes_of even
 outcomes_of (of_cleanup level cleanup outcome s ∷ events) = outcome ∷ outcomes_of events
 
 -- The plain state of a section, and the cleanups that are registered in it.
-pub record Stand : Type 0 where
+pub record SectionNow : Type 0 where
   pub state : State
   pub cleanups : List CleanupValue
 
 -- The plain state of a section in a sandbox, with these cleanups.
-abbrev pub stand_of : SandboxValue → List CleanupValue → Stand
-stand_of sandbox cleanups = record { state = state_of sandbox.now; cleanups = cleanups }
+abbrev pub section_now : SandboxValue → List CleanupValue → SectionNow
+section_now sandbox cleanups = record { state = state_of sandbox.now; cleanups = cleanups }
 
 -- The state and the cleanups of a section after an event.
-abbrev pub after_event : Stand → Event → Stand
-after_event stand (of_step stage step mark registered s) = record { state = s; cleanups = stand.cleanups ++ registered }
-after_event stand (of_cleanup level cleanup outcome s) = record { state = s; cleanups = stand.cleanups }
+abbrev pub after_event : SectionNow → Event → SectionNow
+after_event section (of_step stage step mark registered s) = record { state = s; cleanups = section.cleanups ++ registered }
+after_event section (of_cleanup level cleanup outcome s) = record { state = s; cleanups = section.cleanups }
 
 -- The state and the cleanups of a section after events, in order.
-abbrev pub left_by : Stand → List Event → Stand
-left_by stand [] = stand
-left_by stand (event ∷ events) = left_by (after_event stand event) events
+abbrev pub left_by : SectionNow → List Event → SectionNow
+left_by section [] = section
+left_by section (event ∷ events) = left_by (after_event section event) events
 
 -- An event in which memory was refused: it registered nothing, and left this state.
 abbrev pub refused : State → Event → Event

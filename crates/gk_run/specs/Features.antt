@@ -108,19 +108,19 @@ IsFeatureResult run now is_open f row = (outside : State) → (is_open ≡ true 
 abbrev pub IsFeatureTold : {S : Type 0} → (S → Event → S → Type 0) → (S → EndTold → S → Type 0) → Run → State → Bool → ChosenValue → FeatureRow → S → S → Type 0
 IsFeatureTold hears ends run outside is_open f row old new = (cuts : FeatureCuts) × IsRan (tells hears ends) (feature_of run outside is_open cuts f) row old new
 
--- A case may begin right after this: a step of the before hooks of a feature or a rule, or the end of a case or a rule.
+-- What is told last before a case begins: a step of the before hooks of a feature or a rule, or the end of a case or a rule. (Which of these steps is the last isn't said.)
 abbrev pub PrecedesCase : Told → Type 0
 PrecedesCase (happens (of_step stage step mark registered s)) = (stage ≡ before_of levels.Feature) ⊎ (stage ≡ before_of levels.Rule)
 PrecedesCase (happens (of_cleanup level cleanup outcome s)) = ⊥
 PrecedesCase (has_ended ended) = ⊤
 
--- A case may begin right after the last of these, if there is any.
+-- The last of these, if there is any, is of a kind that is told last before a case begins.
 abbrev pub StopsBeforeCase : List Told → Type 0
 StopsBeforeCase [] = ⊤
 StopsBeforeCase (last ∷ []) = PrecedesCase last
 StopsBeforeCase (first ∷ next ∷ others) = StopsBeforeCase (next ∷ others)
 
--- An observer was told a beginning of what a part of a run tells, up to a point at which a case may begin. So each case was told whole, and no after hook or cleanup of a rule or a feature that hasn't ended was told.
+-- An observer was told a beginning of what a part of a run tells, up to the end of a case or a rule, or into a list of before hooks. So each case was told whole, and no after hook or cleanup of a rule or a feature that hasn't ended was told.
 pub record IsToldInPart {S A : Type 0} (told : S → Told → S → Type 0) (ran : Ran A) (first last : S) : Type 0 where
   pub front : List Told
   pub rest : List Told
@@ -128,7 +128,7 @@ pub record IsToldInPart {S A : Type 0} (told : S → Told → S → Type 0) (ran
   pub heard : FoldsTo told first front last
   pub stops : StopsBeforeCase front
 
--- An observer was told a beginning of what happens in a feature, for some cuts, up to a point at which a case may begin.
+-- An observer was told a beginning of what happens in a feature, for some cuts, up to the end of a case or a rule, or into a list of before hooks.
 abbrev pub IsFeatureToldInPart : {S : Type 0} → (S → Event → S → Type 0) → (S → EndTold → S → Type 0) → Run → State → Bool → ChosenValue → S → S → Type 0
 IsFeatureToldInPart hears ends run outside is_open f old new = (cuts : FeatureCuts) × IsToldInPart (tells hears ends) (feature_of run outside is_open cuts f) old new
 

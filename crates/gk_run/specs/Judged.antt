@@ -15,7 +15,7 @@ use Rattle.gk_steps.specs.Finding.{LibraryValue}
 use Rattle.gk_run.specs.declared.results.Mark.{Mark}
 use Rattle.gk_run.specs.declared.results.Mark.TheVariants.{Untested}
 use Rattle.gk_run.specs.declared.section.Level.{Level}
-use Rattle.gk_run.specs.Running.{case_statuses, is_bad, IsReached, unreached_row, unselected_row}
+use Rattle.gk_run.specs.Running.{case_statuses, is_failed_or_memory, IsReached, unreached_row, unselected_row}
 use Rattle.gk_run.specs.Walk.{row_of_step, rows_of_steps}
 
 -- The cuts of a run: in its own hooks and cleanups, and in its features.
@@ -91,18 +91,18 @@ pub record Each {A R : Type 0} (Holds : ℕ → A → R → Type 0) (xs : List A
 
 -- A case is neither failed nor memory.
 abbrev pub IsGoodCase : CaseRow → Type 0
-IsGoodCase row = is_bad row.status ≡ false
+IsGoodCase row = is_failed_or_memory row.status ≡ false
 
 -- A rule is neither failed nor memory: its hooks and cleanups aren't, and none of its cases is.
 abbrev pub IsGoodRule : SectionRow (List CaseRow) → Type 0
-IsGoodRule end = (is_bad end.around ≡ false) × All IsGoodCase end.inside
+IsGoodRule end = (is_failed_or_memory end.around ≡ false) × All IsGoodCase end.inside
 
 -- A feature is neither failed nor memory.
 abbrev pub IsGoodFeature : FeatureRow → Type 0
-IsGoodFeature row = is_bad row.status ≡ false
+IsGoodFeature row = is_failed_or_memory row.status ≡ false
 
 -- A section that is begun if `Begun` holds. Its events are those of its before list, its after lists and its cleanups, or these cut at one event. If it isn't begun, there are none. `around` is how they ended. What is inside it, from its own state, is ready if the section is begun and its before list, cut or not, passed whole. (behave's documentation: environment file functions)
-pub record SectionInWords {A : Type 0} (run : Run) (level : Level) (tags : List (List ℕ)) (outside : State) (Begun : Type 0) (Holds : State → Type 0 → A → Type 0) (end : SectionRow A) : Type 0 where
+pub record JudgedSection {A : Type 0} (run : Run) (level : Level) (tags : List (List ℕ)) (outside : State) (Begun : Type 0) (Holds : State → Type 0 → A → Type 0) (end : SectionRow A) : Type 0 where
   pub events : Events
   pub begun : Begun → (cut : Cut) × (events ≡ happened cut (section_events run level tags outside))
   pub unbegun : (Begun → ⊥) → events ≡ no_events
@@ -110,30 +110,30 @@ pub record SectionInWords {A : Type 0} (run : Run) (level : Level) (tags : List 
   pub inside : Holds (section_state run level tags outside) (Begun × (before_passed events ≡ true)) end.inside
 
 -- A case. If it is unselected, it and its steps are skipped. If it is selected and reached, its result is that of the case alone from its section's state, or that cut at one event. If it is selected and not reached, it and its steps are untested. (behave's documentation: `--tags`, `--stop`)
-pub record CaseInWords (run : Run) (section : State) (Reached : Type 0) (m : MemberValue) (row : CaseRow) : Type 0 where
+pub record JudgedCase (run : Run) (section : State) (Reached : Type 0) (m : MemberValue) (row : CaseRow) : Type 0 where
   pub unselected : m.selected ≡ false → row ≡ unselected_row m.scenario
   pub reached : m.selected ≡ true → Reached → IsReached run section m.scenario row
   pub unreached : m.selected ≡ true → (Reached → ⊥) → row ≡ unreached_row m.scenario
 
 -- The cases of a section. A selected one is reached if the section is ready and, if the run is to stop, no earlier case of the section is failed or memory. (behave's documentation: `--stop`)
-abbrev pub CasesInWords : Run → State → Type 0 → List MemberValue → List CaseRow → Type 0
-CasesInWords run section Ready members rows = Each (λ k m row. CaseInWords run section (Ready × (run.stop ≡ true → All IsGoodCase (take k rows))) m row) members rows
+abbrev pub JudgedCases : Run → State → Type 0 → List MemberValue → List CaseRow → Type 0
+JudgedCases run section Ready members rows = Each (λ k m row. JudgedCase run section (Ready × (run.stop ≡ true → All IsGoodCase (take k rows))) m row) members rows
 
 -- A rule. It is begun if its feature is open for it and it has a selected case. (Cucumber's Gherkin reference: rule)
-abbrev pub RuleInWords : Run → State → Type 0 → Group → SectionRow (List CaseRow) → Type 0
-RuleInWords run outside Open g end =
-    SectionInWords run levels.Rule g.head.tags outside (Open × (has_selected g.members ≡ true)) (λ section Ready rows. CasesInWords run section Ready g.members rows) end
+abbrev pub JudgedRule : Run → State → Type 0 → Group → SectionRow (List CaseRow) → Type 0
+JudgedRule run outside Open g end =
+    JudgedSection run levels.Rule g.head.tags outside (Open × (has_selected g.members ≡ true)) (λ section Ready rows. JudgedCases run section Ready g.members rows) end
 
 -- The result of a rule without its cases: its line, and how its hooks and cleanups ended.
 abbrev pub rule_rows : List Group → List (SectionRow (List CaseRow)) → List RuleRow
 rule_rows groups ends = map (λ p. record { line = p.0.head.line; around = p.1.around }) (zip groups ends)
 
 -- What is inside a feature: its cases that aren't in a rule, and then its rules. The feature is open for a rule if it is ready and, if the run is to stop, none of these cases and no earlier rule is failed or memory. (Cucumber's Gherkin reference: rule)
-pub record InsideInWords (run : Run) (section : State) (Ready : Type 0) (f : ChosenValue) (inside : Inside) : Type 0 where
+pub record JudgedInside (run : Run) (section : State) (Ready : Type 0) (f : ChosenValue) (inside : Inside) : Type 0 where
   pub own : List CaseRow
   pub ends : List (SectionRow (List CaseRow))
-  pub cases : CasesInWords run section Ready (own_members f) own
-  pub rules : Each (λ k g end. RuleInWords run section (Ready × (run.stop ≡ true → All IsGoodCase own × All IsGoodRule (take k ends))) g end) (rule_groups f) ends
+  pub cases : JudgedCases run section Ready (own_members f) own
+  pub rules : Each (λ k g end. JudgedRule run section (Ready × (run.stop ≡ true → All IsGoodCase own × All IsGoodRule (take k ends))) g end) (rule_groups f) ends
   pub case_results : inside.cases ≡ own ++ flat_map (λ end. end.inside) ends
   pub rule_results : inside.rules ≡ rule_rows (rule_groups f) ends
 
@@ -145,41 +145,41 @@ pub record IsHeaded (f : ChosenValue) (row : FeatureRow) : Type 0 where
   pub verdict : row.status ≡ feature_verdict row.around (rule_statuses row.rules) (case_statuses row.cases)
 
 -- A feature. It is begun if the run is open for it and it has a selected case. (behave's documentation: environment file functions)
-pub record FeatureInWords (run : Run) (outside : State) (Open : Type 0) (f : ChosenValue) (row : FeatureRow) : Type 0 where
+pub record JudgedFeature (run : Run) (outside : State) (Open : Type 0) (f : ChosenValue) (row : FeatureRow) : Type 0 where
   pub heading : IsHeaded f row
-  pub goes : SectionInWords run levels.Feature f.tags outside (Open × (has_selected f.members ≡ true)) (λ section Ready inside. InsideInWords run section Ready f inside)
+  pub goes : JudgedSection run levels.Feature f.tags outside (Open × (has_selected f.members ≡ true)) (λ section Ready inside. JudgedInside run section Ready f inside)
       (record { around = row.around; inside = record { rules = row.rules; cases = row.cases } })
 
 -- The features of a run. The run is open for one if it is ready and, if it is to stop, no earlier feature is failed or memory. (behave's documentation: `--stop`)
-abbrev pub FeaturesInWords : Run → State → Type 0 → List ChosenValue → List FeatureRow → Type 0
-FeaturesInWords run section Ready features rows = Each (λ k f row. FeatureInWords run section (Ready × (run.stop ≡ true → All IsGoodFeature (take k rows))) f row) features rows
+abbrev pub JudgedFeatures : Run → State → Type 0 → List ChosenValue → List FeatureRow → Type 0
+JudgedFeatures run section Ready features rows = Each (λ k f row. JudgedFeature run section (Ready × (run.stop ≡ true → All IsGoodFeature (take k rows))) f row) features rows
 
 -- A case of a dry run. If it is unselected, it and its steps are skipped. If it is selected, it is untested, each step that the library matches is untested, and the others are undefined; or its result is that cut at one step. (behave's documentation: `--dry-run`)
-pub record DryCaseInWords (library : LibraryValue) (m : MemberValue) (row : CaseRow) : Type 0 where
+pub record JudgedDryCase (library : LibraryValue) (m : MemberValue) (row : CaseRow) : Type 0 where
   pub unselected : m.selected ≡ false → row ≡ unselected_row m.scenario
   pub selected : m.selected ≡ true → (cut : Cut) × (row ≡ dry_row library cut m.scenario)
 
 -- A feature of a dry run: neither it nor a rule of it is begun, so each `around` is passed. (behave's documentation: `--dry-run`)
-pub record DryFeatureInWords (library : LibraryValue) (f : ChosenValue) (row : FeatureRow) : Type 0 where
+pub record JudgedDryFeature (library : LibraryValue) (f : ChosenValue) (row : FeatureRow) : Type 0 where
   pub heading : IsHeaded f row
   pub around : row.around ≡ statuses.Passed
   pub rules : row.rules ≡ dry_rules_of f.rules
-  pub cases : Each (λ k m case. DryCaseInWords library m case) f.members row.cases
+  pub cases : Each (λ k m case. JudgedDryCase library m case) f.members row.cases
 
 -- A dry run: whether it is to stop has no effect. (behave's documentation: `--dry-run`)
-pub record DryRunInWords (run : Run) (features : List ChosenValue) (results : Results) : Type 0 where
+pub record JudgedDryRun (run : Run) (features : List ChosenValue) (results : Results) : Type 0 where
   pub around : results.around ≡ statuses.Passed
-  pub inside : Each (λ k f row. DryFeatureInWords run.library f row) features results.features
+  pub inside : Each (λ k f row. JudgedDryFeature run.library f row) features results.features
 
 -- The results of a run, in words: those of a dry run, or those of a run that is begun from these contents.
-pub record JudgedInWords (run : Run) (contents : Contents) (features : List ChosenValue) (results : Results) : Type 0 where
-  pub dry : run.dry_run ≡ true → DryRunInWords run features results
+pub record JudgedPartByPart (run : Run) (contents : Contents) (features : List ChosenValue) (results : Results) : Type 0 where
+  pub dry : run.dry_run ≡ true → JudgedDryRun run features results
   pub real : run.dry_run ≡ false →
-      SectionInWords run levels.Run [] (state_of contents) (run.dry_run ≡ false) (λ section Ready rows. FeaturesInWords run section Ready features rows) (record { around = results.around; inside = results.features })
+      JudgedSection run levels.Run [] (state_of contents) (run.dry_run ≡ false) (λ section Ready rows. JudgedFeatures run section Ready features rows) (record { around = results.around; inside = results.features })
 
 -- Results are judged exactly if these words hold of them.
-abbrev pub JudgedAreInWords : Type 0
-JudgedAreInWords = (run : Run) (contents : Contents) (features : List ChosenValue) (results : Results) → Judged run contents features results ↔ JudgedInWords run contents features results
+abbrev pub JudgedHoldPartByPart : Type 0
+JudgedHoldPartByPart = (run : Run) (contents : Contents) (features : List ChosenValue) (results : Results) → Judged run contents features results ↔ JudgedPartByPart run contents features results
 
 -- Each step of a case has one result, in order, by its mark. It is untested if its event didn't happen.
 abbrev pub StepsHaveTheirResults : Type 0

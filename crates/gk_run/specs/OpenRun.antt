@@ -9,10 +9,10 @@ use Rattle.gk_run.specs.declared.section.Level.TheVariants as levels
 use Rattle.gk_run.specs.Acting.{CleanupValue}
 use Rattle.gk_run.specs.Results.{FeatureRow}
 use Rattle.gk_run.specs.Ending.{has_passed}
-use Rattle.gk_run.specs.Events.{Event, stand_of, result_of}
+use Rattle.gk_run.specs.Events.{Event, section_now, result_of}
 use Rattle.gk_run.specs.OpenSection.{IsBegun, IsEndTold, IsOpened, IsSectionEnd, Run}
 use Rattle.gk_run.specs.Chosen.{ChosenValue}
-use Rattle.gk_run.specs.Running.{is_bad, stays_open_by}
+use Rattle.gk_run.specs.Running.{is_failed_or_memory, stays_open_by}
 use Rattle.gk_run.specs.Features.{FeatureCuts, IsFeatureResult, features_of}
 use Rattle.gk_run.specs.Judged.{Judged, BeginsJudged}
 
@@ -47,18 +47,18 @@ IsKept old new = new ≡ record old { has_failed = new.has_failed }
 -- A feature of an open run was run. Its result is that of some cuts, from the run's state if the run is open. The run has failed if it had before, or if the feature is failed or memory. Unless the run stops at this, it is as open as before.
 pub record IsNextRun (run : Run) (now : State) (f : ChosenValue) (row : FeatureRow) (old new : SuiteValue) : Type 0 where
   pub result : IsFeatureResult run now (opens_features old) f row
-  pub failed : new.has_failed ≡ (old.has_failed || is_bad row.status)
+  pub failed : new.has_failed ≡ (old.has_failed || is_failed_or_memory row.status)
   pub opens : opens_features new ≡ (opens_features old && stays_open_by old.stop row.status)
 
 -- A run that was begun was finished, and its hooks and cleanups ended like this.
 abbrev pub IsFinished : Run → SuiteValue → SandboxValue → Status → Type 0
 IsFinished run suite now around =
-    (outside : State) (first : List Event) → IsBegun run levels.Run [] outside first suite.before (stand_of now suite.cleanups) → (last : List Event) × IsSectionEnd run levels.Run [] outside around first last
+    (outside : State) (first : List Event) → IsBegun run levels.Run [] outside first suite.before (section_now now suite.cleanups) → (last : List Event) × IsSectionEnd run levels.Run [] outside around first last
 
 -- A run was finished like this, and an observer was told its end.
 abbrev pub IsFinishTold : {S : Type 0} → (S → Event → S → Type 0) → Run → SuiteValue → SandboxValue → Status → S → S → Type 0
 IsFinishTold hears run suite now around begin end =
-    (outside : State) (first : List Event) → IsBegun run levels.Run [] outside first suite.before (stand_of now suite.cleanups) → IsEndTold hears run levels.Run [] outside around first begin end
+    (outside : State) (first : List Event) → IsBegun run levels.Run [] outside first suite.before (section_now now suite.cleanups) → IsEndTold hears run levels.Run [] outside around first begin end
 
 -- The results of features are those of some cuts, from the run's state if they are begun.
 abbrev pub AreFeatures : Run → State → Bool → List ChosenValue → List FeatureRow → Type 0

@@ -12,9 +12,9 @@ use Rattle.gk_run.specs.declared.ending.Ending.{Ending}
 use Rattle.gk_run.specs.declared.results.Status.{Status}
 use Rattle.gk_run.specs.declared.section.Level.{Level}
 use Rattle.gk_run.specs.Acting.{CleanupValue}
-use Rattle.gk_run.specs.SectionHooks.{cleaned, after_lists, begun, entered, walk_each}
+use Rattle.gk_run.specs.SectionHooks.{cleaned, after_lists, before_events, entered, walk_each}
 use Rattle.gk_run.specs.Ending.{is_memory_ending}
-use Rattle.gk_run.specs.Events.{Event, SoFar, Stand, ended_in, left_by, stand_of, Ran, happens}
+use Rattle.gk_run.specs.Events.{Event, SoFar, SectionNow, ended_in, left_by, section_now, Ran, happens}
 use Rattle.gk_run.specs.Section.{Events, Cut, happened, around_of, before_passed}
 
 -- What stays the same during a run: its step library and its hooks, whether it is a dry run, and whether it stops. It stops at the first scenario, rule or feature that is failed or memory. Nothing is carried out in a dry run. (behave's documentation: `--dry-run`, `--stop`)
@@ -31,7 +31,7 @@ run_of library hooks stop = record { library = library_value library; hooks = ho
 -- The events of a section that starts from the state outside. Its layer is entered and its before list walked. Then come its steps, from how that ended and what it left; its after lists; its cleanups. (behave's documentation: context layers, environment file functions, cleanups)
 abbrev pub events_with : (Ending → State → List Event) → Run → Level → List (List ℕ) → State → Events
 events_with steps_of run level tags outside =
-    let before = begun run.library run.hooks level tags outside in
+    let before = before_events run.library run.hooks level tags outside in
     let opened = left_by (entered outside) before in
     let steps = steps_of (ended_in before) opened.state in
     let stepped = left_by opened steps in
@@ -44,7 +44,7 @@ section_events = events_with (λ ended s. [])
 
 -- The state of a section: the state outside it, entered, after the section's own before list. (behave's documentation: context layers)
 abbrev pub section_state : Run → Level → List (List ℕ) → State → State
-section_state run level tags outside = let opened = left_by (entered outside) (begun run.library run.hooks level tags outside) in opened.state
+section_state run level tags outside = let opened = left_by (entered outside) (before_events run.library run.hooks level tags outside) in opened.state
 
 -- A section in which nothing happens.
 abbrev pub no_events : Events
@@ -71,21 +71,21 @@ section_of run level tags outside is_begun cut inside =
 
 -- The events of a section's before list that happened: all of them, or those up to the one in which memory was refused.
 abbrev pub IsOpening : Run → Level → List (List ℕ) → State → List Event → Type 0
-IsOpening run level tags outside first = SoFar false (is_memory_ending (ended_in first)) (begun run.library run.hooks level tags outside) [] first
+IsOpening run level tags outside first = SoFar false (is_memory_ending (ended_in first)) (before_events run.library run.hooks level tags outside) [] first
 
 -- A section was begun from the state outside: these events of its before list happened, the list ended with `ended`, and `now` is the section's state and cleanups.
-pub record IsBegun (run : Run) (level : Level) (tags : List (List ℕ)) (outside : State) (first : List Event) (ended : Ending) (now : Stand) : Type 0 where
-  pub so_far : SoFar false (is_memory_ending ended) (begun run.library run.hooks level tags outside) [] first
+pub record IsBegun (run : Run) (level : Level) (tags : List (List ℕ)) (outside : State) (first : List Event) (ended : Ending) (now : SectionNow) : Type 0 where
+  pub so_far : SoFar false (is_memory_ending ended) (before_events run.library run.hooks level tags outside) [] first
   pub ends : ended ≡ ended_in first
-  pub stands : now ≡ left_by (entered outside) first
+  pub leaves : now ≡ left_by (entered outside) first
 
 -- A section was begun in its own layer, which has this number. Its before list ended like this, and these cleanups are registered in it. (behave's documentation: context layers)
 pub record IsOpened (run : Run) (level : Level) (tags : List (List ℕ)) (old new : SandboxValue) (number : ℕ) (ended : Ending) (cleanups : List CleanupValue) : Type 0 where
   pub first : List Event
-  pub begins : IsBegun run level tags (state_of old.now) first ended (stand_of new cleanups)
+  pub begins : IsBegun run level tags (state_of old.now) first ended (section_now new cleanups)
   pub layer : number ≡ depth new
   pub saved : new.saved ≡ old.now ∷ old.saved
-  pub marks : new.marks ≡ length old.entries ∷ old.marks
+  pub starts : new.starts ≡ length old.entries ∷ old.starts
 
 -- For some cut, a section's hooks and cleanups ended like this, with these events before and after what is inside it.
 pub record IsSectionEnd (run : Run) (level : Level) (tags : List (List ℕ)) (outside : State) (around : Status) (first last : List Event) : Type 0 where
@@ -105,6 +105,6 @@ abbrev pub run_value : shared.Run → Run
 run_value r = run_of r.library.now r.hooks.now.file.now r.stop
 
 -- The end of a section was told. Its before list had ended with `ended`, and `now` is its state and cleanups.
-abbrev pub EndsAround : {S : Type 0} → (S → Event → S → Type 0) → Run → Level → List (List ℕ) → Ending → Stand → Status → S → S → Type 0
+abbrev pub EndsAround : {S : Type 0} → (S → Event → S → Type 0) → Run → Level → List (List ℕ) → Ending → SectionNow → Status → S → S → Type 0
 EndsAround hears run level tags ended now around begin end =
     (outside : State) (first : List Event) → IsBegun run level tags outside first ended now → IsEndTold hears run level tags outside around first begin end

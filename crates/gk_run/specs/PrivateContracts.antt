@@ -27,7 +27,7 @@ use Rattle.gk_run.specs.declared.walk.StepsEnd.{StepsEnd}
 use Rattle.gk_run.specs.Acting.{CleanupValue, WritesFirst}
 use Rattle.gk_run.specs.SectionHooks.{cleaned, after_lists, before_list, walk_each}
 use Rattle.gk_run.specs.Ending.{is_memory_ending, worse}
-use Rattle.gk_run.specs.Events.{Event, SoFar, of_step, Stand, ended_in, event_marks, left_by, outcomes_of, stand_of, EndTold, IsRan, Told, tells}
+use Rattle.gk_run.specs.Events.{Event, SoFar, of_step, SectionNow, ended_in, event_marks, left_by, outcomes_of, section_now, EndTold, IsRan, Told, tells}
 use Rattle.gk_run.specs.OpenSection.{IsOpened, SectionRow, section_of, run_value, Run}
 use Rattle.gk_run.specs.Results.{step_row, CaseRow, FeatureRow, case_row, rule_row}
 use Rattle.gk_run.specs.Section.{steps_of_case, before_of, Cut}
@@ -47,15 +47,15 @@ use Rattle.gk_run.specs.Chosen.{ChosenValue, HeadValue, MemberValue, head_value,
 use Rattle.gk_run.specs.Features.{IsFeatureTold, IsFeatureToldInPart, IsToldInPart, inside_by, Inside, RuleCuts, rule_of, rule_stays_open, rules_of}
 
 -- Events of a section happened and were told, with `rest` left. `before` is how the section had ended before them, `ended` how it has ended now, and `now` its state and cleanups.
-pub record Goes {S : Type 0} (hears : S → Event → S → Type 0) (before : Ending) (all rest : List Event) (start now : Stand) (ended : Ending) (first last : S) : Type 0 where
+pub record Goes {S : Type 0} (hears : S → Event → S → Type 0) (before : Ending) (all rest : List Event) (start now : SectionNow) (ended : Ending) (first last : S) : Type 0 where
   pub told : List Event
   pub heard : FoldsTo hears first told last
   pub so_far : SoFar (is_memory_ending before) (is_memory_ending ended) all rest told
   pub ends : ended ≡ worse before (ended_in told)
-  pub stands : now ≡ left_by start told
+  pub leaves : now ≡ left_by start told
 
 -- All of these events happened, or those up to the one in which memory was refused.
-abbrev pub Happens : {S : Type 0} → (S → Event → S → Type 0) → Ending → List Event → Stand → Stand → Ending → S → S → Type 0
+abbrev pub Happens : {S : Type 0} → (S → Event → S → Type 0) → Ending → List Event → SectionNow → SectionNow → Ending → S → S → Type 0
 Happens hears before all start now ended first last = Goes hears before all [] start now ended first last
 
 -- ---- steps
@@ -93,7 +93,7 @@ StepKeepsAtMemory run site step old mark new =
 -- The steps of a hook were walked through at a stage.
 abbrev pub WalksHook : {S : Type 0} → (S → Event → S → Type 0) → shared.Run → Stage → List Step → SandboxValue → List CleanupValue → Ending → SandboxValue → List CleanupValue → S → S → Type 0
 WalksHook hears run stage steps old cleanups ended new new_cleanups first last =
-    Happens hears endings.Passed (walk (library_value run.library.now) stage (state_of old.now) (map step_value steps)) (stand_of old cleanups) (stand_of new new_cleanups) ended first last
+    Happens hears endings.Passed (walk (library_value run.library.now) stage (state_of old.now) (map step_value steps)) (section_now old cleanups) (section_now new new_cleanups) ended first last
 
 -- The next step of a case was taken. The case had ended so far with `ending`.
 abbrev pub TakesNext : shared.Run → Ending → Step → SandboxValue → List CleanupValue → Mark → SandboxValue → List CleanupValue → Type 0
@@ -111,7 +111,7 @@ TellsNext hears stood step mark now first last = (registered : List CleanupValue
 
 -- The steps of a case whose before list ended with `before` were run, and their results are those of the events that were told.
 pub record RunsSteps {S : Type 0} (hears : S → Event → S → Type 0) (run : shared.Run) (before : Ending) (steps : Reserved Step StepResult) (old : SandboxValue) (cleanups : List CleanupValue) (end : StepsEnd) (new : SandboxValue) (new_cleanups : List CleanupValue) (first last : S) : Type 0 where
-  pub goes : Happens hears before (steps_from (library_value run.library.now) before (state_of old.now) (map step_value steps.list.items)) (stand_of old cleanups) (stand_of new new_cleanups) end.ending first last
+  pub goes : Happens hears before (steps_from (library_value run.library.now) before (state_of old.now) (map step_value steps.list.items)) (section_now old cleanups) (section_now new new_cleanups) end.ending first last
   pub rows : map step_row end.results.items ≡ rows_of_steps (map step_value steps.list.items) (event_marks goes.told)
 
 -- ---- hooks
@@ -119,12 +119,12 @@ pub record RunsSteps {S : Type 0} (hears : S → Event → S → Type 0) (run : 
 -- A section's before list was walked through.
 abbrev pub WalksBefore : {S : Type 0} → (S → Event → S → Type 0) → shared.Run → Section → SandboxValue → List CleanupValue → Ending → SandboxValue → List CleanupValue → S → S → Type 0
 WalksBefore hears run section old cleanups ended new new_cleanups first last =
-    Happens hears endings.Passed (walk (library_value run.library.now) (before_of section.level) (state_of old.now) (before_list (hooks_value run.hooks.now.file.now) section.level (texts section.tags.now))) (stand_of old cleanups) (stand_of new new_cleanups) ended first last
+    Happens hears endings.Passed (walk (library_value run.library.now) (before_of section.level) (state_of old.now) (before_list (hooks_value run.hooks.now.file.now) section.level (texts section.tags.now))) (section_now old cleanups) (section_now new new_cleanups) ended first last
 
 -- Each of a section's after lists was walked through by itself.
 abbrev pub WalksAfter : {S : Type 0} → (S → Event → S → Type 0) → shared.Run → Section → SandboxValue → List CleanupValue → Ending → SandboxValue → List CleanupValue → S → S → Type 0
 WalksAfter hears run section old cleanups ended new new_cleanups first last =
-    Happens hears endings.Passed (walk_each (library_value run.library.now) section.level (stand_of old cleanups) (after_lists (hooks_value run.hooks.now.file.now) section.level (texts section.tags.now))) (stand_of old cleanups) (stand_of new new_cleanups) ended first last
+    Happens hears endings.Passed (walk_each (library_value run.library.now) section.level (section_now old cleanups) (after_lists (hooks_value run.hooks.now.file.now) section.level (texts section.tags.now))) (section_now old cleanups) (section_now new new_cleanups) ended first last
 
 -- ---- a section
 
@@ -135,14 +135,14 @@ Opens hears run section old opened new first last =
 
 -- Cleanups were run, the last first, and their outcomes are those of the events that were told.
 pub record Cleans {S : Type 0} (hears : S → Event → S → Type 0) (run : shared.Run) (level : Level) (registered : List CleanupValue) (old : SandboxValue) (closed : Closed) (new : SandboxValue) (first last : S) : Type 0 where
-  pub goes : Happens hears endings.Passed (cleaned (library_value run.library.now) level (stand_of old registered)) (stand_of old registered) (stand_of new registered) closed.ending first last
+  pub goes : Happens hears endings.Passed (cleaned (library_value run.library.now) level (section_now old registered)) (section_now old registered) (section_now new registered) closed.ending first last
   pub outcomes : closed.outcomes.items ≡ outcomes_of goes.told
 
 -- The after lists of a section and then its cleanups happened. `before` is how the section had ended before them, `ended` how these ended, and `reported` the outcomes of the cleanups.
-pub record IsClosing {S : Type 0} (hears : S → Event → S → Type 0) (library : LibraryValue) (level : Level) (lists : List (List StepValue)) (before : Ending) (start : Stand) (ended : Ending) (reported : List Outcome) (first last : S) : Type 0 where
+pub record IsClosing {S : Type 0} (hears : S → Event → S → Type 0) (library : LibraryValue) (level : Level) (lists : List (List StepValue)) (before : Ending) (start : SectionNow) (ended : Ending) (reported : List Outcome) (first last : S) : Type 0 where
   pub here : S
-  pub mid : Stand
-  pub now : Stand
+  pub mid : SectionNow
+  pub now : SectionNow
   pub between : Ending
   pub end : Ending
   pub after : Happens hears before (walk_each library level start lists) start mid between first here
@@ -153,7 +153,7 @@ pub record IsClosing {S : Type 0} (hears : S → Event → S → Type 0) (librar
 -- A section that had ended with `before` was closed. After refused memory nothing more happened in it.
 abbrev pub Closes : {S : Type 0} → (S → Event → S → Type 0) → Ending → shared.Run → Section → List CleanupValue → SandboxValue → Closed → S → S → Type 0
 Closes hears before run section registered old closed first last =
-    IsClosing hears (library_value run.library.now) section.level (after_lists (hooks_value run.hooks.now.file.now) section.level (texts section.tags.now)) before (stand_of old registered) closed.ending closed.outcomes.items first last
+    IsClosing hears (library_value run.library.now) section.level (after_lists (hooks_value run.hooks.now.file.now) section.level (texts section.tags.now)) before (section_now old registered) closed.ending closed.outcomes.items first last
 
 -- ---- cases
 

@@ -73,12 +73,12 @@ without_first [] = []
 without_first (x ∷ xs) = xs
 
 -- Whether a status is failed or memory.
-abbrev pub is_bad : Status → Bool
-is_bad status = is_failed status || is_memory status
+abbrev pub is_failed_or_memory : Status → Bool
+is_failed_or_memory status = is_failed status || is_memory status
 
 -- Whether what comes next is still reached: the run doesn't stop at a failure, or this status is neither failed nor memory.
 abbrev pub stays_open_by : Bool → Status → Bool
-stays_open_by stop status = not (stop && is_bad status)
+stays_open_by stop status = not (stop && is_failed_or_memory status)
 
 -- Whether what comes next in a run is still reached. (behave's documentation: `--stop`)
 abbrev pub stays_open : Run → Status → Bool

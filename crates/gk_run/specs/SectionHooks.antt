@@ -8,7 +8,7 @@ use Rattle.gk_steps.specs.Finding.{LibraryValue}
 use Rattle.gk_world.specs.State.{State, enter}
 use Rattle.gk_run.specs.declared.section.Level.{Level}
 use Rattle.gk_run.specs.declared.section.Level.TheVariants as levels
-use Rattle.gk_run.specs.Events.{Event, Stand, left_by, of_cleanup}
+use Rattle.gk_run.specs.Events.{Event, SectionNow, left_by, of_cleanup}
 use Rattle.gk_run.specs.Section.{after_of, before_of}
 use Rattle.gk_run.specs.Walk.{walk}
 use Rattle.gk_run.specs.declared.acting.Site.TheVariants as sites
@@ -47,19 +47,19 @@ abbrev pub after_lists : List HookValue → Level → List (List ℕ) → List (
 after_lists hooks level tags = hook_steps hooks (after_kind level) None ∷ tag_lists hooks tags
 
 -- The beginning of a section: its layer is entered, with no cleanups yet. (behave's documentation: context layers)
-abbrev pub entered : State → Stand
+abbrev pub entered : State → SectionNow
 entered outside = record { state = enter outside; cleanups = [] }
 
 -- The events of a section's before list, which is walked as one list from the state outside.
-abbrev pub begun : LibraryValue → List HookValue → Level → List (List ℕ) → State → List Event
-begun library hooks level tags outside = walk library (before_of level) (enter outside) (before_list hooks level tags)
+abbrev pub before_events : LibraryValue → List HookValue → Level → List (List ℕ) → State → List Event
+before_events library hooks level tags outside = walk library (before_of level) (enter outside) (before_list hooks level tags)
 
 -- The events of after lists. Each list is walked by itself, from the state that the one before left, whatever the others did.
-abbrev pub walk_each : LibraryValue → Level → Stand → List (List StepValue) → List Event
-walk_each library level stand [] = []
-walk_each library level stand (steps ∷ others) =
-    let this = walk library (after_of level) stand.state steps in
-    this ++ walk_each library level (left_by stand this) others
+abbrev pub walk_each : LibraryValue → Level → SectionNow → List (List StepValue) → List Event
+walk_each library level section [] = []
+walk_each library level section (steps ∷ others) =
+    let this = walk library (after_of level) section.state steps in
+    this ++ walk_each library level (left_by section this) others
 
 -- What a cleanup leaves.
 abbrev pub cleanup_done : LibraryValue → CleanupValue → State → Done
@@ -71,5 +71,5 @@ clean_each library level s [] = []
 clean_each library level s (c ∷ cs) = let done = cleanup_done library c s in of_cleanup level c done.outcome done.state ∷ clean_each library level done.state cs
 
 -- The events of registered cleanups, which run last in, first out. (behave's documentation: cleanups)
-abbrev pub cleaned : LibraryValue → Level → Stand → List Event
-cleaned library level stand = clean_each library level stand.state (reverse stand.cleanups)
+abbrev pub cleaned : LibraryValue → Level → SectionNow → List Event
+cleaned library level section = clean_each library level section.state (reverse section.cleanups)

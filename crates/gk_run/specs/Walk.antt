@@ -13,7 +13,7 @@ use Rattle.gk_run.specs.declared.results.Outcome.TheVariants as outcomes
 use Rattle.gk_run.specs.declared.section.Stage.{Stage}
 use Rattle.gk_run.specs.Acting.{CleanupValue, act}
 use Rattle.gk_run.specs.Ending.{ending_of, has_passed, status_of_mark, reason_of_mark}
-use Rattle.gk_run.specs.Events.{Event, of_step, Stand, event_marks, left_by}
+use Rattle.gk_run.specs.Events.{Event, of_step, SectionNow, event_marks, left_by}
 use Rattle.gk_run.specs.Results.{StepRow}
 use Rattle.gk_run.specs.Section.{site_of, steps_of_case}
 use Rattle.gk_run.specs.declared.results.Outcome.{Outcome}
@@ -74,17 +74,17 @@ rows_of_steps (step ∷ steps) [] = row_of_step step Untested ∷ rows_of_steps 
 rows_of_steps (step ∷ steps) (mark ∷ marks) = row_of_step step mark ∷ rows_of_steps steps marks
 
 -- The state and the cleanups of a section after one step, if there is such a step, whatever becomes of it.
-abbrev pub carried_on : LibraryValue → Site → Stand → Option StepValue → Stand
+abbrev pub carried_on : LibraryValue → Site → SectionNow → Option StepValue → SectionNow
 carried_on library site before None = before
 carried_on library site before (Some step) = let this = one_step library site before.state step in record { state = this.state; cleanups = before.cleanups ++ this.registered }
 
 -- The state and the cleanups of a section after the first k steps of a list, whatever becomes of them.
-abbrev pub after : LibraryValue → Site → Stand → List StepValue → ℕ → Stand
+abbrev pub after : LibraryValue → Site → SectionNow → List StepValue → ℕ → SectionNow
 after library site start steps zero = start
 after library site start steps (suc k) = carried_on library site (after library site start steps k) (slice_get steps k)
 
 -- The event of step k, counted from 0: it is carried out from the state that the first k steps leave.
-abbrev pub event_at : LibraryValue → Stage → Stand → List StepValue → ℕ → Option Event
+abbrev pub event_at : LibraryValue → Stage → SectionNow → List StepValue → ℕ → Option Event
 event_at library stage start steps k =
     let before = after library (site_of stage) start steps k in
     option_map (λ step. event_of stage step (one_step library (site_of stage) before.state step)) (slice_get steps k)
@@ -100,21 +100,21 @@ Stops library site s step =
     ⊎ ((f : FoundValue) × (found library step.step_type step.text ≡ Some f) × (outcome_from library site s step f ≢ outcomes.Passed))
 
 -- There is a step k, and after the first k steps it isn't found or its outcome isn't Passed.
-abbrev pub StopsAt : LibraryValue → Site → Stand → List StepValue → ℕ → Type 0
+abbrev pub StopsAt : LibraryValue → Site → SectionNow → List StepValue → ℕ → Type 0
 StopsAt library site start steps k =
     let before = after library site start steps k in
     (step : StepValue) × (slice_get steps k ≡ Some step) × Stops library site before.state step
 
 -- The least such step, counted from 0.
-abbrev pub IsStop : LibraryValue → Site → Stand → List StepValue → ℕ → Type 0
+abbrev pub IsStop : LibraryValue → Site → SectionNow → List StepValue → ℕ → Type 0
 IsStop library site start steps stop = StopsAt library site start steps stop × ((i : ℕ) → i < stop → StopsAt library site start steps i → ⊥)
 
 -- There is no such step.
-abbrev pub HasNoStop : LibraryValue → Site → Stand → List StepValue → Type 0
+abbrev pub HasNoStop : LibraryValue → Site → SectionNow → List StepValue → Type 0
 HasNoStop library site start steps = (i : ℕ) → StopsAt library site start steps i → ⊥
 
 -- The first `count` steps of a list are carried out, each from the state that the ones before it left, and the first `passed` of them passed. The section is left as the last of them left it, and their events come before these others.
-pub record CarriesOut (library : LibraryValue) (stage : Stage) (start : Stand) (steps : List StepValue) (events : List Event) (count passed : ℕ) (others : List Event) : Type 0 where
+pub record CarriesOut (library : LibraryValue) (stage : Stage) (start : SectionNow) (steps : List StepValue) (events : List Event) (count passed : ℕ) (others : List Event) : Type 0 where
   pub each : (i : ℕ) → i < count → slice_get events i ≡ event_at library stage start steps i
   pub passes : (i : ℕ) → i < passed → slice_get (event_marks events) i ≡ Some (Acted outcomes.Passed)
   pub leaves : left_by start events ≡ after library (site_of stage) start steps count
@@ -125,20 +125,20 @@ abbrev pub LaterSteps : Type 0
 LaterSteps = Ending → State → List StepValue → List Event
 
 -- A list ends at a step, counted from 0. The steps up to it are carried out, the earlier ones passed, and the events of the later ones follow from how it ended.
-abbrev pub EndsAt : LibraryValue → Stage → Stand → List StepValue → LaterSteps → List Event → ℕ → Type 0
+abbrev pub EndsAt : LibraryValue → Stage → SectionNow → List StepValue → LaterSteps → List Event → ℕ → Type 0
 EndsAt library stage start steps above events stop =
     let left = after library (site_of stage) start steps (suc stop) in
     (mark : Mark) × (slice_get (event_marks events) stop ≡ Some mark) × CarriesOut library stage start steps events (suc stop) stop (above (ending_of mark) left.state (drop (suc stop) steps))
 
 -- A list of steps ends at the least one that isn't found or whose outcome isn't Passed. If there is none, it passes whole: all steps are carried out, and passed. (behave's documentation: a failed step ends its scenario)
-pub record EndsAtTheLeastStop (library : LibraryValue) (stage : Stage) (start : Stand) (steps : List StepValue) (above : LaterSteps) (events : List Event) : Type 0 where
+pub record EndsAtTheLeastStop (library : LibraryValue) (stage : Stage) (start : SectionNow) (steps : List StepValue) (above : LaterSteps) (events : List Event) : Type 0 where
   pub ends : (stop : ℕ) → IsStop library (site_of stage) start steps stop → EndsAt library stage start steps above events stop
   pub passes : HasNoStop library (site_of stage) start steps → CarriesOut library stage start steps events (length steps) (length steps) []
   pub either : ((stop : ℕ) × IsStop library (site_of stage) start steps stop) ⊎ HasNoStop library (site_of stage) start steps
 
 -- Each walk ends like this, and the steps after its end have no events, whatever its steps, its stage, and the state and the cleanups of the section before it.
 abbrev pub WalksEndAtTheLeastStop : Type 0
-WalksEndAtTheLeastStop = (library : LibraryValue) (stage : Stage) (start : Stand) (steps : List StepValue) → EndsAtTheLeastStop library stage start steps (λ ended s others. []) (walk library stage start.state steps)
+WalksEndAtTheLeastStop = (library : LibraryValue) (stage : Stage) (start : SectionNow) (steps : List StepValue) → EndsAtTheLeastStop library stage start steps (λ ended s others. []) (walk library stage start.state steps)
 
 -- The mark of a later step, which isn't carried out. After a skip, or if the library matches it, it is skipped; otherwise it is undefined. (behave's documentation: a failed step ends its scenario)
 abbrev pub mark_above : LibraryValue → Ending → StepValue → Mark
@@ -151,7 +151,7 @@ unrun_steps library ended s steps = map (λ step. unrun_step step (mark_above li
 
 -- The steps of each case whose before list passed whole end like this.
 abbrev pub StepsEndAtTheLeastStop : Type 0
-StepsEndAtTheLeastStop = (library : LibraryValue) (start : Stand) (steps : List StepValue) →
+StepsEndAtTheLeastStop = (library : LibraryValue) (start : SectionNow) (steps : List StepValue) →
     EndsAtTheLeastStop library steps_of_case start steps (unrun_steps library) (steps_from library endings.Passed start.state steps)
 
 -- If the before list of a case didn't pass whole, none of its steps is carried out: all are skipped after a skip; otherwise each is skipped or undefined. (behave's documentation: environment file functions)

@@ -1,7 +1,7 @@
 //! Laws of the results of running. Each is the contract of an empty function, which a proof can call.
 ghost use Rattle.gk_run.specs.Features.{FeaturesWithoutRulesHaveTheirCases, ResultsStandInFileOrder};
 ghost use Rattle.gk_run.specs.Chosen.{FormedCasesFallIntoRules, GroupsAreAll};
-ghost use Rattle.gk_run.specs.Judged.{OneList, DryRunsAreJudged, UnfinishedDryRunsAreJudged, JudgedAreInWords, StepsHaveTheirResults};
+ghost use Rattle.gk_run.specs.Judged.{OneList, DryRunsAreJudged, UnfinishedDryRunsAreJudged, JudgedHoldPartByPart, StepsHaveTheirResults};
 ghost use Rattle.gk_run.specs.OpenRun.{FinishedRunsAreJudged, UnfinishedRunsAreJudged};
 ghost use Rattle.gk_run.specs.Walk.{StepsEndAtTheLeastStop, StoppedCasesRunNoStep, WalksEndAtTheLeastStop};
 
@@ -28,8 +28,8 @@ pub fn stopped_cases_run_no_step()
 /// Results are judged exactly if the words hold of them. The words say which features and rules are
 /// begun, which cases are reached, what each comes to, and what `--stop` and refused memory leave of
 /// the rest. (behave's documentation: environment file functions, `--stop`)
-pub fn judged_results_are_in_words()
-    ensures { JudgedAreInWords }
+pub fn judged_results_hold_part_by_part()
+    ensures { JudgedHoldPartByPart }
 {}
 
 /// Each step of a case has one result, in order, by its mark. It is untested if its event didn't

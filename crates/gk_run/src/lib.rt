@@ -41,7 +41,7 @@ mod laws;
 mod open_run;
 
 pub use acting::{Arguments, Site, act, arguments_of};
-pub use cases::is_bad;
+pub use cases::is_failed_or_memory;
 pub use chosen::{Chosen, RuleHead};
 pub use cleanups::Cleanups;
 pub use dry_run::dry_feature;
@@ -49,7 +49,7 @@ pub use ending::{Ending, reason_of, status_of};
 pub use features::run_feature;
 pub use laws::{
     dry_runs_are_judged, features_without_rules_have_their_cases, finished_runs_are_judged,
-    formed_cases_fall_into_rules, groups_are_all, judged_results_are_in_words,
+    formed_cases_fall_into_rules, groups_are_all, judged_results_hold_part_by_part,
     results_stand_in_file_order, steps_end_at_the_least_stop, steps_have_their_results,
     stopped_cases_run_no_step, unfinished_dry_runs_are_judged, unfinished_runs_are_judged,
     walks_end_at_the_least_stop, without_memory_there_is_one_list,

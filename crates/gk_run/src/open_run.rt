@@ -9,7 +9,7 @@ ghost use Rattle.gk_run.specs.Features.{IsFeatureTold, IsFeatureToldInPart};
 ghost use Rattle.gk_run.specs.OpenRun as spec;
 ghost use Rattle.gk_run.specs.OpenRun.{IsStarted, IsStartTold, IsKept, IsNextRun, IsFinished, IsFinishTold};
 
-use crate::cases::{either, is_bad};
+use crate::cases::{either, is_failed_or_memory};
 use crate::chosen::Chosen;
 use crate::ending::has_passed;
 use crate::features::feature_in;
@@ -137,9 +137,9 @@ impl Suite {
     /// the events of its after hooks and its cleanups. Of a scenario it tells the events and then the
     /// result; of a rule its hooks, its scenarios and its cleanups and then the result. If memory is
     /// refused in the hooks or the cleanups of a scenario, a rule or the feature, these are told up to
-    /// that event. After `NoRoom` a beginning of this was told, up to a point at which a scenario may
-    /// begin: each scenario was told whole, and no after hook or cleanup of a rule or a feature that
-    /// hasn't ended was told.
+    /// that event. After `NoRoom` a beginning of this was told, up to the end of a scenario or a rule,
+    /// or into a list of before hooks: each scenario was told whole, and no after hook or cleanup of a
+    /// rule or a feature that hasn't ended was told.
     pub fn feature_watched<O: Observer>(
         &mut self,
         alloc: Global,
@@ -173,7 +173,7 @@ impl Suite {
         };
         let is_open = self.opens_features();
         let result = feature_in(&run, sandbox, is_open, chosen, observer)?;
-        self.has_failed = either(self.has_failed, is_bad(result.status));
+        self.has_failed = either(self.has_failed, is_failed_or_memory(result.status));
         Ok(result)
     }
 

@@ -4,7 +4,7 @@ ghost use Rattle.std.specs.Prelude.{◌≡◌, ◌<◌};
 ghost use Rattle.gk_gherkin.specs.Feature.{texts};
 ghost use Rattle.gk_world.specs.State.{layers};
 ghost use Rattle.gk_world.specs.Sandbox.{depth, EndsLayer};
-ghost use Rattle.gk_run.specs.Events.{stand_of};
+ghost use Rattle.gk_run.specs.Events.{section_now};
 ghost use Rattle.gk_run.specs.OpenSection.{EndsAround, run_value};
 ghost use Rattle.gk_run.specs.PrivateContracts.{Closes, Opens};
 
@@ -84,7 +84,7 @@ pub fn end_around<O: Observer>(
 ) -> Status
     requires innermost { opened.layer ≡ depth sandbox.old }
     ensures around { EndsAround O.hears (run_value run.now) section.now.level
-        (texts section.now.tags.now) opened.before (stand_of sandbox.old opened.cleanups)
+        (texts section.now.tags.now) opened.before (section_now sandbox.old opened.cleanups)
         result observer.old observer.new }
     ensures ends { EndsLayer sandbox.old sandbox.new }
 {

@@ -7,7 +7,7 @@ use Rattle.gk_select.specs.Alternatives.{AlternativeValue, alternative, pieces}
 use Rattle.gk_select.specs.TagGrammar.{Expression, one_term, or_terms, Term, one_factor, and_factors, Factor, tagged, negated, grouped, spelling, term_spelling, factor_spelling}
 use Rattle.gk_select.specs.TagRules.{ReadsTags}
 use Rattle.gk_select.specs.TagStops.{StopValue, first_place, place_after, wanted_at, stop_at_end, unless_after, stop_in, stop_in_pieces, tag_stop}
-use Rattle.gk_select.specs.TagWords.{WordValue, close_word, and_word, or_word, words_of_text, word_said, cut_of}
+use Rattle.gk_select.specs.TagWords.{WordValue, close_word, and_word, or_word, words_of_text, word_said, first_word}
 use Rattle.gk_select.specs.declared.tag_stops.TagPlace.{TagPlace}
 use Rattle.gk_select.specs.declared.tag_stops.Wanted.TheVariants.{Alternative}
 
@@ -31,7 +31,7 @@ pub at_blank : (blank : Bool) (n : ℕ) (rest : List ℕ) → words_of_text rest
 at_blank blank n rest cut is = cut ∙ ap (λ (v : Bool). (if v then [] else take n rest ∷ []) ++ words_of_text (drop n rest)) is
 
 pub stops_at_end : (place : TagPlace) (rest : List ℕ) → length rest ≡ 0 → stop_in place (words_of_text rest) ≡ stop_at_end place
-unfolding cut_of
+unfolding first_word
 stops_at_end place [] none = refl
 stops_at_end place (b ∷ rest) none = absurd (omega arith)
 

@@ -7,47 +7,47 @@ use Rattle.std.proofs.lemmas.Bool.Decides.{nat_tests}
 use Rattle.std.proofs.lemmas.Str.{IsCharBoundary-after_ascii}
 use Rattle.std.specs.Str.{IsUtf8, IsCharBoundary}
 use Rattle.gk_gherkin.specs.Text.{is_blank}
-use Rattle.gk_select.specs.TagWords.{Cut, cut_of, words_of_cut, words_of_text, is_parenthesis, is_of_new_form, WordValue, word_value, word_said, AreWords}
+use Rattle.gk_select.specs.TagWords.{FirstWord, first_word, words_with_first, words_of_text, is_parenthesis, is_of_new_form, WordValue, word_value, word_said, AreWords}
 
 pub cut_ascii : (b : ℕ) → is_of_new_form b ≡ true → b < 128
 cut_ascii b h = grind (arith, nat_tests)
 
 -- What a byte does, by the tests of it.
-abbrev by_tests : Bool → Bool → ℕ → Cut → Cut
-by_tests x y b cut =
-    if x then record { front = []; after = words_of_cut cut } else
-    (if y then record { front = []; after = (b ∷ []) ∷ words_of_cut cut } else record { front = b ∷ cut.front; after = cut.after })
+abbrev by_tests : Bool → Bool → ℕ → FirstWord → FirstWord
+by_tests x y b word =
+    if x then record { front = []; after = words_with_first word } else
+    (if y then record { front = []; after = (b ∷ []) ∷ words_with_first word } else record { front = b ∷ word.front; after = word.after })
 
-begins_none : (x y : Bool) (b : ℕ) (c : Cut) → x || y ≡ true → by_tests x y b c ≡ record { front = []; after = (by_tests x y b c).after }
+begins_none : (x y : Bool) (b : ℕ) (c : FirstWord) → x || y ≡ true → by_tests x y b c ≡ record { front = []; after = (by_tests x y b c).after }
 begins_none true y b c h = refl
 begins_none false true b c h = refl
 begins_none false false b c h = let no : ⊥ = cc h in absurd no
 
-goes_on : (x y : Bool) (b : ℕ) (c : Cut) → x || y ≡ false → by_tests x y b c ≡ record { front = b ∷ c.front; after = c.after }
+goes_on : (x y : Bool) (b : ℕ) (c : FirstWord) → x || y ≡ false → by_tests x y b c ≡ record { front = b ∷ c.front; after = c.after }
 goes_on true y b c h = let no : ⊥ = cc h in absurd no
 goes_on false true b c h = let no : ⊥ = cc h in absurd no
 goes_on false false b c h = refl
 
 -- Up to the first byte that ends a word, a text is the word at its front.
 front_at : (t : List ℕ) (n : ℕ) → n ≤ length t → ((k : ℕ) → k < n → is_of_new_form (get_or t k 0) ≡ false) → (n < length t → is_of_new_form (get_or t n 0) ≡ true)
-    → (cut_of t ≡ record { front = take n t; after = (cut_of (drop n t)).after }) × (cut_of (drop n t) ≡ record { front = []; after = (cut_of (drop n t)).after })
-unfolding cut_of
+    → (first_word t ≡ record { front = take n t; after = (first_word (drop n t)).after }) × (first_word (drop n t) ≡ record { front = []; after = (first_word (drop n t)).after })
+unfolding first_word
 front_at [] zero le before at = (refl, refl)
 front_at [] (suc n) le before at = absurd (omega arith)
-front_at (b ∷ t) zero le before at = let e = begins_none (is_blank b) (is_parenthesis b) b (cut_of t) (at (omega arith)) in (e, e)
+front_at (b ∷ t) zero le before at = let e = begins_none (is_blank b) (is_parenthesis b) b (first_word t) (at (omega arith)) in (e, e)
 front_at (b ∷ t) (suc n) le before at =
     let r = front_at t n (omega arith) (λ k l. before (suc k) (omega arith)) (λ l. at (omega arith)) in
-    (goes_on (is_blank b) (is_parenthesis b) b (cut_of t) (before 0 (omega arith)) ∙ ap (λ (c : Cut). record { front = b ∷ c.front; after = c.after }) r.0, r.1)
+    (goes_on (is_blank b) (is_parenthesis b) b (first_word t) (before 0 (omega arith)) ∙ ap (λ (c : FirstWord). record { front = b ∷ c.front; after = c.after }) r.0, r.1)
 
 -- The word up to there, or the byte that ends one.
-some_word : (t : List ℕ) (n : ℕ) → 0 < n → n ≤ length t → (c : Cut) → cut_of t ≡ record { front = take n t; after = c.after } → c ≡ record { front = []; after = c.after } → words_of_text t ≡ take n t ∷ words_of_cut c
+some_word : (t : List ℕ) (n : ℕ) → 0 < n → n ≤ length t → (c : FirstWord) → first_word t ≡ record { front = take n t; after = c.after } → c ≡ record { front = []; after = c.after } → words_of_text t ≡ take n t ∷ words_with_first c
 some_word [] n some le c e f = absurd (omega arith)
 some_word (b ∷ t) zero some le c e f = absurd (omega arith)
 some_word (b ∷ t) (suc n) some le c e f =
     let long : (length (b ∷ take n t) == 0) ≡ false = grind (arith, nat_tests) in
-    ap words_of_cut e ∙ ap (λ (x : Bool). if x then c.after else (b ∷ take n t) ∷ c.after) long ∙ ap (λ (d : Cut). (b ∷ take n t) ∷ words_of_cut d) (sym f)
+    ap words_with_first e ∙ ap (λ (x : Bool). if x then c.after else (b ∷ take n t) ∷ c.after) long ∙ ap (λ (d : FirstWord). (b ∷ take n t) ∷ words_with_first d) (sym f)
 
-one_byte : (x y : Bool) (b : ℕ) (c : Cut) → x || y ≡ true → words_of_cut (by_tests x y b c) ≡ (if x then [] else (b ∷ []) ∷ []) ++ words_of_cut c
+one_byte : (x y : Bool) (b : ℕ) (c : FirstWord) → x || y ≡ true → words_with_first (by_tests x y b c) ≡ (if x then [] else (b ∷ []) ∷ []) ++ words_with_first c
 one_byte true y b c h = refl
 one_byte false true b c h = refl
 one_byte false false b c h = let no : ⊥ = cc h in absurd no
@@ -60,13 +60,13 @@ pub word_is : (t : List ℕ) (n : ℕ) → 0 < n → n ≤ length t → ((k : �
     → words_of_text t ≡ (if is_blank (get_or t 0 0) then [] else take n t ∷ []) ++ words_of_text (drop n t)
 word_is t n some le before at =
     let r = front_at t n le before at in
-    some_word t n some le (cut_of (drop n t)) r.0 r.1
+    some_word t n some le (first_word (drop n t)) r.0 r.1
     ∙ ap (λ (x : Bool). (if x then [] else take n t ∷ []) ++ words_of_text (drop n t)) (sym (left_of_or (is_blank (get_or t 0 0)) (is_parenthesis (get_or t 0 0)) (before 0 some)))
 
 pub byte_is : (t : List ℕ) → 0 < length t → is_of_new_form (get_or t 0 0) ≡ true → words_of_text t ≡ (if is_blank (get_or t 0 0) then [] else take 1 t ∷ []) ++ words_of_text (drop 1 t)
-unfolding cut_of
+unfolding first_word
 byte_is [] some at = absurd (omega arith)
-byte_is (b ∷ t) some at = one_byte (is_blank b) (is_parenthesis b) b (cut_of t) at
+byte_is (b ∷ t) some at = one_byte (is_blank b) (is_parenthesis b) b (first_word t) at
 
 -- Words that are read, and those that are left.
 abbrev pub Reads : List ℕ → List WordValue → List ℕ → Type 0
@@ -104,7 +104,7 @@ pub byte_word : (t : List ℕ) (n : ℕ) → n ≡ 0 → 0 < length t → (n < l
 byte_word t n e some at = byte_is t some (at_start t n e some at)
 
 pub ends : (text : List ℕ) (read : List WordValue) (rest : List ℕ) → Reads text read rest → length rest ≡ 0 → AreWords text read
-unfolding cut_of
+unfolding first_word
 ends text read [] r none = r ∙ append-nil (map Some read)
 ends text read (b ∷ rest) r none = absurd (omega arith)
 

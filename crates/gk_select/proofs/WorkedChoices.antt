@@ -5,7 +5,7 @@ use Rattle.gk_select.specs.Alternatives.{AlternativeValue, alternative, pieces}
 use Rattle.gk_select.specs.Case.{CaseValue}
 use Rattle.gk_select.specs.TagGrammar.{Expression, one_term, or_terms, one_factor, tagged, negated}
 use Rattle.gk_select.specs.TagRules.{ReadsTags, SpellsNone}
-use Rattle.gk_select.specs.TagWords.{cut_of}
+use Rattle.gk_select.specs.TagWords.{first_word}
 use Rattle.gk_select.specs.Choice.{is_chosen}
 
 -- Alternatives: with or without `@`, with `~` before it, and those that are refused.
@@ -34,7 +34,7 @@ two_alternatives = inl (record {
 })
 
 same_rule : ReadsTags (codes "not @slow or @db") not_slow_or_db
-unfolding cut_of
+unfolding first_word
 same_rule = inr (record { new_form = refl; says = refl; shallow = omega arith })
 
 one_alternative : ReadsTags (codes "ui") ui

@@ -15,7 +15,7 @@ all_hold rules tags = list_all (λ rule. holds rule tags) rules
 abbrev pub is_at_lines : List ℕ → ℕ → Bool
 is_at_lines lines line = (length lines == 0) || list_any (λ other. other == line) lines
 
--- Whether a case is chosen: every rule holds for its tags, and its line is among the lines or there are none. (behave's documentation: tag expressions)
+-- Whether a case is chosen: every rule holds for its tags, and its line is among the lines or there are none. (behave's documentation: tag expressions; lines are this project's profile)
 unfoldable pub is_chosen : List Expression → List ℕ → CaseValue → Bool
 is_chosen rules lines case = all_hold rules case.tags && is_at_lines lines case.line
 

@@ -46,7 +46,7 @@ rows_cases inherited s e examples n rows = map (λ (r : ℕ × RowValue). row_ca
 abbrev pub examples_cases : InheritedValue → ScenarioValue → ℕ × ExamplesValue → List CaseValue
 examples_cases inherited s e = map (λ (r : ℕ × RowValue). row_case inherited s e.0 e.1 r.0 r.1) (enumerate_from 1 e.1.rows)
 
--- The cases of a scenario: those of an outline's Examples, counted from 1; of any other scenario one. (Cucumber's Gherkin reference: scenario outline)
+-- The cases of a scenario: those of an outline's Examples, counted from 1; of any other scenario one. (Cucumber's Gherkin reference: scenario outline; an outline without rows has none by this project's profile)
 abbrev pub scenario_cases : InheritedValue → ScenarioValue → List CaseValue
 scenario_cases inherited s = if is_outline s then flat_map (examples_cases inherited s) (enumerate_from 1 s.examples) else plain_case inherited s ∷ []
 
@@ -90,7 +90,7 @@ HasNoOutline f = ArePlain f.scenarios × AllByRecursion (λ (r : RuleValue). Are
 abbrev pub plain_cases : FeatureValue → List CaseValue
 plain_cases f = map (plain_case (inherited_in_feature f)) f.scenarios ++ flat_map (λ (r : ℕ × RuleValue). map (plain_case (inherited_in_rule f r.0 r.1)) r.1.scenarios) (enumerate_from 0 f.rules)
 
--- The number of cases of a scenario: an outline has one for each row under the headers of its tables, any other scenario has one. (Cucumber's Gherkin reference: scenario outline)
+-- The number of cases of a scenario: an outline has one for each row under the headers of its tables, any other scenario has one. (Cucumber's Gherkin reference: scenario outline; an outline without rows has none by this project's profile)
 abbrev pub case_count_of : ScenarioValue → ℕ
 case_count_of s = if is_outline s then sum_by (λ (e : ExamplesValue). length e.rows) s.examples else 1
 

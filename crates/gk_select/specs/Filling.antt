@@ -8,7 +8,7 @@ use Rattle.gk_gherkin.specs.Feature.{BlockValue, Empty, Text, Table, StepValue}
 abbrev pub placeholder : List ℕ → List ℕ
 placeholder header = codes "<" ++ header ++ codes ">"
 
--- Whether a header has no `>`, so that its placeholder can occur in a text.
+-- Whether a header has no `>`, so that its placeholder is looked up in texts.
 abbrev pub can_stand : List ℕ → Bool
 can_stand header = list_all (λ b. not (b == 62)) header
 
@@ -42,7 +42,7 @@ pub data Part : Type 0 where
   Placeholder : List ℕ → Part
   Byte : ℕ → Part
 
--- A header of the row whose placeholder can occur in a text.
+-- A header of the row whose placeholder is looked up in texts.
 abbrev pub IsPlaceholder : List (List ℕ) → List ℕ → Type 0
 IsPlaceholder headers header = Contains headers header × (can_stand header ≡ true)
 

@@ -19,8 +19,8 @@ pub mod Alternatives
 pub mod TagRules
 pub mod TagStops
 pub mod Choice
-pub mod Selecting
 pub mod SelectFault
--- Proof machinery: what the words of an expression build, read from the last to the first, and how deep it is.
+-- Proof machinery: what the words of an expression build, read from the last to the first, and how deep it is; and a choice so far.
 pub mod TagTrees
 pub mod TagMeasures
+pub mod Selecting

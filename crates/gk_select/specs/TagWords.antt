@@ -36,34 +36,34 @@ abbrev pub is_of_new_form : ℕ → Bool
 is_of_new_form b = is_blank b || is_parenthesis b
 
 -- The word at the front of a text, which is empty if no word begins there, and the words after it.
-pub record Cut : Type 0 where
+pub record FirstWord : Type 0 where
   pub front : List ℕ
   pub after : List (List ℕ)
 
--- The words of a text with this cut.
-abbrev pub words_of_cut : Cut → List (List ℕ)
-words_of_cut cut = if length cut.front == 0 then cut.after else cut.front ∷ cut.after
+-- The words of a text that begins with this first word.
+abbrev pub words_with_first : FirstWord → List (List ℕ)
+words_with_first word = if length word.front == 0 then word.after else word.front ∷ word.after
 
--- The cut of a text with one more byte before it: a space or a tab ends a word, a parenthesis is a word, and any other byte belongs to the word that follows. (Cucumber's tag expressions)
-abbrev pub cut_before : ℕ → Cut → Cut
-cut_before b cut =
-    if is_blank b then record { front = []; after = words_of_cut cut } else
-    (if is_parenthesis b then record { front = []; after = (b ∷ []) ∷ words_of_cut cut } else record { front = b ∷ cut.front; after = cut.after })
+-- The first word of a text with one more byte before it: a space or a tab ends a word, a parenthesis is a word, and any other byte belongs to the word that follows. (Cucumber's tag expressions)
+abbrev pub with_byte_before : ℕ → FirstWord → FirstWord
+with_byte_before b word =
+    if is_blank b then record { front = []; after = words_with_first word } else
+    (if is_parenthesis b then record { front = []; after = (b ∷ []) ∷ words_with_first word } else record { front = b ∷ word.front; after = word.after })
 
--- The cut of a text.
-unfoldable pub cut_of : List ℕ → Cut
-cut_of [] = record { front = []; after = [] }
-cut_of (b ∷ text) = cut_before b (cut_of text)
+-- The first word of a text.
+unfoldable pub first_word : List ℕ → FirstWord
+first_word [] = record { front = []; after = [] }
+first_word (b ∷ text) = with_byte_before b (first_word text)
 
 -- The words of a text: it is cut at spaces and tabs, and each parenthesis is a word. (Cucumber's tag expressions)
 abbrev pub words_of_text : List ℕ → List (List ℕ)
-words_of_text text = words_of_cut (cut_of text)
+words_of_text text = words_with_first (first_word text)
 
 -- A byte that no tag of an expression has: a comma or a backslash.
 abbrev pub is_left_out : ℕ → Bool
 is_left_out b = (b == 44) || (b == 92)
 
--- The value of a word of a text, if it is valid in an expression. A tag is `@` and at least one byte, none of them a comma or a backslash. (Cucumber's tag expressions)
+-- The value of a word of a text, if it is valid in an expression. A tag is `@` and at least one byte, none of them a comma or a backslash. (Cucumber's tag expressions; what a tag has is this project's profile)
 abbrev pub word_said : List ℕ → Option WordValue
 word_said word =
     if bytes_eq word (codes "(") then Some open_word else

@@ -129,7 +129,7 @@ impl<'a> Columns<'a> {
     }
 
     /// Returns the cell of a row under the first header that equals `name`, if any. With an index, the time that
-    /// it takes doesn't grow with the number of columns. Doesn't allocate.
+    /// it takes hardly grows with the number of columns. Doesn't allocate.
     pub fn cell<'r>(&self, row: &'r [String], name: &str) -> Option<&'r str>
         ensures { option_map (λ cell. cell.now) result ≡ cell_of self.now (texts row.now) name.now }
     {

@@ -13,7 +13,7 @@ use Rattle.gk_steps.specs.declared.pattern.Piece.{Piece}
 use Rattle.gk_steps.specs.Pattern.{PieceValue, Literal, FieldPiece, piece_value}
 use Rattle.gk_steps.specs.Matching.{IsSpan, Matches, MatchesNot, IsPreferred, IsBestMatch, IsMatchResult, FieldValue, TextField}
 use Rattle.gk_steps.specs.Advances.{values_of}
-use Rattle.gk_steps.specs.Leftmost.{CanStandAt, StandsNowhereBefore, IsFirst, IsCut, IsLeft}
+use Rattle.gk_steps.specs.Leftmost.{CanStandAt, StandsNowhereBefore, IsFirst, TakesUpTo, IsLeft}
 use Rattle.gk_steps.proofs.MatchingLemmas.{same_prefix, same_back, split, join, nothing_left, best_nothing}
 use Rattle.gk_steps.proofs.BestMatchLemmas.{after_literal, begins_so, begins_with_itself}
 
@@ -52,8 +52,8 @@ literal_goes_on : (literal : List ℕ) (ps : List PieceValue) (text rest : List 
 literal_goes_on literal ps text rest e None h = after_literal literal ps text rest None e h
 literal_goes_on literal ps text rest e (Some fields) h = (h.0, after_literal literal ps text rest (Some h.0) e h.1, h.2)
 
-pub literal_cut : (literal : List ℕ) (ps : List PieceValue) (text rest : List ℕ) → IsUtf8 text → IsUtf8 literal → text ≡ literal ++ rest → IsCut (Literal literal) ps text (length literal)
-literal_cut literal ps text rest whole part e = record {
+pub literal_end : (literal : List ℕ) (ps : List PieceValue) (text rest : List ℕ) → IsUtf8 text → IsUtf8 literal → text ≡ literal ++ rest → TakesUpTo (Literal literal) ps text (length literal)
+literal_end literal ps text rest whole part e = record {
   boundary = boundary_after text literal rest whole e part;
   takes = taken text literal rest e;
   goes_on = λ found h. literal_goes_on literal ps text rest e found (subst (λ r. IsMatchResult ps r found) (left text literal rest e) h);
@@ -92,8 +92,8 @@ plain_goes_on name ps text x rest e fit least (Some fields) h =
     } in
     (x ∷ h.0, both, ap (λ (v : List FieldValue). TextField x ∷ v) h.2)
 
-plain_cut : (name : List ℕ) (ps : List PieceValue) (text x rest : List ℕ) → IsUtf8 text → text ≡ x ++ rest → IsSpan Plain x → IsLeast ps text x rest → IsCut (FieldPiece name Plain) ps text (length x)
-plain_cut name ps text x rest whole e fit least = record {
+plain_end : (name : List ℕ) (ps : List PieceValue) (text x rest : List ℕ) → IsUtf8 text → text ≡ x ++ rest → IsSpan Plain x → IsLeast ps text x rest → TakesUpTo (FieldPiece name Plain) ps text (length x)
+plain_end name ps text x rest whole e fit least = record {
   boundary = boundary_after text x rest whole e fit.0;
   takes = subst (IsSpan Plain) (sym (taken text x rest e)) fit;
   goes_on = λ found h. subst (λ t. IsMatchResult (FieldPiece name Plain ∷ ps) text (option_map (λ (fields : List FieldValue). values_of (FieldPiece name Plain) t ++ fields) found)) (sym (taken text x rest e))
@@ -101,8 +101,8 @@ plain_cut name ps text x rest whole e fit least = record {
 }
 
 -- a plain field alone
-pub all_cut : (name : List ℕ) (text : List ℕ) → IsUtf8 text → 0 < length text → IsCut (FieldPiece name Plain) [] text (length text)
-all_cut name text whole some = plain_cut name [] text text [] whole (sym (append-nil text)) (whole, some) (λ y other ys fit e m.
+pub all_end : (name : List ℕ) (text : List ℕ) → IsUtf8 text → 0 < length text → TakesUpTo (FieldPiece name Plain) [] text (length text)
+all_end name text whole some = plain_end name [] text text [] whole (sym (append-nil text)) (whole, some) (λ y other ys fit e m.
     let none : other ≡ [] = nothing_left other ys m in
     let same : length text ≡ length y = ap length (e ∙ ap (λ o. y ++ o) none ∙ append-nil y) in
     (omega arith, ([], (best_nothing [] refl).matches)))
@@ -111,10 +111,10 @@ all_cut name text whole some = plain_cut name [] text text [] whole (sym (append
 only_literal : (literal other : List ℕ) (ys : List (List ℕ)) → Matches (Literal literal ∷ []) other ys → other ≡ literal
 only_literal literal other ys m = m.whole ∙ append-nil literal
 
-pub last_cut : (name literal text x : List ℕ) → IsUtf8 text → IsUtf8 literal → length literal < length text → text ≡ x ++ literal → IsCut (FieldPiece name Plain) (Literal literal ∷ []) text (length x)
-last_cut name literal text x whole part less e =
+pub last_end : (name literal text x : List ℕ) → IsUtf8 text → IsUtf8 literal → length literal < length text → text ≡ x ++ literal → TakesUpTo (FieldPiece name Plain) (Literal literal ∷ []) text (length x)
+last_end name literal text x whole part less e =
     let some : 0 < length x = omega (arith, ap length e, length-append x literal) in
-    plain_cut name (Literal literal ∷ []) text x literal whole e (utf8_front x literal (subst IsUtf8 e whole) part, some) (λ y other ys fit cut m.
+    plain_end name (Literal literal ∷ []) text x literal whole e (utf8_front x literal (subst IsUtf8 e whole) part, some) (λ y other ys fit cut m.
     let same : length x + length literal ≡ length y + length literal = sym (length-append x literal) ∙ ap length (sym e ∙ cut ∙ ap (λ o. y ++ o) (only_literal literal other ys m)) ∙ length-append y literal in
     (omega arith, ([], record { spans_fit = tt; whole = sym (append-nil literal) })))
 
@@ -151,8 +151,8 @@ field_least literal name after text x more whole part front e first y other ys f
       | inr le ↦ (le, field_match literal name after text x more whole part front e y other ys fit cut m le)
     ]
 
-pub field_cut : (name literal other : List ℕ) (after : List PieceValue) (text : List ℕ) (position : ℕ) → IsUtf8 text → IsUtf8 literal → IsFirst literal text position → IsCut (FieldPiece name Plain) (Literal literal ∷ FieldPiece other Plain ∷ after) text position
-field_cut name literal other after text position whole part h =
+pub field_end : (name literal other : List ℕ) (after : List PieceValue) (text : List ℕ) (position : ℕ) → IsUtf8 text → IsUtf8 literal → IsFirst literal text position → TakesUpTo (FieldPiece name Plain) (Literal literal ∷ FieldPiece other Plain ∷ after) text position
+field_end name literal other after text position whole part h =
     let x = take position text in
     let within : position ≤ length text = h.here.boundary.0 in
     let size : length x ≡ position = length-take-le position text within in
@@ -160,8 +160,8 @@ field_cut name literal other after text position whole part h =
     let e : text ≡ x ++ (literal ++ h.here.rest) = sym (take-append-drop position text) ∙ ap (λ r. x ++ r) h.here.stands in
     let first : StandsNowhereBefore literal text (length x) = subst (StandsNowhereBefore literal text) (sym size) h.first in
     let some : 0 < length x = subst (λ n. 0 < n) (sym size) h.after in
-    subst (IsCut (FieldPiece name Plain) (Literal literal ∷ FieldPiece other Plain ∷ after) text) size
-    (plain_cut name (Literal literal ∷ FieldPiece other Plain ∷ after) text x (literal ++ h.here.rest) whole e (front, some) (field_least literal other after text x h.here.rest whole part front e first))
+    subst (TakesUpTo (FieldPiece name Plain) (Literal literal ∷ FieldPiece other Plain ∷ after) text) size
+    (plain_end name (Literal literal ∷ FieldPiece other Plain ∷ after) text x (literal ++ h.here.rest) whole e (front, some) (field_least literal other after text x h.here.rest whole part front e first))
 
 pub field_nowhere : (name literal : List ℕ) (ps : List PieceValue) (text : List ℕ) → IsUtf8 text → StandsNowhereBefore literal text (length text + 1) → MatchesNot (FieldPiece name Plain ∷ Literal literal ∷ ps) text
 field_nowhere name literal ps text whole none = λ spans m.
@@ -180,7 +180,7 @@ pub left_start : (ps : List PieceValue) (text : List ℕ) → IsLeft ps text [] 
 left_start ps text None h = h
 left_start ps text (Some fields) h = h
 
-pub left_more : (ps : List PieceValue) (text : List ℕ) (fields fields' : List FieldValue) (piece : PieceValue) (others : List PieceValue) (rest : List ℕ) (position : ℕ) → IsLeft ps text fields (piece ∷ others) rest → IsCut piece others rest position
+pub left_more : (ps : List PieceValue) (text : List ℕ) (fields fields' : List FieldValue) (piece : PieceValue) (others : List PieceValue) (rest : List ℕ) (position : ℕ) → IsLeft ps text fields (piece ∷ others) rest → TakesUpTo piece others rest position
     → fields' ≡ fields ++ values_of piece (take position rest) → IsLeft ps text fields' others (drop position rest)
 left_more ps text fields fields' piece others rest position known cut e None h = known None (cut.goes_on None h)
 left_more ps text fields fields' piece others rest position known cut e (Some found) h =

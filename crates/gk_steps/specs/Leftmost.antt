@@ -1,8 +1,8 @@
 -- Proof machinery: how much of a text the first piece of a pattern takes, if the pieces after it leave no choice.
 use Rattle.std.specs.Prelude.{◌≡◌, ◌<◌, ◌+◌, ◌++◌, [], ◌∷◌, ℕ, List, length, take, drop, Option, Some, None, option_map}
 use Rattle.std.specs.Str.{IsCharBoundary}
-use Rattle.gk_steps.specs.declared.leftmost.Cut.{Cut}
-use Rattle.gk_steps.specs.declared.leftmost.Cut.TheVariants.{At, Nowhere, Unknown}
+use Rattle.gk_steps.specs.declared.leftmost.PieceEnd.{PieceEnd}
+use Rattle.gk_steps.specs.declared.leftmost.PieceEnd.TheVariants.{At, Nowhere, Unknown}
 use Rattle.gk_steps.specs.declared.pattern.FieldKind.TheVariants.{Plain, Decimal}
 use Rattle.gk_steps.specs.Pattern.{PieceValue, Literal, FieldPiece}
 use Rattle.gk_steps.specs.Matching.{MatchesNot, IsMatchResult, FieldValue}
@@ -30,7 +30,7 @@ IsFirstPosition literal text None = StandsNowhereBefore literal text (length tex
 IsFirstPosition literal text (Some position) = IsFirst literal text position
 
 -- A piece takes the text before a position. What the whole pattern finds is the value of the piece, followed by what the rest of the pattern finds after the position.
-pub record IsCut (piece : PieceValue) (ps : List PieceValue) (text : List ℕ) (position : ℕ) : Type 0 where
+pub record TakesUpTo (piece : PieceValue) (ps : List PieceValue) (text : List ℕ) (position : ℕ) : Type 0 where
   pub boundary : IsCharBoundary text position
   pub takes : Takes piece (take position text)
   pub goes_on : (found : Option (List FieldValue)) → IsMatchResult ps (drop position text) found → IsMatchResult (piece ∷ ps) text (option_map (λ (fields : List FieldValue). values_of piece (take position text) ++ fields) found)
@@ -47,14 +47,14 @@ DependsOnMore (FieldPiece name Plain) (Literal literal ∷ FieldPiece other Deci
 DependsOnMore (FieldPiece name Plain) (Literal literal ∷ Literal other ∷ ps) = Unit {0}
 
 -- What is known about the first piece: what it takes, or that the pattern has no match. It is unknown only if it depends on more.
-abbrev pub IsCutOf : PieceValue → List PieceValue → List ℕ → Cut → Type 0
-IsCutOf piece ps text (At position) = IsCut piece ps text position
-IsCutOf piece ps text Nowhere = MatchesNot (piece ∷ ps) text
-IsCutOf piece ps text Unknown = DependsOnMore piece ps
+abbrev pub IsPieceEnd : PieceValue → List PieceValue → List ℕ → PieceEnd → Type 0
+IsPieceEnd piece ps text (At position) = TakesUpTo piece ps text position
+IsPieceEnd piece ps text Nowhere = MatchesNot (piece ∷ ps) text
+IsPieceEnd piece ps text Unknown = DependsOnMore piece ps
 
 -- What is known about a plain field before a literal and other pieces, whatever the field's name.
-abbrev pub IsCutBefore : List ℕ → List PieceValue → List ℕ → Cut → Type 0
-IsCutBefore literal ps text cut = (name : List ℕ) → IsCutOf (FieldPiece name Plain) (Literal literal ∷ ps) text cut
+abbrev pub IsEndBefore : List ℕ → List PieceValue → List ℕ → PieceEnd → Type 0
+IsEndBefore literal ps text end = (name : List ℕ) → IsPieceEnd (FieldPiece name Plain) (Literal literal ∷ ps) text end
 
 -- What the rest of a pattern finds in the rest of a text, with the fields so far before it, is what the whole finds.
 abbrev pub IsLeft : List PieceValue → List ℕ → List FieldValue → List PieceValue → List ℕ → Type 0

@@ -5,9 +5,11 @@ pub mod Matching
 pub mod LiteralEnds
 pub mod Action
 pub mod FilesTable
+pub mod PatternReading
 pub mod Finding
 pub mod FilledCells
 pub mod LibraryFile
+pub mod LibraryLine
 pub mod LibraryFault
 pub mod DefaultFile
 -- How a library is stored: the end of its entries for steps of one type, and the index of its entries.
@@ -15,8 +17,6 @@ pub mod Library
 pub mod EntryIndex
 -- Proof machinery: definitions for the steps of reading, matching and finding.
 pub mod Spelling
-pub mod PatternReading
-pub mod LibraryLine
 pub mod CharBoundaries
 pub mod Advances
 pub mod TableRows

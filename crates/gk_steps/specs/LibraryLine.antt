@@ -1,4 +1,4 @@
--- Proof machinery: reading one line of a step library.
+-- Reading one line of a step library, part by part.
 use Rattle.std.specs.Prelude.{◌≡◌, ℕ, Bool, true, false, is_some, List, [], ◌∷◌, ◌++◌, Option, Some, None}
 use Rattle.std.specs.List.{list_all}
 use Rattle.gk_gherkin.specs.Lines.{LineValue, Lines}

@@ -11,7 +11,7 @@ use Rattle.gk_steps.specs.declared.pattern.Field.TheVariants as fields
 use Rattle.gk_steps.specs.Decimal.{IsNumber, is_number}
 use Rattle.gk_steps.specs.Pattern.{PieceValue, Literal, FieldPiece}
 
--- The texts that a field can take. `{name}` takes one or more characters. `{name:d}` takes an optional sign and ASCII digits with a value in i64. (behave's documentation: step parameters)
+-- The texts that a field can take. `{name}` takes one or more characters. `{name:d}` takes an optional sign and ASCII digits with a value in i64. (behave's documentation: step parameters; the form of a number is this project's profile)
 abbrev pub IsSpan : FieldKind → List ℕ → Type 0
 IsSpan Plain span = IsUtf8 span × (0 < length span)
 IsSpan Decimal span = IsNumber span

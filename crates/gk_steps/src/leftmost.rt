@@ -2,7 +2,7 @@
 ghost use Rattle.std.specs.Prelude.{◌≤◌, [], ◌∷◌, ℕ, List, length, MatchBool};
 ghost use Rattle.gk_steps.specs.declared.pattern.FieldKind.TheVariants as kinds;
 ghost use Rattle.gk_steps.specs.Pattern.{Literal, FieldPiece, piece_value, pieces_said};
-ghost use Rattle.gk_steps.specs.Leftmost.{CanStandAt, IsFirstPosition, IsCutOf, IsCutBefore};
+ghost use Rattle.gk_steps.specs.Leftmost.{CanStandAt, IsFirstPosition, IsPieceEnd, IsEndBefore};
 
 use crate::advances::rest_after;
 use crate::literal_ends::{begins_with_bytes, ends_with};
@@ -10,7 +10,7 @@ use crate::pattern::{FieldKind, Piece};
 
 /// How much of a text the first piece of a pattern takes.
 #[derive(Clone, Copy, Debug, PartialEq, Eq)]
-pub(crate) enum Cut {
+pub(crate) enum PieceEnd {
     /// This number of bytes.
     At(usize),
     /// The pattern has no match.
@@ -45,88 +45,88 @@ fn first_position(literal: &str, text: &str) -> Option<usize>
 
 // Returns what a literal takes.
 #[inline(always)]
-fn literal_cut(literal: &str, after: &[Piece], text: &str) -> Cut
-    ensures { IsCutOf (Literal literal.now) (pieces_said after.now) text.now result }
+fn literal_end(literal: &str, after: &[Piece], text: &str) -> PieceEnd
+    ensures { IsPieceEnd (Literal literal.now) (pieces_said after.now) text.now result }
 {
     match rest_after(text, literal) {
-        Some(_) => Cut::At(literal.len()),
-        None => Cut::Nowhere,
+        Some(_) => PieceEnd::At(literal.len()),
+        None => PieceEnd::Nowhere,
     }
 }
 
 // Returns what a plain field takes before a literal that is the last piece.
 #[inline(always)]
-fn cut_before_last(literal: &str, text: &str) -> Cut
-    ensures { IsCutBefore literal.now [] text.now result }
+fn end_before_last(literal: &str, text: &str) -> PieceEnd
+    ensures { IsEndBefore literal.now [] text.now result }
 {
     if literal.len() < text.len() && ends_with(text, literal) {
-        Cut::At(text.len() - literal.len())
+        PieceEnd::At(text.len() - literal.len())
     } else {
-        Cut::Nowhere
+        PieceEnd::Nowhere
     }
 }
 
 // Returns what a plain field takes before a literal that another plain field follows: the less the first takes, the
 // more is left for the other.
 #[inline(always)]
-fn cut_before_field(literal: &str, other: &str, after: &[Piece], text: &str) -> Cut
+fn end_before_field(literal: &str, other: &str, after: &[Piece], text: &str) -> PieceEnd
     ensures { let left = FieldPiece other.now kinds.Plain ∷ pieces_said after.now in
-        IsCutBefore literal.now left text.now result }
+        IsEndBefore literal.now left text.now result }
 {
     match first_position(literal, text) {
-        Some(position) => Cut::At(position),
-        None => Cut::Nowhere,
+        Some(position) => PieceEnd::At(position),
+        None => PieceEnd::Nowhere,
     }
 }
 
 // Returns what a plain field takes before a literal.
 #[inline(always)]
-fn cut_before(literal: &str, after: &[Piece], text: &str) -> Cut
-    ensures { IsCutBefore literal.now (pieces_said after.now) text.now result }
+fn end_before(literal: &str, after: &[Piece], text: &str) -> PieceEnd
+    ensures { IsEndBefore literal.now (pieces_said after.now) text.now result }
 {
     match after.split_first() {
-        None => cut_before_last(literal, text),
+        None => end_before_last(literal, text),
         Some((piece, later)) => match piece {
             Piece::Field { name, kind } => match kind {
-                FieldKind::Plain => cut_before_field(literal, name, later, text),
-                FieldKind::Decimal => Cut::Unknown,
+                FieldKind::Plain => end_before_field(literal, name, later, text),
+                FieldKind::Decimal => PieceEnd::Unknown,
             },
-            Piece::Literal(_) => Cut::Unknown,
+            Piece::Literal(_) => PieceEnd::Unknown,
         },
     }
 }
 
 // Returns what a plain field takes.
 #[inline(always)]
-fn plain_cut(after: &[Piece], text: &str) -> Cut
+fn plain_end(after: &[Piece], text: &str) -> PieceEnd
     ensures { (name : List ℕ)
-        → IsCutOf (FieldPiece name kinds.Plain) (pieces_said after.now) text.now result }
+        → IsPieceEnd (FieldPiece name kinds.Plain) (pieces_said after.now) text.now result }
 {
     match after.split_first() {
         None => {
             if text.is_empty() {
-                Cut::Nowhere
+                PieceEnd::Nowhere
             } else {
-                Cut::At(text.len())
+                PieceEnd::At(text.len())
             }
         }
         Some((piece, later)) => match piece {
-            Piece::Literal(literal) => cut_before(literal, later, text),
-            Piece::Field { .. } => Cut::Unknown,
+            Piece::Literal(literal) => end_before(literal, later, text),
+            Piece::Field { .. } => PieceEnd::Unknown,
         },
     }
 }
 
 /// Returns what the first piece of a pattern takes, if that is known without a table.
 #[inline(always)]
-pub(crate) fn cut_of(piece: &Piece, after: &[Piece], text: &str) -> Cut
-    ensures { IsCutOf (piece_value piece.now) (pieces_said after.now) text.now result }
+pub(crate) fn piece_end(piece: &Piece, after: &[Piece], text: &str) -> PieceEnd
+    ensures { IsPieceEnd (piece_value piece.now) (pieces_said after.now) text.now result }
 {
     match piece {
-        Piece::Literal(literal) => literal_cut(literal, after, text),
+        Piece::Literal(literal) => literal_end(literal, after, text),
         Piece::Field { kind, .. } => match kind {
-            FieldKind::Plain => plain_cut(after, text),
-            FieldKind::Decimal => Cut::Unknown,
+            FieldKind::Plain => plain_end(after, text),
+            FieldKind::Decimal => PieceEnd::Unknown,
         },
     }
 }

@@ -15,7 +15,7 @@ use crate::advances::advance;
 use crate::captures::Captures;
 use crate::char_boundaries::boundaries_of;
 use crate::filled_cells::Cells;
-use crate::leftmost::{Cut, cut_of};
+use crate::leftmost::{PieceEnd, piece_end};
 use crate::pattern::{Field, Pattern, Piece};
 use crate::table_rows::{first_row, row_over};
 use std::alloc::{AllocError, Global};
@@ -186,14 +186,14 @@ pub(crate) fn match_from_left<'t, K: Captures<'t>>(
     let mut left = pieces;
     let mut rest = text;
     'pieces: while let Some((piece, after)) = left.split_first() {
-        match cut_of(piece, after, rest) {
-            Cut::At(position) => {
+        match piece_end(piece, after, rest) {
+            PieceEnd::At(position) => {
                 kept.add(alloc, piece, &rest[..position])?;
                 left = after;
                 rest = &rest[position..];
             }
-            Cut::Nowhere => return Ok(None),
-            Cut::Unknown => return match_rest(cells, alloc, kept, left, rest),
+            PieceEnd::Nowhere => return Ok(None),
+            PieceEnd::Unknown => return match_rest(cells, alloc, kept, left, rest),
         }
     }
     if rest.is_empty() {

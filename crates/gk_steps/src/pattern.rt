@@ -2,9 +2,10 @@
 ghost use Rattle.std.specs.Prelude.{◌≡◌};
 ghost use Rattle.gk_steps.specs.declared.pattern.PatternFault.TheVariants.{Memory};
 
-use gk_gherkin::Refused;
+use gk_gherkin::AllocationError;
 
-/// The kind of a field: `{name}` or `{name:d}`. (behave's documentation: step parameters)
+/// The kind of a field: `{name}` or `{name:d}`. (behave's documentation: step parameters; the form of a number is this
+/// project's profile)
 #[derive(Clone, Copy, Debug, PartialEq, Eq)]
 pub enum FieldKind {
     /// Takes one or more characters, as few as possible.
@@ -42,7 +43,7 @@ pub enum PatternFault {
     Memory,
 }
 
-impl<E: Refused> From<E> for PatternFault {
+impl<E: AllocationError> From<E> for PatternFault {
     ghost from_gives = { λ _ e. e ≡ Memory };
 
     fn from(_refused: E) -> PatternFault {

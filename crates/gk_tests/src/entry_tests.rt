@@ -182,6 +182,6 @@ const FAULTS: [(LibraryFault, Option<u32>, &str); 9] = [
 fn faults_of_libraries_have_lines_and_texts(rt: HostRuntime) {
     for (fault, line, text) in FAULTS {
         assert_eq!(rt; LibraryFault::line(&fault), line);
-        assert_eq!(rt; LibraryFault::text(&fault), text);
+        assert_eq!(rt; LibraryFault::said(&fault).text, text);
     }
 }

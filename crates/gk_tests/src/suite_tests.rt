@@ -6,7 +6,8 @@ use gk_gherkin::{Block, HookFile, Step, read_hooks};
 use gk_report::{Format, Style, part};
 use gk_run::{
     CaseResult, Chosen, FeatureResult, Level, Mark, NoRoom, Observer, Outcome, Reason, RuleResult,
-    Stage, Status, Suite, dry_feature, is_bad, reason_of, run_case_watched, run_feature, status_of,
+    Stage, Status, Suite, dry_feature, is_failed_or_memory, reason_of, run_case_watched,
+    run_feature, status_of,
 };
 use gk_steps::{Found, Library, default_library};
 use gk_world::Sandbox;
@@ -15,9 +16,9 @@ use std::test::Fail;
 
 #[test]
 fn failures_are_told_from_the_rest(rt: HostRuntime) {
-    assert!(rt; is_bad(Status::Failed) && is_bad(Status::Memory));
-    assert!(rt; !is_bad(Status::Passed) && !is_bad(Status::Skipped));
-    assert!(rt; !is_bad(Status::Undefined) && !is_bad(Status::Untested));
+    assert!(rt; is_failed_or_memory(Status::Failed) && is_failed_or_memory(Status::Memory));
+    assert!(rt; !is_failed_or_memory(Status::Passed) && !is_failed_or_memory(Status::Skipped));
+    assert!(rt; !is_failed_or_memory(Status::Undefined) && !is_failed_or_memory(Status::Untested));
 }
 
 // What became of steps, the status of each, and why it failed.

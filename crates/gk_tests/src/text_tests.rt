@@ -1,5 +1,8 @@
 use gk_gherkin::text::{begins, is_blank, split_word, stands_in, trim};
-use gk_gherkin::{HookKind, LIMIT, Place, ReadFault, borrowed_line, read_hooks, text_of};
+use gk_gherkin::{
+    FaultText, HookKind, LIMIT, Place, ReadFault, borrowed_line, read_hooks, text_of,
+};
+use gk_select::SelectFault;
 use std::test::Fail;
 
 #[test]
@@ -81,4 +84,17 @@ fn faults_name_their_lines(rt: HostRuntime) {
     for (fault, line) in LINES {
         assert_eq!(rt; ReadFault::line(&fault), line);
     }
+}
+
+#[test]
+fn faults_say_what_to_fix(rt: HostRuntime) {
+    let row = ReadFault::said(&ReadFault::BadRow { line: 9 });
+    assert_eq!(rt; row.text, "row without closing bar");
+    assert_eq!(rt; row.hint, "close the row with a bar");
+    let tags = SelectFault::said(&SelectFault::BadTagText);
+    assert_eq!(rt; tags.text, "bad tag expression");
+    assert_eq!(rt; tags.hint, "write it as '@a and not @b', or as @a,~@b");
+    assert_eq!(rt; FaultText::too_long().hint, "divide the file");
+    assert_eq!(rt; FaultText::not_utf8().hint, "save the file as UTF-8");
+    assert_eq!(rt; FaultText::no_memory().text, "out of memory");
 }

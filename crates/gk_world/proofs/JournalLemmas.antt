@@ -26,7 +26,7 @@ module _ {U S : Type 0} (undone : U → S → S) where
       let rest = FitAll-pop fits us u s h.0 in
       (rest.0, (rest.1, subst (fits v) (rewound-push us u s) h.1))
 
-  -- what the entries since a mark give stays as it is when a change is recorded
+  -- what the entries since a start give stays as it is when a change is recorded
   pub rewound-since : (us vs : List U) (u : U) (m : ℕ) (s t : S) → m ≤ length us → vs ≡ us ++ u ∷ [] → undone u t ≡ s → rewound undone (drop m vs) t ≡ rewound undone (drop m us) s
   rewound-since us vs u m s t le e b =
       ap (λ l. rewound undone (drop m l) t) e
@@ -88,7 +88,7 @@ module _ {U S : Type 0} (undone : U → S → S) where
       let n : k ≤ length (take m us) = omega (arith, length-take-le m us within) in
       ap (drop k) (sym (take-append-drop m us)) ∙ drop-append-le k (take m us) (drop m us) n
 
-  -- what a rewind to m leaves for an earlier mark k
+  -- what a rewind to m leaves for an earlier count k
   pub rewound-before : (us vs : List U) (k m : ℕ) (s t : S) → k ≤ m → m ≤ length us → vs ≡ take m us → t ≡ rewound undone (drop m us) s → rewound undone (drop k vs) t ≡ rewound undone (drop k us) s
   rewound-before us vs k m s t le within e f =
       (λ i. rewound undone (drop k (e i)) (f i))

@@ -12,7 +12,7 @@ use Rattle.gk_world.specs.World.{contents_of, Fits, undone, IsClear, NamesDiffer
 use Rattle.gk_world.specs.Reversible as contents
 use Rattle.gk_world.specs.Reversible.{rewind}
 use Rattle.gk_world.proofs.UndoLemmas.{undo_writes, map_undone, layers_put, differ_undone}
-use Rattle.gk_world.specs.Sandbox.{SandboxValue, with_layers, Rewinds, UndosGiveBack, seen_undo, seen_undos, saved_of, value_of, AreMarks, IsSound}
+use Rattle.gk_world.specs.Sandbox.{SandboxValue, with_layers, Rewinds, UndosGiveBack, seen_undo, seen_undos, saved_of, value_of, AreStarts, IsSound}
 
 -- an undo, on the contents
 pub contents_undone : (d : ℕ) (u : WorldUndo) (w : World) → NamesDiffer w → Fits u w → contents_of d (undone u w) ≡ contents.undone (seen_undo w u) (contents_of d w)
@@ -59,7 +59,7 @@ without_values (suc i) d t clear =
     ∙ (λ k. record { files = map_at 0 t.files; env = map_at 0 t.env; values = clear (i + d) (omega arith) k ∷ layers_of (i + d) t.values })
     ∙ ap with_layer (without_values i d t clear)
 
-saved_rewinds : (inside n : ℕ) (ms : List ℕ) (us : List WorldUndo) (w : World) → NamesDiffer w → FitAll undone Fits us w → AreMarks ms n us w → Rewinds inside (saved_of ms us w) ms (seen_undos w us) (contents_of (inside + length ms) w)
+saved_rewinds : (inside n : ℕ) (ms : List ℕ) (us : List WorldUndo) (w : World) → NamesDiffer w → FitAll undone Fits us w → AreStarts ms n us w → Rewinds inside (saved_of ms us w) ms (seen_undos w us) (contents_of (inside + length ms) w)
 saved_rewinds inside n [] us w names fit h = tt
 saved_rewinds inside n (m ∷ ms) us w names fit h =
     let e : inside + length (m ∷ ms) ≡ suc inside + length ms = omega arith in (

@@ -2,7 +2,7 @@
 use Rattle.std.proofs.Common.{◌≡◌, ℕ, ◌<◌, List, [], ◌∷◌, length, get_or, refl, sym, ap, ◌∙◌, arith}
 use Rattle.std.specs.FinMap as finite
 use Rattle.gk_world.specs.State.{Texts, Contents, with_text, without, laid, own_of, outer_of, state_of}
-use Rattle.gk_world.specs.Sandbox.{SandboxValue, Works, done, change, layer, LayersGiveBack, ChangesAreOfState, with_value, without_value}
+use Rattle.gk_world.specs.Sandbox.{SandboxValue, LeadsTo, done, change, layer, LayersGiveBack, ChangesAreOfState, with_value, without_value}
 use Rattle.gk_world.proofs.StateLemmas.{inserted, removed}
 
 abbrev rest_of : {A : Type 0} → List A → List A
@@ -10,9 +10,9 @@ rest_of [] = []
 rest_of (x ∷ xs) = xs
 
 -- changes and ended layers leave what the ends of the open layers give
-kept : {s t : SandboxValue} → Works s t → (t.saved ≡ s.saved) × (t.marks ≡ s.marks)
+kept : {s t : SandboxValue} → LeadsTo s t → (t.saved ≡ s.saved) × (t.starts ≡ s.starts)
 kept done = (refl, refl)
-kept (change b w) = let r = kept w in (r.0 ∙ b.layers, r.1 ∙ b.marks)
+kept (change b w) = let r = kept w in (r.0 ∙ b.layers, r.1 ∙ b.starts)
 kept (layer w e v) =
     let inner = kept w in
     let after = kept v in
@@ -22,12 +22,12 @@ pub give_back : LayersGiveBack
 give_back s t u w e =
     let inner = kept w in
     let saved : u.now ∷ u.saved ≡ s.now ∷ s.saved = sym e.given_back ∙ inner.0 in
-    let marks : length u.entries ∷ u.marks ≡ length s.entries ∷ s.marks = sym e.forgotten ∙ inner.1 in
+    let starts : length u.entries ∷ u.starts ≡ length s.entries ∷ s.starts = sym e.forgotten ∙ inner.1 in
     record {
       contents = ap (λ l. get_or l 0 s.now) saved;
       saved = ap rest_of saved;
-      marks = ap rest_of marks;
-      recorded = ap (λ l. get_or l 0 0) marks;
+      starts = ap rest_of starts;
+      recorded = ap (λ l. get_or l 0 0) starts;
     }
 
 -- ---- the plain state

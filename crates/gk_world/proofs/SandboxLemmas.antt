@@ -17,14 +17,14 @@ use Rattle.gk_world.specs.State.{state_of, layers}
 use Rattle.gk_world.specs.Values.{state_at, IsLayer}
 use Rattle.gk_world.specs.World.{contents_of, Fits, undone, Steps, Refuses, CanApply, IsHere, changed, refusal, IsClear, NamesDiffer}
 use Rattle.gk_world.proofs.WorldLemmas.{contents_changed, contents_allow, contents_refuse, clear_still, here_applies}
-use Rattle.gk_world.specs.Sandbox.{SandboxValue, depth, begun, EndsLayer, EndsByUndos, Becomes, Records, NoneTooLong, HasShortTexts, TextsAreShort, seen_undo, seen_undos, open_marks, saved_of, value_of, AreMarks, IsSound}
+use Rattle.gk_world.specs.Sandbox.{SandboxValue, depth, layer_begun, EndsLayer, EndsByUndos, Becomes, Records, NoneTooLong, HasShortTexts, TextsAreShort, seen_undo, seen_undos, open_starts, saved_of, value_of, AreStarts, IsSound}
 use Rattle.gk_world.proofs.TextsLemmas.{short_empty, short_changed, short_begun, short_ended}
 use Rattle.gk_world.proofs.ReversibleLemmas.{contents_undone, contents_rewound, seen_undos-append}
 
 -- ---- lengths
-pub length-open_marks : (d : ℕ) (marks : List ℕ) → length (open_marks d marks) ≡ d
-length-open_marks zero marks = refl
-length-open_marks (suc d) marks = ap suc (length-open_marks d marks)
+pub length-open_starts : (d : ℕ) (starts : List ℕ) → length (open_starts d starts) ≡ d
+length-open_starts zero starts = refl
+length-open_starts (suc d) starts = ap suc (length-open_starts d starts)
 
 length-saved_of : (ms : List ℕ) (us : List WorldUndo) (w : World) → length (saved_of ms us w) ≡ length ms
 length-saved_of [] us w = refl
@@ -38,27 +38,27 @@ length-seen_undos w (u ∷ us) = ap suc (length-seen_undos w us)
 marks_are : (w : World) (us : List WorldUndo) (ms : List ℕ) (v : SandboxValue) → value_of w us ms ≡ v → depth v ≡ length ms
 marks_are w us ms v is = sym (ap depth is) ∙ length-saved_of ms us w
 
-pub depth_is : (w : World) (us : List WorldUndo) (d : ℕ) (marks : List ℕ) (v : SandboxValue) → value_of w us (open_marks d marks) ≡ v → d ≡ depth v
-depth_is w us d marks v is = sym (length-open_marks d marks) ∙ sym (marks_are w us (open_marks d marks) v is)
+pub depth_is : (w : World) (us : List WorldUndo) (d : ℕ) (starts : List ℕ) (v : SandboxValue) → value_of w us (open_starts d starts) ≡ v → d ≡ depth v
+depth_is w us d starts v is = sym (length-open_starts d starts) ∙ sym (marks_are w us (open_starts d starts) v is)
 
 pub recorded_is : (w : World) (us : List WorldUndo) (ms : List ℕ) (v : SandboxValue) → value_of w us ms ≡ v → length us ≡ length v.entries
 recorded_is w us ms v is = sym (length-seen_undos w us) ∙ ap (λ (v : SandboxValue). length v.entries) is
 
--- ---- what rewinding to each mark gives
+-- ---- what rewinding to each start gives
 abbrev pub Same : ℕ → List WorldUndo → List WorldUndo → World → World → Type 0
 Same n us vs w t = (m : ℕ) → m ≤ n → rewound undone (drop m vs) t ≡ rewound undone (drop m us) w
 
-saved_of-same : (ms : List ℕ) (n : ℕ) (us vs : List WorldUndo) (w t : World) → AreMarks ms n us w → Same n us vs w t → saved_of ms vs t ≡ saved_of ms us w
+saved_of-same : (ms : List ℕ) (n : ℕ) (us vs : List WorldUndo) (w t : World) → AreStarts ms n us w → Same n us vs w t → saved_of ms vs t ≡ saved_of ms us w
 saved_of-same [] n us vs w t h same = refl
 saved_of-same (m ∷ ms) n us vs w t h same = λ i. contents_of (length ms) (same m h.0 i) ∷ saved_of-same ms m us vs w t h.2 (λ k le. same k (omega (arith, h.0))) i
 
-marks-same : (ms : List ℕ) (n : ℕ) (us vs : List WorldUndo) (w t : World) → AreMarks ms n us w → Same n us vs w t → AreMarks ms n vs t
-marks-same [] n us vs w t h same = h
-marks-same (m ∷ ms) n us vs w t h same = (h.0, subst (IsClear (length ms)) (sym (same m h.0)) h.1, marks-same ms m us vs w t h.2 (λ k le. same k (omega (arith, h.0))))
+starts-same : (ms : List ℕ) (n : ℕ) (us vs : List WorldUndo) (w t : World) → AreStarts ms n us w → Same n us vs w t → AreStarts ms n vs t
+starts-same [] n us vs w t h same = h
+starts-same (m ∷ ms) n us vs w t h same = (h.0, subst (IsClear (length ms)) (sym (same m h.0)) h.1, starts-same ms m us vs w t h.2 (λ k le. same k (omega (arith, h.0))))
 
-marks-more : (ms : List ℕ) (n k : ℕ) (us : List WorldUndo) (w : World) → 0 < length ms → n ≤ k → AreMarks ms n us w → AreMarks ms k us w
-marks-more [] n k us w lt le h = absurd (omega arith)
-marks-more (m ∷ ms) n k us w lt le h = (omega (arith, h.0), h.1, h.2)
+starts-more : (ms : List ℕ) (n k : ℕ) (us : List WorldUndo) (w : World) → 0 < length ms → n ≤ k → AreStarts ms n us w → AreStarts ms k us w
+starts-more [] n k us w lt le h = absurd (omega arith)
+starts-more (m ∷ ms) n k us w lt le h = (omega (arith, h.0), h.1, h.2)
 
 -- ---- a new sandbox
 pub new_sound : (w : World) (us : List WorldUndo) → w.files ≡ [] → w.env ≡ [] → w.values ≡ [] → us ≡ [] → IsSound w us []
@@ -74,27 +74,27 @@ new_sound w us files env values none = record {
 }
 
 -- ---- a layer begins
-open_marks-set : (d i : ℕ) (marks : List ℕ) (n : ℕ) → d ≤ i → open_marks d (set marks i n) ≡ open_marks d marks
-open_marks-set zero i marks n le = refl
-open_marks-set (suc d) i marks n le =
+open_starts-set : (d i : ℕ) (starts : List ℕ) (n : ℕ) → d ≤ i → open_starts d (set starts i n) ≡ open_starts d starts
+open_starts-set zero i starts n le = refl
+open_starts-set (suc d) i starts n le =
     let ne : d ≢ i = omega arith in
-    λ k. get_or-set_other marks i d n 0 ne k ∷ open_marks-set d i marks n (omega arith) k
+    λ k. get_or-set_other starts i d n 0 ne k ∷ open_starts-set d i starts n (omega arith) k
 
-marked : (d : ℕ) (marks : List ℕ) (n : ℕ) → d < length marks → open_marks (d + 1) (set marks d n) ≡ n ∷ open_marks d marks
-marked d marks n lt =
+marked : (d : ℕ) (starts : List ℕ) (n : ℕ) → d < length starts → open_starts (d + 1) (set starts d n) ≡ n ∷ open_starts d starts
+marked d starts n lt =
     let one : d + 1 ≡ suc d = omega arith in
-    ap (λ d'. open_marks d' (set marks d n)) one ∙ (λ k. get_or-set_same marks d n 0 lt k ∷ open_marks-set d d marks n (omega arith) k)
+    ap (λ d'. open_starts d' (set starts d n)) one ∙ (λ k. get_or-set_same starts d n 0 lt k ∷ open_starts-set d d starts n (omega arith) k)
 
 module _ (w : World) (us : List WorldUndo) (ms : List ℕ) (h : IsSound w us ms) where
   nothing_since : rewound undone (drop (length us) us) w ≡ w
   nothing_since = ap (λ us. rewound undone us w) (drop-length us)
 
-  value_inside : value_of w us (length us ∷ ms) ≡ begun (value_of w us ms)
+  value_inside : value_of w us (length us ∷ ms) ≡ layer_begun (value_of w us ms)
   value_inside = λ i. record {
     now = record { files = map_at 0 w.files; env = map_at 0 w.env; values = h.clear (length ms) (omega arith) i ∷ layers_of (length ms) w.values };
     saved = contents_of (length ms) (nothing_since i) ∷ saved_of ms us w;
     entries = seen_undos w us;
-    marks = sym (length-seen_undos w us) i ∷ ms;
+    starts = sym (length-seen_undos w us) i ∷ ms;
   }
 
   sound_inside : length ms < layers → IsSound w us (length us ∷ ms)
@@ -106,15 +106,15 @@ module _ (w : World) (us : List WorldUndo) (ms : List ℕ) (h : IsSound w us ms)
     texts = subst TextsAreShort (sym value_inside) (short_begun (value_of w us ms) h.texts);
   }
 
-module _ (w : World) (us : List WorldUndo) (d n : ℕ) (marks : List ℕ) (v : SandboxValue) (is : value_of w us (open_marks d marks) ≡ v) (few : depth v < layers) (room : length marks ≡ layers) (all : n ≡ length us) (h : IsSound w us (open_marks d marks)) where
-  begun_marks : open_marks (d + 1) (set marks d n) ≡ length us ∷ open_marks d marks
-  begun_marks = marked d marks n (omega (arith, depth_is w us d marks v is)) ∙ ap (λ n. n ∷ open_marks d marks) all
+module _ (w : World) (us : List WorldUndo) (d n : ℕ) (starts : List ℕ) (v : SandboxValue) (is : value_of w us (open_starts d starts) ≡ v) (few : depth v < layers) (room : length starts ≡ layers) (all : n ≡ length us) (h : IsSound w us (open_starts d starts)) where
+  begun_starts : open_starts (d + 1) (set starts d n) ≡ length us ∷ open_starts d starts
+  begun_starts = marked d starts n (omega (arith, depth_is w us d starts v is)) ∙ ap (λ n. n ∷ open_starts d starts) all
 
-  pub begun_sound : IsSound w us (open_marks (d + 1) (set marks d n))
-  begun_sound = subst (IsSound w us) (sym begun_marks) (sound_inside w us (open_marks d marks) h (omega (arith, length-open_marks d marks, depth_is w us d marks v is)))
+  pub begun_sound : IsSound w us (open_starts (d + 1) (set starts d n))
+  begun_sound = subst (IsSound w us) (sym begun_starts) (sound_inside w us (open_starts d starts) h (omega (arith, length-open_starts d starts, depth_is w us d starts v is)))
 
-  pub begun_value : value_of w us (open_marks (d + 1) (set marks d n)) ≡ begun v
-  begun_value = ap (value_of w us) begun_marks ∙ value_inside w us (open_marks d marks) h ∙ ap begun is
+  pub begun_value : value_of w us (open_starts (d + 1) (set starts d n)) ≡ layer_begun v
+  begun_value = ap (value_of w us) begun_starts ∙ value_inside w us (open_starts d starts) h ∙ ap layer_begun is
 
 -- ---- a layer ends
 module _ (w : World) (us : List WorldUndo) (m : ℕ) (ms : List ℕ) (h : IsSound w us (m ∷ ms)) (t : World) (vs : List WorldUndo)
@@ -133,12 +133,12 @@ module _ (w : World) (us : List WorldUndo) (m : ℕ) (ms : List ℕ) (h : IsSoun
   sound_outside = record {
     room = omega (arith, h.room);
     clear = subst (IsClear (length ms)) (sym back) h.ordered.1;
-    ordered = subst (λ n. AreMarks ms n vs t) (sym left_are) (marks-same ms m us vs w t h.ordered.2 same);
+    ordered = subst (λ n. AreStarts ms n vs t) (sym left_are) (starts-same ms m us vs w t h.ordered.2 same);
     fit = older 0 (omega arith) h.fit;
     texts = short_ended (value_of w us (m ∷ ms)) (value_of t vs ms) ends_outside h.texts;
   }
 
-  -- the undos since the mark give back the contents, with an empty map for the layer
+  -- the undos since the start give back the contents, with an empty map for the layer
   undone_outside : NamesDiffer w → EndsByUndos (value_of w us (m ∷ ms)) (value_of t vs ms)
   undone_outside names =
       let d : ℕ = length (m ∷ ms) in
@@ -154,32 +154,32 @@ module _ (w : World) (us : List WorldUndo) (m : ℕ) (ms : List ℕ) (h : IsSoun
             ∙ (λ i. record { files = map_at 0 t.files; env = map_at 0 t.env; values = sound_outside.clear (length ms) (omega arith) i ∷ layers_of (length ms) t.values });
       }
 
--- what is known of the innermost mark
-module _ (w : World) (us : List WorldUndo) (d number : ℕ) (marks : List ℕ) (v : SandboxValue) (is : value_of w us (open_marks d marks) ≡ v) (innermost : number ≡ depth v) (above : 0 < number) (h : IsSound w us (open_marks d marks)) where
+-- what is known of the innermost start
+module _ (w : World) (us : List WorldUndo) (d number : ℕ) (starts : List ℕ) (v : SandboxValue) (is : value_of w us (open_starts d starts) ≡ v) (innermost : number ≡ depth v) (above : 0 < number) (h : IsSound w us (open_starts d starts)) where
   outer_is : d ≡ suc (number - 1)
-  outer_is = omega (arith, depth_is w us d marks v is)
+  outer_is = omega (arith, depth_is w us d starts v is)
 
-  sound_here : IsSound w us (get_or marks (number - 1) 0 ∷ open_marks (number - 1) marks)
-  sound_here = subst (λ d. IsSound w us (open_marks d marks)) outer_is h
+  sound_here : IsSound w us (get_or starts (number - 1) 0 ∷ open_starts (number - 1) starts)
+  sound_here = subst (λ d. IsSound w us (open_starts d starts)) outer_is h
 
-  pub mark_within : get_or marks (number - 1) 0 ≤ length us
+  pub mark_within : get_or starts (number - 1) 0 ≤ length us
   mark_within = sound_here.ordered.0
 
-  pub fit_since : FitAll undone Fits (drop (get_or marks (number - 1) 0) us) w
-  fit_since = FitAll-drop undone Fits (get_or marks (number - 1) 0) us w h.fit
+  pub fit_since : FitAll undone Fits (drop (get_or starts (number - 1) 0) us) w
+  fit_since = FitAll-drop undone Fits (get_or starts (number - 1) 0) us w h.fit
 
   module _ (t : World) (vs : List WorldUndo)
-      (back : t ≡ rewound undone (drop (get_or marks (number - 1) 0) us) w) (left : vs ≡ take (get_or marks (number - 1) 0) us)
-      (same : Same (get_or marks (number - 1) 0) us vs w t)
-      (older : (k : ℕ) → k ≤ get_or marks (number - 1) 0 → FitAll undone Fits (drop k us) w → FitAll undone Fits (drop k vs) t) where
-    pub ended_sound : IsSound t vs (open_marks (number - 1) marks)
+      (back : t ≡ rewound undone (drop (get_or starts (number - 1) 0) us) w) (left : vs ≡ take (get_or starts (number - 1) 0) us)
+      (same : Same (get_or starts (number - 1) 0) us vs w t)
+      (older : (k : ℕ) → k ≤ get_or starts (number - 1) 0 → FitAll undone Fits (drop k us) w → FitAll undone Fits (drop k vs) t) where
+    pub ended_sound : IsSound t vs (open_starts (number - 1) starts)
     ended_sound = sound_outside w us _ _ sound_here t vs back left same older
 
-    pub ended : EndsLayer v (value_of t vs (open_marks (number - 1) marks))
-    ended = subst (λ v. EndsLayer v (value_of t vs (open_marks (number - 1) marks))) (ap (λ d. value_of w us (open_marks d marks)) (sym outer_is) ∙ is) (ends_outside w us _ _ sound_here t vs back left same older)
+    pub ended : EndsLayer v (value_of t vs (open_starts (number - 1) starts))
+    ended = subst (λ v. EndsLayer v (value_of t vs (open_starts (number - 1) starts))) (ap (λ d. value_of w us (open_starts d starts)) (sym outer_is) ∙ is) (ends_outside w us _ _ sound_here t vs back left same older)
 
-    pub ended_undone : NamesDiffer w → EndsByUndos v (value_of t vs (open_marks (number - 1) marks))
-    ended_undone names = subst (λ v. EndsByUndos v (value_of t vs (open_marks (number - 1) marks))) (ap (λ d. value_of w us (open_marks d marks)) (sym outer_is) ∙ is) (undone_outside w us _ _ sound_here t vs back left same older names)
+    pub ended_undone : NamesDiffer w → EndsByUndos v (value_of t vs (open_starts (number - 1) starts))
+    ended_undone names = subst (λ v. EndsByUndos v (value_of t vs (open_starts (number - 1) starts))) (ap (λ d. value_of w us (open_starts d starts)) (sym outer_is) ∙ is) (undone_outside w us _ _ sound_here t vs back left same older names)
 
 -- ---- what is recorded
 records : (d : ℕ) (ms : List ℕ) (us vs : List WorldUndo) (w t : World) (u : WorldUndo) → vs ≡ us ++ u ∷ [] → FitAll undone Fits us w → Fits u t → undone u t ≡ w → NamesDiffer t → d ≡ length ms → 0 < length ms → Records (saved_of ms us w) (value_of w us ms) (value_of t vs ms)
@@ -219,7 +219,7 @@ module _ (c : WorldChange) (w : World) (us : List WorldUndo) (ms : List ℕ) (v 
     becomes more = subst (λ (v : SandboxValue). Becomes (changed c v.now) v (value_of t vs ms)) is (record {
       contents = contents_changed c (length ms) w t here_now s;
       layers = saved_of-same ms (length us) us vs w t h.ordered same;
-      marks = refl;
+      starts = refl;
       recorded = more;
     })
 
@@ -230,7 +230,7 @@ module _ (c : WorldChange) (w : World) (us : List WorldUndo) (ms : List ℕ) (v 
     sound_still u is lt fit = record {
       room = h.room;
       clear = clear_still c (length ms) w t here_now s h.clear;
-      ordered = marks-more ms (length us) (length vs) vs t lt (omega (arith, ap length is, length-append us (u ∷ []))) (marks-same ms (length us) us vs w t h.ordered same);
+      ordered = starts-more ms (length us) (length vs) vs t lt (omega (arith, ap length is, length-append us (u ∷ []))) (starts-same ms (length us) us vs w t h.ordered same);
       fit = fit;
       texts = short_still;
     }
@@ -249,10 +249,10 @@ outside_sound c [] w t here h s = record {
 }
 outside_sound c (u ∷ us) w t here h s = absurd (omega (arith, h.ordered))
 
-pub unrecorded_sound : {A : Type 0} (c : WorldChange) (w t : World) (us : List WorldUndo) (d : ℕ) (marks : List ℕ) → d ≡ 0 → (r : Result A WorldFault) → IsHere c d → IsSound w us (open_marks d marks) → OnOk r (Steps c w t) → OnErr r (t ≡ w) → IsSound t us (open_marks d marks)
-unrecorded_sound c w t us zero marks e (Ok x) here h s err = outside_sound c us w t here h s
-unrecorded_sound c w t us zero marks e (Err f) here h s err = subst (λ t. IsSound t us []) (sym err) h
-unrecorded_sound c w t us (suc d) marks e r here h s err = absurd (omega arith)
+pub unrecorded_sound : {A : Type 0} (c : WorldChange) (w t : World) (us : List WorldUndo) (d : ℕ) (starts : List ℕ) → d ≡ 0 → (r : Result A WorldFault) → IsHere c d → IsSound w us (open_starts d starts) → OnOk r (Steps c w t) → OnErr r (t ≡ w) → IsSound t us (open_starts d starts)
+unrecorded_sound c w t us zero starts e (Ok x) here h s err = outside_sound c us w t here h s
+unrecorded_sound c w t us zero starts e (Err f) here h s err = subst (λ t. IsSound t us []) (sym err) h
+unrecorded_sound c w t us (suc d) starts e r here h s err = absurd (omega arith)
 
 -- a change of an open layer, whether it is refused or not
 module _ {A : Type 0} (c : WorldChange) (w : World) (us : List WorldUndo) (ms : List ℕ) (v : SandboxValue) (is : value_of w us ms ≡ v) (here : IsHere c (depth v)) (h : IsSound w us ms) (lt : 0 < length ms) (t : World) (vs : List WorldUndo) where
@@ -288,7 +288,7 @@ values_are w us ms v is =
     ∙ length-layers_of (length ms) w.values
     ∙ sym (marks_are w us ms v is)
 
-none_recorded : (ms : List ℕ) (n : ℕ) (us : List WorldUndo) (w : World) → AreMarks ms n us w → length ms ≡ 0 → n ≡ 0
+none_recorded : (ms : List ℕ) (n : ℕ) (us : List WorldUndo) (w : World) → AreStarts ms n us w → length ms ≡ 0 → n ≡ 0
 none_recorded [] n us w h e = h
 none_recorded (m ∷ ms) n us w h e = absurd (omega arith)
 

@@ -15,7 +15,7 @@ use Rattle.gk_world.specs.declared.world.WorldChange.TheVariants as changes
 use Rattle.gk_world.specs.Table as table
 use Rattle.gk_world.specs.Values as value
 use Rattle.gk_world.specs.World.{changed, refusal}
-use Rattle.gk_world.specs.Sandbox.{SandboxValue, NoneTooLong, HasShortTexts, TextsAreShort, begun, EndsLayer}
+use Rattle.gk_world.specs.Sandbox.{SandboxValue, NoneTooLong, HasShortTexts, TextsAreShort, layer_begun, EndsLayer}
 use Rattle.gk_world.proofs.SlotsLemmas.{get-with_entry}
 
 -- ---- what a change that isn't refused puts in is short
@@ -71,7 +71,7 @@ short_changed (changes.Env c) m r h = record { files = h.files; env = short_tabl
 short_changed (changes.Value c) m r h = record { files = h.files; env = h.env; values = short_innermost _ _ m.values (short_value c m r) h.values }
 
 -- ---- layers
-pub short_begun : (s : SandboxValue) → TextsAreShort s → TextsAreShort (begun s)
+pub short_begun : (s : SandboxValue) → TextsAreShort s → TextsAreShort (layer_begun s)
 short_begun s h = record {
   now = record { files = h.now.files; env = h.now.env; values = (short_empty, h.now.values) };
   saved = (h.now, h.saved);

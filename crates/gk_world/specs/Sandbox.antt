@@ -15,29 +15,29 @@ use Rattle.gk_world.specs.Journal.{rewound, FitAll}
 use Rattle.gk_world.specs.World as world
 use Rattle.gk_world.specs.World.{contents_of, Fits, IsClear}
 
--- A sandbox as contracts see it: the contents; for each open layer, the innermost first, what its end restores; the recorded undos, the oldest first. `marks` has the number of undos that were recorded when each layer began.
+-- A sandbox as contracts see it: the contents; for each open layer, the innermost first, what its end restores; the recorded undos, the oldest first. `starts` has the number of undos that were recorded when each layer began.
 pub record SandboxValue : Type 0 where
   pub now : Contents
   pub saved : List Contents
   pub entries : List UndoValue
-  pub marks : List ℕ
+  pub starts : List ℕ
 
 -- A new sandbox: empty, with no open layer.
 abbrev pub new_sandbox : SandboxValue
-new_sandbox = record { now = nothing_yet; saved = []; entries = []; marks = [] }
+new_sandbox = record { now = nothing_yet; saved = []; entries = []; starts = [] }
 
 -- The number of open layers. (behave's documentation: context layers)
 abbrev pub depth : SandboxValue → ℕ
 depth s = length s.saved
 
 -- The sandbox after a layer begins: the layer's end is to restore the present contents, and it has no values yet. (behave's documentation: context layers)
-abbrev pub begun : SandboxValue → SandboxValue
-begun s = record { now = with_layer s.now; saved = s.now ∷ s.saved; entries = s.entries; marks = length s.entries ∷ s.marks }
+abbrev pub layer_begun : SandboxValue → SandboxValue
+layer_begun s = record { now = with_layer s.now; saved = s.now ∷ s.saved; entries = s.entries; starts = length s.entries ∷ s.starts }
 
 -- The end of a layer: the contents that it saved are restored, and what was recorded since its beginning is forgotten. (behave's documentation: context layers)
 pub record EndsLayer (old new : SandboxValue) : Type 0 where
   pub given_back : old.saved ≡ new.now ∷ new.saved
-  pub forgotten : old.marks ≡ length new.entries ∷ new.marks
+  pub forgotten : old.starts ≡ length new.entries ∷ new.starts
 
 -- The end of a layer: the undos recorded since its beginning, the newest first, give the new contents with an empty map for the layer. What was recorded before stays.
 pub record EndsByUndos (old new : SandboxValue) : Type 0 where
@@ -54,46 +54,46 @@ Records (c ∷ cs) old new = (u : UndoValue) × (new.entries ≡ old.entries ++ 
 pub record Becomes (now : Contents) (old new : SandboxValue) : Type 0 where
   pub contents : new.now ≡ now
   pub layers : new.saved ≡ old.saved
-  pub marks : new.marks ≡ old.marks
+  pub starts : new.starts ≡ old.starts
   pub recorded : Records old.saved old new
 
--- A change keeps what each layer's end restores, and the marks. (behave's documentation: context layers)
+-- A change keeps what each layer's end restores, and where each layer starts. (behave's documentation: context layers)
 pub record KeepsLayers (old new : SandboxValue) : Type 0 where
   pub layers : new.saved ≡ old.saved
-  pub marks : new.marks ≡ old.marks
+  pub starts : new.starts ≡ old.starts
 
 -- The second sandbox comes from the first by changes and complete inner layers. A refused change leaves it as it is. (behave's documentation: context layers)
-pub data Works : SandboxValue → SandboxValue → Type 0 where
-  done : {s : SandboxValue} → Works s s
-  change : {s t u : SandboxValue} → KeepsLayers s t → Works t u → Works s u
-  layer : {s t u v : SandboxValue} → Works (begun s) t → EndsLayer t u → Works u v → Works s v
+pub data LeadsTo : SandboxValue → SandboxValue → Type 0 where
+  done : {s : SandboxValue} → LeadsTo s s
+  change : {s t u : SandboxValue} → KeepsLayers s t → LeadsTo t u → LeadsTo s u
+  layer : {s t u v : SandboxValue} → LeadsTo (layer_begun s) t → EndsLayer t u → LeadsTo u v → LeadsTo s v
 
--- The contents, what each open layer's end restores, the marks and the number of entries are the same. (behave's documentation: context layers)
+-- The contents, what each open layer's end restores, where it starts and the number of entries are the same. (behave's documentation: context layers)
 pub record IsSame (old new : SandboxValue) : Type 0 where
   pub contents : new.now ≡ old.now
   pub saved : new.saved ≡ old.saved
-  pub marks : new.marks ≡ old.marks
+  pub starts : new.starts ≡ old.starts
   pub recorded : length new.entries ≡ length old.entries
 
 -- Whatever is done in a layer, its end restores what was there at its beginning. (behave's documentation: context layers)
 abbrev pub LayersGiveBack : Type 0
-LayersGiveBack = (s t u : SandboxValue) → Works (begun s) t → EndsLayer t u → IsSame s u
+LayersGiveBack = (s t u : SandboxValue) → LeadsTo (layer_begun s) t → EndsLayer t u → IsSame s u
 
 -- The contents with the given number of further layers, which have no values. (behave's documentation: context layers)
 abbrev pub with_layers : ℕ → Contents → Contents
 with_layers zero c = c
 with_layers (suc n) c = with_layer (with_layers n c)
 
--- For each open layer, the undos recorded since its mark lead back to what its end restores, with an empty map for that layer and each inner one. The lists have the innermost layer first, and `inside` counts the layers inside the first of them.
+-- For each open layer, the undos recorded since its start lead back to what its end restores, with an empty map for that layer and each inner one. The lists have the innermost layer first, and `inside` counts the layers inside the first of them.
 abbrev pub Rewinds : ℕ → List Contents → List ℕ → List UndoValue → Contents → Type 0
 Rewinds inside [] [] entries now = Unit {0}
-Rewinds inside (c ∷ cs) (mark ∷ marks) entries now = (rewind (drop mark entries) now ≡ with_layers (suc inside) c) × Rewinds (suc inside) cs marks entries now
-Rewinds inside [] (mark ∷ marks) entries now = ⊥
+Rewinds inside (c ∷ cs) (start ∷ starts) entries now = (rewind (drop start entries) now ≡ with_layers (suc inside) c) × Rewinds (suc inside) cs starts entries now
+Rewinds inside [] (start ∷ starts) entries now = ⊥
 Rewinds inside (c ∷ cs) [] entries now = ⊥
 
 -- An invariant of a sandbox: its undos restore what its layers saved.
 abbrev pub UndosGiveBack : SandboxValue → Type 0
-UndosGiveBack s = Rewinds 0 s.saved s.marks s.entries s.now
+UndosGiveBack s = Rewinds 0 s.saved s.starts s.entries s.now
 
 -- No text of a map is too long.
 abbrev pub NoneTooLong : Texts → Type 0
@@ -139,7 +139,7 @@ undo_code = code_by (Option (Option ℕ) × (List ℕ × Option (List ℕ)))
 abbrev pub sandbox_code : Coded SandboxValue
 sandbox_code = code_by (Contents × (List Contents × (List UndoValue × List ℕ)))
     (coded× contents_code (coded× (coded_list contents_code) (coded× (coded_list undo_code) (coded_list coded_ℕ))))
-    (λ s. (s.now, (s.saved, (s.entries, s.marks)))) (λ p. record { now = p.0; saved = p.1.0; entries = p.1.1.0; marks = p.1.1.1 }) (λ _. refl)
+    (λ s. (s.now, (s.saved, (s.entries, s.starts)))) (λ p. record { now = p.0; saved = p.1.0; entries = p.1.1.0; starts = p.1.1.1 }) (λ _. refl)
 
 -- The contents with this text in a file.
 abbrev pub with_file : Contents → List ℕ → List ℕ → Contents
@@ -217,29 +217,29 @@ abbrev pub seen_undos : World → List WorldUndo → List UndoValue
 seen_undos w [] = []
 seen_undos w (u ∷ us) = seen_undo (rewound world.undone us w) u ∷ seen_undos w us
 
--- The marks of the open layers, the innermost first.
-abbrev pub open_marks : ℕ → List ℕ → List ℕ
-open_marks zero marks = []
-open_marks (suc d) marks = slice_index marks d ∷ open_marks d marks
+-- The starts of the open layers, the innermost first.
+abbrev pub open_starts : ℕ → List ℕ → List ℕ
+open_starts zero starts = []
+open_starts (suc d) starts = slice_index starts d ∷ open_starts d starts
 
--- The contents that rewinding to each mark would give.
+-- The contents that rewinding to each start would give.
 abbrev pub saved_of : List ℕ → List WorldUndo → World → List Contents
 saved_of [] us w = []
 saved_of (m ∷ ms) us w = contents_of (length ms) (rewound world.undone (drop m us) w) ∷ saved_of ms us w
 
--- The sandbox's value that a world, its undos and its marks give.
+-- The sandbox's value that a world, its undos and its starts give.
 abbrev pub value_of : World → List WorldUndo → List ℕ → SandboxValue
-value_of w us ms = record { now = contents_of (length ms) w; saved = saved_of ms us w; entries = seen_undos w us; marks = ms }
+value_of w us ms = record { now = contents_of (length ms) w; saved = saved_of ms us w; entries = seen_undos w us; starts = ms }
 
--- No mark is above n or an inner mark. The outermost mark is 0, and so is n if no layer is open. No layer had values before it began.
-abbrev pub AreMarks : List ℕ → ℕ → List WorldUndo → World → Type 0
-AreMarks [] n us w = n ≡ 0
-AreMarks (m ∷ ms) n us w = (m ≤ n) × IsClear (length ms) (rewound world.undone (drop m us) w) × AreMarks ms m us w
+-- No start is above n or an inner start. The outermost start is 0, and so is n if no layer is open. No layer had values before it began.
+abbrev pub AreStarts : List ℕ → ℕ → List WorldUndo → World → Type 0
+AreStarts [] n us w = n ≡ 0
+AreStarts (m ∷ ms) n us w = (m ≤ n) × IsClear (length ms) (rewound world.undone (drop m us) w) × AreStarts ms m us w
 
 -- The invariant of a sandbox between its calls.
 pub record IsSound (w : World) (us : List WorldUndo) (ms : List ℕ) : Type 0 where
   pub room : length ms ≤ layers
   pub clear : IsClear (length ms) w
-  pub ordered : AreMarks ms (length us) us w
+  pub ordered : AreStarts ms (length us) us w
   pub fit : FitAll world.undone Fits us w
   pub texts : TextsAreShort (value_of w us ms)

@@ -6,7 +6,7 @@ use Rattle.std.specs.Ordering.{nat_cmp}
 use Rattle.std.specs.Cmp.Lexicographic.{slice_cmp}
 use Rattle.std.specs.FinMap as finite
 
--- The number of layers that can be open: run, feature, rule and scenario. (behave's documentation: context layers)
+-- The number of layers that can be open: run, feature, rule and scenario. (behave's documentation: context layers; that of a rule is this project's profile)
 abbrev pub layers : ℕ
 layers = 4
 
@@ -97,8 +97,8 @@ abbrev pub PutsText : Type 0
 PutsText = (m : Texts) (name text : List ℕ) → finite.get (finite.insert m name text) ≡ with_text (finite.get m) name text
 
 -- Removing a name from a finite map leaves no text at the name and keeps the rest.
-abbrev pub TakesName : Type 0
-TakesName = (m : Texts) (name : List ℕ) → finite.get (finite.remove m name) ≡ without (finite.get m) name
+abbrev pub RemovesName : Type 0
+RemovesName = (m : Texts) (name : List ℕ) → finite.get (finite.remove m name) ≡ without (finite.get m) name
 
 -- The beginning of a layer in contents enters the plain state. (behave's documentation: context layers)
 abbrev pub Enters : Type 0

@@ -4,7 +4,8 @@ ghost use Rattle.gk_world.specs.Cells.{Cell, cell_at, IsOnly};
 
 use std::mem::replace;
 
-/// The number of layers that can be open. (behave's documentation: context layers)
+/// The number of layers that can be open: run, feature, rule and scenario. (behave's documentation: context layers;
+/// that of a rule is this project's profile)
 pub const LAYERS: usize = 4;
 
 /// A fixed number of cells.

@@ -60,18 +60,18 @@ impl<T: Reversible> Journal<T> {
         Ok(())
     }
 
-    /// Undoes the changes since the mark, the newest first. It doesn't allocate.
-    pub fn rewind(&mut self, on: &mut T, mark: usize)
-        requires mark { mark ≤ length self.old }
-        requires fit { FitAll T.undone T.fits (drop mark self.old) (T.slots on.old) }
-        ensures slots { T.slots on.new ≡ rewound T.undone (drop mark self.old) (T.slots on.old) }
-        ensures entries { self.new ≡ take mark self.old }
-        ensures same { RewindsTheSameTo T.undone mark
+    /// Undoes all but the first `count` changes, the newest first. It doesn't allocate.
+    pub fn rewind(&mut self, on: &mut T, count: usize)
+        requires count { count ≤ length self.old }
+        requires fit { FitAll T.undone T.fits (drop count self.old) (T.slots on.old) }
+        ensures slots { T.slots on.new ≡ rewound T.undone (drop count self.old) (T.slots on.old) }
+        ensures entries { self.new ≡ take count self.old }
+        ensures same { RewindsTheSameTo T.undone count
             self.old (T.slots on.old) self.new (T.slots on.new) }
-        ensures older { StaysFitTo T.undone T.fits mark
+        ensures older { StaysFitTo T.undone T.fits count
             self.old (T.slots on.old) self.new (T.slots on.new) }
     {
-        while self.entries.len() > mark {
+        while self.entries.len() > count {
             let undo = self.entries.pop().unwrap();
             on.undo(undo);
         }

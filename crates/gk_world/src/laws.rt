@@ -1,6 +1,6 @@
 //! Laws of this crate's definitions, as the contracts of functions that do nothing.
 ghost use Rattle.gk_world.specs.Sandbox.{ChangesAreOfState, LayersGiveBack};
-ghost use Rattle.gk_world.specs.State.{Enters, PutsText, TakesName};
+ghost use Rattle.gk_world.specs.State.{Enters, PutsText, RemovesName};
 
 /// Shows that inserting a text into a finite map sets it at its name and keeps the text of each other name.
 pub fn put_texts()
@@ -9,7 +9,7 @@ pub fn put_texts()
 
 /// Shows that removing a name from a finite map leaves no text at it and keeps the text of each other name.
 pub fn removed_texts()
-    ensures { TakesName }
+    ensures { RemovesName }
 {}
 
 /// Shows that a layer's beginning keeps what is visible, and that the layer has no values yet.

@@ -6,7 +6,7 @@ ghost use Rattle.gk_world.specs.State.{see, state_of, layers};
 ghost use Rattle.gk_world.specs.Refusals as refusals;
 ghost use Rattle.gk_world.specs.Refusals.{append_refusal, remove_refusal, delete_refusal, IsAnswer};
 ghost use Rattle.gk_world.specs.World.{IsHere, changed, refusal};
-ghost use Rattle.gk_world.specs.Sandbox.{PutsFile, AppendsToFile, RemovesFile, PutsEnv, RemovesEnv, SetsValue, DeletesValue, new_sandbox, depth, begun, EndsLayer, EndsByUndos, Becomes, UndosGiveBack, TextsAreShort, LayersGiveBack, ChangesAreOfState};
+ghost use Rattle.gk_world.specs.Sandbox.{PutsFile, AppendsToFile, RemovesFile, PutsEnv, RemovesEnv, SetsValue, DeletesValue, new_sandbox, depth, layer_begun, EndsLayer, EndsByUndos, Becomes, UndosGiveBack, TextsAreShort, LayersGiveBack, ChangesAreOfState};
 
 use crate::cells::LAYERS;
 use crate::journal::Journal;
@@ -44,20 +44,20 @@ pub struct Sandbox {
     world: World,
     journal: Journal<World>,
     // The number of recorded changes when each layer began, the outermost first.
-    marks: [usize; LAYERS],
+    starts: [usize; LAYERS],
     depth: usize,
 }
 
 impl Model for Sandbox {
-    ghost use Rattle.gk_world.specs.Sandbox.{SandboxValue, sandbox_code, value_of, open_marks, IsSound};
+    ghost use Rattle.gk_world.specs.Sandbox.{SandboxValue, sandbox_code, value_of, open_starts, IsSound};
 
     ghost Value = { SandboxValue };
 
     ghost coded = { sandbox_code };
 
-    ghost view = { λ s. value_of s.world s.journal (open_marks s.depth s.marks) };
+    ghost view = { λ s. value_of s.world s.journal (open_starts s.depth s.starts) };
 
-    ghost invariant = { λ s. IsSound s.world s.journal (open_marks s.depth s.marks) };
+    ghost invariant = { λ s. IsSound s.world s.journal (open_starts s.depth s.starts) };
 }
 
 impl Sandbox {
@@ -69,7 +69,7 @@ impl Sandbox {
             alloc,
             world: World::new(alloc),
             journal: Journal::new(alloc),
-            marks: [0; LAYERS],
+            starts: [0; LAYERS],
             depth: 0,
         }
     }
@@ -109,10 +109,10 @@ impl Sandbox {
     /// (behave's documentation: context layers)
     pub fn begin(&mut self) -> Layer
         requires { depth self.old < layers }
-        ensures ok { self.new ≡ begun self.old }
+        ensures ok { self.new ≡ layer_begun self.old }
         ensures number { result ≡ depth self.new }
     {
-        self.marks[self.depth] = self.journal.len();
+        self.starts[self.depth] = self.journal.len();
         self.depth += 1;
         Layer { number: self.depth }
     }
@@ -128,7 +128,7 @@ impl Sandbox {
         let Layer { number } = layer;
         let outer = number - 1;
         self.world.names_differ();
-        self.journal.rewind(&mut self.world, self.marks[outer]);
+        self.journal.rewind(&mut self.world, self.starts[outer]);
         self.depth = outer;
     }
 

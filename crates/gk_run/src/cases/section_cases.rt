@@ -149,8 +149,8 @@ pub fn either(a: bool, b: bool) -> bool
 }
 
 /// Reports whether a status is failed or memory.
-pub fn is_bad(status: Status) -> bool
-    ensures { result ≡ spec.is_bad status }
+pub fn is_failed_or_memory(status: Status) -> bool
+    ensures { result ≡ spec.is_failed_or_memory status }
 {
     matches!(status, Status::Failed | Status::Memory)
 }
@@ -159,7 +159,7 @@ pub fn is_bad(status: Status) -> bool
 pub fn stays_open(stop: bool, status: Status) -> bool
     ensures { result ≡ spec.stays_open_by stop status }
 {
-    !(stop && is_bad(status))
+    !(stop && is_failed_or_memory(status))
 }
 
 /// Runs the cases of the rank in a section. `is_open` says whether the section is open. Returns whether

@@ -26,7 +26,7 @@ loop-feature-init g c =
     record {
       held = subst (λ (left : List ChosenValue). TellingRun tells run first was_open all device c.args.told.now left was_open device c.args.told.now) (sym (ap (map chosen_value) here))
           (telling_first tells (stays run) (RowsSoFar run first was_open) was_open all device c.args.told.now (rows_first run first was_open));
-      same = record { contents = refl; saved = refl; marks = refl; recorded = refl };
+      same = record { contents = refl; saved = refl; starts = refl; recorded = refl };
       kept = refl;
       earlier = λ h. h;
       formed = subst (AllByRecursion IsFormed) (sym here) c.requires.formed;

@@ -4,7 +4,7 @@ use Rattle.gk_world.specs.State.{state_of}
 use Rattle.gk_run.specs.OpenSection.{run_of}
 use Rattle.gk_run.specs.Chosen.{chosen_value}
 use Rattle.gk_run.specs.OpenRun.{AreFeatures, IsFinishTold, SuiteValue, opens_features}
-use Rattle.gk_cli.specs.declared.told_run.Told.{Told}
+use Rattle.gk_cli.specs.declared.told_run.CountingReporter.{CountingReporter}
 use Rattle.gk_cli.specs.Writing.{device_of}
 use Rattle.gk_cli.specs.ToldRun.{TellsFeature, TellsFeatures, AreTold, AreToldUpTo, stays}
 use Rattle.gk_request.proofs.ResultLemmas.{if_ok, if_err}
@@ -25,7 +25,7 @@ returns-in-Ok g c =
     let last = c.finish_watched-around.new.observer in
     let around = c.finish_watched-around.result in
     let so_far = c.new-told.result in
-    let end : Told _ = record { reporter = last; summary = there.told.summary } in
+    let end : CountingReporter _ = record { reporter = last; summary = there.told.summary } in
     let before = device_of g.W.Write.contents c.args.out.now in
     let written = device_of g.W.Write.contents there.out in
     let new = device_of g.W.Write.contents c.close.new.out in

@@ -3,7 +3,6 @@ use Rattle.gk_world.specs.Refusals.{IsFault, put_refusal}
 use Rattle.gk_world.specs.Sandbox.{with_env}
 use Rattle.gk_cli.specs.Arguments.{pair_value}
 use Rattle.gk_program.specs.EnvFault.{IsFaultOfVariable}
-use Rattle.gk_program.specs.Program.{IsRefused}
 use Rattle.gk_program.proofs.ProgramLemmas.{all_taken, all_put, refused_here, taken_more, put_more, refused}
 use Rattle.gk_program.proofs.program.put_variables.Goals as goal
 
@@ -15,7 +14,7 @@ returns-in-Err c =
     refused c.args.mode (map pair_value c.args.variables.now) c.args.sandbox.now c.put_env.new.self (pair_value c.variable-item.result) c.in-Err.fault fault
     (subst (λ r. IsFault r c.in-Err.fault) (ap₂ put_refusal name text) c.in-Err.ensures.answer)
     (subst (λ n. IsFaultOfVariable c.args.mode n c.in-Err.fault fault) name c.fault_of_variable.ensures)
-    (refused_here (IsRefused c.args.mode fault) pair_value c.args.variables.now c.loop-variable.variable-index c.variable-item.result c.loop-variable-test.true c.variable-item.is)
+    (refused_here c.args.mode fault pair_value c.args.variables.now c.loop-variable.variable-index c.variable-item.result c.loop-variable-test.true c.variable-item.is c.loop-variable.invariant.taken)
 
 pub loop-variable-preserved : goal.loop-variable-preserved
 loop-variable-preserved c =

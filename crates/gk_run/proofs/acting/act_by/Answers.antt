@@ -13,7 +13,7 @@ returns-in-Registers-clause-acted c =
     let s = state_of old.now in
     let is = sym (ap (λ (row : ActionRowValue). row.does) c.row.ensures) ∙ c.in-Registers.is in
     subst (λ (d : Does). IsActed (done_of (does_at_site d c.args.action c.args.site (library_value c.args.library.now) (arguments_value c.args.arguments.now) s)) old c.at_cleanup.result old) (sym is)
-    (record { carried_out = c.at_cleanup.ensures.done s; layers = record { layers = refl; marks = refl }; kept = λ m. none_written _ old old refl })
+    (record { carried_out = c.at_cleanup.ensures.done s; layers = record { layers = refl; starts = refl }; kept = λ m. none_written _ old old refl })
 
 pub returns-in-Registers-clause-registered : goal.returns-in-Registers-clause-registered
 returns-in-Registers-clause-registered c =

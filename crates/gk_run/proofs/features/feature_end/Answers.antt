@@ -5,7 +5,7 @@ use Rattle.gk_run.specs.declared.section.Level.TheVariants as levels
 use Rattle.gk_run.specs.Chosen.{head_value, groups_from, members_of_rank}
 use Rattle.gk_run.specs.PrivateContracts.{inside_value, members_in}
 use Rattle.gk_run.specs.Features.{inside_by, Inside, IsToldInPart}
-use Rattle.gk_run.specs.Events.{stand_of, IsRan, Ran, tells}
+use Rattle.gk_run.specs.Events.{section_now, IsRan, Ran, tells}
 use Rattle.gk_run.specs.OpenSection.{IsBegun, section_of, section_state, run_value}
 use Rattle.gk_run.proofs.FeaturesLemmas.{feature_unbegun, unbegun_in_part}
 use Rattle.gk_run.proofs.PartLemmas.{at_err, section_in_part}
@@ -34,8 +34,8 @@ returns-in-Ok-clause-end g c = λ there open_at.
     let groups = groups_from 1 (map head_value c.args.content.rules.list.items) (members_in c.args.content.cases) in
     let around = c.end_around.result in
     let before = opened.before in
-    let begins : IsBegun run levels.Feature tags there first before (stand_of now opened.cleanups) = subst (λ (x : State). IsBegun run levels.Feature tags x first before (stand_of now opened.cleanups)) (open_at c.if-not-is_begun.false) opens.0.begins in
-    let known = c.in-Ok.ensures.inside (section_state run levels.Feature tags there) (λ o. passed_state run levels.Feature tags there first before (stand_of now opened.cleanups) begins (sym c.has_passed.ensures ∙ o)) in
+    let begins : IsBegun run levels.Feature tags there first before (section_now now opened.cleanups) = subst (λ (x : State). IsBegun run levels.Feature tags x first before (section_now now opened.cleanups)) (open_at c.if-not-is_begun.false) opens.0.begins in
+    let known = c.in-Ok.ensures.inside (section_state run levels.Feature tags there) (λ o. passed_state run levels.Feature tags there first before (section_now now opened.cleanups) begins (sym c.has_passed.ensures ∙ o)) in
     let end = c.end_around.ensures.around there first (begun_still run levels.Feature tags there first before opened.cleanups now c.run_inside-2.new.sandbox c.in-Ok.ensures.same.contents begins) in
     let passes = c.has_passed.ensures ∙ ready run levels.Feature tags there around first end.0 before begins.ends end.2 in
     let inside : State → Bool → Ran Inside = λ section is_ready. inside_by run section is_ready known.0 known.1 own groups in
@@ -58,7 +58,7 @@ returns-in-Err-clause-stopped g c = λ there open_at.
     let run = run_value c.args.run.now in
     let tags = texts c.args.tags.now in
     let opened = c.open_section-opened.result in
-    let now = stand_of c.open_section-opened.new.sandbox opened.cleanups in
+    let now = section_now c.open_section-opened.new.sandbox opened.cleanups in
     let opens = c.open_section-opened.ensures in
     let first = opens.0.first in
     let own = members_of_rank 0 (members_in c.args.content.cases) in

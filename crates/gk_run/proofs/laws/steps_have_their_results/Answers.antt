@@ -1,4 +1,4 @@
-use Rattle.gk_run.proofs.JudgedWordsLemmas.{steps_results}
+use Rattle.gk_run.proofs.JudgedPartsLemmas.{steps_results}
 use Rattle.gk_run.proofs.laws.steps_have_their_results.Goals as goal
 
 pub returns : goal.returns

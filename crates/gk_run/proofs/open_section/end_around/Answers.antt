@@ -2,7 +2,7 @@ use Rattle.std.proofs.Common.{◌∙◌, ap, subst, sym}
 use Rattle.gk_gherkin.specs.Feature.{texts}
 use Rattle.gk_run.specs.declared.results.Status.{Status}
 use Rattle.gk_run.specs.Ending.{around_status}
-use Rattle.gk_run.specs.Events.{stand_of}
+use Rattle.gk_run.specs.Events.{section_now}
 use Rattle.gk_run.specs.OpenSection.{run_value, EndsAround}
 use Rattle.gk_run.proofs.SectionLemmas.{section_ends}
 use Rattle.gk_run.proofs.open_section.end_around.Goals as goal
@@ -13,7 +13,7 @@ returns-clause-around g c =
     let tags = texts c.args.section.now.tags.now in
     let level = c.args.section.now.level in
     let before = c.args.opened.before in
-    let now = stand_of c.args.sandbox.now c.args.opened.cleanups in
+    let now = section_now c.args.sandbox.now c.args.opened.cleanups in
     let closed = c.end_section-closed.result in
     let first = c.args.observer.now in
     let last = c.end_section-closed.new.observer in

@@ -4,7 +4,7 @@ use Rattle.gk_gherkin.specs.Hooks.{hooks_value}
 use Rattle.gk_steps.specs.Finding.{library_value}
 use Rattle.gk_world.specs.State.{enter, state_of}
 use Rattle.gk_run.specs.declared.ending.Ending.TheVariants as endings
-use Rattle.gk_run.specs.Events.{Stand, stand_of}
+use Rattle.gk_run.specs.Events.{SectionNow, section_now}
 use Rattle.gk_run.specs.Section.{before_of}
 use Rattle.gk_run.specs.SectionHooks.{before_list, entered}
 use Rattle.gk_run.specs.Walk.{walk}
@@ -22,14 +22,14 @@ returns g c =
     let inside = state_of c.begin-layer.new.self.now in
     let enters : inside ≡ enter outside = ap (λ s. state_of s.now) c.begin-layer.ensures.ok ∙ c.layers_enter.ensures c.args.sandbox.now.now in
     let start : at inside c.new-cleanups.result ≡ entered outside = ap (at inside) c.new-cleanups.ensures ∙ ap (λ s. at s []) enters in
-    let now = stand_of c.walk_before-before.new.sandbox c.walk_before-before.new.cleanups in
-    let walked = subst (λ (x : Stand). Happens hears endings.Passed (walk library (before_of level) x.state list) x now c.walk_before-before.result c.args.observer.now c.walk_before-before.new.observer) start c.walk_before-before.ensures.walked in (
+    let now = section_now c.walk_before-before.new.sandbox c.walk_before-before.new.cleanups in
+    let walked = subst (λ (x : SectionNow). Happens hears endings.Passed (walk library (before_of level) x.state list) x now c.walk_before-before.result c.args.observer.now c.walk_before-before.new.observer) start c.walk_before-before.ensures.walked in (
       record {
         first = walked.told;
-        begins = record { so_far = walked.so_far; ends = walked.ends; stands = walked.stands };
+        begins = record { so_far = walked.so_far; ends = walked.ends; leaves = walked.leaves };
         layer = search rules;
         saved = search rules;
-        marks = search rules;
+        starts = search rules;
       },
       walked.heard,
     )

@@ -5,7 +5,7 @@ use Rattle.gk_run.specs.declared.section.Level.TheVariants as levels
 use Rattle.gk_run.specs.Running.{all_stay_open, cases_of, stays_open}
 use Rattle.gk_run.specs.Chosen.{head_value, Group, members_of_rank}
 use Rattle.gk_run.specs.PrivateContracts.{members_in}
-use Rattle.gk_run.specs.Events.{stand_of, Ran, tells}
+use Rattle.gk_run.specs.Events.{section_now, Ran, tells}
 use Rattle.gk_run.specs.OpenSection.{section_state, run_value}
 use Rattle.gk_run.specs.Results.{CaseRow}
 use Rattle.gk_run.proofs.PartLemmas.{at_err, section_in_part}
@@ -48,7 +48,7 @@ returns-in-Ok-clause-rule g c =
     let ran = c.in-Ok.ensures.cases in
     let around = c.end_around-around.result in
     let before = opened.before in
-    let known = ran.are (section_state run levels.Rule tags outside) (λ o. passed_state run levels.Rule tags outside first before (stand_of now opened.cleanups) begins (sym c.has_passed.ensures ∙ o)) in
+    let known = ran.are (section_state run levels.Rule tags outside) (λ o. passed_state run levels.Rule tags outside first before (section_now now opened.cleanups) begins (sym c.has_passed.ensures ∙ o)) in
     let end = c.end_around-around.ensures.around outside first (begun_still run levels.Rule tags outside first before opened.cleanups now c.run_cases-2.new.sandbox c.in-Ok.ensures.same.contents begins) in
     let passes = c.has_passed.ensures ∙ ready run levels.Rule tags outside around first end.0 before begins.ends end.2 in
     let inside : State → Bool → Ran (List CaseRow) = λ section is_ready. cases_of run section is_ready known.0 members in
@@ -77,7 +77,7 @@ returns-in-Err-clause-stopped g c =
     let head = head_value c.args.head.now in
     let tags = texts c.as_slice.result.now in
     let opened = c.open_section-opened.result in
-    let now = stand_of c.open_section-opened.new.sandbox opened.cleanups in
+    let now = section_now c.open_section-opened.new.sandbox opened.cleanups in
     let opens = c.open_section-opened.ensures in
     let first = opens.0.first in
     let begins = opens.0.begins in

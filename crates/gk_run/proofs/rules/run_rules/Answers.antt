@@ -22,7 +22,7 @@ loop-head-init g c =
     record {
       goes = subst (λ (rs : List RuleResult). GoesRules g.O.Observer.hears g.O.Observer.ends run first c.args.is_open heads old old c.args.is_open rs (map head_value (into_iter_items c.into_iter-head-iterator.result)) begin begin) (sym none)
           (subst (λ (hs : List RuleHead). GoesRules g.O.Observer.hears g.O.Observer.ends run first c.args.is_open heads old old c.args.is_open [] (map head_value hs) begin begin) (sym here) (rules_first g.O.Observer.hears g.O.Observer.ends run first c.args.is_open heads old begin c.requires.falls));
-      same = record { contents = refl; saved = refl; marks = refl; recorded = refl };
+      same = record { contents = refl; saved = refl; starts = refl; recorded = refl };
       room = omega (arith, c.args.rules.room, c.args.rules.results.ok.0, ap length none, ap length here);
       ranks = omega (arith, c.args.rules.room, c.requires.first, ap length here);
       counted = omega (arith, c.args.rules.list.ok.0, ap length here, c.into_iter-head-iterator.ensures.into_iter_gives.1);
@@ -50,7 +50,7 @@ loop-head-preserved g c =
           c.args.observer.now c.loop-head.observer c.run_rule.new.observer c.rule_ended.new.self so_far (ap state_of before.contents) c.next_rank.ensures.rank
           (ap (λ q. members_of q.items taken.selected.items) c.next_rank.ensures.waiting ∙ ap (λ q. members_of now.waiting.items q.items) c.next_rank.ensures.selected)
           c.next_rank.ensures.results ran c.rule_ended.ensures c.both-is_open.ensures c.push_reserved.ensures.items refl;
-      same = record { contents = same.contents ∙ before.contents; saved = same.saved ∙ before.saved; marks = same.marks ∙ before.marks; recorded = same.recorded ∙ before.recorded };
+      same = record { contents = same.contents ∙ before.contents; saved = same.saved ∙ before.saved; starts = same.starts ∙ before.starts; recorded = same.recorded ∙ before.recorded };
       room = omega (arith, counted, c.loop-head.invariant.room, c.push_reserved.ensures.len, c.push_reserved.ensures.capacity);
       ranks = omega (arith, counted, c.loop-head.invariant.ranks, c.next_rank.ensures.rank, ran.left.rank, c.push_reserved.ensures.capacity);
       counted = omega (arith, counted, c.loop-head.invariant.counted, c.in-Some.ensures.steps.1);

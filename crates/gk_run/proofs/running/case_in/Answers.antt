@@ -2,14 +2,14 @@ use Rattle.std.proofs.Common.{List, ℕ, ◌∙◌, ◌≡◌, ap, map, subst, s
 use Rattle.gk_gherkin.specs.Feature.{StepValue, step_value, texts}
 use Rattle.gk_select.specs.Case.{case_value}
 use Rattle.gk_world.specs.State.{state_of}
-use Rattle.gk_run.specs.Events.{stand_of}
+use Rattle.gk_run.specs.Events.{section_now}
 use Rattle.gk_run.specs.declared.ending.Ending.TheVariants as endings
 use Rattle.gk_run.specs.declared.results.Status.{Status}
 use Rattle.gk_run.specs.declared.section.Level.TheVariants as levels
 use Rattle.gk_run.specs.Ending.{around_status, verdict_status, worse}
 use Rattle.gk_run.specs.Results.{CaseRow, step_row}
 use Rattle.gk_run.specs.OpenSection.{run_value}
-use Rattle.gk_run.specs.SectionHooks.{after_lists, begun, entered}
+use Rattle.gk_run.specs.SectionHooks.{after_lists, before_events, entered}
 use Rattle.gk_run.specs.PrivateContracts.{Happens, IsClosing}
 use Rattle.gk_run.specs.Running.{AreEventsTold}
 use Rattle.gk_run.proofs.SectionLemmas.{case_told}
@@ -26,8 +26,8 @@ returns-clause-told g c =
     let b = opened.before in
     let e = c.run_steps-stepped.result.ending in
     let closed = c.end_section-closed.result in
-    let start = stand_of c.open_section-opened.new.sandbox opened.cleanups in
-    let mid = stand_of c.run_steps-stepped.new.sandbox c.run_steps-stepped.new.cleanups in
+    let start = section_now c.open_section-opened.new.sandbox opened.cleanups in
+    let mid = section_now c.run_steps-stepped.new.sandbox c.run_steps-stepped.new.cleanups in
     let rows = map step_row c.run_steps-stepped.result.results.items in
     let first = c.args.observer.now in
     let here = c.open_section-opened.new.observer in
@@ -36,8 +36,8 @@ returns-clause-told g c =
     let tags : texts c.as_slice.result.now ≡ case.own_tags = ap texts c.as_slice.ensures.value in
     let opens = c.open_section-opened.ensures in
     let begins = opens.0.begins in
-    let Begins : List (List ℕ) → Type 0 = λ ts. Happens hears endings.Passed (begun run.library run.hooks levels.Scenario ts section) (entered section) start b first here in
-    let before0 : Begins (texts c.as_slice.result.now) = record { told = opens.0.first; heard = opens.1; so_far = begins.so_far; ends = begins.ends; stands = begins.stands } in
+    let Begins : List (List ℕ) → Type 0 = λ ts. Happens hears endings.Passed (before_events run.library run.hooks levels.Scenario ts section) (entered section) start b first here in
+    let before0 : Begins (texts c.as_slice.result.now) = record { told = opens.0.first; heard = opens.1; so_far = begins.so_far; ends = begins.ends; leaves = begins.leaves } in
     let before : Begins case.own_tags = subst Begins tags before0 in
     let ran = c.run_steps-stepped.ensures.stepped in
     let Ran : List StepValue → Type 0 = λ ss. AllSteps hears run.library b start mid ss e rows here there in

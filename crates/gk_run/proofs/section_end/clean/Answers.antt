@@ -2,7 +2,7 @@ use Rattle.std.proofs.Common.{◌≡◌, ◌∙◌, ◌++◌, ◌∷◌, [], Lis
 use Rattle.std.proofs.lemmas.List.{map_push, reverse-append}
 use Rattle.gk_steps.specs.Finding.{library_value}
 use Rattle.gk_world.specs.State.{state_of}
-use Rattle.gk_run.specs.Events.{stand_of}
+use Rattle.gk_run.specs.Events.{section_now}
 use Rattle.gk_run.specs.declared.ending.Ending.{Ending}
 use Rattle.gk_run.specs.declared.ending.Ending.TheVariants as endings
 use Rattle.gk_run.specs.declared.cleanups.Cleanup.{Cleanup}
@@ -27,7 +27,7 @@ loop-cleanup-init g c =
     let library = library_value c.args.run.now.library.now in
     let level = c.args.level in
     let registered = c.args.cleanups in
-    let start = stand_of c.args.sandbox.now registered in
+    let start = section_now c.args.sandbox.now registered in
     let all = cleaned library level start in
     let first = c.args.observer.now in
     let list = c.cleanups.inside.list.items in
@@ -35,7 +35,7 @@ loop-cleanup-init g c =
     record {
       goes = subst (λ (cs : List CleanupValue). CleansSoFar hears all (clean_each library level (state_of c.args.sandbox.now.now) (reverse cs)) start start endings.Passed c.cleanups.inside.outcomes.items first first) (sym c.cleanups.view_is)
           (subst (λ (os : List Outcome). CleansSoFar hears all all start start endings.Passed os first first) (sym empty) (cleans_first hears all start first));
-      layers = record { layers = refl; marks = refl };
+      layers = record { layers = refl; starts = refl };
       room = omega (arith, c.cleanups.invariant.1, ap length empty);
     }
 
@@ -45,7 +45,7 @@ loop-cleanup-preserved g c =
     let library = library_value c.args.run.now.library.now in
     let level = c.args.level in
     let registered = c.args.cleanups in
-    let start = stand_of c.args.sandbox.now registered in
+    let start = section_now c.args.sandbox.now registered in
     let all = cleaned library level start in
     let s = state_of c.loop-cleanup.sandbox.now in
     let new = state_of c.clean_one-outcome.new.sandbox.now in
@@ -62,7 +62,7 @@ loop-cleanup-preserved g c =
     let ended : c.worse-ending.result ≡ worse e (ending_of (Acted o)) = c.worse-ending.ensures ∙ ap (worse e) c.ending_of.ensures in
     record {
       goes = subst (λ (x : Ending). CleansSoFar hears all (clean_each library level new (reverse left)) start (at new registered) x c.push_reserved.new.self.items first last) (sym ended) gone;
-      layers = record { layers = c.clean_one-outcome.ensures.acted.layers.layers ∙ c.loop-cleanup.invariant.layers.layers; marks = c.clean_one-outcome.ensures.acted.layers.marks ∙ c.loop-cleanup.invariant.layers.marks };
+      layers = record { layers = c.clean_one-outcome.ensures.acted.layers.layers ∙ c.loop-cleanup.invariant.layers.layers; starts = c.clean_one-outcome.ensures.acted.layers.starts ∙ c.loop-cleanup.invariant.layers.starts };
       room = let a = c.push_reserved.ensures.capacity in let o = c.push_reserved.new.self.ok.0 in let p = c.pop.new.self.ok.0 in let q = c.loop-cleanup.list.ok.0 in let r = c.loop-cleanup.outcomes.ok.0 in omega (arith, c.push_reserved.ensures.len, c.in-Some.ensures.len, c.loop-cleanup.invariant.room);
     }
 
@@ -78,7 +78,7 @@ returns-clause-cleaned g c =
     let library = library_value c.args.run.now.library.now in
     let level = c.args.level in
     let registered = c.args.cleanups in
-    let start = stand_of c.args.sandbox.now registered in
+    let start = section_now c.args.sandbox.now registered in
     let s = state_of c.loop-cleanup.sandbox.now in
     let ended = subst (λ (cs : List Cleanup). CleansSoFar hears (cleaned library level start) (clean_each library level s (reverse (map cleanup_value cs))) start (at s registered) c.loop-cleanup.ending c.loop-cleanup.outcomes.items c.args.observer.now c.loop-cleanup.observer) none c.loop-cleanup.invariant.goes in
     record { goes = ended.goes; outcomes = ended.outcomes }

@@ -2,7 +2,7 @@ use Rattle.std.proofs.Common.{◌+◌, ◌≤◌, length, map, reverse, vec_capa
 use Rattle.gk_steps.specs.Finding.{library_value}
 use Rattle.gk_world.specs.State.{state_of}
 use Rattle.gk_world.specs.Sandbox.{KeepsLayers}
-use Rattle.gk_run.specs.Events.{stand_of}
+use Rattle.gk_run.specs.Events.{section_now}
 use Rattle.gk_run.specs.Acting.{cleanup_value}
 use Rattle.gk_run.specs.SectionHooks.{clean_each, cleaned}
 use Rattle.gk_run.proofs.CleanLemmas.{CleansSoFar}
@@ -11,8 +11,8 @@ use Rattle.gk_run.proofs.section_end.clean.Given as goal
 -- the cleanups so far were run, and those that are left are to be
 abbrev pub invariant-loop-cleanup : goal.invariant-loop-cleanup
 invariant-loop-cleanup g l = record {
-  goes : CleansSoFar g.O.Observer.hears (cleaned (library_value l.fn.run.library.now) l.fn.level (stand_of l.fn.sandbox l.fn.cleanups)) (clean_each (library_value l.fn.run.library.now) l.fn.level (state_of l.sandbox.now) (reverse (map cleanup_value l.list.items)))
-      (stand_of l.fn.sandbox l.fn.cleanups) (stand_of l.sandbox l.fn.cleanups) l.ending l.outcomes.items l.fn.observer l.observer;
+  goes : CleansSoFar g.O.Observer.hears (cleaned (library_value l.fn.run.library.now) l.fn.level (section_now l.fn.sandbox l.fn.cleanups)) (clean_each (library_value l.fn.run.library.now) l.fn.level (state_of l.sandbox.now) (reverse (map cleanup_value l.list.items)))
+      (section_now l.fn.sandbox l.fn.cleanups) (section_now l.sandbox l.fn.cleanups) l.ending l.outcomes.items l.fn.observer l.observer;
   layers : KeepsLayers l.fn.sandbox l.sandbox;
   room : length l.outcomes.items + length l.list.items ≤ vec_capacity l.outcomes;
 }

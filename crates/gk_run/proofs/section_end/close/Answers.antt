@@ -3,7 +3,7 @@ use Rattle.gk_gherkin.specs.Feature.{texts}
 use Rattle.gk_gherkin.specs.Hooks.{hooks_value}
 use Rattle.gk_steps.specs.Finding.{library_value}
 use Rattle.gk_run.specs.SectionHooks.{cleaned, after_lists, walk_each}
-use Rattle.gk_run.specs.Events.{ended_in, stand_of}
+use Rattle.gk_run.specs.Events.{ended_in, section_now}
 use Rattle.gk_run.specs.Ending.{worse}
 use Rattle.gk_run.proofs.GoesLemmas.{behind, nothing, under, unrefused, worse_told}
 use Rattle.gk_run.proofs.section_end.close.Goals as goal
@@ -14,7 +14,7 @@ returns-then-is_memory-clause-closed g c =
     let library = library_value c.args.run.now.library.now in
     let level = c.args.section.now.level in
     let lists = after_lists (hooks_value c.args.run.now.hooks.now.file.now) level (texts c.args.section.now.tags.now) in
-    let start = stand_of c.args.sandbox.now c.args.cleanups in
+    let start = section_now c.args.sandbox.now c.args.cleanups in
     let first = c.args.observer.now in
     let refused = sym c.is_memory.ensures ∙ c.if-is_memory.true in
     record {
@@ -35,7 +35,7 @@ returns-then-is_memory-2-clause-closed g c =
     let e = worse before c.walk_after-after.result in
     let goes_on = sym c.is_memory.ensures ∙ c.if-is_memory.false in
     let refused = sym (unrefused before c.walk_after-after.result goes_on) ∙ sym c.is_memory-2.ensures ∙ c.if-is_memory-2.true in
-    let mid = stand_of c.walk_after-after.new.sandbox c.walk_after-after.new.cleanups in
+    let mid = section_now c.walk_after-after.new.sandbox c.walk_after-after.new.cleanups in
     let after = c.walk_after-after.ensures.walked in
     record {
       here = c.walk_after-after.new.observer;
@@ -58,8 +58,8 @@ returns-clause-closed g c =
     let cleaned = c.clean-ending.ensures.cleaned in
     record {
       here = c.walk_after-after.new.observer;
-      mid = stand_of c.walk_after-after.new.sandbox c.walk_after-after.new.cleanups;
-      now = stand_of c.clean-ending.new.sandbox c.walk_after-after.new.cleanups;
+      mid = section_now c.walk_after-after.new.sandbox c.walk_after-after.new.cleanups;
+      now = section_now c.clean-ending.new.sandbox c.walk_after-after.new.cleanups;
       between = worse before between;
       end = worse before (worse between c.clean-ending.result.ending);
       after = behind before goes_on after;

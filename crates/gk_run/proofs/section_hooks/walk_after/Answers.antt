@@ -3,7 +3,7 @@ use Rattle.gk_gherkin.specs.declared.hooks.HookKind.TheVariants as kinds
 use Rattle.gk_gherkin.specs.Feature.{StepValue, step_value, texts}
 use Rattle.gk_gherkin.specs.Hooks.{hooks_value}
 use Rattle.gk_steps.specs.Finding.{library_value}
-use Rattle.gk_run.specs.Events.{stand_of}
+use Rattle.gk_run.specs.Events.{section_now}
 use Rattle.gk_run.specs.declared.ending.Ending.{Ending}
 use Rattle.gk_run.specs.declared.ending.Ending.TheVariants as endings
 use Rattle.gk_run.specs.Section.{after_of}
@@ -21,9 +21,9 @@ loop-tag-init g c =
     let hooks = hooks_value c.args.run.now.hooks.now.file.now in
     let level = c.args.section.now.level in
     let others = tag_lists hooks (texts c.args.section.now.tags.now) in
-    let start = stand_of c.args.sandbox.now c.args.cleanups.now in
+    let start = section_now c.args.sandbox.now c.args.cleanups.now in
     let this = c.walk_hook-ending.result in
-    let now = stand_of c.walk_hook-ending.new.sandbox c.walk_hook-ending.new.cleanups in
+    let now = section_now c.walk_hook-ending.new.sandbox c.walk_hook-ending.new.cleanups in
     let own = hook_steps hooks (after_kind level) None in
     let all = walk_each library level start (own ∷ others) in
     let first = c.args.observer.now in
@@ -41,10 +41,10 @@ loop-tag-preserved g c =
     let i = c.loop-tag.tag-index in
     let tag = c.tag-item.result in
     let left = tag_lists hooks (texts (drop (i + 1) tags)) in
-    let mid = stand_of c.loop-tag.sandbox c.loop-tag.cleanups in
+    let mid = section_now c.loop-tag.sandbox c.loop-tag.cleanups in
     let this = c.walk_hook-this.result in
-    let now = stand_of c.walk_hook-this.new.sandbox c.walk_hook-this.new.cleanups in
-    let start = stand_of c.args.sandbox.now c.args.cleanups.now in
+    let now = section_now c.walk_hook-this.new.sandbox c.walk_hook-this.new.cleanups in
+    let start = section_now c.args.sandbox.now c.args.cleanups.now in
     let all = walk_each library level start (after_lists hooks level (texts tags)) in
     let first = c.args.observer.now in
     let last = c.walk_hook-this.new.observer in
@@ -56,7 +56,7 @@ loop-tag-preserved g c =
     let gone = each_on hears library level of_tag left mid now c.loop-tag.ending this all start first c.loop-tag.observer last (sym c.is_memory.ensures ∙ c.if-is_memory.false) here walked in
     record {
       goes = subst (λ (e : Ending). Goes hears endings.Passed all (walk_each library level now left) start now e first last) (sym c.worse-ending.ensures) gone;
-      layers = record { layers = c.walk_hook-this.ensures.layers.layers ∙ c.loop-tag.invariant.layers.layers; marks = c.walk_hook-this.ensures.layers.marks ∙ c.loop-tag.invariant.layers.marks };
+      layers = record { layers = c.walk_hook-this.ensures.layers.layers ∙ c.loop-tag.invariant.layers.layers; starts = c.walk_hook-this.ensures.layers.starts ∙ c.loop-tag.invariant.layers.starts };
     }
 
 pub returns-then-is_memory-clause-walked : goal.returns-then-is_memory-clause-walked
@@ -68,8 +68,8 @@ returns-clause-walked g c =
     let hooks = hooks_value c.args.run.now.hooks.now.file.now in
     let level = c.args.section.now.level in
     let tags = c.args.section.now.tags.now in
-    let start = stand_of c.args.sandbox.now c.args.cleanups.now in
-    let now = stand_of c.loop-tag.sandbox c.loop-tag.cleanups in
+    let start = section_now c.args.sandbox.now c.args.cleanups.now in
+    let now = section_now c.loop-tag.sandbox c.loop-tag.cleanups in
     let all = walk_each library level start (after_lists hooks level (texts tags)) in
     subst (λ (ts : List (List ℕ)). Goes g.O.Observer.hears endings.Passed all (walk_each library level now (tag_lists hooks ts)) start now c.loop-tag.ending c.args.observer.now c.loop-tag.observer)
     (drop_none string_bytes tags c.loop-tag.tag-index c.loop-tag-test.false) c.loop-tag.invariant.goes

@@ -5,7 +5,7 @@ use Rattle.gk_gherkin.specs.Hooks.{HookValue, hooks_value}
 use Rattle.gk_steps.specs.Finding.{LibraryValue, library_value}
 use Rattle.gk_world.specs.State.{State, state_of}
 use Rattle.gk_run.specs.Acting.{CleanupValue}
-use Rattle.gk_run.specs.Events.{Event, Stand, stand_of}
+use Rattle.gk_run.specs.Events.{Event, SectionNow, section_now}
 use Rattle.gk_run.specs.declared.ending.Ending.{Ending}
 use Rattle.gk_run.specs.declared.ending.Ending.TheVariants as endings
 use Rattle.gk_run.specs.declared.section.Level.{Level}
@@ -19,7 +19,7 @@ use Rattle.gk_run.proofs.WalkLemmas.{at, drop_next, drop_none, list_on}
 use Rattle.gk_run.proofs.section_hooks.walk_before.Goals as goal
 
 -- one tag's list more
-tag_on : {S : Type 0} (hears : S → Event → S → Type 0) (library : LibraryValue) (hooks : List HookValue) (level : Level) (tags : List (String Global)) (i : ℕ) (tag : String Global) (steps : List StepValue) (s : State) (cs : List CleanupValue) (now : Stand) (e : Ending) (all : List Event) (start : Stand) (first here last : S) →
+tag_on : {S : Type 0} (hears : S → Event → S → Type 0) (library : LibraryValue) (hooks : List HookValue) (level : Level) (tags : List (String Global)) (i : ℕ) (tag : String Global) (steps : List StepValue) (s : State) (cs : List CleanupValue) (now : SectionNow) (e : Ending) (all : List Event) (start : SectionNow) (first here last : S) →
     i < length tags → tag ≡ get_or tags i tag → steps ≡ hook_steps hooks kinds.BeforeTag (Some (string_bytes tag)) →
     Goes hears endings.Passed all (walk library (before_of level) s (before_list hooks level (texts (drop i tags)))) start (at s cs) endings.Passed first here → Happens hears endings.Passed (walk library (before_of level) s steps) (at s cs) now e here last →
     Goes hears endings.Passed all (cond (has_passed e) (walk library (before_of level) now.state (before_list hooks level (texts (drop (i + 1) tags)))) []) start now e first last
@@ -30,7 +30,7 @@ tag_on hears library hooks level tags i tag steps s cs now e all start first her
     (subst (λ (xs : List StepValue). Happens hears endings.Passed (walk library (before_of level) s xs) (at s cs) now e here last) are walked)
 
 pub loop-tag-init : goal.loop-tag-init
-loop-tag-init g c = record { goes = begin g.O.Observer.hears endings.Passed _ _ _; layers = record { layers = refl; marks = refl } }
+loop-tag-init g c = record { goes = begin g.O.Observer.hears endings.Passed _ _ _; layers = record { layers = refl; starts = refl } }
 
 pub loop-tag-preserved : goal.loop-tag-preserved
 loop-tag-preserved g c =
@@ -39,13 +39,13 @@ loop-tag-preserved g c =
     let level = c.args.section.now.level in
     let tags = c.args.section.now.tags.now in
     let i = c.loop-tag.tag-index in
-    let now = stand_of c.walk_hook-ending.new.sandbox c.walk_hook-ending.new.cleanups in
+    let now = section_now c.walk_hook-ending.new.sandbox c.walk_hook-ending.new.cleanups in
     let steps = c.hook_steps-steps.ensures ∙ ap (λ (t : List ℕ). hook_steps hooks kinds.BeforeTag (Some t)) c.as_str.ensures.value in
     let gone = tag_on g.O.Observer.hears library hooks level tags i c.tag-item.result _ (state_of c.loop-tag.sandbox.now) c.loop-tag.cleanups now c.walk_hook-ending.result _ _ c.args.observer.now c.loop-tag.observer c.walk_hook-ending.new.observer c.loop-tag-test.true c.tag-item.is steps c.loop-tag.invariant.goes c.walk_hook-ending.ensures.walked in
     let left = walk library (before_of level) now.state (before_list hooks level (texts (drop (i + 1) tags))) in
     record {
       goes = passing left c.walk_hook-ending.result (sym c.has_passed.ensures ∙ c.if-not-has_passed.false) gone;
-      layers = record { layers = c.walk_hook-ending.ensures.layers.layers ∙ c.loop-tag.invariant.layers.layers; marks = c.walk_hook-ending.ensures.layers.marks ∙ c.loop-tag.invariant.layers.marks };
+      layers = record { layers = c.walk_hook-ending.ensures.layers.layers ∙ c.loop-tag.invariant.layers.layers; starts = c.walk_hook-ending.ensures.layers.starts ∙ c.loop-tag.invariant.layers.starts };
     }
 
 pub returns-then-not-has_passed-clause-walked : goal.returns-then-not-has_passed-clause-walked
@@ -55,7 +55,7 @@ returns-then-not-has_passed-clause-walked g c =
     let level = c.args.section.now.level in
     let tags = c.args.section.now.tags.now in
     let i = c.loop-tag.tag-index in
-    let now = stand_of c.walk_hook-ending.new.sandbox c.walk_hook-ending.new.cleanups in
+    let now = section_now c.walk_hook-ending.new.sandbox c.walk_hook-ending.new.cleanups in
     let steps = c.hook_steps-steps.ensures ∙ ap (λ (t : List ℕ). hook_steps hooks kinds.BeforeTag (Some t)) c.as_str.ensures.value in
     let gone = tag_on g.O.Observer.hears library hooks level tags i c.tag-item.result _ (state_of c.loop-tag.sandbox.now) c.loop-tag.cleanups now c.walk_hook-ending.result _ _ c.args.observer.now c.loop-tag.observer c.walk_hook-ending.new.observer c.loop-tag-test.true c.tag-item.is steps c.loop-tag.invariant.goes c.walk_hook-ending.ensures.walked in
     let left = walk library (before_of level) now.state (before_list hooks level (texts (drop (i + 1) tags))) in
@@ -72,9 +72,9 @@ returns-clause-walked g c =
     let s = state_of c.loop-tag.sandbox.now in
     let cs = c.loop-tag.cleanups in
     let e = c.walk_hook.result in
-    let now = stand_of c.walk_hook.new.sandbox c.walk_hook.new.cleanups in
+    let now = section_now c.walk_hook.new.sandbox c.walk_hook.new.cleanups in
     let all = walk library place (state_of c.args.sandbox.now.now) (before_list hooks level (texts tags)) in
-    let start = stand_of c.args.sandbox.now c.args.cleanups.now in
+    let start = section_now c.args.sandbox.now c.args.cleanups.now in
     let steps : map step_value c.hook_steps-steps-2.result.now ≡ hook_steps hooks (before_kind level) None = c.hook_steps-steps-2.ensures ∙ rw c.before_kind.ensures refl in
     let walked = subst (λ (xs : List StepValue). Happens hears endings.Passed (walk library place s xs) (at s cs) now e c.loop-tag.observer c.walk_hook.new.observer) steps c.walk_hook.ensures.walked in
     let here = subst (λ (ts : List (List ℕ)). Goes hears endings.Passed all (walk library place s (before_list hooks level ts)) start (at s cs) endings.Passed c.args.observer.now c.loop-tag.observer)

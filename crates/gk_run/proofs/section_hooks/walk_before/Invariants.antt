@@ -4,7 +4,7 @@ use Rattle.gk_gherkin.specs.Hooks.{hooks_value}
 use Rattle.gk_steps.specs.Finding.{library_value}
 use Rattle.gk_world.specs.State.{state_of}
 use Rattle.gk_world.specs.Sandbox.{KeepsLayers}
-use Rattle.gk_run.specs.Events.{stand_of}
+use Rattle.gk_run.specs.Events.{section_now}
 use Rattle.gk_run.specs.declared.ending.Ending.TheVariants as endings
 use Rattle.gk_run.specs.Section.{before_of}
 use Rattle.gk_run.specs.SectionHooks.{before_list}
@@ -16,6 +16,6 @@ use Rattle.gk_run.proofs.section_hooks.walk_before.Given as goal
 abbrev pub invariant-loop-tag : goal.invariant-loop-tag
 invariant-loop-tag g l = record {
   goes : Goes g.O.Observer.hears endings.Passed (walk (library_value l.fn.run.library.now) (before_of l.fn.section.level) (state_of l.fn.sandbox.now) (before_list (hooks_value l.fn.run.hooks.now.file.now) l.fn.section.level (texts l.fn.section.tags.now)))
-      (walk (library_value l.fn.run.library.now) (before_of l.fn.section.level) (state_of l.sandbox.now) (before_list (hooks_value l.fn.run.hooks.now.file.now) l.fn.section.level (texts (drop l.tag-index l.fn.section.tags.now)))) (stand_of l.fn.sandbox l.fn.cleanups) (stand_of l.sandbox l.cleanups) endings.Passed l.fn.observer l.observer;
+      (walk (library_value l.fn.run.library.now) (before_of l.fn.section.level) (state_of l.sandbox.now) (before_list (hooks_value l.fn.run.hooks.now.file.now) l.fn.section.level (texts (drop l.tag-index l.fn.section.tags.now)))) (section_now l.fn.sandbox l.fn.cleanups) (section_now l.sandbox l.cleanups) endings.Passed l.fn.observer l.observer;
   layers : KeepsLayers l.fn.sandbox l.sandbox;
 }

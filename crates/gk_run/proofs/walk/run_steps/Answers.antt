@@ -4,7 +4,7 @@ use Rattle.std.proofs.lemmas.List.{map_push}
 use Rattle.gk_gherkin.specs.Feature.{StepValue, step_value}
 use Rattle.gk_steps.specs.Finding.{library_value}
 use Rattle.gk_world.specs.State.{state_of}
-use Rattle.gk_run.specs.Events.{stand_of}
+use Rattle.gk_run.specs.Events.{section_now}
 use Rattle.gk_run.specs.Ending.{worse}
 use Rattle.gk_run.specs.Results.{StepRow, step_row}
 use Rattle.gk_run.specs.Walk.{row_of_step}
@@ -18,13 +18,13 @@ loop-step-init g c =
     let hears = g.O.Observer.hears in
     let library = library_value c.args.run.now.library.now in
     let before = c.args.before in
-    let start = stand_of c.args.sandbox.now c.args.cleanups.now in
+    let start = section_now c.args.sandbox.now c.args.cleanups.now in
     let first = c.args.observer.now in
     let steps = map step_value c.args.steps.list.items in
     record {
       goes = subst (λ (rows : List StepRow). StepsSoFar hears library before start steps before start (map step_value (into_iter_items c.into_iter-step-iterator.result)) rows first first) (sym (ap (map step_row) c.args.steps.empty))
           (subst (λ (left : List StepValue). StepsSoFar hears library before start steps before start left [] first first) (sym (ap (map step_value) here)) (steps_first hears library before start steps first));
-      layers = record { layers = refl; marks = refl };
+      layers = record { layers = refl; starts = refl };
       room = let e : length c.args.steps.results.items ≡ 0 = ap length c.args.steps.empty in let f = ap length here in let v = c.args.steps.results.ok.0 in omega arith;
       counted = let l = c.into_iter-step-iterator.ensures.into_iter_gives.1 in let v = c.args.steps.list.ok.0 in let f = ap length here in omega arith;
     }
@@ -37,7 +37,7 @@ loop-step-preserved g c =
     let hears = g.O.Observer.hears in
     let library = library_value c.args.run.now.library.now in
     let before = c.args.before in
-    let start = stand_of c.args.sandbox.now c.args.cleanups.now in
+    let start = section_now c.args.sandbox.now c.args.cleanups.now in
     let all = map step_value c.args.steps.list.items in
     let s = c.in-Some.ensures.steps in
     let f = ap length s.0 in
@@ -56,7 +56,7 @@ loop-step-preserved g c =
     let whole = subst (λ (xs : List StepValue). StepsSoFar hears library before start all c.loop-step.ending (at now cs) xs rows first c.loop-step.observer) (ap (map step_value) s.0) c.loop-step.invariant.goes in
     record {
       goes = steps_on hears library before start all c.loop-step.ending c.worse-ending.result now new cs ls step left mark rows (map step_row c.push_reserved.new.self.items) first c.loop-step.observer c.tell.new.observer c.next_step-mark.ensures.next c.tell.ensures ends more whole;
-      layers = record { layers = c.next_step-mark.ensures.layers.layers ∙ c.loop-step.invariant.layers.layers; marks = c.next_step-mark.ensures.layers.marks ∙ c.loop-step.invariant.layers.marks };
+      layers = record { layers = c.next_step-mark.ensures.layers.layers ∙ c.loop-step.invariant.layers.layers; starts = c.next_step-mark.ensures.layers.starts ∙ c.loop-step.invariant.layers.starts };
       room = omega arith;
       counted = omega arith;
     }
@@ -64,6 +64,6 @@ loop-step-preserved g c =
 pub returns-clause-stepped : goal.returns-clause-stepped
 returns-clause-stepped g c =
     let none : into_iter_items c.loop-step.step-iterator ≡ [] = nothing_in (into_iter_items c.loop-step.step-iterator) (c.loop-step.invariant.counted ∙ c.in-None.ensures.steps.0) in
-    let all = steps_last g.O.Observer.hears (library_value c.args.run.now.library.now) c.args.before (stand_of c.args.sandbox.now c.args.cleanups.now) (stand_of c.loop-step.sandbox c.loop-step.cleanups) (map step_value c.args.steps.list.items) c.loop-step.ending
+    let all = steps_last g.O.Observer.hears (library_value c.args.run.now.library.now) c.args.before (section_now c.args.sandbox.now c.args.cleanups.now) (section_now c.loop-step.sandbox c.loop-step.cleanups) (map step_value c.args.steps.list.items) c.loop-step.ending
     (map step_value (into_iter_items c.loop-step.step-iterator)) (map step_row c.loop-step.results.items) c.args.observer.now c.loop-step.observer (ap (map step_value) none) c.loop-step.invariant.goes in
     record { goes = all.goes; rows = all.rows_are }

@@ -2,7 +2,7 @@ use Rattle.std.proofs.Common.{Bool, ◌+◌, ◌∙◌, List, [], ap, cond, drop
 use Rattle.gk_gherkin.specs.Feature.{StepValue, step_value}
 use Rattle.gk_steps.specs.Finding.{library_value}
 use Rattle.gk_world.specs.State.{state_of}
-use Rattle.gk_run.specs.Events.{stand_of}
+use Rattle.gk_run.specs.Events.{section_now}
 use Rattle.gk_run.specs.declared.acting.Site.{Site}
 use Rattle.gk_run.specs.declared.ending.Ending.{Ending}
 use Rattle.gk_run.specs.declared.ending.Ending.TheVariants as endings
@@ -14,7 +14,7 @@ use Rattle.gk_run.proofs.WalkLemmas.{at, drop_next, drop_none, walk_on}
 use Rattle.gk_run.proofs.walk.walk_hook.Goals as goal
 
 pub loop-step-init : goal.loop-step-init
-loop-step-init g c = record { goes = begin g.O.Observer.hears endings.Passed _ _ _; layers = record { layers = refl; marks = refl } }
+loop-step-init g c = record { goes = begin g.O.Observer.hears endings.Passed _ _ _; layers = record { layers = refl; starts = refl } }
 
 pub loop-step-preserved : goal.loop-step-preserved
 loop-step-preserved g c =
@@ -31,7 +31,7 @@ loop-step-preserved g c =
     let new = state_of c.run_step-mark.new.sandbox.now in
     let new_cleanups = c.run_step-mark.new.cleanups in
     let all = walk library place (state_of c.args.sandbox.now.now) (map step_value steps) in
-    let start = stand_of c.args.sandbox.now c.args.cleanups.now in
+    let start = section_now c.args.sandbox.now c.args.cleanups.now in
     let first = c.args.observer.now in
     let last = c.step.new.self in
     let ran = subst (λ (x : Site). IsStepRun (one_step library x s (step_value step)) cs m new new_cleanups) c.site_of-site.ensures c.run_step-mark.ensures.ran in
@@ -41,7 +41,7 @@ loop-step-preserved g c =
     let gone = walk_on hears library place (step_value step) left s new cs new_cleanups m all start first c.loop-step.observer last here ran (λ registered. (last, c.step.ensures registered, refl)) in
     record {
       goes = subst (λ (e : Ending). Goes hears endings.Passed all (cond (has_passed e) (walk library place new left) []) start (at new new_cleanups) e first last) (sym c.ending_of-ending.ensures) gone;
-      layers = record { layers = c.run_step-mark.ensures.layers.layers ∙ c.loop-step.invariant.layers.layers; marks = c.run_step-mark.ensures.layers.marks ∙ c.loop-step.invariant.layers.marks };
+      layers = record { layers = c.run_step-mark.ensures.layers.layers ∙ c.loop-step.invariant.layers.layers; starts = c.run_step-mark.ensures.layers.starts ∙ c.loop-step.invariant.layers.starts };
     }
 
 pub returns-then-not-has_passed-clause-walked : goal.returns-then-not-has_passed-clause-walked

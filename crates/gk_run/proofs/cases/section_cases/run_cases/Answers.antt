@@ -8,7 +8,7 @@ use Rattle.gk_run.proofs.cases.section_cases.run_cases.Goals as goal
 pub loop-member-init : goal.loop-member-init
 loop-member-init g c = record {
   goes = goes_first g.O.Observer.hears g.O.Observer.ends (run_of c.args.run.now.library.now c.args.run.now.hooks.now.file.now c.args.run.now.stop) (state_of c.args.sandbox.now.now) c.args.is_open c.args.cases.now c.args.observer.now;
-  same = record { contents = refl; saved = refl; marks = refl; recorded = refl };
+  same = record { contents = refl; saved = refl; starts = refl; recorded = refl };
 }
 
 pub loop-member-preserved : goal.loop-member-preserved
@@ -21,7 +21,7 @@ loop-member-preserved g c =
           c.args.observer.now c.loop-member.observer c.run_member.new.observer c.case_ended.new.self
           c.loop-member.invariant.goes c.in-Some.ensures.taken c.both.ensures (ap state_of before.contents) c.in_ok-row.ensures.ran c.case_ended.ensures
           (c.both-all_stay.ensures ∙ ap (λ (b : Bool). c.loop-member.all_stay && b) c.stays_open.ensures) refl refl c.push_reserved.ensures.items;
-      same = record { contents = same.contents ∙ before.contents; saved = same.saved ∙ before.saved; marks = same.marks ∙ before.marks; recorded = same.recorded ∙ before.recorded };
+      same = record { contents = same.contents ∙ before.contents; saved = same.saved ∙ before.saved; starts = same.starts ∙ before.starts; recorded = same.recorded ∙ before.recorded };
     }
 
 pub returns-clause-cases : goal.returns-clause-cases

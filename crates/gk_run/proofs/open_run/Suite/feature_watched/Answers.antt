@@ -1,6 +1,6 @@
 use Rattle.std.proofs.Common.{Bool, ap, not, refl, ◌&&◌, ◌||◌, ◌∙◌}
 use Rattle.gk_world.specs.State.{state_of}
-use Rattle.gk_run.specs.Running.{is_bad, stays_open_by}
+use Rattle.gk_run.specs.Running.{is_failed_or_memory, stays_open_by}
 use Rattle.gk_run.specs.Chosen.{chosen_value}
 use Rattle.gk_run.specs.Ending.{has_passed}
 use Rattle.gk_run.specs.OpenRun.{SuiteValue, opens_features}
@@ -16,12 +16,12 @@ returns-clause-ran g c =
     let before = c.self.inside in
     let told = run_so (λ run b. RunsFeature g.O.Observer.hears g.O.Observer.ends run (state_of c.args.sandbox.now.now) b (chosen_value c.args.chosen) c.args.observer.now c.feature_in.new.observer (feature_row c.in_ok-result.result)) c.args.library.now _ c.args.hooks.now before.stop c.args.self.now.stop c.opens_features-is_open.result (opens_features c.args.self.now)
     c.new-hooks.ensures (ap (λ (s : SuiteValue). s.stop) c.self.view_is) c.opens_features-is_open.ensures c.in_ok-result.ensures.ran in
-    let failed = c.either-self-inside.ensures ∙ ap (λ (b : Bool). before.has_failed || b) c.is_bad.ensures in
+    let failed = c.either-self-inside.ensures ∙ ap (λ (b : Bool). before.has_failed || b) c.is_failed_or_memory.ensures in
     record {
       result = λ outside opens. let here = told outside opens in (here.0, here.1.is);
-      failed = failed ∙ ap (λ (s : SuiteValue). s.has_failed || is_bad status) c.self.view_is;
+      failed = failed ∙ ap (λ (s : SuiteValue). s.has_failed || is_failed_or_memory status) c.self.view_is;
       opens = ap (λ (b : Bool). has_passed before.section.before && not (before.stop && b)) failed
-          ∙ next_opens (has_passed before.section.before) before.stop before.has_failed (is_bad status)
+          ∙ next_opens (has_passed before.section.before) before.stop before.has_failed (is_failed_or_memory status)
           ∙ ap (λ (s : SuiteValue). opens_features s && stays_open_by s.stop status) c.self.view_is;
     }
 

@@ -1,39 +1,39 @@
 use Rattle.std.proofs.Common.{arith, sym, subst}
 use Rattle.gk_world.specs.World.{IsHere}
-use Rattle.gk_world.specs.Sandbox.{open_marks}
-use Rattle.gk_world.proofs.SandboxLemmas.{length-open_marks, depth_is, unrecorded_sound, applies, recorded_value, recorded_sound, recorded_answer, recorded_same}
+use Rattle.gk_world.specs.Sandbox.{open_starts}
+use Rattle.gk_world.proofs.SandboxLemmas.{length-open_starts, depth_is, unrecorded_sound, applies, recorded_value, recorded_sound, recorded_answer, recorded_same}
 use Rattle.gk_world.proofs.sandbox.Sandbox.change.Goals as goal
 
 pub change-answer-requires : goal.change-answer-requires
 change-answer-requires c =
     let i = c.self.inside in
-    applies c.args.change i.world i.journal (open_marks i.depth i.marks) c.args.self.now c.self.view_is c.requires.here c.self.invariant
+    applies c.args.change i.world i.journal (open_starts i.depth i.starts) c.args.self.now c.self.view_is c.requires.here c.self.invariant
 
 pub returns-clause-answer : goal.returns-clause-answer
 returns-clause-answer c =
     let i = c.self.inside in
-    recorded_answer c.args.change i.world i.journal (open_marks i.depth i.marks) c.args.self.now c.self.view_is c.requires.here c.self.invariant (omega (arith, length-open_marks i.depth i.marks)) c.change-answer.new.on c.change-answer.new.self c.change-answer.result c.requires.allowed c.change-answer.ensures.refused
+    recorded_answer c.args.change i.world i.journal (open_starts i.depth i.starts) c.args.self.now c.self.view_is c.requires.here c.self.invariant (omega (arith, length-open_starts i.depth i.starts)) c.change-answer.new.on c.change-answer.new.self c.change-answer.result c.requires.allowed c.change-answer.ensures.refused
 
 pub returns-clause-ok : goal.returns-clause-ok
 returns-clause-ok c =
     let i = c.self.inside in
     let r = c.change-answer.ensures in
-    recorded_value c.args.change i.world i.journal (open_marks i.depth i.marks) c.args.self.now c.self.view_is c.requires.here c.self.invariant (omega (arith, length-open_marks i.depth i.marks)) c.change-answer.new.on c.change-answer.new.self c.change-answer.result c.names_differ.ensures r.done r.same r.recorded
+    recorded_value c.args.change i.world i.journal (open_starts i.depth i.starts) c.args.self.now c.self.view_is c.requires.here c.self.invariant (omega (arith, length-open_starts i.depth i.starts)) c.change-answer.new.on c.change-answer.new.self c.change-answer.result c.names_differ.ensures r.done r.same r.recorded
 
 pub returns-clause-err : goal.returns-clause-err
 returns-clause-err c =
     let i = c.self.inside in
-    recorded_same c.args.change i.world i.journal (open_marks i.depth i.marks) c.args.self.now c.self.view_is c.requires.here c.self.invariant (omega (arith, length-open_marks i.depth i.marks)) c.change-answer.new.on c.change-answer.new.self c.change-answer.result c.change-answer.ensures.err
+    recorded_same c.args.change i.world i.journal (open_starts i.depth i.starts) c.args.self.now c.self.view_is c.requires.here c.self.invariant (omega (arith, length-open_starts i.depth i.starts)) c.change-answer.new.on c.change-answer.new.self c.change-answer.result c.change-answer.ensures.err
 
 pub invariant_of-self : goal.invariant_of-self
 invariant_of-self c =
     let i = c.self.inside in
-    unrecorded_sound c.args.change i.world c.apply.new.self i.journal i.depth i.marks c.if-self-eq0.true c.apply.result
-    (subst (IsHere c.args.change) (sym (depth_is i.world i.journal i.depth i.marks c.args.self.now c.self.view_is)) c.requires.here)
+    unrecorded_sound c.args.change i.world c.apply.new.self i.journal i.depth i.starts c.if-self-eq0.true c.apply.result
+    (subst (IsHere c.args.change) (sym (depth_is i.world i.journal i.depth i.starts c.args.self.now c.self.view_is)) c.requires.here)
     c.self.invariant c.apply.ensures.done c.apply.ensures.err
 
 pub invariant_of-self-2 : goal.invariant_of-self-2
 invariant_of-self-2 c =
     let i = c.self.inside in
     let r = c.change-answer.ensures in
-    recorded_sound c.args.change i.world i.journal (open_marks i.depth i.marks) c.args.self.now c.self.view_is c.requires.here c.self.invariant (omega (arith, length-open_marks i.depth i.marks)) c.change-answer.new.on c.change-answer.new.self c.change-answer.result r.done r.same r.recorded r.fit r.err
+    recorded_sound c.args.change i.world i.journal (open_starts i.depth i.starts) c.args.self.now c.self.view_is c.requires.here c.self.invariant (omega (arith, length-open_starts i.depth i.starts)) c.change-answer.new.on c.change-answer.new.self c.change-answer.result r.done r.same r.recorded r.fit r.err

@@ -10,11 +10,11 @@ use Rattle.gk_run.specs.declared.results.Status.{Status}
 use Rattle.gk_run.specs.declared.results.Status.TheVariants as statuses
 use Rattle.gk_run.specs.declared.section.Level.{Level}
 use Rattle.gk_run.specs.declared.section.Level.TheVariants as levels
-use Rattle.gk_run.specs.Running.{all_stay_open, case_of, cases_of, first_or, is_bad, without_first, stays_open, reached_row, unreached_row, unselected_row}
+use Rattle.gk_run.specs.Running.{all_stay_open, case_of, cases_of, first_or, is_failed_or_memory, without_first, stays_open, reached_row, unreached_row, unselected_row}
 use Rattle.gk_run.specs.Chosen.{ChosenValue, MemberValue, has_selected, Group, own_members, rule_groups}
 use Rattle.gk_run.specs.DryRun.{dry_case_of, dry_cases_of, dry_feature_of, dry_features_of, dry_row, dry_rules_of}
 use Rattle.gk_run.specs.Features.{FeatureCuts, feature_of, feature_row_of, features_of, inside_by, uncut_feature, Inside, RuleCuts, rule_of, rule_stays_open, rules_of, uncut_rule}
-use Rattle.gk_run.specs.Judged.{Cuts, Judged, dry_results, results_from, CaseInWords, CasesInWords, DryCaseInWords, DryFeatureInWords, DryRunInWords, Each, FeatureInWords, FeaturesInWords, InsideInWords, IsGoodCase, IsGoodFeature, IsGoodRule, IsHeaded, JudgedAreInWords, JudgedInWords, RuleInWords, SectionInWords, StepsHaveTheirResults, rule_rows}
+use Rattle.gk_run.specs.Judged.{Cuts, Judged, dry_results, results_from, JudgedCase, JudgedCases, JudgedDryCase, JudgedDryFeature, JudgedDryRun, Each, JudgedFeature, JudgedFeatures, JudgedInside, IsGoodCase, IsGoodFeature, IsGoodRule, IsHeaded, JudgedHoldPartByPart, JudgedPartByPart, JudgedRule, JudgedSection, StepsHaveTheirResults, rule_rows}
 use Rattle.gk_run.specs.Events.{Ran, result_of}
 use Rattle.gk_run.specs.OpenSection.{SectionRow, happened_in, no_events, section_events, section_of, section_state, Run}
 use Rattle.gk_run.specs.Results.{CaseRow, FeatureRow, Results, RuleRow}
@@ -118,7 +118,7 @@ its_cut run level tags outside false P events d begun unbegun = (nowhere, unbegu
 -- what is inside of it depends on its state, on whether it is ready, and on cuts
 module _ {A X : Type 0} (run : Run) (level : Level) (tags : List (List ℕ)) (outside : State) (inside : X → State → Bool → Ran A) (Holds : State → Type 0 → A → Type 0)
     (each : (section : State) (c : Bool) (Q : Type 0) (a : A) → Decides c Q → Holds section Q a ↔ ((x : X) × (a ≡ result_of (inside x section c)))) where
-  section_words : (b : Bool) (P : Type 0) (end : SectionRow A) → Decides b P → SectionInWords run level tags outside P Holds end ↔ ((cut : Cut) × (x : X) × (end ≡ result_of (section_of run level tags outside b cut (inside x))))
+  section_words : (b : Bool) (P : Type 0) (end : SectionRow A) → Decides b P → JudgedSection run level tags outside P Holds end ↔ ((cut : Cut) × (x : X) × (end ≡ result_of (section_of run level tags outside b cut (inside x))))
   section_words b P end d =
       let section = section_state run level tags outside in
       let ready = λ (es : Events). Decides-and b (before_passed es) d (itself (before_passed es)) in (
@@ -151,12 +151,12 @@ module _ {A X : Type 0} (run : Run) (level : Level) (tags : List (List ℕ)) (ou
 abbrev case_by : Run → State → Cut → MemberValue → Bool → Bool → CaseRow
 case_by run section cut m selected is_open = cond selected (cond is_open (reached_row run section cut m.scenario) (unreached_row m.scenario)) (unselected_row m.scenario)
 
-case_chosen : (run : Run) (section : State) (P : Type 0) (m : MemberValue) (row : CaseRow) → CaseInWords run section P m row → (selected : Bool) → m.selected ≡ selected → (b : Bool) → Decides b P → (cut : Cut) × (row ≡ case_by run section cut m selected b)
+case_chosen : (run : Run) (section : State) (P : Type 0) (m : MemberValue) (row : CaseRow) → JudgedCase run section P m row → (selected : Bool) → m.selected ≡ selected → (b : Bool) → Decides b P → (cut : Cut) × (row ≡ case_by run section cut m selected b)
 case_chosen run section P m row w false s b d = (nowhere, w.unselected s)
 case_chosen run section P m row w true s true d = w.reached s (d.0 refl)
 case_chosen run section P m row w true s false d = (nowhere, w.unreached s (never false d refl))
 
-case_words : (run : Run) (section : State) (b : Bool) (P : Type 0) (m : MemberValue) (row : CaseRow) → Decides b P → CaseInWords run section P m row ↔ ((cut : Cut) × (row ≡ case_of run section b cut m))
+case_words : (run : Run) (section : State) (b : Bool) (P : Type 0) (m : MemberValue) (row : CaseRow) → Decides b P → JudgedCase run section P m row ↔ ((cut : Cut) × (row ≡ case_of run section b cut m))
 case_words run section b P m row d = (
   λ w. case_chosen run section P m row w m.selected refl b d,
   λ c. (
@@ -173,11 +173,11 @@ abbrev stays_case : Run → CaseRow → Bool
 stays_case run row = stays_open run row.status
 
 stays_case_is : (run : Run) (row : CaseRow) → Decides (stays_case run row) (run.stop ≡ true → IsGoodCase row)
-stays_case_is run row = stays run.stop (is_bad row.status)
+stays_case_is run row = stays run.stop (is_failed_or_memory row.status)
 
-cases_words : (run : Run) (section : State) (b : Bool) (P : Type 0) (ms : List MemberValue) (rows : List CaseRow) → Decides b P → CasesInWords run section P ms rows ↔ ((cuts : List Cut) × (rows ≡ result_of (cases_of run section b cuts ms)))
+cases_words : (run : Run) (section : State) (b : Bool) (P : Type 0) (ms : List MemberValue) (rows : List CaseRow) → Decides b P → JudgedCases run section P ms rows ↔ ((cuts : List Cut) × (rows ≡ result_of (cases_of run section b cuts ms)))
 cases_words run section b P ms rows d =
-    walked (case_of run section) (stays_case run) nowhere (λ b cuts ms. result_of (cases_of run section b cuts ms)) (CaseInWords run section) (λ b cuts. refl) (λ b cuts m ms. refl) (case_words run section) b ms rows
+    walked (case_of run section) (stays_case run) nowhere (λ b cuts ms. result_of (cases_of run section b cuts ms)) (JudgedCase run section) (λ b cuts. refl) (λ b cuts m ms. refl) (case_words run section) b ms rows
     (λ k. P × (run.stop ≡ true → All IsGoodCase (take k rows))) (flag_stops run.stop (stays_case run) IsGoodCase (stays_case_is run) P b d rows)
 
 cases_stay : (run : Run) (rows : List CaseRow) → Decides (all_stay_open run rows) (run.stop ≡ true → All IsGoodCase rows)
@@ -208,13 +208,13 @@ rules_told run outside b cuts (g ∷ gs) =
 stays_rule_is : (run : Run) (end : SectionRow (List CaseRow)) → Decides (rule_stays_open run end) (run.stop ≡ true → IsGoodRule end)
 stays_rule_is run end =
     Decides-like (rule_stays_open run end) (λ q s. (q.0 s, q.1 s)) (λ q. (λ s. (q s).0, λ s. (q s).1))
-    (Decides-and (stays_open run end.around) (all_stay_open run end.inside) (stays run.stop (is_bad end.around)) (cases_stay run end.inside))
+    (Decides-and (stays_open run end.around) (all_stay_open run end.inside) (stays run.stop (is_failed_or_memory end.around)) (cases_stay run end.inside))
 
-rule_words : (run : Run) (outside : State) (b : Bool) (P : Type 0) (g : Group) (end : SectionRow (List CaseRow)) → Decides b P → RuleInWords run outside P g end ↔ ((cuts : RuleCuts) × (end ≡ result_of (rule_of run outside b cuts g)))
+rule_words : (run : Run) (outside : State) (b : Bool) (P : Type 0) (g : Group) (end : SectionRow (List CaseRow)) → Decides b P → JudgedRule run outside P g end ↔ ((cuts : RuleCuts) × (end ≡ result_of (rule_of run outside b cuts g)))
 rule_words run outside b P g end d =
     let chosen = has_selected g.members in
     let inside : List Cut → State → Bool → Ran (List CaseRow) = λ cuts section c. cases_of run section c cuts g.members in
-    let both = section_words run levels.Rule g.head.tags outside inside (λ section Q rows. CasesInWords run section Q g.members rows) (λ section c Q rows e. cases_words run section c Q g.members rows e)
+    let both = section_words run levels.Rule g.head.tags outside inside (λ section Q rows. JudgedCases run section Q g.members rows) (λ section c Q rows e. cases_words run section c Q g.members rows e)
     (b && chosen) (P × (chosen ≡ true)) end (Decides-and b chosen d (itself chosen)) in
     (λ w. (let c = both.0 w in (record { own = c.0; cases = c.1 }, c.2)), λ c. (let cuts = c.0 in both.1 (cuts.own, cuts.cases, c.1)))
 
@@ -230,9 +230,9 @@ open_for run b P own ends k d =
     (flag_stops run.stop (rule_stays_open run) IsGoodRule (stays_rule_is run) (P × (run.stop ≡ true → All IsGoodCase own)) opens (Decides-and b (all_stay_open run own) d (cases_stay run own)) ends k)
 
 rules_words : (run : Run) (section : State) (b : Bool) (P : Type 0) (own : List CaseRow) (groups : List Group) (ends : RuleEnds) → Decides b P →
-    Each (λ k g end. RuleInWords run section (P × (run.stop ≡ true → All IsGoodCase own × All IsGoodRule (take k ends))) g end) groups ends ↔ ((cuts : List RuleCuts) × (ends ≡ ends_of run section (b && all_stay_open run own) cuts groups))
+    Each (λ k g end. JudgedRule run section (P × (run.stop ≡ true → All IsGoodCase own × All IsGoodRule (take k ends))) g end) groups ends ↔ ((cuts : List RuleCuts) × (ends ≡ ends_of run section (b && all_stay_open run own) cuts groups))
 rules_words run section b P own groups ends d =
-    walked (λ b cuts g. result_of (rule_of run section b cuts g)) (rule_stays_open run) uncut_rule (ends_of run section) (RuleInWords run section) (λ b cuts. refl) (λ b cuts g gs. refl) (rule_words run section) (b && all_stay_open run own) groups ends
+    walked (λ b cuts g. result_of (rule_of run section b cuts g)) (rule_stays_open run) uncut_rule (ends_of run section) (JudgedRule run section) (λ b cuts. refl) (λ b cuts g gs. refl) (rule_words run section) (b && all_stay_open run own) groups ends
     (λ k. P × (run.stop ≡ true → All IsGoodCase own × All IsGoodRule (take k ends))) (λ k. open_for run b P own ends k d)
 
 abbrev inside_with : List CaseRow → Inside → Inside
@@ -241,7 +241,7 @@ inside_with own next = record { rules = next.rules; cases = own ++ next.cases }
 abbrev inside_for : Run → ChosenValue → List Cut × List RuleCuts → State → Bool → Ran Inside
 inside_for run f cuts section is_open = inside_by run section is_open cuts.0 cuts.1 (own_members f) (rule_groups f)
 
-inside_words : (run : Run) (section : State) (b : Bool) (P : Type 0) (f : ChosenValue) (inside : Inside) → Decides b P → InsideInWords run section P f inside ↔ ((cuts : List Cut × List RuleCuts) × (inside ≡ result_of (inside_for run f cuts section b)))
+inside_words : (run : Run) (section : State) (b : Bool) (P : Type 0) (f : ChosenValue) (inside : Inside) → Decides b P → JudgedInside run section P f inside ↔ ((cuts : List Cut × List RuleCuts) × (inside ≡ result_of (inside_for run f cuts section b)))
 inside_words run section b P f inside d =
     let groups = rule_groups f in
     let cases = λ (own : List CaseRow). cases_words run section b P (own_members f) own d in
@@ -284,10 +284,10 @@ headed f row h =
 heading_of : (f : ChosenValue) (row : FeatureRow) (around : Status) (inside : Inside) → row ≡ feature_row_of f around inside → IsHeaded f row
 heading_of f row around inside e = subst (IsHeaded f) (sym e) (record { source = refl; name = refl; line = refl; verdict = refl })
 
-feature_words : (run : Run) (outside : State) (b : Bool) (P : Type 0) (f : ChosenValue) (row : FeatureRow) → Decides b P → FeatureInWords run outside P f row ↔ ((cuts : FeatureCuts) × (row ≡ result_of (feature_of run outside b cuts f)))
+feature_words : (run : Run) (outside : State) (b : Bool) (P : Type 0) (f : ChosenValue) (row : FeatureRow) → Decides b P → JudgedFeature run outside P f row ↔ ((cuts : FeatureCuts) × (row ≡ result_of (feature_of run outside b cuts f)))
 feature_words run outside b P f row d =
     let chosen = has_selected f.members in
-    let both = section_words run levels.Feature f.tags outside (inside_for run f) (λ section Q i. InsideInWords run section Q f i) (λ section c Q i e. inside_words run section c Q f i e) (b && chosen) (P × (chosen ≡ true)) (end_in row) (Decides-and b chosen d (itself chosen)) in (
+    let both = section_words run levels.Feature f.tags outside (inside_for run f) (λ section Q i. JudgedInside run section Q f i) (λ section c Q i e. inside_words run section c Q f i e) (b && chosen) (P × (chosen ≡ true)) (end_in row) (Decides-and b chosen d (itself chosen)) in (
       λ w. (
           let c = both.0 w.goes in
           (record { own = c.0; cases = c.1.0; rules = c.1.1 }, headed f row w.heading ∙ ap (λ (end : SectionRow Inside). feature_row_of f end.around end.inside) c.2)
@@ -302,10 +302,10 @@ feature_words run outside b P f row d =
 abbrev stays_feature : Run → FeatureRow → Bool
 stays_feature run row = stays_open run row.status
 
-features_words : (run : Run) (section : State) (b : Bool) (P : Type 0) (fs : List ChosenValue) (rows : List FeatureRow) → Decides b P → FeaturesInWords run section P fs rows ↔ ((cuts : List FeatureCuts) × (rows ≡ result_of (features_of run section b cuts fs)))
+features_words : (run : Run) (section : State) (b : Bool) (P : Type 0) (fs : List ChosenValue) (rows : List FeatureRow) → Decides b P → JudgedFeatures run section P fs rows ↔ ((cuts : List FeatureCuts) × (rows ≡ result_of (features_of run section b cuts fs)))
 features_words run section b P fs rows d =
-    walked (λ b cuts f. result_of (feature_of run section b cuts f)) (stays_feature run) uncut_feature (λ b cuts fs. result_of (features_of run section b cuts fs)) (FeatureInWords run section) (λ b cuts. refl) (λ b cuts f fs. refl) (feature_words run section) b fs rows
-    (λ k. P × (run.stop ≡ true → All IsGoodFeature (take k rows))) (flag_stops run.stop (stays_feature run) IsGoodFeature (λ row. stays run.stop (is_bad row.status)) P b d rows)
+    walked (λ b cuts f. result_of (feature_of run section b cuts f)) (stays_feature run) uncut_feature (λ b cuts fs. result_of (features_of run section b cuts fs)) (JudgedFeature run section) (λ b cuts. refl) (λ b cuts f fs. refl) (feature_words run section) b fs rows
+    (λ k. P × (run.stop ≡ true → All IsGoodFeature (take k rows))) (flag_stops run.stop (stays_feature run) IsGoodFeature (λ row. stays run.stop (is_failed_or_memory row.status)) P b d rows)
 
 -- ---- dry runs
 
@@ -313,11 +313,11 @@ features_words run section b P fs rows d =
 abbrev always : {R : Type 0} → R → Bool
 always row = true
 
-dry_case_chosen : (library : LibraryValue) (m : MemberValue) (row : CaseRow) → DryCaseInWords library m row → (selected : Bool) → m.selected ≡ selected → (cut : Cut) × (row ≡ cond selected (dry_row library cut m.scenario) (unselected_row m.scenario))
+dry_case_chosen : (library : LibraryValue) (m : MemberValue) (row : CaseRow) → JudgedDryCase library m row → (selected : Bool) → m.selected ≡ selected → (cut : Cut) × (row ≡ cond selected (dry_row library cut m.scenario) (unselected_row m.scenario))
 dry_case_chosen library m row w false s = (nowhere, w.unselected s)
 dry_case_chosen library m row w true s = w.selected s
 
-dry_case_words : (library : LibraryValue) (m : MemberValue) (row : CaseRow) → DryCaseInWords library m row ↔ ((cut : Cut) × (row ≡ dry_case_of library cut m))
+dry_case_words : (library : LibraryValue) (m : MemberValue) (row : CaseRow) → JudgedDryCase library m row ↔ ((cut : Cut) × (row ≡ dry_case_of library cut m))
 dry_case_words library m row = (
   λ w. dry_case_chosen library m row w m.selected refl,
   λ c. (
@@ -326,12 +326,12 @@ dry_case_words library m row = (
       ),
 )
 
-dry_cases_words : (library : LibraryValue) (ms : List MemberValue) (rows : List CaseRow) → Each (λ k m row. DryCaseInWords library m row) ms rows ↔ ((cuts : List Cut) × (rows ≡ dry_cases_of library cuts ms))
+dry_cases_words : (library : LibraryValue) (ms : List MemberValue) (rows : List CaseRow) → Each (λ k m row. JudgedDryCase library m row) ms rows ↔ ((cuts : List Cut) × (rows ≡ dry_cases_of library cuts ms))
 dry_cases_words library ms rows =
-    walked (λ b cut m. dry_case_of library cut m) always nowhere (λ b cuts ms. dry_cases_of library cuts ms) (λ P m row. DryCaseInWords library m row) (λ b cuts. refl) (λ b cuts m ms. refl) (λ b P m row d. dry_case_words library m row) true ms rows
+    walked (λ b cut m. dry_case_of library cut m) always nowhere (λ b cuts ms. dry_cases_of library cuts ms) (λ P m row. JudgedDryCase library m row) (λ b cuts. refl) (λ b cuts m ms. refl) (λ b P m row d. dry_case_words library m row) true ms rows
     (λ k. flag_at always true k rows ≡ true) (λ k. itself (flag_at always true k rows))
 
-dry_feature_words : (library : LibraryValue) (f : ChosenValue) (row : FeatureRow) → DryFeatureInWords library f row ↔ ((cuts : FeatureCuts) × (row ≡ dry_feature_of library cuts f))
+dry_feature_words : (library : LibraryValue) (f : ChosenValue) (row : FeatureRow) → JudgedDryFeature library f row ↔ ((cuts : FeatureCuts) × (row ≡ dry_feature_of library cuts f))
 dry_feature_words library f row =
     let both = dry_cases_words library f.members row.cases in
     let of : Status → List RuleRow → List CaseRow → FeatureRow = λ around rules cases. feature_row_of f around (record { rules = rules; cases = cases }) in (
@@ -350,11 +350,11 @@ dry_feature_words library f row =
           ),
     )
 
-dry_words : (run : Run) (fs : List ChosenValue) (results : Results) → DryRunInWords run fs results ↔ ((cuts : Cuts) × (results ≡ dry_results run cuts fs))
+dry_words : (run : Run) (fs : List ChosenValue) (results : Results) → JudgedDryRun run fs results ↔ ((cuts : Cuts) × (results ≡ dry_results run cuts fs))
 dry_words run fs results =
     let library = run.library in
     let rows = results.features in
-    let both = walked (λ b cuts f. dry_feature_of library cuts f) always uncut_feature (λ b cuts fs. dry_features_of library cuts fs) (λ P f row. DryFeatureInWords library f row) (λ b cuts. refl) (λ b cuts f fs. refl) (λ b P f row d. dry_feature_words library f row) true fs rows
+    let both = walked (λ b cuts f. dry_feature_of library cuts f) always uncut_feature (λ b cuts fs. dry_features_of library cuts fs) (λ P f row. JudgedDryFeature library f row) (λ b cuts. refl) (λ b cuts f fs. refl) (λ b P f row d. dry_feature_words library f row) true fs rows
     (λ k. flag_at always true k rows ≡ true) (λ k. itself (flag_at always true k rows)) in
     let of : Status → List FeatureRow → Results = λ around features. record { features = features; around = around } in (
       λ w. (let c = both.0 w.inside in (record { own = nowhere; features = c.0 }, ap (λ (s : Status). of s rows) w.around ∙ ap (of statuses.Passed) c.1)),
@@ -368,23 +368,23 @@ Ready run = run.dry_run ≡ false
 
 abbrev RealInWords : Run → State → List ChosenValue → Results → Type 0
 RealInWords run start fs results =
-    SectionInWords run levels.Run [] start (Ready run) (λ section Q rows. FeaturesInWords run section Q fs rows) (record { around = results.around; inside = results.features })
+    JudgedSection run levels.Run [] start (Ready run) (λ section Q rows. JudgedFeatures run section Q fs rows) (record { around = results.around; inside = results.features })
 
 real_words : (run : Run) (start : State) (fs : List ChosenValue) (results : Results) → Ready run → RealInWords run start fs results ↔ ((cuts : Cuts) × (results ≡ results_from run start cuts fs))
 real_words run start fs results ready =
     let features : List FeatureCuts → State → Bool → Ran (List FeatureRow) = λ cuts section c. features_of run section c cuts fs in
     let end : SectionRow (List FeatureRow) = record { around = results.around; inside = results.features } in
-    let both = section_words run levels.Run [] start features (λ section Q rows. FeaturesInWords run section Q fs rows) (λ section c Q rows e. features_words run section c Q fs rows e) true (Ready run) end (λ t. ready, λ t. refl) in (
+    let both = section_words run levels.Run [] start features (λ section Q rows. JudgedFeatures run section Q fs rows) (λ section c Q rows e. features_words run section c Q fs rows e) true (Ready run) end (λ t. ready, λ t. refl) in (
       λ w. (let c = both.0 w in (record { own = c.0; features = c.1 }, ap (λ (e : SectionRow (List FeatureRow)). record { features = e.inside; around = e.around }) c.2)),
       λ c. (let cuts = c.0 in both.1 (cuts.own, cuts.features, ap (λ (r : Results). record { around = r.around; inside = r.features }) c.1)),
     )
 
 -- the results by whether the run is dry
-judged_by : (run : Run) (contents : Contents) (fs : List ChosenValue) (results : Results) → JudgedInWords run contents fs results → (is_dry : Bool) → run.dry_run ≡ is_dry → Judged run contents fs results
+judged_by : (run : Run) (contents : Contents) (fs : List ChosenValue) (results : Results) → JudgedPartByPart run contents fs results → (is_dry : Bool) → run.dry_run ≡ is_dry → Judged run contents fs results
 judged_by run contents fs results w true h = let c = (dry_words run fs results).0 (w.dry h) in (c.0, c.1 ∙ sym (ap (results_by run contents c.0 fs) h))
 judged_by run contents fs results w false h = let c = (real_words run (state_of contents) fs results h).0 (w.real h) in (c.0, c.1 ∙ sym (ap (results_by run contents c.0 fs) h))
 
-pub judged_in_words : JudgedAreInWords
+pub judged_in_words : JudgedHoldPartByPart
 judged_in_words run contents fs results = (
   λ judged. (
       let by = results_by run contents judged.0 fs in

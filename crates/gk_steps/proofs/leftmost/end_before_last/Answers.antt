@@ -1,9 +1,9 @@
 use Rattle.std.proofs.Common.{◌≡◌, ◌∷◌, [], ◌-◌, length, ap, subst, arith, length-append}
 use Rattle.gk_steps.specs.declared.pattern.FieldKind.TheVariants.{Plain}
 use Rattle.gk_steps.specs.Pattern.{Literal, FieldPiece}
-use Rattle.gk_steps.specs.Leftmost.{IsCut}
-use Rattle.gk_steps.proofs.LeftmostLemmas.{last_cut}
-use Rattle.gk_steps.proofs.leftmost.cut_before_last.Goals as goal
+use Rattle.gk_steps.specs.Leftmost.{TakesUpTo}
+use Rattle.gk_steps.proofs.LeftmostLemmas.{last_end}
+use Rattle.gk_steps.proofs.leftmost.end_before_last.Goals as goal
 
 pub returns-then-ends_with : goal.returns-then-ends_with
 returns-then-ends_with c = λ name.
@@ -11,4 +11,4 @@ returns-then-ends_with c = λ name.
     let literal = c.args.literal.now in
     let found = c.if-ends_with.ensures in
     let size : length found.0 ≡ length text - length literal = omega (arith, ap length found.1, length-append found.0 literal) in
-    subst (IsCut (FieldPiece name Plain) (Literal literal ∷ []) text) size (last_cut name literal text found.0 c.utf8.text c.utf8.literal c.if-literal-text.true found.1)
+    subst (TakesUpTo (FieldPiece name Plain) (Literal literal ∷ []) text) size (last_end name literal text found.0 c.utf8.text c.utf8.literal c.if-literal-text.true found.1)

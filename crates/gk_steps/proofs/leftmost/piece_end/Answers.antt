@@ -1,0 +1,11 @@
+use Rattle.std.proofs.Common.{map, subst, sym}
+use Rattle.std.specs.Prelude.{string_bytes}
+use Rattle.gk_steps.specs.declared.pattern.FieldKind.TheVariants.{Plain}
+use Rattle.gk_steps.specs.Pattern.{piece_value}
+use Rattle.gk_steps.specs.Leftmost.{IsPieceEnd}
+use Rattle.gk_steps.proofs.AdvanceLemmas.{field_piece}
+use Rattle.gk_steps.proofs.leftmost.piece_end.Goals as goal
+
+pub returns-in-Plain : goal.returns-in-Plain
+returns-in-Plain c =
+    subst (λ p. IsPieceEnd p (map piece_value c.args.after.now) c.args.text.now c.plain_end.result) (sym (field_piece c.args.piece.now c.in-Field.name c.in-Field.kind Plain c.in-Field.is c.in-Plain.is)) (c.plain_end.ensures (string_bytes c.in-Field.name))
