@@ -1,4 +1,4 @@
-# Every step of the built-in library. It runs with default.steps, which is that library as a file.
+# Steps of the built-in library. It runs with default.steps, which is that library as a file.
 Feature: The built-in library
 
   Scenario: Files

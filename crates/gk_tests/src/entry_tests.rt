@@ -27,7 +27,9 @@ fn lines_are_divided(rt: HostRuntime) -> Result<(), LibraryFault> {
 
 #[test]
 fn actions_have_rows(rt: HostRuntime) {
-    assert_eq!(rt; action_rows().len(), 24);
+    for row in action_rows() {
+        assert!(rt; row_named(row.name).is_some());
+    }
     assert!(rt; row_named("Pass").is_none());
     let mut found = false;
     if let Some(row) = row_named("set_number") {

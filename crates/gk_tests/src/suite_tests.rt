@@ -115,8 +115,8 @@ impl Observer for Teller {
         let value = sandbox.value("n");
         let _ = write!(
             self.told,
-            "{level:?} cleanup {} {outcome:?} {value:?}\n",
-            found.entry
+            "{level:?} cleanup {:?} {outcome:?} {value:?}\n",
+            found.fields
         );
     }
 
@@ -139,10 +139,10 @@ const HOOKS: &str =
 
 // What is told of its first scenario, and of the whole run.
 const CASE_TOLD: &str =
-    "Scenario Steps 3 Acted(Passed) Some(\"1\")\nScenario Steps 4 Acted(Passed) Some(\"1\")\nScenario cleanup 19 Passed Some(\"1\")\nscenario 2 Passed\n";
+    "Scenario Steps 3 Acted(Passed) Some(\"1\")\nScenario Steps 4 Acted(Passed) Some(\"1\")\nScenario cleanup [Text(\"n\"), Text(\"1\")] Passed Some(\"1\")\nscenario 2 Passed\n";
 
 const RUN_TOLD: &str =
-    "Run Before 2 Acted(Passed) None\nScenario Steps 3 Acted(Passed) Some(\"1\")\nScenario Steps 4 Acted(Passed) Some(\"1\")\nScenario cleanup 19 Passed Some(\"1\")\nscenario 2 Passed\nScenario Steps 7 Acted(Failed(Absent)) None\nscenario 6 Failed\nRule After 4 Acted(Failed(Asked)) None\nrule 5 Failed\nRun After 6 Acted(Passed) None\n";
+    "Run Before 2 Acted(Passed) None\nScenario Steps 3 Acted(Passed) Some(\"1\")\nScenario Steps 4 Acted(Passed) Some(\"1\")\nScenario cleanup [Text(\"n\"), Text(\"1\")] Passed Some(\"1\")\nscenario 2 Passed\nScenario Steps 7 Acted(Failed(Absent)) None\nscenario 6 Failed\nRule After 4 Acted(Failed(Asked)) None\nrule 5 Failed\nRun After 6 Acted(Passed) None\n";
 
 // Runs the first scenario of a feature alone. Returns its status, and what was told.
 fn first_told(alloc: Global, library: &Library, text: &str) -> Result<(Status, String), Fail> {
