@@ -124,9 +124,10 @@ fn offers_all_that_is_left(rt: HostRuntime) -> Result<(), Fail> {
     Ok(())
 }
 
-// Writes a text of three pieces, and formats whether all of it was written and what the writer shows.
+// Writes a byte, then a text of three pieces. Formats whether all of the text was written and what the writer shows.
 fn displayed(alloc: Global, most: usize, fails_at: usize) -> Result<String, AllocError> {
     let mut out = counted(alloc, most, fails_at);
+    let _ = write_whole(&mut out, b"x");
     let whole = write_displayed(&mut out, format_args!("{}-{}", "ab", "cd")).is_ok();
     let shown = shown(alloc, &out)?;
     format!(in alloc; "{whole}: {shown}")
@@ -134,10 +135,10 @@ fn displayed(alloc: Global, most: usize, fails_at: usize) -> Result<String, Allo
 
 // How many bytes the writer takes in a call, the call that fails, and the outcome.
 const DISPLAYED: [(usize, usize, &str); 4] = [
-    (100, 0, "true: 3 of 2, counted 0 0 0, Ok(\"ab-cd\")"),
-    (1, 0, "true: 5 of 2, counted 0 0 0, Ok(\"ab-cd\")"),
-    (100, 1, "false: 1 of 2, counted 0 1 0, Ok(\"\")"),
-    (100, 3, "false: 3 of 2, counted 0 1 0, Ok(\"ab-\")"),
+    (100, 0, "true: 4 of 2, counted 1 0 0, Ok(\"xab-cd\")"),
+    (1, 0, "true: 6 of 2, counted 1 0 0, Ok(\"xab-cd\")"),
+    (100, 2, "false: 2 of 2, counted 1 1 0, Ok(\"x\")"),
+    (100, 4, "false: 4 of 2, counted 1 1 0, Ok(\"xab-\")"),
 ];
 
 #[test]

@@ -162,6 +162,13 @@ fn findings_are_listed(rt: HostRuntime) -> Result<(), Fail> {
     let options = tagged(rt.alloc())?;
     let text = findings_text(rt.alloc(), &options, true, &files)?;
     assert_eq!(rt; text.as_str(), FOUND);
+    let none: SuiteFiles<Source> = SuiteFiles {
+        library: None,
+        hooks: None,
+        sources: Vec::new(rt.alloc()),
+    };
+    let text = findings_text(rt.alloc(), &plain(rt.alloc()), true, &none)?;
+    assert_eq!(rt; text.as_str(), "");
     let oil = oil(rt.alloc())?;
     let text = format!(in rt.alloc(); "{:?}", findings_text(rt.alloc(), &options, true, &oil))?;
     assert_eq!(rt; text.as_str(), "Err(Library(UnknownAction { line: 2 }))");

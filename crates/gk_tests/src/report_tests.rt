@@ -205,11 +205,16 @@ fn wanted_with(alloc: Global, name: &str) -> Result<String, AllocError> {
     )
 }
 
+// The letters of the name before its last one, with which the lines before the second scenario have 16,384 bytes, or more.
+const LETTERS: [usize; 2] = [16_337, 16_384];
+
 #[test]
 fn large_parts_come_in_pieces(rt: HostRuntime) -> Result<(), Fail> {
-    let name = repeated(rt.alloc(), 'a', 16_384, 'a')?;
-    let shown = pieces_with(rt.alloc(), name.as_str())?;
-    let wanted = wanted_with(rt.alloc(), name.as_str())?;
-    assert!(rt; shown == wanted);
+    for letters in LETTERS {
+        let name = repeated(rt.alloc(), 'a', letters, 'a')?;
+        let shown = pieces_with(rt.alloc(), name.as_str())?;
+        let wanted = wanted_with(rt.alloc(), name.as_str())?;
+        assert!(rt; shown == wanted);
+    }
     Ok(())
 }
