@@ -1,9 +1,8 @@
 """How the pages for users read: what test_documents.py finds of README.md, docs/guide/, docs/FAULTS.md and the READMEs of folders.
 
 Such a page has lines of at most 100 columns outside of tables and fenced blocks, sentences of at most 30 words, cells of
-at most 25, at most one mark for 1,000 words, a page of docs/guide/ at most 200 lines, and README.md 120. A mark is a word
-or a phrase that sounds translated. Together these pages have at most 15,400 words, without the READMEs of folders 13,400.
-The tables that tools/tables.py writes don't count: they grow with the program.
+at most 25, at most one mark (a word or phrase that sounds translated) for 1,000 words, a page of docs/guide/ at most 200
+lines, README.md 120. Besides tables of tools/tables.py, all have at most 15,400 words, without READMEs of folders 13,400.
 """
 
 import re
@@ -11,7 +10,6 @@ import re
 COLUMNS, SENTENCE, CELL, MARKS, GUIDE_LINES, README_LINES = 100, 30, 25, 1, 200, 120
 # The words of README.md, docs/guide/ and docs/FAULTS.md together, and those with the READMEs of folders.
 MAIN_WORDS, ALL_WORDS = 13400, 15400
-WRITTEN = re.compile("<!-- tools/tables.py: .*?<!-- tools/tables.py: end -->", re.DOTALL)
 FOREIGN = re.compile("|".join([
     r"\b[Ww]here (?:it|there|they|one|none|no|nothing|an?|the|that|this|each|all|what|memory|something|you|its|their)\b",
     r"\b(?:stands?|stood|standing|mend(?:s|ed)?|answer(?:s|ed)?|blanks?|besides|mostly|likewise|whereof)\b",
@@ -57,7 +55,7 @@ def words(text):
 
 def too_many_words(main, folders):
     """Whether the main pages, and these and the READMEs of folders, have too many words."""
-    count = sum(words(WRITTEN.sub("", it)) for it in main)
+    count = sum(words(re.sub("(?s)<!-- tools/tables.py: .*?<!-- tools/tables.py: end -->", "", it)) for it in main)
     if count > MAIN_WORDS:
         yield f"README.md, docs/guide/ and docs/FAULTS.md have {count} words"
     count += sum(words(it) for it in folders)
