@@ -3,6 +3,7 @@ pub mod LineCuts
 pub mod ClassWords
 pub mod TextEnds
 pub mod StandsIn
+pub mod KeywordWords
 pub mod RowParts
 pub mod TagWords
 pub mod FirstTags

@@ -9,12 +9,8 @@ use Rattle.gk_gherkin.specs.declared.class.Fence.{Fence}
 use Rattle.gk_gherkin.specs.declared.class.Fence.TheVariants.{Quotes, Backticks}
 use Rattle.gk_gherkin.specs.Class.{class, fence_text}
 use Rattle.gk_gherkin.specs.Grammar.{IsReadable}
-use Rattle.gk_gherkin.specs.ReadFault.{SomeLikeIt, NoneLikeIt, IsBadRow, IsOtherWidth, IsBadTag, StopsAt, EndsInDocString, EndsInTags, IsBadHook}
-use Rattle.gk_gherkin.specs.declared.class.Class.TheVariants.{RowLine, FenceLine}
-use Rattle.gk_gherkin.specs.declared.hook_headings.HooksClass.TheVariants.{HookLine, Plain}
-use Rattle.gk_gherkin.specs.HookHeadings.{hooks_class}
-use Rattle.gk_gherkin.specs.HooksGrammar.{AreHooksReadable}
-use Rattle.gk_gherkin.proofs.HookClasses.{class_plain}
+use Rattle.gk_gherkin.specs.ReadFault.{SomeLikeIt, NoneLikeIt, IsBadRow, IsOtherWidth, IsBadTag, StopsAt, EndsInDocString, EndsInTags}
+use Rattle.gk_gherkin.specs.declared.class.Class.TheVariants.{FenceLine}
 
 -- Where a list is cut at two lines: these are the same, or one lies after the other.
 pub data Cuts (a b more others : Lines) (x y : LineValue) : Type 0 where
@@ -114,16 +110,3 @@ unexpected_before_bad_tag before line none bad = some_or_none IsReadable class b
 -- lines that end after tags have no faulty line
 pub no_fault_before_end : (ls : Lines) (n m : ℕ) (F : Lines → LineValue → Type 0) → StopsAt IsReadable class ls n F → EndsInTags ls m → ⊥
 no_fault_before_end ls n m F f ends = no_fault IsReadable class ls n F ends.fits.0 f ends.fits.2
-
--- in a hooks file, a hook line that can't stand there is no bad hook, and a bad hook is no row
-pub unexpected_before_bad_hook : (before : Lines) (line : LineValue) → NoneLikeIt AreHooksReadable hooks_class before line → IsBadHook before line → ⊥
-unexpected_before_bad_hook before line none bad = some_or_none AreHooksReadable hooks_class before line none bad.fits
-
-no_row : (line : LineValue) → hooks_class line ≡ HookLine → class line ≡ RowLine → ⊥
-no_row line is row = let plain : hooks_class line ≡ Plain RowLine = class_plain line RowLine row (λ e. cc) in let no : ⊥ = cc in no
-
-pub bad_hook_before_bad_row : (before : Lines) (line : LineValue) → IsBadHook before line → IsBadRow AreHooksReadable hooks_class before line → ⊥
-bad_hook_before_bad_row before line bad row = no_row line bad.is row.is
-
-pub bad_hook_before_width : (before : Lines) (line : LineValue) → IsBadHook before line → IsOtherWidth AreHooksReadable hooks_class before line → ⊥
-bad_hook_before_width before line bad row = no_row line bad.is row.is

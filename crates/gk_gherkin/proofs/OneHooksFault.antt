@@ -1,15 +1,32 @@
 -- No lines have two faults of a hooks file.
 use Rattle.std.proofs.Common.{◌≡◌, ◌≢◌, ℕ, refl, ap, sym, ◌∙◌}
+use Rattle.gk_gherkin.specs.declared.class.Class.TheVariants.{RowLine}
+use Rattle.gk_gherkin.specs.declared.hook_headings.HooksClass.TheVariants.{HookLine, Plain}
+use Rattle.gk_gherkin.specs.Class.{class}
 use Rattle.gk_gherkin.specs.declared.read_fault.ReadFault.TheVariants as faults
 use Rattle.gk_gherkin.specs.declared.read_fault.ReadFault.{ReadFault}
 use Rattle.gk_gherkin.specs.HooksReader.{hooks_readers}
 use Rattle.gk_gherkin.specs.HookHeadings.{hooks_class}
 use Rattle.gk_gherkin.specs.HooksGrammar.{AreHooksReadable}
-use Rattle.gk_gherkin.specs.Lines.{Lines}
+use Rattle.gk_gherkin.specs.Lines.{LineValue, Lines}
 use Rattle.gk_gherkin.specs.ReadFault.{EndsInDocString, HooksFault, IsBadHook, IsBadRow, IsOtherWidth, NoneLikeIt}
+use Rattle.gk_gherkin.proofs.HookClasses.{class_plain}
 use Rattle.gk_gherkin.proofs.ReadingStops.{open_until}
 use Rattle.gk_gherkin.proofs.HooksReaderStops.{hook_runs, hooks_readable_at}
-use Rattle.gk_gherkin.proofs.OneFault.{bad_hook_before_bad_row, bad_hook_before_width, bad_row_before_width, cuts, no_fault_in_doc_string, not_both, one_line, one_opening, unexpected_before_bad_hook, unexpected_before_bad_row, unexpected_before_width}
+use Rattle.gk_gherkin.proofs.OneFault.{bad_row_before_width, cuts, no_fault_in_doc_string, not_both, one_line, one_opening, some_or_none, unexpected_before_bad_row, unexpected_before_width}
+
+-- in a hooks file, a hook line that can't stand there is no bad hook, and a bad hook is no row
+unexpected_before_bad_hook : (before : Lines) (line : LineValue) → NoneLikeIt AreHooksReadable hooks_class before line → IsBadHook before line → ⊥
+unexpected_before_bad_hook before line none bad = some_or_none AreHooksReadable hooks_class before line none bad.fits
+
+no_row : (line : LineValue) → hooks_class line ≡ HookLine → class line ≡ RowLine → ⊥
+no_row line is row = let plain : hooks_class line ≡ Plain RowLine = class_plain line RowLine row (λ e. cc) in let no : ⊥ = cc in no
+
+bad_hook_before_bad_row : (before : Lines) (line : LineValue) → IsBadHook before line → IsBadRow AreHooksReadable hooks_class before line → ⊥
+bad_hook_before_bad_row before line bad row = no_row line bad.is row.is
+
+bad_hook_before_width : (before : Lines) (line : LineValue) → IsBadHook before line → IsOtherWidth AreHooksReadable hooks_class before line → ⊥
+bad_hook_before_width before line bad row = no_row line bad.is row.is
 
 -- a fence that opens a doc string is at no readable end until it is closed
 one_text : (ls : Lines) (n m : ℕ) → EndsInDocString AreHooksReadable hooks_class ls n → EndsInDocString AreHooksReadable hooks_class ls m → n ≡ m

@@ -12,15 +12,15 @@ use Rattle.gk_gherkin.specs.Text.{begins, stands_in}
 begins_so : (bs text rest : List ℕ) → bs ≡ text ++ rest → begins bs text ≡ true
 begins_so bs text rest e = (bytes_eq-Decides text (take (length text) bs)).1 (sym (ap (λ xs. take (length text) xs) e ∙ take-append_seam text rest))
 
-begun : (bs text : List ℕ) → begins bs text ≡ true → bs ≡ text ++ drop (length text) bs
+pub begun : (bs text : List ℕ) → begins bs text ≡ true → bs ≡ text ++ drop (length text) bs
 begun bs text h = let e = (bytes_eq-Decides text (take (length text) bs)).0 h in
     sym (take-append-drop (length text) bs) ∙ ap (λ xs. xs ++ drop (length text) bs) (sym e)
 
-either_first : (a b : Bool) → a ≡ true → (a || b) ≡ true
+pub either_first : (a b : Bool) → a ≡ true → (a || b) ≡ true
 either_first true b h = refl
 either_first false b h = cc
 
-either_second : (a b : Bool) → b ≡ true → (a || b) ≡ true
+pub either_second : (a b : Bool) → b ≡ true → (a || b) ≡ true
 either_second true b h = refl
 either_second false b h = h
 
@@ -45,7 +45,7 @@ stands_after (b ∷ bs) text (x ∷ before) rest e = either_second (begins (b �
 pub stands_from : (whole text : List ℕ) → HasSubslice whole text → stands_in text whole ≡ true
 stands_from whole text (before, rest, e) = stands_after whole text before rest e
 
-one_of : (a b : Bool) → (a || b) ≡ true → (a ≡ true) ⊎ (b ≡ true)
+pub one_of : (a b : Bool) → (a || b) ≡ true → (a ≡ true) ⊎ (b ≡ true)
 one_of true b h = inl refl
 one_of false b h = inr h
 

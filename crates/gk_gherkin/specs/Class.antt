@@ -33,6 +33,10 @@ background_keywords = codes "Background:" ∷ []
 abbrev pub scenario_keywords : List (List ℕ)
 scenario_keywords = codes "Scenario:" ∷ codes "Example:" ∷ codes "Scenario Outline:" ∷ codes "Scenario Template:" ∷ []
 
+-- The same without their colons.
+abbrev pub scenario_words : List (List ℕ)
+scenario_words = codes "Scenario" ∷ codes "Example" ∷ codes "Scenario Outline" ∷ codes "Scenario Template" ∷ []
+
 -- The keywords of examples. (Cucumber's Gherkin reference: keywords)
 abbrev pub examples_keywords : List (List ℕ)
 examples_keywords = codes "Examples:" ∷ codes "Scenarios:" ∷ []

@@ -11,6 +11,7 @@ use Rattle.gk_gherkin.specs.declared.feature.Background.{Background}
 use Rattle.gk_gherkin.specs.declared.feature.Scenario.{Scenario}
 use Rattle.gk_gherkin.specs.declared.feature.Rule.{Rule}
 use Rattle.gk_gherkin.specs.declared.feature.Feature.{Feature}
+use Rattle.gk_gherkin.specs.Keyword.{keyword_text}
 
 -- The block under a step: nothing, the text of a doc string, or the cells of a table. (Cucumber's Gherkin reference: step arguments)
 pub data BlockValue : Type 0 where
@@ -102,7 +103,7 @@ block_value (blocks.Table rows) = Table (map (λ row. texts row.items) rows.item
 
 -- The value of a `Step`.
 abbrev pub step_value : Step → StepValue
-step_value s = record { keyword = string_bytes s.keyword; step_type = s.step_type; text = string_bytes s.text; block = block_value s.block; line = s.line }
+step_value s = record { keyword = keyword_text s.keyword; step_type = s.step_type; text = string_bytes s.text; block = block_value s.block; line = s.line }
 
 -- The value of a `Row`.
 abbrev pub row_value : Row → RowValue
@@ -118,7 +119,7 @@ background_value b = record { line = b.line; steps = map step_value b.steps.item
 
 -- The value of a `Scenario`.
 abbrev pub scenario_value : Scenario → ScenarioValue
-scenario_value s = record { keyword = string_bytes s.keyword; name = string_bytes s.name; line = s.line; tags = texts s.tags.items; steps = map step_value s.steps.items; examples = map examples_value s.examples.items }
+scenario_value s = record { keyword = keyword_text s.keyword; name = string_bytes s.name; line = s.line; tags = texts s.tags.items; steps = map step_value s.steps.items; examples = map examples_value s.examples.items }
 
 -- The value of a `Rule`.
 abbrev pub rule_value : Rule → RuleValue

@@ -1,6 +1,7 @@
 -- The specification of feature files and hooks files, in reading order. A definition whose comment names no source is this project's profile, or a term that the others use.
 pub mod Text
 pub mod Lines
+pub mod Keyword
 pub mod Class
 pub mod Tags
 pub mod Rows

@@ -1,10 +1,16 @@
 //! The classes of lines.
-ghost use Rattle.std.specs.Prelude.{◌≡◌};
+ghost use Rattle.std.specs.Prelude.{◌≡◌, IsTrue};
+ghost use Rattle.std.specs.List.{list_any};
+ghost use Rattle.std.specs.Str.{bytes_eq};
+ghost use Rattle.gk_gherkin.specs.Keyword.{keyword_text};
 ghost use Rattle.gk_gherkin.specs.Lines.{borrowed_value};
 ghost use Rattle.gk_gherkin.specs.Class as spec;
+ghost use Rattle.gk_gherkin.specs.Class.{scenario_words};
+ghost use Rattle.gk_gherkin.specs.declared.class.Class.TheVariants.{ScenarioHeading, StepLine};
 
+use crate::keyword::Keyword;
 use crate::lines::BorrowedLine;
-use crate::text::{begins, begins_word, split_word, trim};
+use crate::text::{begins, begins_word, is_word, split_word, trim};
 
 /// The two fences of doc strings. (Cucumber's Gherkin reference: doc strings)
 #[derive(Clone, Copy)]
@@ -120,8 +126,8 @@ pub fn class_of_line(line: &BorrowedLine<'_>) -> Class
     class_of(trim(line.text))
 }
 
-/// Returns the keyword of a heading, without its colon.
-pub fn heading_keyword<'a>(line: &BorrowedLine<'a>) -> &'a str
+// Returns the keyword of a heading, without its colon.
+fn heading_keyword<'a>(line: &BorrowedLine<'a>) -> &'a str
     ensures { result.now ≡ spec.heading_keyword (borrowed_value line.now) }
 {
     let text = trim(line.text);
@@ -129,6 +135,30 @@ pub fn heading_keyword<'a>(line: &BorrowedLine<'a>) -> &'a str
         Some((keyword, _)) => keyword,
         None => text,
     }
+}
+
+// Returns the keyword of a scenario or an outline that a word is.
+fn scenario_word(word: &str) -> Keyword
+    requires { IsTrue (list_any (bytes_eq word.now) scenario_words) }
+    ensures { keyword_text result ≡ word.now }
+{
+    if is_word(word, "Scenario") {
+        Keyword::Scenario
+    } else if is_word(word, "Scenario Outline") {
+        Keyword::ScenarioOutline
+    } else if is_word(word, "Example") {
+        Keyword::Example
+    } else {
+        Keyword::ScenarioTemplate
+    }
+}
+
+/// Returns the keyword of the heading of a scenario or an outline.
+pub fn scenario_keyword(line: &BorrowedLine<'_>) -> Keyword
+    requires { spec.class (borrowed_value line.now) ≡ ScenarioHeading }
+    ensures { keyword_text result ≡ spec.heading_keyword (borrowed_value line.now) }
+{
+    scenario_word(heading_keyword(line))
 }
 
 /// Returns the name of a heading: the text after its first colon, trimmed.
@@ -142,12 +172,33 @@ pub fn heading_name<'a>(line: &BorrowedLine<'a>) -> &'a str
     }
 }
 
+// Returns the keyword of a step that a word is.
+fn step_word(word: &str) -> Keyword
+    requires { IsTrue (list_any (bytes_eq word.now) spec.step_keywords) }
+    ensures { keyword_text result ≡ word.now }
+{
+    if is_word(word, "Given") {
+        Keyword::Given
+    } else if is_word(word, "When") {
+        Keyword::When
+    } else if is_word(word, "Then") {
+        Keyword::Then
+    } else if is_word(word, "And") {
+        Keyword::And
+    } else if is_word(word, "But") {
+        Keyword::But
+    } else {
+        Keyword::Star
+    }
+}
+
 /// Returns the keyword of a step, and the text after the keyword, trimmed.
 #[tactic(auto, unfolding(crate::specs::Class::step_keyword, crate::specs::Class::step_text))]
-pub fn step_parts<'a>(line: &BorrowedLine<'a>) -> (&'a str, &'a str)
-    ensures keyword { result.0.now ≡ spec.step_keyword (borrowed_value line.now) }
+pub fn step_parts<'a>(line: &BorrowedLine<'a>) -> (Keyword, &'a str)
+    requires { spec.class (borrowed_value line.now) ≡ StepLine }
+    ensures keyword { keyword_text result.0 ≡ spec.step_keyword (borrowed_value line.now) }
     ensures text { result.1.now ≡ spec.step_text (borrowed_value line.now) }
 {
-    let (keyword, rest) = split_word(trim(line.text));
-    (keyword, trim(rest))
+    let (word, rest) = split_word(trim(line.text));
+    (step_word(word), trim(rest))
 }

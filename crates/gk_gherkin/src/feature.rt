@@ -1,6 +1,8 @@
 //! The contents of a feature file. Tags include their `@`, and keywords don't include their colon.
 //! Lines are counted from 1.
 
+use crate::keyword::Keyword;
+
 /// A feature: its name, the line of its heading, its own tags, its background, the scenarios before
 /// its first rule, and its rules. (Cucumber's Gherkin reference: feature)
 #[derive(Debug, Drop)]
@@ -29,7 +31,7 @@ pub struct Rule {
 /// outline)
 #[derive(Debug, Drop)]
 pub struct Scenario {
-    pub keyword: String,
+    pub keyword: Keyword,
     pub name: String,
     pub line: u32,
     pub tags: Vec<String>,
@@ -49,7 +51,7 @@ pub struct Background {
 /// its line. (Cucumber's Gherkin reference: steps)
 #[derive(Debug, Drop)]
 pub struct Step {
-    pub keyword: String,
+    pub keyword: Keyword,
     pub step_type: StepType,
     pub text: String,
     pub block: Block,

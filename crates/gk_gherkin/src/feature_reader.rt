@@ -195,6 +195,7 @@ fn on_heading(
     line: &BorrowedLine<'_>,
     class: Class,
 ) -> Result<(), ReadFault>
+    requires { class ≡ words.class (borrowed_value line.now) }
     ensures says { TakesHeading state.old tags.items line.now class result state.new }
     ensures memory { IfErr result (λ e. e ≡ Memory →
         spec.NeedsAt (open_feature_value state.old) (borrowed_value line.now) class) }
@@ -220,6 +221,7 @@ fn on_line(
     line: &BorrowedLine<'_>,
     class: Class,
 ) -> Result<(), ReadFault>
+    requires { class ≡ words.class (borrowed_value line.now) }
     ensures says { Agrees (λ _. open_feature_value state.new) result
         (spec.on_line (open_feature_value state.old) (borrowed_value line.now) class) }
     ensures memory { IfErr result (λ e. e ≡ Memory →
@@ -285,6 +287,7 @@ fn after_no_tags(
     line: &BorrowedLine<'_>,
     class: Class,
 ) -> Result<Option<TagLines>, ReadFault>
+    requires { class ≡ words.class (borrowed_value line.now) }
     ensures says { Agrees (λ tags. tagged_value state.new tags) result
         (spec.on (spec.Untagged (open_feature_value state.old)) (borrowed_value line.now) class) }
     ensures memory { IfErr result (λ e. e ≡ Memory →
@@ -320,6 +323,7 @@ fn after_tags(
     line: &BorrowedLine<'_>,
     class: Class,
 ) -> Result<Option<TagLines>, ReadFault>
+    requires { class ≡ words.class (borrowed_value line.now) }
     ensures { let old = spec.Tagged (open_feature_value state.old) (texts before.tags.items) in
         Agrees (λ tags. tagged_value state.new tags) result
         (spec.on (old before.last) (borrowed_value line.now) class) }

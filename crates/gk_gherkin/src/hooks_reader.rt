@@ -4,7 +4,7 @@ ghost use Rattle.std.specs.String.{string_bytes};
 ghost use Rattle.gk_gherkin.specs.Lines.{borrowed_value, lines_of, IsText};
 ghost use Rattle.gk_gherkin.specs.Class as words;
 ghost use Rattle.gk_gherkin.specs.Hooks.{HookValue, hooks_value};
-ghost use Rattle.gk_gherkin.specs.HookHeadings.{heading_value};
+ghost use Rattle.gk_gherkin.specs.HookHeadings.{heading_value, hooks_class};
 ghost use Rattle.gk_gherkin.specs.HooksGrammar.{ReadsHooks};
 ghost use Rattle.gk_gherkin.specs.ReadFault.{AnswersOrLacksMemory, FaultSays, HooksFault};
 ghost use Rattle.gk_gherkin.specs.Results.{Agrees};
@@ -131,6 +131,7 @@ fn on_hook_body(
     line: &BorrowedLine<'_>,
     class: Class,
 ) -> Result<(), ReadFault>
+    requires { class ≡ words.class (borrowed_value line.now) }
     ensures { let said = borrowed_value line.now in
         Agrees (λ _. body_value body.new) result
         (spec.on_hook_body (body_value body.old) said class) }
@@ -151,6 +152,7 @@ fn on_plain_line(
     line: &BorrowedLine<'_>,
     class: Class,
 ) -> Result<(), ReadFault>
+    requires { class ≡ words.class (borrowed_value line.now) }
     ensures says { let old = reader_value reader.old in
         Agrees (λ _. reader_value reader.new) result
         (spec.on_plain_line old (borrowed_value line.now) class) }
@@ -164,13 +166,14 @@ fn on_plain_line(
 }
 
 // Takes a line of this class that isn't part of a doc string.
-#[tactic(auto, unfolding(crate::specs::HooksReader::on))]
+#[tactic(auto, using(crate::proofs::HookClasses::plain_class), unfolding(crate::specs::HooksReader::on))]
 fn take(
     alloc: Global,
     reader: &mut HooksReader,
     line: &BorrowedLine<'_>,
     class: HooksClass,
 ) -> Result<(), ReadFault>
+    requires { class ≡ hooks_class (borrowed_value line.now) }
     ensures says { let said = borrowed_value line.now in
         Agrees (λ _. reader_value reader.new) result
         (spec.on (reader_value reader.old) said class) }

@@ -10,6 +10,7 @@ pub mod text;
 // What one line says.
 mod class;
 mod doc_strings;
+mod keyword;
 mod language;
 mod rows;
 mod step_types;
@@ -42,6 +43,7 @@ pub use feature_reader::read_feature;
 pub use hook_table::HookTable;
 pub use hooks::{Hook, HookFile, HookKind};
 pub use hooks_reader::read_hooks;
+pub use keyword::Keyword;
 pub use laws::{
     fault_is_unique, hooks_reading_is_unique, parts_are_concatenations, reading_is_unique,
     rules_are_counted,

@@ -5,15 +5,19 @@ ghost use Rattle.gk_gherkin.specs.Lines.{borrowed_value};
 ghost use Rattle.gk_gherkin.specs.Feature.{texts, block_value, step_value, row_value};
 ghost use Rattle.gk_gherkin.specs.Feature.{examples_value, scenario_value};
 ghost use Rattle.gk_gherkin.specs.Results.{Agrees};
+ghost use Rattle.gk_gherkin.specs.Class as words;
+ghost use Rattle.gk_gherkin.specs.Keyword.{keyword_text};
 ghost use Rattle.gk_gherkin.specs.OpenParts as spec;
+ghost use Rattle.gk_gherkin.specs.declared.class.Class.TheVariants.{ScenarioHeading, StepLine};
 ghost use Rattle.gk_gherkin.specs.OpenParts.Views.{head_value, children_value, body_value};
 ghost use Rattle.gk_gherkin.specs.OpenParts.Views.{owner_value, grid_value, outline_value};
 ghost use Rattle.gk_gherkin.specs.OpenParts.Views.{open_value, bodied_value, begun_after};
 ghost use Rattle.gk_gherkin.specs.declared.feature.StepType.TheVariants.{Given};
 ghost use Rattle.gk_gherkin.specs.declared.read_fault.ReadFault.TheVariants.{Unexpected};
 
-use crate::class::{Class, heading_keyword, heading_name, step_parts};
+use crate::class::{Class, heading_name, scenario_keyword, step_parts};
 use crate::feature::{Background, Block, Examples, Row, Scenario, Step, StepType};
+use crate::keyword::Keyword;
 use crate::lines::BorrowedLine;
 use crate::read_fault::ReadFault;
 use crate::rows::cells_of;
@@ -52,7 +56,7 @@ pub enum Owner {
     },
     OfScenario {
         children: Children,
-        keyword: String,
+        keyword: Keyword,
         head: Head,
     },
 }
@@ -120,11 +124,11 @@ pub fn head_from(
 }
 
 fn step_from(alloc: Global, before: StepType, line: &BorrowedLine<'_>) -> Result<Step, ReadFault>
+    requires { words.class (borrowed_value line.now) ≡ StepLine }
     ensures { Agrees step_value result (Ok (spec.step_from before (borrowed_value line.now))) }
 {
     let (keyword, text) = step_parts(line);
     let step_type = type_after(before, keyword);
-    let keyword = String::from_str(alloc, keyword)?;
     let text = String::from_str(alloc, text)?;
     Ok(Step {
         keyword,
@@ -157,9 +161,9 @@ fn with_scenario(children: Children, scenario: Scenario) -> Result<Children, Rea
     Ok(children)
 }
 
-fn scenario_of(alloc: Global, keyword: String, head: Head, steps: Vec<Step>) -> Scenario
+fn scenario_of(alloc: Global, keyword: Keyword, head: Head, steps: Vec<Step>) -> Scenario
     ensures { scenario_value result
-        ≡ spec.scenario_of (string_bytes keyword) (head_value head) (map step_value steps.items) }
+        ≡ spec.scenario_of (keyword_text keyword) (head_value head) (map step_value steps.items) }
 {
     Scenario {
         keyword,
@@ -284,12 +288,12 @@ fn bodied(owner: Owner) -> Open
 fn first_scenario(
     alloc: Global,
     part: &mut Open,
-    keyword: String,
+    keyword: Keyword,
     head: Head,
 ) -> Result<(), ReadFault>
     ensures { let children = spec.children_of (open_value part.old) in
         Agrees (λ _. open_value part.new) result
-        (Ok (spec.begun_scenario children (string_bytes keyword) (head_value head))) }
+        (Ok (spec.begun_scenario children (keyword_text keyword) (head_value head))) }
 {
     let children = children_of(alloc, mem::replace(part, Open::InDescription))?;
     let owner = Owner::OfScenario {
@@ -306,11 +310,11 @@ fn scenario_after_steps(
     alloc: Global,
     owner: &mut Owner,
     body: &mut Body,
-    keyword: String,
+    keyword: Keyword,
     head: Head,
 ) -> Result<(), ReadFault>
     ensures { Agrees (λ _. bodied_value owner.new body.new) result
-        (begun_after owner.old body.old (string_bytes keyword) (head_value head)) }
+        (begun_after owner.old body.old (keyword_text keyword) (head_value head)) }
 {
     let steps = steps_of(alloc, mem::replace(body, Body::NoSteps))?;
     match owner {
@@ -351,11 +355,12 @@ pub fn scenario_heading(
     tags: Vec<String>,
     line: &BorrowedLine<'_>,
 ) -> Result<(), ReadFault>
+    requires { words.class (borrowed_value line.now) ≡ ScenarioHeading }
     ensures { let children = spec.children_of (open_value part.old) in
         Agrees (λ _. open_value part.new) result
         (Ok (spec.scenario_from children (texts tags.items) (borrowed_value line.now))) }
 {
-    let keyword = String::from_str(alloc, heading_keyword(line))?;
+    let keyword = scenario_keyword(line);
     let head = head_from(alloc, tags, line)?;
     match part {
         Open::InBody { owner, body } => scenario_after_steps(alloc, owner, body, keyword, head),
@@ -474,6 +479,7 @@ fn on_grid(
 
 // Takes the first step of a body.
 fn first_step(alloc: Global, body: &mut Body, line: &BorrowedLine<'_>) -> Result<(), ReadFault>
+    requires { words.class (borrowed_value line.now) ≡ StepLine }
     ensures { Agrees (λ _. body_value body.new) result
         (Ok (spec.Steps [] (spec.step_from Given (borrowed_value line.now)))) }
 {
@@ -490,6 +496,7 @@ fn next_step(
     step: &mut Step,
     line: &BorrowedLine<'_>,
 ) -> Result<(), ReadFault>
+    requires { words.class (borrowed_value line.now) ≡ StepLine }
     ensures { let before = step_value step.old in
         Agrees (λ _. spec.Steps (map step_value steps.new.items) (step_value step.new)) result
         (Ok (spec.Steps (map step_value steps.old.items ++ before ∷ [])
@@ -507,6 +514,7 @@ pub fn on_body(
     line: &BorrowedLine<'_>,
     class: Class,
 ) -> Result<(), ReadFault>
+    requires { class ≡ words.class (borrowed_value line.now) }
     ensures { Agrees (λ _. body_value body.new) result
         (spec.on_body (body_value body.old) (borrowed_value line.now) class) }
 {
@@ -541,6 +549,7 @@ pub fn on_open(
     line: &BorrowedLine<'_>,
     class: Class,
 ) -> Result<(), ReadFault>
+    requires { class ≡ words.class (borrowed_value line.now) }
     ensures { let said = borrowed_value line.now in
         Agrees (λ _. open_value part.new) result (spec.on_open (open_value part.old) said class) }
 {

@@ -1,22 +1,20 @@
 //! The types of steps.
 ghost use Rattle.std.specs.Prelude.{◌≡◌};
+ghost use Rattle.gk_gherkin.specs.Keyword.{keyword_text};
 ghost use Rattle.gk_gherkin.specs.StepTypes as spec;
 
 use crate::feature::StepType;
-use crate::text::is_word;
+use crate::keyword::Keyword;
 
 /// Returns the type that a keyword gives to a step after a step of type `before`.
 #[tactic(auto, unfolding(crate::specs::StepTypes::type_after))]
-pub fn type_after(before: StepType, keyword: &str) -> StepType
-    ensures { result ≡ spec.type_after before keyword.now }
+pub fn type_after(before: StepType, keyword: Keyword) -> StepType
+    ensures { result ≡ spec.type_after before (keyword_text keyword) }
 {
-    if is_word(keyword, "Given") {
-        StepType::Given
-    } else if is_word(keyword, "When") {
-        StepType::When
-    } else if is_word(keyword, "Then") {
-        StepType::Then
-    } else {
-        before
+    match keyword {
+        Keyword::Given => StepType::Given,
+        Keyword::When => StepType::When,
+        Keyword::Then => StepType::Then,
+        _ => before,
     }
 }

@@ -8,7 +8,7 @@ use Rattle.gk_gherkin.specs.DocStrings.{closes}
 use Rattle.gk_gherkin.specs.Feature.{Empty, StepValue, ExamplesValue, ScenarioValue, FeatureValue}
 use Rattle.gk_gherkin.specs.Lines.{Lines, line_at}
 use Rattle.gk_lint.specs.declared.findings.FindingKind.TheVariants.{CrAlone, FileWithoutFeature, FeatureWithoutScenarios, ScenarioWithoutSteps, OutlineWithoutRows, LikeKeyword, StepOutside}
-use Rattle.gk_lint.specs.declared.keywords.Keyword.TheVariants as keywords
+use Rattle.gk_gherkin.specs.declared.keyword.Keyword.TheVariants as keywords
 use Rattle.gk_lint.specs.declared.line_context.LineContext.TheVariants.{Elsewhere}
 use Rattle.gk_lint.specs.Findings.{at_line}
 use Rattle.gk_lint.specs.Likeness.{is_other_blank, letter, same_letters, common_len, differ_at_first, is_one_off, is_exchanged, spelt_heading, spelt_step, begun_like, like}

@@ -6,7 +6,7 @@ use Rattle.gk_lint.specs.declared.findings.FindingKind.{FindingKind}
 use Rattle.gk_lint.specs.declared.findings.FindingKind.TheVariants.{CrAlone, FileWithoutFeature, FeatureWithoutScenarios, ScenarioWithoutSteps, OutlineWithoutRows, LikeKeyword, StepOutside, NameTwice, NoColumn, UndefinedStep, CleanupWithoutStep, OfStep, UnusedEntry, HookOfNoTag}
 use Rattle.gk_lint.specs.declared.nearest_entry.EntryHint.{EntryHint}
 use Rattle.gk_lint.specs.declared.step_faults.StepFault.{StepFault}
-use Rattle.gk_lint.specs.Keywords.{spelling}
+use Rattle.gk_gherkin.specs.Keyword.{spelling}
 use Rattle.gk_lint.specs.StepFaults.{fault_text, has_fault}
 
 -- A finding at a line.

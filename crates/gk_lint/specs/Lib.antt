@@ -1,5 +1,4 @@
 -- What is found in the files of a run before it starts, in reading order. A definition whose comment names no source is this project's profile.
-pub mod Keywords
 pub mod Likeness
 pub mod StepFaults
 pub mod NearestEntry

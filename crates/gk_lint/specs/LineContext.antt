@@ -9,8 +9,8 @@ use Rattle.gk_gherkin.specs.Lines.{LineValue}
 use Rattle.gk_gherkin.specs.Class.{class, fence_text, begins_as_step, begins_with_one, feature_keywords, rule_keywords, background_keywords, scenario_keywords, examples_keywords}
 use Rattle.gk_gherkin.specs.Text.{begins, is_blank}
 use Rattle.gk_gherkin.specs.DocStrings.{closes}
-use Rattle.gk_lint.specs.declared.keywords.Keyword.{Keyword}
-use Rattle.gk_lint.specs.Keywords.{keyword_text}
+use Rattle.gk_gherkin.specs.declared.keyword.Keyword.{Keyword}
+use Rattle.gk_gherkin.specs.Keyword.{keyword_text}
 use Rattle.gk_lint.specs.declared.line_context.TextFence.{TextFence}
 use Rattle.gk_lint.specs.declared.line_context.TextFence.TheVariants.{Quotes, Backticks}
 use Rattle.gk_lint.specs.declared.line_context.LineKind.{LineKind}

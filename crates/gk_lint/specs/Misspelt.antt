@@ -2,8 +2,8 @@
 use Rattle.std.specs.Prelude.{◌≡◌, ℕ, Bool, true, false, List, [], ◌∷◌, ◌++◌, Option, Some, None}
 use Rattle.gk_gherkin.specs.Lines.{LineValue, Lines}
 use Rattle.gk_gherkin.specs.Text.{trim}
-use Rattle.gk_lint.specs.declared.keywords.Keyword.{Keyword}
-use Rattle.gk_lint.specs.declared.keywords.Keyword.TheVariants.{Given, When, Then}
+use Rattle.gk_gherkin.specs.declared.keyword.Keyword.{Keyword}
+use Rattle.gk_gherkin.specs.declared.keyword.Keyword.TheVariants.{Given, When, Then}
 use Rattle.gk_lint.specs.declared.findings.Finding.{Finding}
 use Rattle.gk_lint.specs.declared.findings.FindingKind.TheVariants.{LikeKeyword, StepOutside}
 use Rattle.gk_lint.specs.declared.line_context.LineKind.{LineKind}

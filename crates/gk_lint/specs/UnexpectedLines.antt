@@ -2,7 +2,7 @@
 use Rattle.std.specs.Prelude.{codes, ℕ, Bool, true, false, List, [], ◌∷◌, ◌++◌, length, take, find, reverse, slice_get, Option, Some, None, if◌then◌else◌}
 use Rattle.gk_gherkin.specs.Lines.{LineValue}
 use Rattle.gk_gherkin.specs.Text.{begins, trim}
-use Rattle.gk_lint.specs.declared.keywords.Keyword.{Keyword}
+use Rattle.gk_gherkin.specs.declared.keyword.Keyword.{Keyword}
 use Rattle.gk_lint.specs.declared.line_context.LineContext.{LineContext}
 use Rattle.gk_lint.specs.declared.line_context.LineContext.TheVariants.{Elsewhere, InText}
 use Rattle.gk_lint.specs.declared.line_context.LineKind.{LineKind}
@@ -10,7 +10,7 @@ use Rattle.gk_lint.specs.declared.line_context.LineKind.TheVariants as kinds
 use Rattle.gk_lint.specs.declared.line_context.LineKind.TheVariants.{Ignored, Tags, Row, Description}
 use Rattle.gk_lint.specs.declared.unexpected_lines.Cause.{Cause}
 use Rattle.gk_lint.specs.declared.unexpected_lines.Cause.TheVariants.{NoFeature, SecondFeature, LateBackground, SecondBackground, TaggedBackground, ExamplesAlone, BelowTags, BelowRows, SecondBlock, SingleQuotes, OpenKeyword, OtherCase, Misspelt, FreeText}
-use Rattle.gk_lint.specs.Keywords.{keyword_text, spelling}
+use Rattle.gk_gherkin.specs.Keyword.{keyword_text, spelling}
 use Rattle.gk_lint.specs.Likeness.{like, same_letters}
 use Rattle.gk_lint.specs.LineContext.{line_kind, after}
 

@@ -4,9 +4,9 @@ ghost use Rattle.std.specs.String.{string_bytes};
 ghost use Rattle.gk_lint.specs.Findings as spec;
 ghost use Rattle.gk_lint.specs.Findings.{AreInOrder};
 
-use crate::keywords::Keyword;
 use crate::nearest_entry::EntryHint;
 use crate::step_faults::{StepFault, has_fault};
+use gk_gherkin::Keyword;
 use std::alloc::{AllocError, Global};
 
 /// The kind of a finding.

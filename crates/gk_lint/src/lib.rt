@@ -7,7 +7,6 @@
 mod blocks;
 mod feature_file;
 mod findings;
-mod keywords;
 mod laws;
 mod library_causes;
 mod library_use;
@@ -31,7 +30,6 @@ mod written_steps;
 
 pub use feature_file::{lint_feature, lint_feature_file};
 pub use findings::{Finding, FindingKind, in_order};
-pub use keywords::Keyword;
 pub use laws::{exchanged_is_within_exchange, one_off_is_within_one, what_is_run_is_looked_up};
 pub use library_causes::{LibraryCause, library_cause};
 pub use library_use::{entry_lines, lint_library};

@@ -6,9 +6,9 @@ ghost use Rattle.gk_gherkin.specs.Class as words;
 ghost use Rattle.gk_gherkin.specs.DocStrings as texts;
 ghost use Rattle.gk_lint.specs.LineContext as spec;
 
-use crate::keywords::{Keyword, STEP_WORDS};
-use gk_gherkin::BorrowedLine;
+use crate::likeness::STEP_WORDS;
 use gk_gherkin::text::{begins, is_blank, trim};
+use gk_gherkin::{BorrowedLine, Keyword};
 
 /// The kind of a line. The context of the next line depends on it.
 #[derive(Clone, Copy)]
@@ -64,7 +64,7 @@ fn begins_word(text: &str, word: &str) -> bool
 pub fn begins_with_one_of(text: &str, some: &[Keyword]) -> bool
     ensures { result ≡ spec.begins_with_one_of some.now text.now }
 {
-    some.iter().any(|word| begins_word(text, word.text()))
+    some.iter().any(|word| begins_word(text, word.as_str()))
 }
 
 fn begins_as_examples(text: &str) -> bool

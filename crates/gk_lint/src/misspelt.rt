@@ -9,11 +9,10 @@ ghost use Rattle.gk_lint.specs.Misspelt.{IsAbove};
 ghost use Rattle.gk_lint.specs.declared.line_context.LineContext.TheVariants.{Elsewhere};
 
 use crate::findings::{Finding, FindingKind, add_if};
-use crate::keywords::Keyword;
 use crate::likeness::like;
 use crate::line_context::{LineContext, LineKind, after, begins_with_one_of, line_kind};
 use gk_gherkin::text::trim;
-use gk_gherkin::{BorrowedLine, LIMIT, borrowed_line};
+use gk_gherkin::{BorrowedLine, Keyword, LIMIT, borrowed_line};
 use std::alloc::{AllocError, Global};
 
 /// How a line is worded.

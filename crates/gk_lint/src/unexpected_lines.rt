@@ -6,11 +6,10 @@ ghost use Rattle.gk_lint.specs.Likeness.{like};
 ghost use Rattle.gk_lint.specs.UnexpectedLines as spec;
 ghost use Rattle.gk_lint.specs.declared.line_context.LineContext.TheVariants.{Elsewhere};
 
-use crate::keywords::Keyword;
 use crate::likeness::{like, same_letters};
 use crate::line_context::{LineContext, LineKind, after, line_kind};
 use gk_gherkin::text::{begins, trim};
-use gk_gherkin::{BorrowedLine, Place};
+use gk_gherkin::{BorrowedLine, Keyword, Place};
 use std::alloc::{AllocError, Global};
 
 /// Why a line of a feature file is unexpected.
@@ -97,7 +96,7 @@ impl Cause {
             Cause::OpenKeyword(keyword) => with_keyword(
                 alloc,
                 "write the colon, or a plain space and a text, directly after ",
-                keyword.text(),
+                keyword.as_str(),
             ),
             Cause::OtherCase(keyword) => with_keyword(
                 alloc,
@@ -266,9 +265,9 @@ fn begins_in_any_case(text: &str, word: &str) -> bool
 fn cause_by_keyword(text: &str, keyword: Keyword) -> Cause
     ensures { result ≡ spec.cause_by_keyword text.now keyword }
 {
-    if begins(text, keyword.text()) {
+    if begins(text, keyword.as_str()) {
         Cause::OpenKeyword(keyword)
-    } else if begins_in_any_case(text, keyword.text()) {
+    } else if begins_in_any_case(text, keyword.as_str()) {
         Cause::OtherCase(keyword)
     } else {
         Cause::Misspelt(keyword)

@@ -171,7 +171,8 @@ impl<'a> PartPieces<'a> {
     }
 
     /// Makes and returns the next piece, which is never empty. Returns `None` if nothing is left, or if the style hides
-    /// the feature; then nothing is left in later calls either. An error comes only if a growth was refused, and it leaves the rest of the part as it was.
+    /// the feature; then nothing is left in later calls either. An error comes only if a growth was refused, and it
+    /// leaves the rest of the part as it was.
     pub fn next(&mut self, alloc: Global) -> Result<Option<String>, AllocError>
         ensures piece { IfOk result (λ piece. IfSome piece (λ text.
             IsPiece (rest self.old) (string_bytes text) (rest self.new))) }

@@ -171,13 +171,13 @@ pub record JudgedDryRun (run : Run) (features : List ChosenValue) (results : Res
   pub around : results.around ≡ statuses.Passed
   pub inside : Each (λ k f row. JudgedDryFeature run.library f row) features results.features
 
--- The results of a run, in words: those of a dry run, or those of a run that is begun from these contents.
+-- The results of a run, part by part: those of a dry run, or those of a run that is begun from these contents.
 pub record JudgedPartByPart (run : Run) (contents : Contents) (features : List ChosenValue) (results : Results) : Type 0 where
   pub dry : run.dry_run ≡ true → JudgedDryRun run features results
   pub real : run.dry_run ≡ false →
       JudgedSection run levels.Run [] (state_of contents) (run.dry_run ≡ false) (λ section Ready rows. JudgedFeatures run section Ready features rows) (record { around = results.around; inside = results.features })
 
--- Results are judged exactly if these words hold of them.
+-- Results are judged exactly if each part of them is.
 abbrev pub JudgedHoldPartByPart : Type 0
 JudgedHoldPartByPart = (run : Run) (contents : Contents) (features : List ChosenValue) (results : Results) → Judged run contents features results ↔ JudgedPartByPart run contents features results
 

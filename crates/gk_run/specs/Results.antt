@@ -1,5 +1,6 @@
 -- The results of running, independent of their place in memory.
 use Rattle.std.specs.Prelude.{ℕ, Bool, true, false, List, map, Option, string_bytes}
+use Rattle.gk_gherkin.specs.Keyword.{keyword_text}
 use Rattle.gk_run.specs.declared.results.Status.{Status}
 use Rattle.gk_run.specs.declared.results.Status.TheVariants as statuses
 use Rattle.gk_run.specs.declared.results.Reason.{Reason}
@@ -49,11 +50,11 @@ pub record Results : Type 0 where
 
 -- The value of a `StepResult`.
 abbrev pub step_row : StepResult → StepRow
-step_row r = record { keyword = string_bytes r.keyword; text = string_bytes r.text; line = r.line; status = r.status; reason = r.reason }
+step_row r = record { keyword = keyword_text r.keyword; text = string_bytes r.text; line = r.line; status = r.status; reason = r.reason }
 
 -- The value of a `CaseResult`.
 abbrev pub case_row : CaseResult → CaseRow
-case_row r = record { keyword = string_bytes r.keyword; name = string_bytes r.name; line = r.line; status = r.status; around = r.around; cleanups = r.cleanups.items; steps = map step_row r.steps.items }
+case_row r = record { keyword = keyword_text r.keyword; name = string_bytes r.name; line = r.line; status = r.status; around = r.around; cleanups = r.cleanups.items; steps = map step_row r.steps.items }
 
 -- The value of a `RuleResult`.
 abbrev pub rule_row : RuleResult → RuleRow

@@ -1,6 +1,7 @@
 //! The results of running.
 ghost use Rattle.std.specs.Prelude.{◌≡◌, ◌≤◌, [], length, vec_capacity, IfOk};
 
+use gk_gherkin::Keyword;
 use std::alloc::{AllocError, Global};
 
 /// The status of a step, a scenario or a feature, or of the hooks and cleanups of a section. A step can
@@ -98,7 +99,7 @@ pub struct NoRoom;
 /// The result of a step.
 #[derive(Debug, Drop)]
 pub struct StepResult {
-    pub keyword: String,
+    pub keyword: Keyword,
     pub text: String,
     pub line: u32,
     pub status: Status,
@@ -109,7 +110,7 @@ pub struct StepResult {
 /// The result of a scenario, or of one row of an outline.
 #[derive(Debug, Drop)]
 pub struct CaseResult {
-    pub keyword: String,
+    pub keyword: Keyword,
     pub name: String,
     pub line: u32,
     pub status: Status,

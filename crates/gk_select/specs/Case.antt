@@ -1,5 +1,6 @@
 -- A scenario as it is run.
 use Rattle.std.specs.Prelude.{ℕ, List, map, Option, string_bytes}
+use Rattle.gk_gherkin.specs.Keyword.{keyword_text}
 use Rattle.gk_gherkin.specs.Feature.{texts, StepValue, step_value}
 use Rattle.gk_select.specs.declared.case.Case.{Case}
 
@@ -15,4 +16,4 @@ pub record CaseValue : Type 0 where
 
 -- The value of a `Case`.
 abbrev pub case_value : Case → CaseValue
-case_value c = record { name = string_bytes c.name; keyword = string_bytes c.keyword; line = c.line; rule = c.rule; tags = texts c.tags.items; own_tags = texts c.own_tags.items; steps = map step_value c.steps.items }
+case_value c = record { name = string_bytes c.name; keyword = keyword_text c.keyword; line = c.line; rule = c.rule; tags = texts c.tags.items; own_tags = texts c.own_tags.items; steps = map step_value c.steps.items }

@@ -1,6 +1,6 @@
 //! A scenario as it is run.
 
-use gk_gherkin::Step;
+use gk_gherkin::{Keyword, Step};
 
 /// A plain scenario, or an outline filled from one row.
 #[derive(Debug, Drop)]
@@ -8,7 +8,7 @@ pub struct Case {
     /// The scenario's name; for a row `NAME -- @E.R EXAMPLESNAME`, without trailing spaces and tabs.
     pub name: String,
     /// The scenario's keyword, without its colon.
-    pub keyword: String,
+    pub keyword: Keyword,
     /// The line of the scenario's heading, or of the row, counted from 1.
     pub line: u32,
     /// The index of the case's Rule among the Rules of the file, counted from 0; `None` for a case in no Rule.

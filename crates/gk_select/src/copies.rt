@@ -91,11 +91,10 @@ fn fill_step_under(
     ensures { IfOk result (λ s.
         step_value s ≡ filled_step (filled columns.now (texts row.now)) (step_value step.now)) }
 {
-    let keyword = String::from_str(alloc, step.keyword.as_str())?;
     let text = fill(alloc, step.text.as_str(), columns, row)?;
     let block = fill_block(alloc, &step.block, columns, row)?;
     Ok(Step {
-        keyword,
+        keyword: step.keyword,
         step_type: step.step_type,
         text,
         block,

@@ -138,7 +138,7 @@ fn row_case(
     let own_tags = own_row_tags(alloc, scenario, part.examples)?;
     Ok(Case {
         name: row_name(alloc, scenario, part, row_number, row)?,
-        keyword: String::from_str(alloc, scenario.keyword.as_str())?,
+        keyword: scenario.keyword,
         line: row.line,
         rule: inherited.rule,
         tags: after_inherited_tags(alloc, inherited, &own_tags)?,
@@ -304,7 +304,7 @@ fn copied_case(
     push_steps(alloc, &mut steps, &scenario.steps)?;
     Ok(Case {
         name: String::from_str(alloc, scenario.name.as_str())?,
-        keyword: String::from_str(alloc, scenario.keyword.as_str())?,
+        keyword: scenario.keyword,
         line: scenario.line,
         rule: inherited.rule,
         tags: after_inherited_tags(alloc, inherited, &own_tags)?,

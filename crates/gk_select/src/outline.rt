@@ -5,7 +5,7 @@ ghost use Rattle.gk_gherkin.specs.Feature.{scenario_value};
 ghost use Rattle.gk_select.specs.Outline as spec;
 ghost use Rattle.gk_select.specs.Outline.{outline_name};
 
-use gk_gherkin::{Scenario, trim_back};
+use gk_gherkin::{Keyword, Scenario, trim_back};
 use std::alloc::{AllocError, Global};
 
 /// Returns whether a scenario is an outline: by its keyword, or because it has Examples. (Cucumber's
@@ -13,9 +13,11 @@ use std::alloc::{AllocError, Global};
 pub fn is_outline(scenario: &Scenario) -> bool
     ensures { result ≡ spec.is_outline (scenario_value scenario.now) }
 {
-    scenario.keyword.as_str() == "Scenario Outline"
-        || scenario.keyword.as_str() == "Scenario Template"
-        || !scenario.examples.is_empty()
+    let by_keyword = matches!(
+        scenario.keyword,
+        Keyword::ScenarioOutline | Keyword::ScenarioTemplate
+    );
+    by_keyword || !scenario.examples.is_empty()
 }
 
 /// Returns the name of the case of a row under Examples. Rows and Examples are counted from 1.

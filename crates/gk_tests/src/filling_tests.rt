@@ -1,4 +1,4 @@
-use gk_gherkin::{Block, Examples, Scenario, Step, StepType};
+use gk_gherkin::{Block, Examples, Keyword, Scenario, Step, StepType};
 use gk_select::{copied_texts, fill_step, is_outline};
 use std::alloc::{AllocError, Global};
 use std::test::Fail;
@@ -24,7 +24,7 @@ fn texts_are_copied(rt: HostRuntime) -> Result<(), AllocError> {
 // A step of an outline, with this block.
 fn step_with(alloc: Global, text: &str, block: Block) -> Result<Step, AllocError> {
     Ok(Step {
-        keyword: String::from_str(alloc, "And")?,
+        keyword: Keyword::And,
         step_type: StepType::When,
         text: String::from_str(alloc, text)?,
         block,
@@ -49,46 +49,42 @@ fn steps_are_filled(rt: HostRuntime) -> Result<(), Fail> {
     let step = step_with(rt.alloc(), "<b> of <a<a>>", block)?;
     assert_eq!(rt;
         filled(rt.alloc(), &step)?.as_str(),
-        "Step { keyword: \"And\", step_type: When, text: \"<a> of <a1>\", block: Text(\"1 < <a>\\n<c>\"), line: 7 }"
+        "Step { keyword: And, step_type: When, text: \"<a> of <a1>\", block: Text(\"1 < <a>\\n<c>\"), line: 7 }"
     );
     let mut rows = Vec::new(rt.alloc());
     rows.push(owned(rt.alloc(), &["<a>", "a"])?)?;
     let step = step_with(rt.alloc(), "<A>", Block::Table(rows))?;
     assert_eq!(rt;
         filled(rt.alloc(), &step)?.as_str(),
-        "Step { keyword: \"And\", step_type: When, text: \"<A>\", block: Table([[\"1\", \"a\"]]), line: 7 }"
+        "Step { keyword: And, step_type: When, text: \"<A>\", block: Table([[\"1\", \"a\"]]), line: 7 }"
     );
     Ok(())
 }
 
 // A scenario of this keyword, with these Examples.
-fn scenario_with(
-    alloc: Global,
-    keyword: &str,
-    examples: Vec<Examples>,
-) -> Result<Scenario, AllocError> {
-    Ok(Scenario {
-        keyword: String::from_str(alloc, keyword)?,
+fn scenario_with(alloc: Global, keyword: Keyword, examples: Vec<Examples>) -> Scenario {
+    Scenario {
+        keyword,
         name: String::new(alloc),
         line: 1,
         tags: Vec::new(alloc),
         steps: Vec::new(alloc),
         examples,
-    })
+    }
 }
 
 // Keywords, and whether a scenario of each is an outline without Examples.
-const KEYWORDS: [(&str, bool); 4] = [
-    ("Scenario", false),
-    ("Example", false),
-    ("Scenario Outline", true),
-    ("Scenario Template", true),
+const KEYWORDS: [(Keyword, bool); 4] = [
+    (Keyword::Scenario, false),
+    (Keyword::Example, false),
+    (Keyword::ScenarioOutline, true),
+    (Keyword::ScenarioTemplate, true),
 ];
 
 #[test]
 fn outlines_are_told_from_scenarios(rt: HostRuntime) -> Result<(), AllocError> {
     for (keyword, wanted) in KEYWORDS {
-        let scenario = scenario_with(rt.alloc(), keyword, Vec::new(rt.alloc()))?;
+        let scenario = scenario_with(rt.alloc(), keyword, Vec::new(rt.alloc()));
         assert_eq!(rt; is_outline(&scenario), wanted);
     }
     let mut examples = Vec::new(rt.alloc());
@@ -99,7 +95,7 @@ fn outlines_are_told_from_scenarios(rt: HostRuntime) -> Result<(), AllocError> {
         header: Vec::new(rt.alloc()),
         rows: Vec::new(rt.alloc()),
     })?;
-    let scenario = scenario_with(rt.alloc(), "Scenario", examples)?;
+    let scenario = scenario_with(rt.alloc(), Keyword::Scenario, examples);
     assert!(rt; is_outline(&scenario));
     Ok(())
 }

@@ -1,4 +1,6 @@
-use gk_gherkin::{HookKind, HookTable, ReadFault, read_feature, read_hooks, read_lines, trim_back};
+use gk_gherkin::{
+    HookKind, HookTable, Keyword, ReadFault, read_feature, read_hooks, read_lines, trim_back,
+};
 use std::alloc::Global;
 use std::test::Fail;
 
@@ -42,7 +44,7 @@ fn lines_end_at_lf_or_crlf(rt: HostRuntime) -> Result<(), ReadFault> {
 
 // The result of reading `WHOLE`.
 const SHOWN: &str =
-    "Feature { name: \"one: two\", line: 3, tags: [\"@f\", \"@g\"], background: Some(Background { line: 7, steps: [Step { keyword: \"Given\", step_type: Given, text: \"a\", block: Table([[\"a|b\", \"\"], [\"c\\nd\", \"\\\\\"]]), line: 9 }] }), scenarios: [Scenario { keyword: \"Scenario\", name: \"s\", line: 15, tags: [\"@s\"], steps: [Step { keyword: \"When\", step_type: When, text: \"b\", block: Text(\"x\\n  \\\"\\\"\\\"\\n\\n```\"), line: 17 }, Step { keyword: \"And\", step_type: When, text: \"c\", block: Empty, line: 24 }, Step { keyword: \"But\", step_type: When, text: \"d\", block: Empty, line: 25 }, Step { keyword: \"Then\", step_type: Then, text: \"e\", block: Text(\"\"), line: 26 }, Step { keyword: \"*\", step_type: Then, text: \"f\", block: Empty, line: 29 }], examples: [] }, Scenario { keyword: \"Scenario Outline\", name: \"o\", line: 30, tags: [], steps: [Step { keyword: \"Given\", step_type: Given, text: \"<x>\", block: Empty, line: 31 }], examples: [Examples { name: \"first\", line: 33, tags: [\"@e\"], header: [\"x\"], rows: [Row { line: 36, cells: [\"1\"] }, Row { line: 37, cells: [\"2\"] }] }, Examples { name: \"\", line: 38, tags: [], header: [], rows: [] }] }], rules: [Rule { name: \"r\", line: 40, tags: [\"@r\"], background: Some(Background { line: 41, steps: [] }), scenarios: [Scenario { keyword: \"Example\", name: \"y\", line: 42, tags: [], steps: [], examples: [] }] }] }";
+    "Feature { name: \"one: two\", line: 3, tags: [\"@f\", \"@g\"], background: Some(Background { line: 7, steps: [Step { keyword: Given, step_type: Given, text: \"a\", block: Table([[\"a|b\", \"\"], [\"c\\nd\", \"\\\\\"]]), line: 9 }] }), scenarios: [Scenario { keyword: Scenario, name: \"s\", line: 15, tags: [\"@s\"], steps: [Step { keyword: When, step_type: When, text: \"b\", block: Text(\"x\\n  \\\"\\\"\\\"\\n\\n```\"), line: 17 }, Step { keyword: And, step_type: When, text: \"c\", block: Empty, line: 24 }, Step { keyword: But, step_type: When, text: \"d\", block: Empty, line: 25 }, Step { keyword: Then, step_type: Then, text: \"e\", block: Text(\"\"), line: 26 }, Step { keyword: Star, step_type: Then, text: \"f\", block: Empty, line: 29 }], examples: [] }, Scenario { keyword: ScenarioOutline, name: \"o\", line: 30, tags: [], steps: [Step { keyword: Given, step_type: Given, text: \"<x>\", block: Empty, line: 31 }], examples: [Examples { name: \"first\", line: 33, tags: [\"@e\"], header: [\"x\"], rows: [Row { line: 36, cells: [\"1\"] }, Row { line: 37, cells: [\"2\"] }] }, Examples { name: \"\", line: 38, tags: [], header: [], rows: [] }] }], rules: [Rule { name: \"r\", line: 40, tags: [\"@r\"], background: Some(Background { line: 41, steps: [] }), scenarios: [Scenario { keyword: Example, name: \"y\", line: 42, tags: [], steps: [], examples: [] }] }] }";
 
 #[test]
 fn reads_each_construct(rt: HostRuntime) -> Result<(), Fail> {
@@ -67,7 +69,7 @@ const HOOKS: &str =
 
 // The result of reading `HOOKS`.
 const SHOWN_HOOKS: &str =
-    "HookFile { hooks: [Hook { kind: BeforeAll, tag: None, line: 2, steps: [Step { keyword: \"Given\", step_type: Given, text: \"a\", block: Table([[\"x\", \"\"]]), line: 3 }, Step { keyword: \"And\", step_type: Given, text: \"b\", block: Text(\"after_all:\"), line: 6 }] }, Hook { kind: AfterAll, tag: None, line: 10, steps: [] }, Hook { kind: BeforeFeature, tag: None, line: 11, steps: [] }, Hook { kind: AfterFeature, tag: None, line: 12, steps: [] }, Hook { kind: BeforeScenario, tag: None, line: 13, steps: [] }, Hook { kind: AfterScenario, tag: None, line: 14, steps: [] }, Hook { kind: BeforeTag, tag: Some(\"@a:b\"), line: 15, steps: [Step { keyword: \"*\", step_type: Given, text: \"c\", block: Empty, line: 16 }] }, Hook { kind: AfterTag, tag: Some(\"@a\"), line: 17, steps: [] }, Hook { kind: AfterTag, tag: Some(\"@b\"), line: 18, steps: [] }] }";
+    "HookFile { hooks: [Hook { kind: BeforeAll, tag: None, line: 2, steps: [Step { keyword: Given, step_type: Given, text: \"a\", block: Table([[\"x\", \"\"]]), line: 3 }, Step { keyword: And, step_type: Given, text: \"b\", block: Text(\"after_all:\"), line: 6 }] }, Hook { kind: AfterAll, tag: None, line: 10, steps: [] }, Hook { kind: BeforeFeature, tag: None, line: 11, steps: [] }, Hook { kind: AfterFeature, tag: None, line: 12, steps: [] }, Hook { kind: BeforeScenario, tag: None, line: 13, steps: [] }, Hook { kind: AfterScenario, tag: None, line: 14, steps: [] }, Hook { kind: BeforeTag, tag: Some(\"@a:b\"), line: 15, steps: [Step { keyword: Star, step_type: Given, text: \"c\", block: Empty, line: 16 }] }, Hook { kind: AfterTag, tag: Some(\"@a\"), line: 17, steps: [] }, Hook { kind: AfterTag, tag: Some(\"@b\"), line: 18, steps: [] }] }";
 
 #[test]
 fn reads_each_hook(rt: HostRuntime) -> Result<(), Fail> {
@@ -105,4 +107,39 @@ fn looks_hooks_up(rt: HostRuntime) -> Result<(), Fail> {
         }
     }
     Ok(())
+}
+
+// Keywords, as each is written, and as it has to be spelt.
+const KEYWORDS: [(Keyword, &str, &str); 15] = [
+    (Keyword::Feature, "Feature", "Feature:"),
+    (Keyword::Rule, "Rule", "Rule:"),
+    (Keyword::Background, "Background", "Background:"),
+    (
+        Keyword::ScenarioOutline,
+        "Scenario Outline",
+        "Scenario Outline:",
+    ),
+    (
+        Keyword::ScenarioTemplate,
+        "Scenario Template",
+        "Scenario Template:",
+    ),
+    (Keyword::Scenarios, "Scenarios", "Scenarios:"),
+    (Keyword::Scenario, "Scenario", "Scenario:"),
+    (Keyword::Examples, "Examples", "Examples:"),
+    (Keyword::Example, "Example", "Example:"),
+    (Keyword::Given, "Given", "Given"),
+    (Keyword::When, "When", "When"),
+    (Keyword::Then, "Then", "Then"),
+    (Keyword::And, "And", "And"),
+    (Keyword::But, "But", "But"),
+    (Keyword::Star, "*", "*"),
+];
+
+#[test]
+fn keywords_are_spelt(rt: HostRuntime) {
+    for (keyword, text, spelling) in KEYWORDS {
+        assert_eq!(rt; keyword.as_str(), text);
+        assert_eq!(rt; keyword.spelling(), spelling);
+    }
 }

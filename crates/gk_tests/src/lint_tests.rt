@@ -1,8 +1,8 @@
 use crate::run_tests::feature_of;
-use gk_gherkin::{Feature, ReadFault, read_feature, read_hooks, text_of};
+use gk_gherkin::{Feature, Keyword, ReadFault, read_feature, read_hooks, text_of};
 use gk_lint::{
-    Cause, EntryHint, Finding, FindingKind, Keyword, LibraryCause, StepFault, StepFindings,
-    cause_at, column_at, entry_hint, entry_lines, in_order, library_cause, lines_without_scenario,
+    Cause, EntryHint, Finding, FindingKind, LibraryCause, StepFault, StepFindings, cause_at,
+    column_at, entry_hint, entry_lines, in_order, library_cause, lines_without_scenario,
     lint_feature, lint_feature_file, lint_hook_tags, lint_hooks, lint_library, lint_steps,
     scenarios_of, tags_that_stand_nowhere,
 };
@@ -160,41 +160,6 @@ fn entries_are_meant(rt: HostRuntime) -> Result<(), LibraryFault> {
     assert_eq!(rt; lines.first().copied(), Some(2));
     assert_eq!(rt; lines.get(1).copied(), Some(3));
     Ok(())
-}
-
-// Keywords, as each is written, and as it has to be spelt.
-const KEYWORDS: [(Keyword, &str, &str); 15] = [
-    (Keyword::Feature, "Feature", "Feature:"),
-    (Keyword::Rule, "Rule", "Rule:"),
-    (Keyword::Background, "Background", "Background:"),
-    (
-        Keyword::ScenarioOutline,
-        "Scenario Outline",
-        "Scenario Outline:",
-    ),
-    (
-        Keyword::ScenarioTemplate,
-        "Scenario Template",
-        "Scenario Template:",
-    ),
-    (Keyword::Scenarios, "Scenarios", "Scenarios:"),
-    (Keyword::Scenario, "Scenario", "Scenario:"),
-    (Keyword::Examples, "Examples", "Examples:"),
-    (Keyword::Example, "Example", "Example:"),
-    (Keyword::Given, "Given", "Given"),
-    (Keyword::When, "When", "When"),
-    (Keyword::Then, "Then", "Then"),
-    (Keyword::And, "And", "And"),
-    (Keyword::But, "But", "But"),
-    (Keyword::Star, "*", "*"),
-];
-
-#[test]
-fn keywords_are_spelt(rt: HostRuntime) {
-    for (keyword, text, spelling) in KEYWORDS {
-        assert_eq!(rt; Keyword::text(keyword), text);
-        assert_eq!(rt; keyword.spelling(), spelling);
-    }
 }
 
 // What is wrong with steps, and how each is called.

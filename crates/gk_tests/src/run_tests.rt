@@ -107,7 +107,12 @@ const RUN: [&str; 6] = [
 fn shown(alloc: Global, case: &CaseResult) -> Result<String, AllocError> {
     let mut shown = format!(in alloc;
         "{}: {} ({}) {:?} {:?} {:?}",
-        case.keyword, case.name, case.line, case.status, case.around, case.cleanups
+        case.keyword.as_str(),
+        case.name,
+        case.line,
+        case.status,
+        case.around,
+        case.cleanups
     )?;
     for step in &case.steps {
         write!(shown, "; {} {:?} {:?}", step.line, step.status, step.reason)?;

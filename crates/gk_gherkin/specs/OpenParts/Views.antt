@@ -12,6 +12,7 @@ use Rattle.gk_gherkin.specs.declared.open_parts.Grid.TheVariants as grids
 use Rattle.gk_gherkin.specs.declared.open_parts.Outline.{Outline}
 use Rattle.gk_gherkin.specs.declared.open_parts.Open.{Open}
 use Rattle.gk_gherkin.specs.declared.open_parts.Open.TheVariants as opens
+use Rattle.gk_gherkin.specs.Keyword.{keyword_text}
 use Rattle.gk_gherkin.specs.Feature.{texts, step_value, row_value, background_value, scenario_value}
 use Rattle.gk_gherkin.specs.declared.read_fault.ReadFault.{ReadFault}
 use Rattle.gk_gherkin.specs.OpenParts as spec
@@ -32,7 +33,7 @@ body_value (bodies.Steps steps step) = spec.Steps (map step_value steps.items) (
 -- The value of an `Owner`.
 abbrev pub owner_value : Owner → spec.Owner
 owner_value (owners.OfBackground line) = spec.OfBackground line
-owner_value (owners.OfScenario children keyword head) = spec.OfScenario (children_value children) (string_bytes keyword) (head_value head)
+owner_value (owners.OfScenario children keyword head) = spec.OfScenario (children_value children) (keyword_text keyword) (head_value head)
 
 -- The value of a `Grid`.
 abbrev pub grid_value : Grid → spec.Grid

@@ -16,7 +16,7 @@ returns g c =
     let four = g.S.Serializer.written c.write_status.new.out in
     let five = g.S.Serializer.written c.write_text-2.new.out in
     let end = g.S.Serializer.written c.end_map.new.self in
-    let keyword = subst (λ text. AddsMembers (member (codes "keyword") (string text)) first one) c.as_str.ensures.value c.in_ok-write_text.ensures in
+    let keyword = subst (λ text. AddsMembers (member (codes "keyword") (string text)) first one) c.as_str.ensures c.in_ok-write_text.ensures in
     let line = subst (λ n. AddsMembers (member (codes "line") (number_data n)) one two) c.from.ensures c.in_ok-write_number.ensures in
     let text = subst (λ text. AddsMembers (member (codes "text") (string text)) four five) c.as_str-2.ensures.value c.in_ok-write_text-2.ensures in
     on_ok_weaker c.end_map.result (step_sent (step_row c.args.step.now) old first one two three four five end c.step_members.result c.step_members.ensures c.in_ok-begin_map.ensures

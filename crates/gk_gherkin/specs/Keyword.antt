@@ -1,7 +1,7 @@
--- Keywords that the author of a misspelt line may have meant.
-use Rattle.std.specs.Prelude.{codes, ℕ, List, [], ◌∷◌}
-use Rattle.gk_lint.specs.declared.keywords.Keyword.{Keyword}
-use Rattle.gk_lint.specs.declared.keywords.Keyword.TheVariants.{Feature, Rule, Background, ScenarioOutline, ScenarioTemplate, Scenarios, Scenario, Examples, Example, Given, When, Then, And, But, Star}
+-- The keywords of headings and steps.
+use Rattle.std.specs.Prelude.{codes, ℕ, List}
+use Rattle.gk_gherkin.specs.declared.keyword.Keyword.{Keyword}
+use Rattle.gk_gherkin.specs.declared.keyword.Keyword.TheVariants.{Feature, Rule, Background, ScenarioOutline, ScenarioTemplate, Scenarios, Scenario, Examples, Example, Given, When, Then, And, But, Star}
 
 -- A keyword as it is written, without the colon of a heading. (Cucumber's Gherkin reference: keywords)
 abbrev pub keyword_text : Keyword → List ℕ
@@ -20,14 +20,6 @@ keyword_text Then = codes "Then"
 keyword_text And = codes "And"
 keyword_text But = codes "But"
 keyword_text Star = codes "*"
-
--- The keywords of headings. (Cucumber's Gherkin reference: keywords)
-abbrev pub headings : List Keyword
-headings = Feature ∷ Rule ∷ Background ∷ ScenarioOutline ∷ ScenarioTemplate ∷ Scenarios ∷ Scenario ∷ Examples ∷ Example ∷ []
-
--- The keywords of steps. (Cucumber's Gherkin reference: keywords)
-abbrev pub step_words : List Keyword
-step_words = Given ∷ When ∷ Then ∷ And ∷ But ∷ Star ∷ []
 
 -- The correct spelling of a keyword, with the colon of a heading. (Cucumber's Gherkin reference: keywords)
 abbrev pub spelling : Keyword → List ℕ

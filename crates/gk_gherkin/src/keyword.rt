@@ -1,6 +1,6 @@
-//! Keywords that the author of a misspelt line may have meant.
+//! The keywords of headings and steps.
 ghost use Rattle.std.specs.Prelude.{◌≡◌};
-ghost use Rattle.gk_lint.specs.Keywords as spec;
+ghost use Rattle.gk_gherkin.specs.Keyword as spec;
 
 /// A keyword of a heading or of a step. (Cucumber's Gherkin reference: keywords)
 #[derive(Clone, Copy, Debug, PartialEq, Eq)]
@@ -26,32 +26,9 @@ const OUTLINE: &str = "Scenario Outline";
 
 const TEMPLATE: &str = "Scenario Template";
 
-/// The keywords of headings. A keyword comes after every longer one that begins with it.
-pub const HEADINGS: [Keyword; 9] = [
-    Keyword::Feature,
-    Keyword::Rule,
-    Keyword::Background,
-    Keyword::ScenarioOutline,
-    Keyword::ScenarioTemplate,
-    Keyword::Scenarios,
-    Keyword::Scenario,
-    Keyword::Examples,
-    Keyword::Example,
-];
-
-/// The keywords of steps.
-pub const STEP_WORDS: [Keyword; 6] = [
-    Keyword::Given,
-    Keyword::When,
-    Keyword::Then,
-    Keyword::And,
-    Keyword::But,
-    Keyword::Star,
-];
-
 impl Keyword {
     /// Returns the keyword as it is written, without the colon of a heading.
-    pub fn text(self) -> &'static str
+    pub fn as_str(self) -> &'static str
         ensures { result.now ≡ spec.keyword_text self }
     {
         match self {
