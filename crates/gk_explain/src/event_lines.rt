@@ -5,6 +5,7 @@ ghost use Rattle.gk_report.specs.ReportTexts.{line_feed, Pushes};
 ghost use Rattle.gk_explain.specs.Event.{event_told};
 ghost use Rattle.gk_explain.specs.EventLines as spec;
 ghost use Rattle.gk_explain.specs.EventLines.{names_value, mark_text};
+ghost use Rattle.gk_explain.specs.Shown.{escaped};
 
 use crate::event::Event;
 use crate::registrations::Registration;
@@ -59,6 +60,15 @@ fn push_mark(out: &mut String, mark: Mark) -> Result<(), AllocError>
     push_ending(out, status_of(mark), reason_of(mark))
 }
 
+// Appends the keyword and the text of a step.
+fn push_words(out: &mut String, keyword: &str, text: &str) -> Result<(), AllocError>
+    ensures { Pushes out.old (keyword.now ++ codes " " ++ escaped text.now) result out.new }
+{
+    out.push_str(keyword)?;
+    out.push_str(" ")?;
+    push_escaped(out, text)
+}
+
 // Appends the line of a step and its mark.
 #[tactic(auto, unfolding(crate::specs::EventLines::line_of_step, gk_report::specs::PlainReport::status_line))]
 fn push_step_line(
@@ -75,9 +85,7 @@ fn push_step_line(
     out.push_str("  ")?;
     push_place(out, file_of(names, place.part), step.line)?;
     out.push_str(part_text(place.part))?;
-    out.push_str(step.keyword.as_str())?;
-    out.push_str(" ")?;
-    push_escaped(out, step.text.as_str())?;
+    push_words(out, step.keyword.as_str(), step.text.as_str())?;
     push_mark(out, mark)
 }
 
