@@ -119,8 +119,8 @@ impl<'a> Explainer<'a> {
     }
 
     /// Returns the explanations that are ready and weren't taken before; after that, none is ready. Allocates
-    /// no memory. An error comes only if a growth was refused to the explainer before, so that it is cut; the
-    /// call leaves it as it is then.
+    /// no memory. An error comes only if a growth was refused to the explainer before, so that it is cut, and
+    /// it stays cut.
     pub fn take_ready(&mut self) -> Result<String, AllocError>
         ensures uncut { IfOk result (λ text. spec.is_cut self.old ≡ false) }
         ensures text { let old = said self.old in IfOk result (λ text.

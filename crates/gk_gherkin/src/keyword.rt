@@ -22,10 +22,6 @@ pub enum Keyword {
     Star,
 }
 
-const OUTLINE: &str = "Scenario Outline";
-
-const TEMPLATE: &str = "Scenario Template";
-
 impl Keyword {
     /// Returns the keyword as it is written, without the colon of a heading.
     pub fn as_str(self) -> &'static str
@@ -35,8 +31,8 @@ impl Keyword {
             Keyword::Feature => "Feature",
             Keyword::Rule => "Rule",
             Keyword::Background => "Background",
-            Keyword::ScenarioOutline => OUTLINE,
-            Keyword::ScenarioTemplate => TEMPLATE,
+            Keyword::ScenarioOutline => "Scenario Outline",
+            Keyword::ScenarioTemplate => "Scenario Template",
             Keyword::Scenarios => "Scenarios",
             Keyword::Scenario => "Scenario",
             Keyword::Examples => "Examples",

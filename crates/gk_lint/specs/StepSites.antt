@@ -7,7 +7,7 @@ use Rattle.gk_steps.specs.declared.action.Does.TheVariants.{Registers, Skips}
 use Rattle.gk_lint.specs.declared.step_sites.StepSite.{StepSite}
 use Rattle.gk_lint.specs.declared.step_sites.StepSite.TheVariants.{Scenario, Hook, Cleanup}
 
--- The site of a hook's steps. A hook before a tag is a hook of a scenario if the tag is a scenario's. (behave's documentation: environment file functions)
+-- The site of a hook's steps. A hook before a tag counts as a scenario's, since its tag may be above one. (behave's documentation: environment file functions)
 abbrev pub site_of_hook : HookKind → StepSite
 site_of_hook kinds.BeforeScenario = Scenario
 site_of_hook kinds.BeforeTag = Scenario

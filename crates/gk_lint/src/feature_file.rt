@@ -41,12 +41,11 @@ pub fn lint_feature(
     in_order(findings)
 }
 
-/// Returns the findings of a feature file with these bytes, in the order of lines. Three kinds concern the whole file:
-/// its lines end with CR alone, it has no feature, or the feature has no scenarios. The others are scenarios without
-/// steps, outlines without rows, scenarios with the name of an earlier one, placeholders that no column has, description
-/// lines that begin like a keyword, and steps outside of scenarios. Prose is left out: lines of these last two kinds that
-/// are directly above a description line that begins like no keyword, and a single one that is directly below such a
-/// line, unless a step is directly below it.
+/// Returns the findings of a feature file with these bytes, in the order of lines. They are of all kinds of
+/// `FindingKind` that need neither a library nor hooks: parts that never run, texts that aren't read as they were meant,
+/// and names that mislead. Prose is left out: lines with a `LikeKeyword` or `StepOutside`, one directly below the
+/// other, if a description line that begins like no keyword is directly below them, and a single one that is directly
+/// below such a line, unless a step is directly below it.
 ///
 /// If the file is invalid, the error is the fault that `read_feature` returns for it. `Memory` comes only if a growth
 /// was refused.

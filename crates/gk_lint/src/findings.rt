@@ -30,8 +30,8 @@ pub enum FindingKind {
     StepOutside,
     /// An earlier scenario of the feature has the same name.
     NameTwice,
-    /// In an outline, `<WORD>` stays as it is, since no column has this name. It is nearest to the column at position
-    /// `column` of the outline, which is the scenario at position `scenario` of the feature.
+    /// In an outline, `<WORD>` stays as it is, since no column has this name. The first column that it comes near to is at
+    /// position `column` of the outline, which is the scenario at position `scenario` of the feature.
     NoColumn { scenario: usize, column: usize },
     /// The step finds no entry of the library as it is run; in an outline, in at least one row. Its author may have meant
     /// this entry. (behave's documentation: undefined steps)

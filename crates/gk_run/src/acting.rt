@@ -279,8 +279,8 @@ pub(crate) fn act_by(
 /// Carries out the action of a step that was found in a library, with the step's block.
 ///
 /// The outcome is `Passed`, `Failed` with the first of the action's reasons that holds, `Skip`, or
-/// `Memory`. `Memory` comes only if a growth was refused. It never comes for an action that changes
-/// nothing, or for one that is refused before a part of it passed. Nor does it come for `at_cleanup`
+/// `Memory`. `Memory` comes only if a growth was refused. It never comes for an action that only
+/// checks, or for one that is refused before a part of it passed. Nor does it come for `at_cleanup`
 /// with a step that has the ends of no entry of type `step`. `at_cleanup` adds a cleanup to those that
 /// are registered; every other action, and a refusal, leaves these as they are. An action that fails
 /// midway keeps what it did before: rows of `write_files` before the refused one stay. At `Memory` the

@@ -1,8 +1,9 @@
 -- The choice among the cases of a feature, made without the cases.
-use Rattle.std.proofs.Common.{◌≡◌, ◌<◌, ℕ, ◌+◌, Bool, List, [], ◌∷◌, ◌++◌, ◌&&◌, length, drop, get_or, map, flat_map, refl, sym, ap, subst, ◌∙◌, inl, inr, arith, append_assoc}
+use Rattle.std.proofs.Common.{◌≡◌, ◌<◌, ℕ, ◌+◌, Bool, List, [], ◌∷◌, ◌++◌, ◌&&◌, length, drop, get_or, map, flat_map, Result, Ok, Err, IfErr, refl, sym, ap, subst, ◌∙◌, inl, inr, arith, append_assoc}
 use Rattle.std.proofs.lemmas.Grind.{common_steps}
 use Rattle.std.proofs.lemmas.Bool.{cases_Bool}
-use Rattle.std.proofs.lemmas.List.{map-append}
+use Rattle.std.proofs.lemmas.List.{get_or-map, length-append, length-map, map-append}
+use Rattle.std.proofs.lemmas.List.Folds.{length-flat_map-take}
 use Rattle.std.specs.List.{enumerate_from}
 use Rattle.gk_gherkin.specs.Feature.{RowValue, ExamplesValue, ScenarioValue, RuleValue, FeatureValue}
 use Rattle.gk_select.specs.declared.choice.Choice.{Choice}
@@ -58,3 +59,21 @@ one_part {A} F v xs ys i x same less is old new whole grown before =
     ap (λ l. l ++ rest) grown ∙ append_assoc old (F (v x)) rest ∙ ap (λ (z : A). old ++ (F (v z) ++ rest)) is
     ∙ ap (λ (l : List A). old ++ flat_map F (map v l)) (sym split) ∙ ap (λ (zs : List A). old ++ flat_map F (map v (drop i zs))) same ∙ before
     )
+
+-- If one part has values, so have all together.
+pub some_part : {A B C : Type 0} (F : B → List C) (v : A → B) (xs ys : List A) (i : ℕ) (x : A) → xs ≡ ys → i < length xs → x ≡ get_or xs i x → 0 < length (F (v x)) → 0 < length (flat_map F (map v ys))
+some_part {A} F v xs ys i x same less is has =
+    let there : length (F (v x)) ≡ length (F (get_or (map v xs) i (v x))) = ap (λ b. length (F b)) (ap v is ∙ sym (get_or-map v xs i x (v x) less)) in
+    let most = length-flat_map-take F (map v xs) i (v x) (subst (λ n. i < n) (sym (length-map xs v)) less) in
+    subst (λ (zs : List A). 0 < length (flat_map F (map v zs))) same (omega (arith, has, there, most))
+
+-- If a scenario in no rule has a case, so has the feature.
+pub some_own : (choice : Choice) (f : FeatureValue) → 0 < length (flat_map (scenario_selected choice (inherited_in_feature f)) f.scenarios) → 0 < length (cases f)
+some_own choice f has =
+    let own = flat_map (scenario_selected choice (inherited_in_feature f)) f.scenarios in
+    omega (arith, has, length-append own (rules_selected choice f 0 f.rules), ap length (all_selected choice f), length-map (cases f) (chosen_by choice))
+
+-- What holds anyway holds at an error.
+pub if_err : {T E P : Type 0} (r : Result T E) → P → IfErr r (λ e. P)
+if_err (Ok x) p = tt
+if_err (Err e) p = p

@@ -33,7 +33,7 @@ filled_from headers cells (suc skip) (b ∷ bs) = filled_from headers cells skip
 filled_from headers cells zero (b ∷ bs) =
     filled_at (cell_under headers cells) (header_at headers (b ∷ bs)) (λ skip. filled_from headers cells skip bs) b
 
--- A text with the row's cell in place of each placeholder, from left to right. The text of a cell isn't filled again. (Cucumber's Gherkin reference: scenario outline)
+-- A text with the row's cell in place of each placeholder whose header can stand in one, from left to right. The text of a cell isn't filled again. (Cucumber's Gherkin reference: scenario outline)
 unfoldable pub filled : List (List ℕ) → List (List ℕ) → List ℕ → List ℕ
 filled headers cells text = filled_from headers cells 0 text
 

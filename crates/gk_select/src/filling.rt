@@ -32,7 +32,7 @@ fn push_piece(
     filled.push('>')
 }
 
-/// Returns a text with the row's cell in place of each `<h>` whose h is a header, from left to right.
+/// Returns a text with the row's cell in place of each `<h>` whose h is a header without `>`, from left to right.
 ///
 /// The text of a cell isn't filled again. Of two equal headers the first counts. A `<` that begins no
 /// placeholder stays. The row must have as many cells as the header. An error comes only if a growth was

@@ -1,5 +1,5 @@
 //! The choice among the cases of a feature, made before the cases are built.
-ghost use Rattle.std.specs.Prelude.{◌≡◌, ◌++◌, flat_map, map, OnOk, IfOk};
+ghost use Rattle.std.specs.Prelude.{◌≡◌, ◌<◌, ◌++◌, length, flat_map, map, OnOk, IfOk, IfErr};
 ghost use Rattle.gk_gherkin.specs.Feature.{row_value, examples_value, scenario_value, feature_value};
 ghost use Rattle.gk_select.specs.Choice.{chosen_by};
 ghost use Rattle.gk_select.specs.Expansion.{cases, IsExpandable};
@@ -20,8 +20,10 @@ fn select_rows(
     rows: &[Row],
     selected: &mut Vec<bool>,
 ) -> Result<(), AllocError>
-    ensures { OnOk result (selected.new.items ≡ selected.old.items
+    ensures chosen { OnOk result (selected.new.items ≡ selected.old.items
         ++ rows_selected choice.now hold (map row_value rows.now)) }
+    ensures memory { IfErr result (λ e.
+        0 < length (rows_selected choice.now hold (map row_value rows.now))) }
 {
     for row in rows {
         selected.push(choice.takes(hold, row.line))?;
@@ -37,9 +39,12 @@ fn select_examples(
     examples: &Examples,
     selected: &mut Vec<bool>,
 ) -> Result<(), AllocError>
-    ensures { OnOk result (selected.new.items ≡ selected.old.items
+    ensures chosen { OnOk result (selected.new.items ≡ selected.old.items
         ++ examples_selected choice.now (inherited_value inherited.now)
         (scenario_value scenario.now) (examples_value examples.now)) }
+    ensures memory { IfErr result (λ e.
+        0 < length (examples_selected choice.now (inherited_value inherited.now)
+        (scenario_value scenario.now) (examples_value examples.now))) }
 {
     let tags = TagLists {
         feature: inherited.feature_tags,
@@ -57,9 +62,12 @@ fn select_outline(
     scenario: &Scenario,
     selected: &mut Vec<bool>,
 ) -> Result<(), AllocError>
-    ensures { OnOk result (selected.new.items ≡ selected.old.items
+    ensures chosen { OnOk result (selected.new.items ≡ selected.old.items
         ++ flat_map (examples_selected choice.now (inherited_value inherited.now)
         (scenario_value scenario.now)) (scenario_value scenario.now).examples) }
+    ensures memory { IfErr result (λ e.
+        0 < length (flat_map (examples_selected choice.now (inherited_value inherited.now)
+        (scenario_value scenario.now)) (scenario_value scenario.now).examples)) }
 {
     for examples in &scenario.examples {
         select_examples(choice, inherited, scenario, examples, selected)?;
@@ -88,9 +96,12 @@ fn select_scenario(
     scenario: &Scenario,
     selected: &mut Vec<bool>,
 ) -> Result<(), AllocError>
-    ensures { OnOk result (selected.new.items ≡ selected.old.items
+    ensures chosen { OnOk result (selected.new.items ≡ selected.old.items
         ++ scenario_selected choice.now (inherited_value inherited.now)
         (scenario_value scenario.now)) }
+    ensures memory { IfErr result (λ e.
+        0 < length (scenario_selected choice.now (inherited_value inherited.now)
+        (scenario_value scenario.now))) }
 {
     if is_outline(scenario) {
         return select_outline(choice, inherited, scenario, selected);
@@ -106,9 +117,12 @@ fn select_scenarios(
     scenarios: &[Scenario],
     selected: &mut Vec<bool>,
 ) -> Result<(), AllocError>
-    ensures { OnOk result (selected.new.items ≡ selected.old.items
+    ensures chosen { OnOk result (selected.new.items ≡ selected.old.items
         ++ flat_map (scenario_selected choice.now (inherited_value inherited.now))
         (map scenario_value scenarios.now)) }
+    ensures memory { IfErr result (λ e.
+        0 < length (flat_map (scenario_selected choice.now (inherited_value inherited.now))
+        (map scenario_value scenarios.now))) }
 {
     for scenario in scenarios {
         select_scenario(choice, inherited, scenario, selected)?;
@@ -125,8 +139,10 @@ pub fn selected_cases(
     feature: &Feature,
 ) -> Result<Vec<bool>, AllocError>
     requires { IsExpandable (feature_value feature.now) }
-    ensures { IfOk result (λ selected. selected.items
+    ensures chosen { IfOk result (λ selected. selected.items
         ≡ map (chosen_by choice.now) (cases (feature_value feature.now))) }
+    // Memory is refused only if the feature has a case.
+    ensures memory { IfErr result (λ e. 0 < length (cases (feature_value feature.now))) }
 {
     let mut selected = Vec::new(alloc);
     let inherited = inherited_in_feature(feature);
