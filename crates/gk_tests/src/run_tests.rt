@@ -3,13 +3,13 @@ ghost use Rattle.gk_gherkin.specs.Feature.{feature_value};
 ghost use Rattle.gk_select.specs.Expansion.{IsExpandable};
 ghost use Rattle.gk_run.specs.Chosen.{IsFormed};
 
-use gk_gherkin::{Feature, Rule, read_feature, read_hooks};
+use gk_gherkin::{Feature, Hooks, Rule, read_feature, read_hooks};
 use gk_report::{Format, Style, part};
 use gk_run::{CaseResult, Chosen, FeatureResult, RuleHead, run_case, run_feature};
 use gk_select::{
     Case, Choice, cases_fall_into_rules, expand, read_features_are_expandable, read_tags,
 };
-use gk_steps::{default_library, read_library};
+use gk_steps::{Library, default_library, read_library};
 use gk_world::Sandbox;
 use std::alloc::{AllocError, Global};
 use std::test::Fail;
@@ -126,17 +126,31 @@ pub fn cases_of(alloc: Global, text: &str) -> Result<Vec<Case>, Fail> {
     Ok(expand(alloc, &feature)?)
 }
 
+// Returns the results of the cases as one text each, in order, from a new sandbox.
+fn shown_results(
+    alloc: Global,
+    library: &Library,
+    hooks: &Hooks,
+    cases: Vec<Case>,
+) -> Result<Vec<String>, Fail> {
+    let mut sandbox = Sandbox::new(alloc);
+    let mut results = Vec::new(alloc);
+    for case in cases {
+        let result = run_case(alloc, &mut sandbox, library, hooks, case)?;
+        results.push(shown(alloc, &result)?)?;
+    }
+    Ok(results)
+}
+
 #[test]
 fn cases_run_alone(rt: HostRuntime) -> Result<(), Fail> {
     let library = default_library(rt.alloc())?;
     let hooks = read_hooks(rt.alloc(), CASE_HOOKS.as_bytes())?;
     let cases = cases_of(rt.alloc(), CASES)?;
-    assert_eq!(rt; cases.len(), RUN.len());
-    let mut sandbox = Sandbox::new(rt.alloc());
-    for (case, wanted) in cases.into_iter().zip(RUN) {
-        let result = run_case(rt.alloc(), &mut sandbox, &library, &hooks, case)?;
-        let shown = shown(rt.alloc(), &result)?;
-        assert_eq!(rt; shown.as_str(), wanted);
+    let results = shown_results(rt.alloc(), &library, &hooks, cases)?;
+    assert_eq!(rt; results.len(), RUN.len());
+    for (result, wanted) in results.iter().zip(RUN) {
+        assert_eq!(rt; result.as_str(), wanted);
     }
     Ok(())
 }
