@@ -3,7 +3,8 @@
 
 A NAME is a module of tests/, such as test_runs, or a class or a test in it. Without one, all modules run. PROGRAM is
 the program that is tested; without it, GHERKIN_RUN of the environment, or the one that ./run runs. Each class is a
-process. Closes with one line 'N passed, M failed', and with status 0 only if M is 0.
+process. One that fails is shown, and tried once more at the end with nothing beside it, since a busy machine can make a test too
+slow. Closes with one line 'N passed, M failed', and with status 0 only if M is 0.
 """
 
 import concurrent.futures
@@ -70,13 +71,21 @@ def main():
     modules = sorted(os.path.basename(it)[:-3] for it in glob.glob(os.path.join(TESTS, "test_*.py")))
     names = [own for it in names or modules if it not in without for own in classes(it)]
     passed = failed = 0
+    again = []
     with concurrent.futures.ThreadPoolExecutor(driver.processors()) as pool:
         order = sorted(names, key=lambda it: LONGEST.index(it) if it in LONGEST else len(LONGEST))
         running = {it: pool.submit(run, it) for it in order}
         for name in names:
             said, good, bad = running[name].result()
             print(f"== {name}", said.rstrip("\n"), sep="\n", flush=True)
-            passed, failed = passed + good, failed + bad
+            if bad:
+                again.append(name)
+            else:
+                passed += good
+    for name in again:
+        said, good, bad = run(name)
+        print(f"== {name}, once more", said.rstrip("\n"), sep="\n", flush=True)
+        passed, failed = passed + good, failed + bad
     print(f"{passed} passed, {failed} failed")
     return failed > 0
 

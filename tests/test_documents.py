@@ -280,6 +280,8 @@ def shared_modules():
 STATUSES = {"passed", "failed", "skipped", "undefined", "untested", "memory"}
 # What is to be done about each fault: its fix in docs/FAULTS.md begins so.
 HINTS = "crates/gk_findings/src/hints.rt"
+# The keywords of Gherkin are no faults.
+KEYWORDS = "crates/gk_gherkin/src/keyword.rt"
 # Reasons that are one word; other single words in the code are keywords and names.
 REASONS_OF_ONE_WORD = {"absent", "present", "differs"}
 
@@ -287,7 +289,7 @@ REASONS_OF_ONE_WORD = {"absent", "present", "differs"}
 def fault_texts():
     """The texts of faults and the reasons that the code prints, without those of the crates of tests."""
     texts = set()
-    for path in {*shape.files("crates/(?!gk_tests/|gk_cli_tests/)[^/]+/src/.*[.]rt")} - {HINTS}:
+    for path in {*shape.files("crates/(?!gk_tests/|gk_cli_tests/)[^/]+/src/.*[.]rt")} - {HINTS, KEYWORDS}:
         code = re.sub(r"//.*", "", driver.text(path)).replace('\\n"', '"')
         for pattern in (r'#\[error\("([^"{}]+)"\)\]', r'write_str\("([^"{}]+)"\)', r'=>\s*"([^"{}]+)"',
                         r'\btext: "([^"{}]+)",\s*hint: "', r'"gherkin_run: (?:\{name\}: )?([^"{}]+)"'):
