@@ -8,7 +8,7 @@ use Rattle.gk_explain.specs.Details.{compared}
 abbrev pub IsLine : List ℕ → ℕ → List ℕ → Type 0
 IsLine text number line = (before : List (List ℕ)) × (after : List (List ℕ)) × (text_lines text ≡ before ++ (line ∷ after)) × (length before + 1 ≡ number)
 
--- If two texts are compared, each of them has a line with the number of the line in which they first differ. What is shown has this line of the expected text and, after it, this line of the found text, however long the texts are. Both are cut around the column of the first difference, if they are long.
+-- If two UTF-8 texts are compared, each of them has a line with the number of the line in which they first differ. What is shown has this line of the expected text and, after it, this line of the found text, however long the texts are. Both are cut around the column of the first difference, if they are long.
 abbrev pub DifferingLinesAreShown : Type 0
 DifferingLinesAreShown = (expected found : List ℕ) → IsUtf8 expected → IsUtf8 found → (let p = first_difference expected found in
     (line : List ℕ) × (other : List ℕ) × IsLine expected p.line line × IsLine found p.line other

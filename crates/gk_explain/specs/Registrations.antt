@@ -70,7 +70,7 @@ abbrev pub placed_by : RunEvent → List PlacedCleanup
 placed_by (of_step place step mark cleanups s) = map (λ cleanup. record { at = Some (record { part = place.part; line = step.line }); cleanup = cleanup }) cleanups
 placed_by (of_cleanup level cleanup outcome s) = []
 
--- The cleanups of a case that run are those that its hooks and steps registered, the last first. The place given for each is that of the step that registered it.
+-- If memory is refused nowhere, the cleanups of a case that run are those that its hooks and steps registered, the last first. The place given for each is that of the step that registered it.
 abbrev pub CleanupsAreOfTheirSteps : Type 0
 CleanupsAreOfTheirSteps = (run : Run) (section : State) (c : CaseValue) →
     let events = alone run section c in

@@ -401,8 +401,7 @@ fn ordered(found: StepFindings) -> Result<StepFindings, AllocError>
 
 /// Returns the findings of the steps of a feature that `read_feature` returned, in the order of lines: those of its
 /// Backgrounds, its scenarios and its rules. For an outline the steps of its cases are looked up, each filled from its
-/// row. Findings of several rows are listed once, at the line of the step. Each step is looked up once, and each
-/// finding at a step is listed once.
+/// row. Findings of several rows are listed once, at the line of the step, and each finding at a step is listed once.
 ///
 /// An error comes only if a growth was refused.
 pub fn lint_steps(

@@ -138,7 +138,7 @@ feature_without_rules run outside is_open cuts f =
     let ran = section_of run levels.Feature f.tags outside (is_open && has_selected f.members) cuts.own (λ section is_ready. cases_of run section is_ready cuts.cases f.members) in
     record { result = feature_row_of f ran.result.around (record { rules = []; cases = ran.result.inside }); told = ran.told }
 
--- A feature without rules has the results that its cases have one after another, each from the feature's state.
+-- A feature without rules, whose cases are in none, has the results that its cases have one after another, each from the feature's state.
 abbrev pub FeaturesWithoutRulesHaveTheirCases : Type 0
 FeaturesWithoutRulesHaveTheirCases = (run : Run) (outside : State) (is_open : Bool) (cuts : FeatureCuts) (f : ChosenValue) →
     f.rules ≡ [] → CasesFallIntoRules f → feature_of run outside is_open cuts f ≡ feature_without_rules run outside is_open cuts f

@@ -12,8 +12,8 @@ pub fn walks_end_at_the_least_stop()
     ensures { WalksEndAtTheLeastStop }
 {}
 
-/// The steps of a case whose before list passed whole end at that step too: those below it passed,
-/// and those above it are skipped or undefined. (behave's documentation: a failed step ends its
+/// The steps of a case whose before list passed whole end at that step too: those before it passed,
+/// and those after it are skipped or undefined. (behave's documentation: a failed step ends its
 /// scenario)
 pub fn steps_end_at_the_least_stop()
     ensures { StepsEndAtTheLeastStop }
@@ -25,9 +25,9 @@ pub fn stopped_cases_run_no_step()
     ensures { StoppedCasesRunNoStep }
 {}
 
-/// Results are judged exactly if the words hold of them. The words say which features and rules are
-/// begun, which cases are reached, what each comes to, and what `--stop` and refused memory leave of
-/// the rest. (behave's documentation: environment file functions, `--stop`)
+/// Results are judged exactly if `JudgedPartByPart` holds of them. It says which features and rules
+/// are begun, which cases are reached, what each comes to, and what `--stop` and refused memory leave
+/// of the rest. (behave's documentation: environment file functions, `--stop`)
 pub fn judged_results_hold_part_by_part()
     ensures { JudgedHoldPartByPart }
 {}
@@ -78,12 +78,14 @@ pub fn formed_cases_fall_into_rules()
     ensures { FormedCasesFallIntoRules }
 {}
 
-/// A feature without rules has the results that its cases have one after another.
+/// A feature without rules, whose cases are in none, has the results that its cases have one after
+/// another.
 pub fn features_without_rules_have_their_cases()
     ensures { FeaturesWithoutRulesHaveTheirCases }
 {}
 
-/// The results of a feature are in file order: those of its rules, and those of its cases.
+/// If the cases of a feature fall into its rules, its results are in file order: those of its rules,
+/// and those of its cases.
 pub fn results_stand_in_file_order()
     ensures { ResultsStandInFileOrder }
 {}

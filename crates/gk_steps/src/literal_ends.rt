@@ -77,8 +77,8 @@ fn fits_end(pieces: &[Piece], text: &str) -> bool
 }
 
 impl Pattern {
-    /// Returns whether the literals at the pattern's ends are at the text's ends. If they aren't, there is no match.
-    /// Doesn't allocate.
+    /// Returns true only if the text begins and ends with the literals at the pattern's ends, and false only if the
+    /// pattern doesn't match it. Doesn't allocate.
     pub fn can_match(&self, text: &str) -> bool
         ensures prefix { IsTrue result → FitsStart (pattern_value self.now) text.now }
         ensures back { IsTrue result → FitsEnd (pattern_value self.now) text.now }

@@ -272,7 +272,7 @@ pub fn read_pattern(alloc: Global, text: &str) -> Result<Pattern, PatternFault>
     ensures found { IfOk result (λ p. SpellsPattern text.now (pattern_value p)) }
     // A text that spells a pattern is never a bad pattern.
     ensures bad { (ps : List PieceValue) → SpellsPattern text.now ps → result ≡ Err BadPattern → ⊥ }
-    // Memory is never refused to a text that needs none.
+    // Memory is refused only if the text begins with a piece.
     ensures memory { result ≡ Err Memory → BeginsWithPiece text.now }
 {
     let pieces = read_pieces(alloc, text)?;
