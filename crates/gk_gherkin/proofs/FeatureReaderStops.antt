@@ -5,7 +5,7 @@ use Rattle.std.specs.Prelude.{codes, option_map}
 use Rattle.std.specs.Str.{bytes_eq}
 use Rattle.std.proofs.lemmas.Slice.Eq.{bytes_eq-Decides}
 use Rattle.gk_gherkin.specs.declared.class.Class.TheVariants.{BackgroundHeading, Blank, Comment, ExamplesHeading, FeatureHeading, FenceLine, Other, RowLine, RuleHeading, ScenarioHeading, StepLine, TagLine}
-use Rattle.gk_gherkin.specs.declared.read_fault.ReadFault.TheVariants.{BadRow, BadTag, CellCount, Language, Memory, TagsAtEnd, UnclosedText, Unexpected}
+use Rattle.gk_gherkin.specs.declared.read_fault.ReadFault.TheVariants.{BadTag, Language, Memory, TagsAtEnd, UnclosedText, Unexpected}
 use Rattle.gk_gherkin.specs.declared.class.Class.{Class}
 use Rattle.gk_gherkin.specs.declared.class.Fence.{Fence}
 use Rattle.gk_gherkin.specs.declared.read_fault.ReadFault.{ReadFault}
@@ -19,7 +19,7 @@ use Rattle.gk_gherkin.specs.Rows.{cells_of}
 use Rattle.gk_gherkin.specs.Language.{language_of}
 use Rattle.gk_gherkin.specs.Feature.{FeatureValue, RowValue, feature_value}
 use Rattle.gk_gherkin.specs.Grammar.{AreTags, Describes, IsIgnored, IsIgnoredAbove, IsIgnoredClass, IsReadable, MayDescribeScenario, Reads, Skips, skip, skip_none, tagged, untagged}
-use Rattle.gk_gherkin.specs.ReadFault.{AnswersOrLacksMemory, BeginsNone, EndsInTags, FaultSays, FeatureFault, IsBadRow, IsBadTag, IsOtherLanguage, IsOtherWidth, NeedsMemory, NoneLikeIt, StopsAt, TakesTags}
+use Rattle.gk_gherkin.specs.ReadFault.{AnswersOrLacksMemory, BeginsNone, EndsInTags, FaultSays, FeatureFault, IsBadTag, IsLineFault, LineSays, NeedsMemory, NoneLikeIt, TakesTags, line_of_fault}
 use Rattle.gk_gherkin.specs.Results.{◌>>=◌}
 use Rattle.gk_gherkin.proofs.ReadingRuns.{Halts, bind_err, err_same, halts, no_err, no_ok, ok_same, one_more_line}
 use Rattle.gk_gherkin.proofs.ReadingStates.{never, no_fence, refused_at, step_plain, step_refused}
@@ -28,7 +28,7 @@ use Rattle.gk_gherkin.proofs.ReadingWhole.{only_memory, said}
 use Rattle.gk_gherkin.proofs.OpenPartsSound.{BodyBuilt, GridBuilt, OpenBuilt}
 use Rattle.gk_gherkin.proofs.FeatureReaderSound.{FeatureBuilt, blank_at, comment_ok, reached_built, sound}
 use Rattle.gk_gherkin.proofs.FeatureReaderComplete.{complete, runs}
-use Rattle.gk_gherkin.proofs.RowStops.{Refuses, RowSays, RowStop, Stopped, first_of, first_row, line_of, other_width, row_says, row_stops, row_takes, stepped_stops, stopped_then}
+use Rattle.gk_gherkin.proofs.RowStops.{Refuses, RowStop, Stopped, first_of, first_row, line_of, other_width, row_says, row_stops, row_takes, stepped_stops, stopped_then}
 use Rattle.gk_gherkin.proofs.FirstTags.{good_tags}
 use Rattle.gk_gherkin.specs.declared.feature.Feature.{Feature}
 
@@ -104,14 +104,9 @@ fits before (Outside (Untagged feature)) l e r h = inl (readable_at before featu
 fits before (Outside (Tagged feature tags n)) l e r h = inr (heading_for feature, readable_after_tags before feature tags n r)
 fits before (InText reader text) l e r h = never feature_readers reader text l e h
 
--- what a fault says of its line and of those before it
+-- a fault names a line, and says something of it and of those before it
 abbrev Says : ReadFault → Lines → LineValue → Type 0
-Says (Unexpected n) before l = (l.line ≡ n) × NoneLikeIt IsReadable class before l
-Says (BadTag n) before l = (l.line ≡ n) × IsBadTag before l
-Says (BadRow n) before l = (l.line ≡ n) × IsBadRow IsReadable class before l
-Says (CellCount n) before l = (l.line ≡ n) × IsOtherWidth IsReadable class before l
-Says (Language n) before l = (l.line ≡ n) × IsOtherLanguage before l
-Says _ before l = ⊥
+Says e before l = (line_of_fault e ≡ Some l.line) × LineSays e before l
 
 examples_refuse : (o : Option OutlineValue) (top : Top) (tags : List (List ℕ)) (l : LineValue) (e : ReadFault) → examples_after o top tags l ≡ Err e → Refuses (examples_after o top tags) l e
 examples_refuse (Some outline) top tags l e h = no_err h
@@ -188,11 +183,6 @@ tags_err : (r : Result OpenFeature ReadFault) (e : ReadFault) → without_tags r
 tags_err (Ok p) e h = no_err h
 tags_err (Err x) e h = ap Err (err_same h)
 
-row_fault : (before : Lines) (l : LineValue) (e : ReadFault) → RowSays IsReadable class e before l → Says e before l
-row_fault before l (BadRow n) h = h
-row_fault before l (CellCount n) h = h
-row_fault before l _ h = absurd h
-
 -- a line that opens no doc string
 module _ (before : Lines) (reader : FeatureReader) (reached : run feature_readers (Outside feature_readers.first) before ≡ Ok (Outside reader)) where
   says : (l : LineValue) (c : Class) (e : ReadFault) (g : LineValue → Result OpenFeature ReadFault) → class l ≡ c → opening (takes_text reader) c ≡ None → ((o : LineValue) → on reader o c ≡ without_tags (g o)) → Refuses g l e → Says e before l
@@ -217,10 +207,10 @@ stopped_says before feature l c e r is bare same (inr k) =
     let reader : FeatureReader = Untagged feature in
     let free : (o : LineValue) → class o ≡ RowLine → opening (takes_text reader) (class o) ≡ None = λ o o_is. ap (opening (takes_text reader)) o_is ∙ no_fence (takes_text reader) RowLine tt in
     let row : (o : LineValue) → class o ≡ RowLine → on reader o (class o) ≡ without_tags (on_line feature o c) = λ o o_is. ap (on reader o) (o_is ∙ sym k.is) ∙ same o in
-    row_fault before l e (row_says IsReadable class before k.width (cells_of l) k.row l k.cells e k.row_is (k.row_is ∙ sym (is ∙ k.is)) k.row_cells (is ∙ k.is)
+    row_says IsReadable class before k.width (cells_of l) k.row l k.cells e (λ e. Says e before l) (λ bad. (refl, bad)) (λ bad. (refl, bad)) k.row_is (k.row_is ∙ sym (is ∙ k.is)) k.row_cells (is ∙ k.is)
     (λ o cells o_is h. let t = k.takes o cells h in readable_at (before ++ o ∷ []) t.0 (one_more_line (step feature_readers) (Outside feature_readers.first) before (Outside reader) (Outside (Untagged t.0)) o r (step_plain feature_readers reader (Untagged t.0) o (free o o_is) (row o o_is ∙ ap without_tags t.1))))
     (λ o e o_is h. feature_halted before o (Outside reader) e r (step_refused feature_readers reader o e (free o o_is) (row o o_is ∙ ap without_tags (k.refuses o e h))))
-    refl (row_stops k.width l e k.stops))
+    refl (row_stops k.width l e k.stops)
 
 plain_says : (before : Lines) (feature : OpenFeature) (l : LineValue) (c : Class) (e : ReadFault) → run feature_readers (Outside feature_readers.first) before ≡ Ok (Outside (Untagged feature)) → class l ≡ c → opening (takes_text (Untagged feature)) c ≡ None → ((o : LineValue) → on (Untagged feature) o c ≡ without_tags (on_line feature o c)) → on_line feature l c ≡ Err e → Says e before l
 plain_says before feature l c e r is bare same h =
@@ -291,16 +281,14 @@ stop_says before (Outside (Untagged feature)) l e r h = let k = refused_at featu
 stop_says before (Outside (Tagged feature tags n)) l e r h = let k = refused_at feature_readers (Tagged feature tags n) l e h in tagged_says before feature tags n l (class l) e r refl k.1
 stop_says before (InText reader text) l e r h = never feature_readers reader text l e h
 
-stops_at : (ls : Lines) (e : ReadFault) (n : ℕ) (Fault : Lines → LineValue → Type 0) (k : Halts (step feature_readers) (Outside feature_readers.first) ls e) → k.line.line ≡ n → Fault k.before k.line → StopsAt IsReadable class ls n Fault
-stops_at ls e n Fault k number fault = record { before = k.before; line = k.line; after = k.after; whole = k.whole; number = number; fits = fits k.before k.state k.line e k.reached k.stops; stops = feature_halted k.before k.line k.state e k.reached k.stops; fault = fault }
+stops_at : (ls : Lines) (e : ReadFault) (k : Halts (step feature_readers) (Outside feature_readers.first) ls e) → Says e k.before k.line → IsLineFault e ls
+stops_at ls e k h = record { before = k.before; line = k.line; after = k.after; whole = k.whole; number = h.0; fits = fits k.before k.state k.line e k.reached k.stops; stops = feature_halted k.before k.line k.state e k.reached k.stops; says = h.1 }
 
 line_fault : (ls : Lines) (e : ReadFault) (k : Halts (step feature_readers) (Outside feature_readers.first) ls e) → Says e k.before k.line → FeatureFault e ls
-line_fault ls (Unexpected n) k h = stops_at ls (Unexpected n) n (NoneLikeIt IsReadable class) k h.0 h.1
-line_fault ls (BadTag n) k h = stops_at ls (BadTag n) n IsBadTag k h.0 h.1
-line_fault ls (BadRow n) k h = stops_at ls (BadRow n) n (IsBadRow IsReadable class) k h.0 h.1
-line_fault ls (CellCount n) k h = stops_at ls (CellCount n) n (IsOtherWidth IsReadable class) k h.0 h.1
-line_fault ls (Language n) k h = stops_at ls (Language n) n IsOtherLanguage k h.0 h.1
-line_fault ls _ k h = absurd h
+line_fault ls (UnclosedText n) k h = absurd h.1
+line_fault ls (TagsAtEnd n) k h = absurd h.1
+line_fault ls Memory k h = absurd h.1
+line_fault ls e k h = stops_at ls e k h
 
 -- the line of the last tags
 record IsAfterTag (done : Lines) (n : ℕ) : Type 0 where
@@ -418,7 +406,7 @@ feature_fails e ls h = faulty ls e h
 
 -- What a fault of the reading says of the bytes.
 pub feature_said : (e : ReadFault) (bytes : List ℕ) → FailsAs feature_readers e bytes → FaultSays FeatureFault e bytes
-feature_said e bytes h = said feature_readers FeatureFault (λ ls h. h) (λ n ls h. h) feature_fails e bytes h
+feature_said e bytes h = said feature_readers FeatureFault (λ ls h. h.says) (λ n ls h. h.says) feature_fails e bytes h
 
 -- What the lines say is answered, unless memory ran out.
 pub feature_only : (r : Result (Option Feature) ReadFault) (f : Option FeatureValue) (bytes : List ℕ) → IfOk r (λ a. IsText bytes × (reading feature_readers (lines_of bytes) ≡ Ok (option_map feature_value a))) → IfErr r (λ e. FailsAs feature_readers e bytes) → IsText bytes → Reads (lines_of bytes) f → AnswersOrLacksMemory (option_map feature_value) r f

@@ -1,8 +1,8 @@
 -- What an index of hooks finds.
-use Rattle.std.specs.Prelude.{◌&&◌, ◌||◌, ◌==◌, is_some, Bool, true, false, cond, find, slice_get, option_copied, option_map, bytes_eq, Result, Ok, Err, OnOk, IfSome, ltb}
+use Rattle.std.specs.Prelude.{◌&&◌, ◌||◌, ◌==◌, is_some, Bool, true, false, cond, find, slice_get, option_copied, option_map, bytes_eq, Result, Ok, Err, OnOk, IfErr, IfSome, ltb}
 use Rattle.std.specs.List.{list_any}
 use Rattle.std.specs.String.{string_bytes}
-use Rattle.std.proofs.Common.{◌≡◌, ℕ, zero, suc, ◌+◌, ◌≤◌, ◌<◌, inl, inr, List, [], ◌∷◌, ◌++◌, length, map, get_or, Option, Some, None, Bor, refl, sym, ap, subst, ◌∙◌, arith}
+use Rattle.std.proofs.Common.{◌≡◌, ◌≢◌, ℕ, zero, suc, ◌+◌, ◌≤◌, ◌<◌, inl, inr, List, [], ◌∷◌, ◌++◌, length, map, get_or, Option, Some, None, Bor, refl, sym, ap, subst, ◌∙◌, arith}
 use Rattle.std.proofs.lemmas.Bool.{cases_lt, eqb-true, eq-eqb, lt-ltb, ltb-true}
 use Rattle.std.proofs.lemmas.Option.{slice_get_past, slice_get_within}
 use Rattle.std.proofs.lemmas.Slice.Eq.{bytes_eq-Decides}
@@ -49,6 +49,14 @@ added_there t tag position before after e same =
 pub on_ok : {X E P Q : Type 0} (r : Result X E) → (P → Q) → OnOk r P → OnOk r Q
 on_ok (Ok x) f h = f h
 on_ok (Err e) f h = h
+
+pub any_err : {X E P : Type 0} (r : Result X E) → P → IfErr r (λ e. P)
+any_err (Ok x) p = tt
+any_err (Err e) p = p
+
+pub has_some : (hooks : List Hook) (k : ℕ) → k < length hooks → hooks ≢ []
+has_some [] k within e = absurd (omega (arith, within))
+has_some (hook ∷ hooks) k within e = let no : ⊥ = cc in no
 
 -- hooks that are listed
 pub listed_kept : (old new : HookIndex) (hooks : List Hook) → ((t : Option (List ℕ)) (n : ℕ) → is_among n (positions_of old t) ≡ true → is_among n (positions_of new t) ≡ true) → AreListed old hooks → AreListed new hooks

@@ -4,7 +4,7 @@ use Rattle.std.proofs.lemmas.List.{append-nil}
 use Rattle.gk_gherkin.specs.declared.hook_headings.HooksClass.TheVariants.{HookLine, Plain}
 use Rattle.gk_gherkin.specs.declared.hooks.HookKind.TheVariants.{BeforeTag}
 use Rattle.gk_gherkin.specs.declared.class.Class.TheVariants.{Blank, Comment, RowLine, StepLine}
-use Rattle.gk_gherkin.specs.declared.read_fault.ReadFault.TheVariants.{BadHook, BadRow, CellCount, Memory, UnclosedText, Unexpected}
+use Rattle.gk_gherkin.specs.declared.read_fault.ReadFault.TheVariants.{BadHook, Memory, UnclosedText, Unexpected}
 use Rattle.gk_gherkin.specs.declared.class.Class.{Class}
 use Rattle.gk_gherkin.specs.declared.read_fault.ReadFault.{ReadFault}
 use Rattle.gk_gherkin.specs.declared.hook_headings.HooksClass.{HooksClass}
@@ -18,7 +18,7 @@ use Rattle.gk_gherkin.specs.Lines.{IsText, LineValue, Lines, lines_of}
 use Rattle.gk_gherkin.specs.Class.{class}
 use Rattle.gk_gherkin.specs.Rows.{cells_of}
 use Rattle.gk_gherkin.specs.Grammar.{IsIgnored, IsIgnoredClass, skip, skip_none}
-use Rattle.gk_gherkin.specs.ReadFault.{AnswersOrLacksMemory, BeginsNone, BeginsSome, FaultSays, HooksFault, HooksNeedMemory, IsBadHook, IsBadRow, IsOtherWidth, NoneLikeIt, SomeLikeIt, StoodBefore, StopsAt}
+use Rattle.gk_gherkin.specs.ReadFault.{AnswersOrLacksMemory, BeginsNone, BeginsSome, FaultSays, HooksFault, HooksLineSays, HooksNeedMemory, IsBadHook, IsHooksLineFault, NoneLikeIt, SomeLikeIt, StoodBefore, line_of_fault}
 use Rattle.gk_gherkin.specs.Results.{◌>>=◌}
 use Rattle.gk_gherkin.proofs.ReadingRuns.{Halts, bind_err, err_same, halts, no_err, no_ok, ok_same, one_more_line}
 use Rattle.gk_gherkin.proofs.ReadingStates.{never, no_fence, refused_at, step_plain, step_refused}
@@ -27,7 +27,7 @@ use Rattle.gk_gherkin.proofs.ReadingWhole.{only_memory, said}
 use Rattle.gk_gherkin.proofs.OpenPartsSound.{StepsBuilt}
 use Rattle.gk_gherkin.proofs.HooksReaderSound.{ReaderBuilt, Same, hooks_sound, reached_built}
 use Rattle.gk_gherkin.proofs.HooksReaderComplete.{hook_line, hooks_complete, hooks_run}
-use Rattle.gk_gherkin.proofs.RowStops.{Refuses, RowSays, Stopped, row_says, row_stops, stepped_stops, stopped_then}
+use Rattle.gk_gherkin.proofs.RowStops.{Refuses, Stopped, row_says, row_stops, stepped_stops, stopped_then}
 use Rattle.gk_gherkin.proofs.HookClasses.{class_plain, opens_alike, plain_class}
 use Rattle.gk_gherkin.proofs.HookHeadingsDecided.{fresh_stands, heading_so, is_same_heading}
 use Rattle.gk_gherkin.proofs.FreshHookHeadings.{fresh_class, fresh_heading, fresh_line, is_fresh, size_of, tag_of}
@@ -58,18 +58,9 @@ fits : (before : Lines) (s : State HooksReader) (l : LineValue) (e : ReadFault) 
 fits before (Outside reader) l e r h = hooks_readable_at before reader r
 fits before (InText reader text) l e r h = never hooks_readers reader text l e h
 
--- what a fault says of its line and of those before it
+-- a fault names a line, and says something of it and of those before it
 abbrev Says : ReadFault → Lines → LineValue → Type 0
-Says (Unexpected n) before l = (l.line ≡ n) × NoneLikeIt AreHooksReadable hooks_class before l
-Says (BadHook n) before l = (l.line ≡ n) × IsBadHook before l
-Says (BadRow n) before l = (l.line ≡ n) × IsBadRow AreHooksReadable hooks_class before l
-Says (CellCount n) before l = (l.line ≡ n) × IsOtherWidth AreHooksReadable hooks_class before l
-Says _ before l = ⊥
-
-row_fault : (before : Lines) (l : LineValue) (e : ReadFault) → RowSays AreHooksReadable hooks_class e before l → Says e before l
-row_fault before l (BadRow n) h = h
-row_fault before l (CellCount n) h = h
-row_fault before l _ h = absurd h
+Says e before l = (line_of_fault e ≡ Some l.line) × HooksLineSays e before l
 
 -- lines that are refused
 hook_body_stops : (body : Body) (ls mid : Lines) (l : LineValue) (c : Class) (e : ReadFault) → StepsBuilt Same body ls mid → on_hook_body body l c ≡ Err e → Stopped (λ o. on_hook_body body o c) l c e
@@ -94,10 +85,10 @@ stopped_says before reader l c e r is bare same (inl k) = says before reader l (
 stopped_says before reader l c e r is bare same (inr k) =
     let free : (o : LineValue) → class o ≡ RowLine → opening (takes_text reader) (class o) ≡ None = λ o o_is. ap (opening (takes_text reader)) o_is ∙ no_fence (takes_text reader) RowLine tt in
     let row : (o : LineValue) → class o ≡ RowLine → on reader o (hooks_class o) ≡ on_plain_line reader o c = λ o o_is. ap (on reader o) (class_plain o RowLine o_is (λ e. cc) ∙ ap Plain (sym k.is)) ∙ same o in
-    row_fault before l e (row_says AreHooksReadable hooks_class before k.width (cells_of l) k.row l k.cells e k.row_is (class_plain k.row RowLine k.row_is (λ e. cc) ∙ sym (is ∙ ap Plain k.is)) k.row_cells (plain_class l c is ∙ k.is)
+    row_says AreHooksReadable hooks_class before k.width (cells_of l) k.row l k.cells e (λ e. Says e before l) (λ bad. (refl, bad)) (λ bad. (refl, bad)) k.row_is (class_plain k.row RowLine k.row_is (λ e. cc) ∙ sym (is ∙ ap Plain k.is)) k.row_cells (plain_class l c is ∙ k.is)
     (λ o cells o_is h. let t = k.takes o cells h in readable_more before reader t.0 o r (step_plain hooks_readers reader t.0 o (free o o_is) (row o o_is ∙ t.1)))
     (λ o e o_is h. hooks_halted before o (Outside reader) e r (step_refused hooks_readers reader o e (free o o_is) (row o o_is ∙ k.refuses o e h)))
-    refl (row_stops k.width l e k.stops))
+    refl (row_stops k.width l e k.stops)
 
 plain_says : (before : Lines) (reader : HooksReader) (l : LineValue) (c : Class) (e : ReadFault) → run hooks_readers (Outside NoHook) before ≡ Ok (Outside reader) → hooks_class l ≡ Plain c → opening (takes_text reader) (class l) ≡ None → ((o : LineValue) → on reader o (Plain c) ≡ on_plain_line reader o c) → on_plain_line reader l c ≡ Err e → Says e before l
 plain_says before reader l c e r is bare same h =
@@ -168,15 +159,13 @@ stop_says : (before : Lines) (s : State HooksReader) (l : LineValue) (e : ReadFa
 stop_says before (Outside reader) l e r h = let k = refused_at hooks_readers reader l e h in at_says before reader l (hooks_class l) e r refl k.0 k.1
 stop_says before (InText reader text) l e r h = never hooks_readers reader text l e h
 
-stops_at : (ls : Lines) (e : ReadFault) (n : ℕ) (Fault : Lines → LineValue → Type 0) (k : Halts (step hooks_readers) (Outside NoHook) ls e) → k.line.line ≡ n → Fault k.before k.line → StopsAt AreHooksReadable hooks_class ls n Fault
-stops_at ls e n Fault k number fault = record { before = k.before; line = k.line; after = k.after; whole = k.whole; number = number; fits = inl (fits k.before k.state k.line e k.reached k.stops); stops = hooks_halted k.before k.line k.state e k.reached k.stops; fault = fault }
+stops_at : (ls : Lines) (e : ReadFault) (k : Halts (step hooks_readers) (Outside NoHook) ls e) → Says e k.before k.line → IsHooksLineFault e ls
+stops_at ls e k h = record { before = k.before; line = k.line; after = k.after; whole = k.whole; number = h.0; fits = inl (fits k.before k.state k.line e k.reached k.stops); stops = hooks_halted k.before k.line k.state e k.reached k.stops; says = h.1 }
 
 line_fault : (ls : Lines) (e : ReadFault) (k : Halts (step hooks_readers) (Outside NoHook) ls e) → Says e k.before k.line → HooksFault e ls
-line_fault ls (Unexpected n) k h = stops_at ls (Unexpected n) n (NoneLikeIt AreHooksReadable hooks_class) k h.0 h.1
-line_fault ls (BadHook n) k h = stops_at ls (BadHook n) n IsBadHook k h.0 h.1
-line_fault ls (BadRow n) k h = stops_at ls (BadRow n) n (IsBadRow AreHooksReadable hooks_class) k h.0 h.1
-line_fault ls (CellCount n) k h = stops_at ls (CellCount n) n (IsOtherWidth AreHooksReadable hooks_class) k h.0 h.1
-line_fault ls _ k h = absurd h
+line_fault ls (UnclosedText n) k h = absurd h.1
+line_fault ls Memory k h = absurd h.1
+line_fault ls e k h = stops_at ls e k h
 
 end_fault : (ls : Lines) (s : State HooksReader) (e : ReadFault) → run hooks_readers (Outside NoHook) ls ≡ Ok s → finish hooks_readers s ≡ Err e → HooksFault e ls
 unfolding finish
@@ -227,7 +216,7 @@ hooks_fail e ls h = hooks_faulty ls e h
 
 -- What a fault of the reading says of the bytes.
 pub hooks_said : (e : ReadFault) (bytes : List ℕ) → FailsAs hooks_readers e bytes → FaultSays HooksFault e bytes
-hooks_said e bytes h = said hooks_readers HooksFault (λ ls h. h) (λ n ls h. h) hooks_fail e bytes h
+hooks_said e bytes h = said hooks_readers HooksFault (λ ls h. h.says) (λ n ls h. h.says) hooks_fail e bytes h
 
 -- What the lines say is answered, unless memory ran out.
 pub hooks_only : (r : Result HookFile ReadFault) (hooks : List HookValue) (bytes : List ℕ) → IfOk r (λ a. IsText bytes × (reading hooks_readers (lines_of bytes) ≡ Ok (hooks_value a))) → IfErr r (λ e. FailsAs hooks_readers e bytes) → IsText bytes → ReadsHooks (lines_of bytes) hooks → AnswersOrLacksMemory hooks_value r hooks

@@ -1,6 +1,5 @@
 -- No lines have two faults: no line has two, no lines have two faulty lines, and none that end in a doc string or after tags have one.
-use Rattle.std.specs.Prelude.{◌≡◌, ℕ, true, false, ◌⊎◌, [], ◌∷◌, ◌++◌}
-use Rattle.std.proofs.lemmas.Option.{none-some}
+use Rattle.std.specs.Prelude.{◌≡◌, ℕ, true, false, ◌⊎◌, List, [], ◌∷◌, ◌++◌, Option, Some, None}
 use Rattle.std.specs.List.{AllByRecursion}
 use Rattle.std.proofs.Common.{◌∙◌, sym, inl, inr, refl, subst, append_assoc, ap}
 use Rattle.gk_gherkin.specs.Lines.{LineValue, Lines, line_at}
@@ -9,8 +8,10 @@ use Rattle.gk_gherkin.specs.declared.class.Fence.{Fence}
 use Rattle.gk_gherkin.specs.declared.class.Fence.TheVariants.{Quotes, Backticks}
 use Rattle.gk_gherkin.specs.Class.{class, fence_text}
 use Rattle.gk_gherkin.specs.Grammar.{IsReadable}
-use Rattle.gk_gherkin.specs.ReadFault.{SomeLikeIt, NoneLikeIt, IsBadRow, IsOtherWidth, IsBadTag, StopsAt, EndsInDocString, EndsInTags}
+use Rattle.gk_gherkin.specs.ReadFault.{SomeLikeIt, NoneLikeIt, StopsAt, EndsInDocString, EndsInTags, IsLineFault, LineSays, line_of_fault}
 use Rattle.gk_gherkin.specs.declared.class.Class.TheVariants.{FenceLine}
+use Rattle.gk_gherkin.specs.declared.read_fault.ReadFault.{ReadFault}
+use Rattle.gk_gherkin.specs.declared.read_fault.ReadFault.TheVariants.{BadRow, CellCount, Unexpected}
 
 -- Where a list is cut at two lines: these are the same, or one lies after the other.
 pub data Cuts (a b more others : Lines) (x y : LineValue) : Type 0 where
@@ -48,17 +49,6 @@ module _ (Readable : Lines → Type 0) {C : Type 0} (kind : LineValue → C) whe
   pub some_or_none : (before : Lines) (line : LineValue) → NoneLikeIt Readable kind before line → SomeLikeIt Readable kind before line → ⊥
   some_or_none before line none (other, alike, (more, readable)) = none other alike more readable
 
-  -- a line of a class that can't stand there is neither a bad row nor a row of another width
-  pub unexpected_before_bad_row : (before : Lines) (line : LineValue) → NoneLikeIt Readable kind before line → IsBadRow Readable kind before line → ⊥
-  unexpected_before_bad_row before line none bad = some_or_none before line none bad.fits
-
-  pub unexpected_before_width : (before : Lines) (line : LineValue) → NoneLikeIt Readable kind before line → IsOtherWidth Readable kind before line → ⊥
-  unexpected_before_width before line none bad = some_or_none before line none bad.fits
-
-  -- a bad row has no cells to count
-  pub bad_row_before_width : (before : Lines) (line : LineValue) → IsBadRow Readable kind before line → IsOtherWidth Readable kind before line → ⊥
-  bad_row_before_width before line bad wide = none-some wide.cells (sym bad.bad ∙ wide.good)
-
   -- lines after which nothing readable begins stand in no readable list
   not_in_readable : (before mid : Lines) (line : LineValue) → ((more : Lines) → Readable ((before ++ line ∷ []) ++ more) → ⊥) → Readable (before ++ line ∷ mid) → ⊥
   not_in_readable before mid line stops readable = stops mid (subst Readable (sym (append_assoc before (line ∷ []) mid)) readable)
@@ -68,31 +58,16 @@ module _ (Readable : Lines → Type 0) {C : Type 0} (kind : LineValue → C) whe
   not_before before mid line stops (inl readable) = not_in_readable before mid line stops readable
   not_before before mid line stops (inr (extra, readable)) = not_in_readable before (mid ++ extra ∷ []) line stops (subst Readable (append_assoc before (line ∷ mid) (extra ∷ [])) readable)
 
-  -- two faults on lines are on one line
-  one_cut_of : (ls : Lines) (n m : ℕ) (F G : Lines → LineValue → Type 0) (f : StopsAt Readable kind ls n F) (g : StopsAt Readable kind ls m G) → Cuts f.before g.before f.after g.after f.line g.line → (f.before ≡ g.before) × (f.line ≡ g.line)
-  one_cut_of ls n m F G f g (same d e) = (d, e)
-  one_cut_of ls n m F G f g (first mid e more) = absurd (not_before f.before mid f.line f.stops (subst (λ t. Readable t ⊎ ((extra : LineValue) × Readable (t ++ extra ∷ []))) e g.fits))
-  one_cut_of ls n m F G f g (second mid e more) = absurd (not_before g.before mid g.line g.stops (subst (λ t. Readable t ⊎ ((extra : LineValue) × Readable (t ++ extra ∷ []))) e f.fits))
+  -- a fault of a line: none like it can stand there, or one can, and the fault is this line's own
+  abbrev pub Decided : (LineValue → ReadFault) → ReadFault → Lines → LineValue → Type 0
+  Decided own e before l = ((e ≡ Unexpected l.line) × NoneLikeIt Readable kind before l) ⊎ ((e ≡ own l) × SomeLikeIt Readable kind before l)
 
-  pub one_cut : (ls : Lines) (n m : ℕ) (F G : Lines → LineValue → Type 0) (f : StopsAt Readable kind ls n F) (g : StopsAt Readable kind ls m G) → (f.before ≡ g.before) × (f.line ≡ g.line)
-  one_cut ls n m F G f g = one_cut_of ls n m F G f g (cuts f.before g.before f.after g.after f.line g.line (sym f.whole ∙ g.whole))
-
-  pub one_line : (ls : Lines) (n m : ℕ) (F G : Lines → LineValue → Type 0) → StopsAt Readable kind ls n F → StopsAt Readable kind ls m G → n ≡ m
-  one_line ls n m F G f g = sym f.number ∙ (ap (λ (l : LineValue). l.line) (one_cut ls n m F G f g).1 ∙ g.number)
-
-  -- two that no line has at once are not both there
-  pub not_both : (ls : Lines) (n m : ℕ) (F G : Lines → LineValue → Type 0) → ((before : Lines) (line : LineValue) → F before line → G before line → ⊥) → StopsAt Readable kind ls n F → StopsAt Readable kind ls m G → ⊥
-  not_both ls n m F G never f g =
-      let e = one_cut ls n m F G f g in
-      never g.before g.line (subst (λ (ls : Lines). F ls g.line) e.0 (subst (λ (l : LineValue). F f.before l) e.1 f.fault)) g.fault
-
-  -- where a line more makes lines readable, none of them is faulty
-  no_fault : (ls : Lines) (n : ℕ) (F : Lines → LineValue → Type 0) (extra : LineValue) → StopsAt Readable kind ls n F → Readable (ls ++ extra ∷ []) → ⊥
-  no_fault ls n F extra f readable = not_before f.before f.after f.line f.stops (inr (extra, subst (λ t. Readable (t ++ extra ∷ [])) f.whole readable))
-
-  -- lines that end in a doc string have no faulty line
-  pub no_fault_in_doc_string : (ls : Lines) (n m : ℕ) (F : Lines → LineValue → Type 0) → StopsAt Readable kind ls n F → EndsInDocString Readable kind ls m → ⊥
-  no_fault_in_doc_string ls n m F f ends = no_fault ls n F (line_at 1 (fence_text ends.fence)) f (ends.closed (line_at 1 (fence_text ends.fence)) (closing_line ends.fence))
+  -- two facts of one line are the same fault
+  pub same_fault : (own : LineValue → ReadFault) (one other : ReadFault) (before : Lines) (l : LineValue) → Decided own one before l → Decided own other before l → one ≡ other
+  same_fault own one other before l (inl f) (inl g) = f.0 ∙ sym g.0
+  same_fault own one other before l (inl f) (inr g) = absurd (some_or_none before l f.1 g.1)
+  same_fault own one other before l (inr f) (inl g) = absurd (some_or_none before l g.1 f.1)
+  same_fault own one other before l (inr f) (inr g) = f.0 ∙ sym g.0
 
   -- lines that end in a doc string end in no other, where a fence that opens one is at no readable end until it is closed
   pub one_opening : ((before mid : Lines) (opening : LineValue) (fence : Fence) → class opening ≡ FenceLine fence → Readable before → (Readable (before ++ opening ∷ []) → ⊥) → AllByRecursion (λ line. closes fence line ≡ false) mid → Readable (before ++ opening ∷ mid) → ⊥)
@@ -103,10 +78,43 @@ module _ (Readable : Lines → Type 0) {C : Type 0} (kind : LineValue → C) whe
   one_opening until ls n m f g (second mid e more) =
       absurd (until g.before mid g.opening g.fence g.is g.fits g.opens (all_before (λ line. closes g.fence line ≡ false) mid (f.opening ∷ f.content) (subst (AllByRecursion (λ line. closes g.fence line ≡ false)) more g.inside)) (subst Readable e f.fits))
 
--- a tag line that can't stand there is no bad tag
-pub unexpected_before_bad_tag : (before : Lines) (line : LineValue) → NoneLikeIt IsReadable class before line → IsBadTag before line → ⊥
-unexpected_before_bad_tag before line none bad = some_or_none IsReadable class before line none bad.fits
+-- Says: what the faults on lines say
+module _ (Readable : Lines → Type 0) {C : Type 0} (kind : LineValue → C) (Says : ReadFault → Lines → LineValue → Type 0) (ls : Lines) where
+  -- two faults on lines are on one line
+  one_cut_of : (one other : ReadFault) (f : StopsAt Readable kind ls one Says) (g : StopsAt Readable kind ls other Says) → Cuts f.before g.before f.after g.after f.line g.line → (f.before ≡ g.before) × (f.line ≡ g.line)
+  one_cut_of one other f g (same d e) = (d, e)
+  one_cut_of one other f g (first mid e more) = absurd (not_before Readable kind f.before mid f.line f.stops (subst (λ t. Readable t ⊎ ((extra : LineValue) × Readable (t ++ extra ∷ []))) e g.fits))
+  one_cut_of one other f g (second mid e more) = absurd (not_before Readable kind g.before mid g.line g.stops (subst (λ t. Readable t ⊎ ((extra : LineValue) × Readable (t ++ extra ∷ []))) e f.fits))
+
+  one_cut : (one other : ReadFault) (f : StopsAt Readable kind ls one Says) (g : StopsAt Readable kind ls other Says) → (f.before ≡ g.before) × (f.line ≡ g.line)
+  one_cut one other f g = one_cut_of one other f g (cuts f.before g.before f.after g.after f.line g.line (sym f.whole ∙ g.whole))
+
+  -- and so they are the same
+  pub one_line_fault : (own : LineValue → ReadFault)
+      → ((e : ReadFault) (before : Lines) (l : LineValue) → Readable before ⊎ ((extra : LineValue) × Readable (before ++ extra ∷ [])) → line_of_fault e ≡ Some l.line → Says e before l → Decided Readable kind own e before l)
+      → (one other : ReadFault) → StopsAt Readable kind ls one Says → StopsAt Readable kind ls other Says → one ≡ other
+  one_line_fault own decided one other f g =
+      let e = one_cut one other f g in
+      let here : Decided Readable kind own one f.before f.line = decided one f.before f.line f.fits f.number f.says in
+      let there : Decided Readable kind own other g.before g.line = decided other g.before g.line g.fits g.number g.says in
+      same_fault Readable kind own one other g.before g.line (subst (λ (ls : Lines). Decided Readable kind own one ls g.line) e.0 (subst (λ (l : LineValue). Decided Readable kind own one f.before l) e.1 here)) there
+
+  -- where a line more makes lines readable, none of them is faulty
+  no_fault : (e : ReadFault) (extra : LineValue) → StopsAt Readable kind ls e Says → Readable (ls ++ extra ∷ []) → ⊥
+  no_fault e extra f readable = not_before Readable kind f.before f.after f.line f.stops (inr (extra, subst (λ t. Readable (t ++ extra ∷ [])) f.whole readable))
+
+  -- lines that end in a doc string have no faulty line
+  pub no_fault_in_doc_string : (e : ReadFault) (n : ℕ) → StopsAt Readable kind ls e Says → EndsInDocString Readable kind ls n → ⊥
+  no_fault_in_doc_string e n f ends = no_fault e (line_at 1 (fence_text ends.fence)) f (ends.closed (line_at 1 (fence_text ends.fence)) (closing_line ends.fence))
 
 -- lines that end after tags have no faulty line
-pub no_fault_before_end : (ls : Lines) (n m : ℕ) (F : Lines → LineValue → Type 0) → StopsAt IsReadable class ls n F → EndsInTags ls m → ⊥
-no_fault_before_end ls n m F f ends = no_fault IsReadable class ls n F ends.fits.0 f ends.fits.2
+pub no_fault_before_end : (ls : Lines) (e : ReadFault) (n : ℕ) → IsLineFault e ls → EndsInTags ls n → ⊥
+no_fault_before_end ls e n f ends = no_fault IsReadable class LineSays ls e ends.fits.0 f ends.fits.2
+
+-- the fault of a row that may stand
+abbrev pub row_fault : Option (List (List ℕ)) → ℕ → ReadFault
+row_fault None n = BadRow n
+row_fault (Some cells) n = CellCount n
+
+pub same_line : (n m : ℕ) → ◌≡◌ {A = Option ℕ} (Some n) (Some m) → n ≡ m
+same_line n m e = cc

@@ -1,9 +1,10 @@
 -- No lines have two faults of a feature file.
 use Rattle.std.specs.Prelude.{codes}
-use Rattle.std.proofs.Common.{◌≡◌, ◌≢◌, ◌⊎◌, inl, inr, ℕ, Bool, true, false, ◌&&◌, ◌==◌, length, List, [], ◌∷◌, ◌++◌, Option, None, Result, Ok, Err, refl, ap, sym, subst, ◌∙◌, append_assoc, arith}
+use Rattle.std.proofs.Common.{◌≡◌, ◌≢◌, ◌⊎◌, inl, inr, ℕ, Bool, true, false, ◌&&◌, ◌==◌, length, List, [], ◌∷◌, ◌++◌, Option, Some, None, Result, Ok, Err, refl, ap, sym, subst, ◌∙◌, append_assoc, arith}
 use Rattle.std.proofs.lemmas.Bool.Decides.{nat_tests}
 use Rattle.std.proofs.lemmas.List.{append-nil}
-use Rattle.gk_gherkin.specs.declared.class.Class.TheVariants.{Comment, FenceLine, TagLine}
+use Rattle.gk_gherkin.specs.declared.class.Class.TheVariants.{Comment, FenceLine, RowLine, TagLine}
+use Rattle.gk_gherkin.specs.declared.class.Class.{Class}
 use Rattle.gk_gherkin.specs.declared.class.Fence.TheVariants.{Backticks, Quotes}
 use Rattle.gk_gherkin.specs.declared.read_fault.ReadFault.TheVariants as faults
 use Rattle.gk_gherkin.specs.declared.class.Fence.{Fence}
@@ -14,15 +15,16 @@ use Rattle.gk_gherkin.specs.Text.{begins, trim}
 use Rattle.gk_gherkin.specs.Lines.{LineValue, Lines, line_at}
 use Rattle.gk_gherkin.specs.Class.{class, class_of, class_of_words, fence_text}
 use Rattle.gk_gherkin.specs.DocStrings.{closes}
+use Rattle.gk_gherkin.specs.Rows.{cells_of}
 use Rattle.gk_gherkin.specs.Language.{language_of}
 use Rattle.gk_gherkin.specs.Grammar.{IsIgnored, IsIgnoredClass, IsReadable, Skips, skip, skip_none}
-use Rattle.gk_gherkin.specs.ReadFault.{BeginsSome, EndsInDocString, EndsInTags, FeatureFault, IsBadRow, IsBadTag, IsOtherLanguage, IsOtherWidth, NoneLikeIt, StopsAt, TakesTags}
+use Rattle.gk_gherkin.specs.ReadFault.{BeginsSome, EndsInDocString, EndsInTags, FeatureFault, IsLineFault, LineSays, TakesTags, line_of_fault}
 use Rattle.gk_gherkin.specs.Results.{◌>>=◌}
 use Rattle.gk_gherkin.proofs.ReadingRuns.{no_ok, one_more_line, run-append}
 use Rattle.gk_gherkin.proofs.ReadingStates.{no_fence, step_plain, step_stays}
 use Rattle.gk_gherkin.proofs.ReadingStops.{IsOpen, closed, not_in_text, open_until, still_open}
 use Rattle.gk_gherkin.proofs.FeatureReaderStops.{before_text, behind_text, feature_runs, heading_for, plain_fence, readable_after_tags, readable_at, text_takes}
-use Rattle.gk_gherkin.proofs.OneFault.{Cuts, bad_row_before_width, closing_line, cuts, first, no_fault_before_end, no_fault_in_doc_string, not_both, one_line, one_opening, one_cut, same, second, unexpected_before_bad_row, unexpected_before_bad_tag, unexpected_before_width}
+use Rattle.gk_gherkin.proofs.OneFault.{Cuts, Decided, closing_line, cuts, first, no_fault_before_end, no_fault_in_doc_string, one_line_fault, one_opening, row_fault, same, same_line, second}
 use Rattle.gk_gherkin.proofs.RowStops.{line_of}
 
 -- a comment that names no language can stand wherever the lines before it begin a readable list
@@ -79,11 +81,29 @@ comment_stands before (inr (extra, readable)) =
     let k = feature_runs (before ++ extra ∷ []) readable in
     comment_by (run feature_readers (Outside feature_readers.first) before) before extra k.0 refl (sym (run-append (step feature_readers) (Outside feature_readers.first) before (extra ∷ [])) ∙ k.1)
 
-unexpected_before_language : (ls : Lines) (n m : ℕ) → StopsAt IsReadable class ls n (NoneLikeIt IsReadable class) → StopsAt IsReadable class ls m IsOtherLanguage → ⊥
-unexpected_before_language ls n m f g =
-    let e = one_cut IsReadable class ls n m (NoneLikeIt IsReadable class) IsOtherLanguage f g in
-    let more = comment_stands f.before f.fits in
-    f.fault comment (comment_class ∙ sym (ap class e.1 ∙ g.fault.is)) more.0 more.1
+-- the fault of a line that may stand, by its class
+abbrev own_of : Class → Option (List (List ℕ)) → ℕ → ReadFault
+own_of TagLine cells n = faults.BadTag n
+own_of Comment cells n = faults.Language n
+own_of RowLine cells n = row_fault cells n
+own_of _ cells n = faults.Unexpected n
+
+abbrev own : LineValue → ReadFault
+own l = own_of (class l) (cells_of l) l.line
+
+own_class : (l : LineValue) (c : Class) → class l ≡ c → own_of c (cells_of l) l.line ≡ own l
+own_class l c is = ap (λ (c : Class). own_of c (cells_of l) l.line) (sym is)
+
+own_row : (l : LineValue) (cells : Option (List (List ℕ))) → class l ≡ RowLine → cells_of l ≡ cells → row_fault cells l.line ≡ own l
+own_row l cells is w = ap (λ (cells : Option (List (List ℕ))). row_fault cells l.line) (sym w) ∙ own_class l RowLine is
+
+decided : (e : ReadFault) (before : Lines) (l : LineValue) → IsReadable before ⊎ ((extra : LineValue) × IsReadable (before ++ extra ∷ [])) → line_of_fault e ≡ Some l.line → LineSays e before l → Decided IsReadable class own e before l
+decided (faults.Unexpected n) before l fits number h = inl (ap faults.Unexpected (same_line n l.line number), h)
+decided (faults.BadTag n) before l fits number h = inr (ap faults.BadTag (same_line n l.line number) ∙ own_class l TagLine h.is, h.fits)
+decided (faults.BadRow n) before l fits number h = inr (ap faults.BadRow (same_line n l.line number) ∙ own_row l None h.is h.bad, h.fits)
+decided (faults.CellCount n) before l fits number h = inr (ap faults.CellCount (same_line n l.line number) ∙ own_row l (Some h.cells) h.is h.good, h.fits)
+decided (faults.Language n) before l fits number h = inr (ap faults.Language (same_line n l.line number) ∙ own_class l Comment h.is, (comment, comment_class ∙ sym h.is, comment_stands before fits))
+decided _ before l fits number h = absurd h
 
 -- a fence that opens a doc string is at no readable end until it is closed
 abbrev Open : Lines → Fence → Type 0
@@ -140,108 +160,28 @@ one_end ls n m f g (same d e) = sym f.number ∙ (ap (λ (l : LineValue). l.line
 one_end ls n m f g (first mid e more) = absurd (no_tag_ignored g.line g.is (ignored_in mid g.ignored g.line more f.skipped))
 one_end ls n m f g (second mid e more) = absurd (no_tag_ignored f.line f.is (ignored_in mid f.ignored f.line more g.skipped))
 
--- classes that differ
-no_row_of_tags : (before : Lines) (l : LineValue) → IsBadTag before l → IsBadRow IsReadable class before l → ⊥
-no_row_of_tags before l f g = let k = f.is in let j = g.is in let no : ⊥ = cc in no
+-- each kind of fault and any other
+line_and : (ls : Lines) (one other : ReadFault) → other ≢ faults.Memory → IsLineFault one ls → FeatureFault other ls → one ≡ other
+line_and ls one (faults.UnclosedText m) named f g = absurd (no_fault_in_doc_string IsReadable class LineSays ls one m f g)
+line_and ls one (faults.TagsAtEnd m) named f g = absurd (no_fault_before_end ls one m f g)
+line_and ls one faults.Memory named f g = absurd (named refl)
+line_and ls one other named f g = one_line_fault IsReadable class LineSays ls own decided one other f g
 
-no_width_of_tags : (before : Lines) (l : LineValue) → IsBadTag before l → IsOtherWidth IsReadable class before l → ⊥
-no_width_of_tags before l f g = let k = f.is in let j = g.is in let no : ⊥ = cc in no
+text_and : (ls : Lines) (n : ℕ) (other : ReadFault) → other ≢ faults.Memory → EndsInDocString IsReadable class ls n → FeatureFault other ls → faults.UnclosedText n ≡ other
+text_and ls n (faults.UnclosedText m) named f g = ap faults.UnclosedText (one_text ls n m f g)
+text_and ls n (faults.TagsAtEnd m) named f g = absurd (text_before_tags ls n m f g)
+text_and ls n faults.Memory named f g = absurd (named refl)
+text_and ls n other named f g = absurd (no_fault_in_doc_string IsReadable class LineSays ls other n g f)
 
-no_language_of_tags : (before : Lines) (l : LineValue) → IsBadTag before l → IsOtherLanguage before l → ⊥
-no_language_of_tags before l f g = let k = f.is in let j = g.is in let no : ⊥ = cc in no
-
-no_language_of_row : (before : Lines) (l : LineValue) → IsBadRow IsReadable class before l → IsOtherLanguage before l → ⊥
-no_language_of_row before l f g = let k = f.is in let j = g.is in let no : ⊥ = cc in no
-
-no_language_of_width : (before : Lines) (l : LineValue) → IsOtherWidth IsReadable class before l → IsOtherLanguage before l → ⊥
-no_language_of_width before l f g = let k = f.is in let j = g.is in let no : ⊥ = cc in no
-
--- each fault and any other
-unexpected : (ls : Lines) (n : ℕ) (other : ReadFault) → other ≢ faults.Memory → FeatureFault (faults.Unexpected n) ls → FeatureFault other ls → faults.Unexpected n ≡ other
-unexpected ls n (faults.Unexpected m) named f g = ap faults.Unexpected (one_line IsReadable class ls n m (NoneLikeIt IsReadable class) (NoneLikeIt IsReadable class) f g)
-unexpected ls n (faults.BadTag m) named f g = absurd (not_both IsReadable class ls n m (NoneLikeIt IsReadable class) IsBadTag unexpected_before_bad_tag f g)
-unexpected ls n (faults.BadRow m) named f g = absurd (not_both IsReadable class ls n m (NoneLikeIt IsReadable class) (IsBadRow IsReadable class) (unexpected_before_bad_row IsReadable class) f g)
-unexpected ls n (faults.CellCount m) named f g = absurd (not_both IsReadable class ls n m (NoneLikeIt IsReadable class) (IsOtherWidth IsReadable class) (unexpected_before_width IsReadable class) f g)
-unexpected ls n (faults.Language m) named f g = absurd (unexpected_before_language ls n m f g)
-unexpected ls n (faults.UnclosedText m) named f g = absurd (no_fault_in_doc_string IsReadable class ls n m (NoneLikeIt IsReadable class) f g)
-unexpected ls n (faults.TagsAtEnd m) named f g = absurd (no_fault_before_end ls n m (NoneLikeIt IsReadable class) f g)
-unexpected ls n faults.Memory named f g = absurd (named refl)
-unexpected ls n _ named f g = absurd g
-
-bad_tag : (ls : Lines) (n : ℕ) (other : ReadFault) → other ≢ faults.Memory → FeatureFault (faults.BadTag n) ls → FeatureFault other ls → faults.BadTag n ≡ other
-bad_tag ls n (faults.Unexpected m) named f g = sym (unexpected ls m (faults.BadTag n) (λ e. cc) g f)
-bad_tag ls n (faults.BadTag m) named f g = ap faults.BadTag (one_line IsReadable class ls n m IsBadTag IsBadTag f g)
-bad_tag ls n (faults.BadRow m) named f g = absurd (not_both IsReadable class ls n m IsBadTag (IsBadRow IsReadable class) no_row_of_tags f g)
-bad_tag ls n (faults.CellCount m) named f g = absurd (not_both IsReadable class ls n m IsBadTag (IsOtherWidth IsReadable class) no_width_of_tags f g)
-bad_tag ls n (faults.Language m) named f g = absurd (not_both IsReadable class ls n m IsBadTag IsOtherLanguage no_language_of_tags f g)
-bad_tag ls n (faults.UnclosedText m) named f g = absurd (no_fault_in_doc_string IsReadable class ls n m IsBadTag f g)
-bad_tag ls n (faults.TagsAtEnd m) named f g = absurd (no_fault_before_end ls n m IsBadTag f g)
-bad_tag ls n faults.Memory named f g = absurd (named refl)
-bad_tag ls n _ named f g = absurd g
-
-bad_row : (ls : Lines) (n : ℕ) (other : ReadFault) → other ≢ faults.Memory → FeatureFault (faults.BadRow n) ls → FeatureFault other ls → faults.BadRow n ≡ other
-bad_row ls n (faults.Unexpected m) named f g = sym (unexpected ls m (faults.BadRow n) (λ e. cc) g f)
-bad_row ls n (faults.BadTag m) named f g = sym (bad_tag ls m (faults.BadRow n) (λ e. cc) g f)
-bad_row ls n (faults.BadRow m) named f g = ap faults.BadRow (one_line IsReadable class ls n m (IsBadRow IsReadable class) (IsBadRow IsReadable class) f g)
-bad_row ls n (faults.CellCount m) named f g = absurd (not_both IsReadable class ls n m (IsBadRow IsReadable class) (IsOtherWidth IsReadable class) (bad_row_before_width IsReadable class) f g)
-bad_row ls n (faults.Language m) named f g = absurd (not_both IsReadable class ls n m (IsBadRow IsReadable class) IsOtherLanguage no_language_of_row f g)
-bad_row ls n (faults.UnclosedText m) named f g = absurd (no_fault_in_doc_string IsReadable class ls n m (IsBadRow IsReadable class) f g)
-bad_row ls n (faults.TagsAtEnd m) named f g = absurd (no_fault_before_end ls n m (IsBadRow IsReadable class) f g)
-bad_row ls n faults.Memory named f g = absurd (named refl)
-bad_row ls n _ named f g = absurd g
-
-cell_count : (ls : Lines) (n : ℕ) (other : ReadFault) → other ≢ faults.Memory → FeatureFault (faults.CellCount n) ls → FeatureFault other ls → faults.CellCount n ≡ other
-cell_count ls n (faults.Unexpected m) named f g = sym (unexpected ls m (faults.CellCount n) (λ e. cc) g f)
-cell_count ls n (faults.BadTag m) named f g = sym (bad_tag ls m (faults.CellCount n) (λ e. cc) g f)
-cell_count ls n (faults.BadRow m) named f g = sym (bad_row ls m (faults.CellCount n) (λ e. cc) g f)
-cell_count ls n (faults.CellCount m) named f g = ap faults.CellCount (one_line IsReadable class ls n m (IsOtherWidth IsReadable class) (IsOtherWidth IsReadable class) f g)
-cell_count ls n (faults.Language m) named f g = absurd (not_both IsReadable class ls n m (IsOtherWidth IsReadable class) IsOtherLanguage no_language_of_width f g)
-cell_count ls n (faults.UnclosedText m) named f g = absurd (no_fault_in_doc_string IsReadable class ls n m (IsOtherWidth IsReadable class) f g)
-cell_count ls n (faults.TagsAtEnd m) named f g = absurd (no_fault_before_end ls n m (IsOtherWidth IsReadable class) f g)
-cell_count ls n faults.Memory named f g = absurd (named refl)
-cell_count ls n _ named f g = absurd g
-
-language : (ls : Lines) (n : ℕ) (other : ReadFault) → other ≢ faults.Memory → FeatureFault (faults.Language n) ls → FeatureFault other ls → faults.Language n ≡ other
-language ls n (faults.Unexpected m) named f g = sym (unexpected ls m (faults.Language n) (λ e. cc) g f)
-language ls n (faults.BadTag m) named f g = sym (bad_tag ls m (faults.Language n) (λ e. cc) g f)
-language ls n (faults.BadRow m) named f g = sym (bad_row ls m (faults.Language n) (λ e. cc) g f)
-language ls n (faults.CellCount m) named f g = sym (cell_count ls m (faults.Language n) (λ e. cc) g f)
-language ls n (faults.Language m) named f g = ap faults.Language (one_line IsReadable class ls n m IsOtherLanguage IsOtherLanguage f g)
-language ls n (faults.UnclosedText m) named f g = absurd (no_fault_in_doc_string IsReadable class ls n m IsOtherLanguage f g)
-language ls n (faults.TagsAtEnd m) named f g = absurd (no_fault_before_end ls n m IsOtherLanguage f g)
-language ls n faults.Memory named f g = absurd (named refl)
-language ls n _ named f g = absurd g
-
-unclosed_text : (ls : Lines) (n : ℕ) (other : ReadFault) → other ≢ faults.Memory → FeatureFault (faults.UnclosedText n) ls → FeatureFault other ls → faults.UnclosedText n ≡ other
-unclosed_text ls n (faults.Unexpected m) named f g = sym (unexpected ls m (faults.UnclosedText n) (λ e. cc) g f)
-unclosed_text ls n (faults.BadTag m) named f g = sym (bad_tag ls m (faults.UnclosedText n) (λ e. cc) g f)
-unclosed_text ls n (faults.BadRow m) named f g = sym (bad_row ls m (faults.UnclosedText n) (λ e. cc) g f)
-unclosed_text ls n (faults.CellCount m) named f g = sym (cell_count ls m (faults.UnclosedText n) (λ e. cc) g f)
-unclosed_text ls n (faults.Language m) named f g = sym (language ls m (faults.UnclosedText n) (λ e. cc) g f)
-unclosed_text ls n (faults.UnclosedText m) named f g = ap faults.UnclosedText (one_text ls n m f g)
-unclosed_text ls n (faults.TagsAtEnd m) named f g = absurd (text_before_tags ls n m f g)
-unclosed_text ls n faults.Memory named f g = absurd (named refl)
-unclosed_text ls n _ named f g = absurd g
-
-tags_at_end : (ls : Lines) (n : ℕ) (other : ReadFault) → other ≢ faults.Memory → FeatureFault (faults.TagsAtEnd n) ls → FeatureFault other ls → faults.TagsAtEnd n ≡ other
-tags_at_end ls n (faults.Unexpected m) named f g = sym (unexpected ls m (faults.TagsAtEnd n) (λ e. cc) g f)
-tags_at_end ls n (faults.BadTag m) named f g = sym (bad_tag ls m (faults.TagsAtEnd n) (λ e. cc) g f)
-tags_at_end ls n (faults.BadRow m) named f g = sym (bad_row ls m (faults.TagsAtEnd n) (λ e. cc) g f)
-tags_at_end ls n (faults.CellCount m) named f g = sym (cell_count ls m (faults.TagsAtEnd n) (λ e. cc) g f)
-tags_at_end ls n (faults.Language m) named f g = sym (language ls m (faults.TagsAtEnd n) (λ e. cc) g f)
-tags_at_end ls n (faults.UnclosedText m) named f g = sym (unclosed_text ls m (faults.TagsAtEnd n) (λ e. cc) g f)
-tags_at_end ls n (faults.TagsAtEnd m) named f g = ap faults.TagsAtEnd (one_end ls n m f g (cuts f.before g.before f.ignored g.ignored f.line g.line (sym f.whole ∙ g.whole)))
-tags_at_end ls n faults.Memory named f g = absurd (named refl)
-tags_at_end ls n _ named f g = absurd g
+tags_and : (ls : Lines) (n : ℕ) (other : ReadFault) → other ≢ faults.Memory → EndsInTags ls n → FeatureFault other ls → faults.TagsAtEnd n ≡ other
+tags_and ls n (faults.UnclosedText m) named f g = absurd (text_before_tags ls m n g f)
+tags_and ls n (faults.TagsAtEnd m) named f g = ap faults.TagsAtEnd (one_end ls n m f g (cuts f.before g.before f.ignored g.ignored f.line g.line (sym f.whole ∙ g.whole)))
+tags_and ls n faults.Memory named f g = absurd (named refl)
+tags_and ls n other named f g = absurd (no_fault_before_end ls other n g f)
 
 -- No lines have two faults.
 pub one_feature_fault : (ls : Lines) (one other : ReadFault) → one ≢ faults.Memory → other ≢ faults.Memory → FeatureFault one ls → FeatureFault other ls → one ≡ other
-one_feature_fault ls (faults.Unexpected n) other m k f g = unexpected ls n other k f g
-one_feature_fault ls (faults.BadTag n) other m k f g = bad_tag ls n other k f g
-one_feature_fault ls (faults.BadRow n) other m k f g = bad_row ls n other k f g
-one_feature_fault ls (faults.CellCount n) other m k f g = cell_count ls n other k f g
-one_feature_fault ls (faults.Language n) other m k f g = language ls n other k f g
-one_feature_fault ls (faults.UnclosedText n) other m k f g = unclosed_text ls n other k f g
-one_feature_fault ls (faults.TagsAtEnd n) other m k f g = tags_at_end ls n other k f g
+one_feature_fault ls (faults.UnclosedText n) other m k f g = text_and ls n other k f g
+one_feature_fault ls (faults.TagsAtEnd n) other m k f g = tags_and ls n other k f g
 one_feature_fault ls faults.Memory other m k f g = absurd (m refl)
-one_feature_fault ls _ other m k f g = absurd f
+one_feature_fault ls one other m k f g = line_and ls one other k f g

@@ -154,13 +154,7 @@ pub row_stops : (width : Option ℕ) (l : LineValue) (e : ReadFault) → on_row 
 unfolding on_row
 row_stops width l e h = h
 
--- what a fault says of a row
-abbrev pub RowSays : (Lines → Type 0) → {C : Type 0} → (LineValue → C) → ReadFault → Lines → LineValue → Type 0
-RowSays Readable kind (BadRow n) before l = (l.line ≡ n) × IsBadRow Readable kind before l
-RowSays Readable kind (CellCount n) before l = (l.line ≡ n) × IsOtherWidth Readable kind before l
-RowSays Readable kind _ before l = ⊥
-
--- a row that stands has the width
+-- a row that stands has the width, and one that is refused has one of two faults
 module _ (Readable : Lines → Type 0) {C : Type 0} (kind : LineValue → C) (before : Lines) where
   wants : (width : ℕ) (r : Option (List (List ℕ))) (l : LineValue) → class l ≡ RowLine → ((o : LineValue) (e : ReadFault) → class o ≡ RowLine → on_row (Some width) o ≡ Err e → BeginsNone Readable kind (before ++ o ∷ []))
       → cells_of l ≡ r → BeginsSome Readable kind (before ++ l ∷ []) → IfSome r (λ wanted. length wanted ≡ width)
@@ -169,20 +163,21 @@ module _ (Readable : Lines → Type 0) {C : Type 0} (kind : LineValue → C) (be
       width_by (length cells == width) (length cells) width refl
       (λ differs. refuses l (CellCount l.line) is (width_stops width l cells w differs) some.0 some.1)
 
-  pub row_says : (width : Option ℕ) (r : Option (List (List ℕ))) (row l : LineValue) (cells : List (List ℕ)) (e : ReadFault) → class row ≡ RowLine → kind row ≡ kind l → on_row width row ≡ Ok cells → class l ≡ RowLine
+  pub row_says : (width : Option ℕ) (r : Option (List (List ℕ))) (row l : LineValue) (cells : List (List ℕ)) (e : ReadFault) (P : ReadFault → Type 0) → (IsBadRow Readable kind before l → P (BadRow l.line)) → (IsOtherWidth Readable kind before l → P (CellCount l.line))
+      → class row ≡ RowLine → kind row ≡ kind l → on_row width row ≡ Ok cells → class l ≡ RowLine
       → ((o : LineValue) (cells : List (List ℕ)) → class o ≡ RowLine → on_row width o ≡ Ok cells → Readable (before ++ o ∷ []))
       → ((o : LineValue) (e : ReadFault) → class o ≡ RowLine → on_row width o ≡ Err e → BeginsNone Readable kind (before ++ o ∷ []))
-      → cells_of l ≡ r → row_of width l r ≡ Err e → RowSays Readable kind e before l
-  row_says width None row l cells e row_is alike row_cells is takes refuses w h =
+      → cells_of l ≡ r → row_of width l r ≡ Err e → P e
+  row_says width None row l cells e P bad_row other_cells row_is alike row_cells is takes refuses w h =
       let begins : BeginsSome Readable kind (before ++ row ∷ []) = ([], subst Readable (sym (append-nil (before ++ row ∷ []))) (takes row cells row_is row_cells)) in
       let bad : IsBadRow Readable kind before l = record { is = is; fits = (row, alike, begins); bad = w } in
       let named : BadRow l.line ≡ e = no_cells width l e h in
-      subst (λ e. RowSays Readable kind e before l) named (refl, bad)
-  row_says None (Some found) row l cells e row_is alike row_cells is takes refuses w h = no_err h
-  row_says (Some width) (Some found) row l cells e row_is alike row_cells is takes refuses w h =
+      subst P named (bad_row bad)
+  row_says None (Some found) row l cells e P bad_row other_cells row_is alike row_cells is takes refuses w h = no_err h
+  row_says (Some width) (Some found) row l cells e P bad_row other_cells row_is alike row_cells is takes refuses w h =
       let begins : BeginsSome Readable kind (before ++ row ∷ []) = ([], subst Readable (sym (append-nil (before ++ row ∷ []))) (takes row cells row_is row_cells)) in
       let k = other_width (length found == width) found e (CellCount l.line) h in
       let wanted : (other : LineValue) → class other ≡ RowLine → BeginsSome Readable kind (before ++ other ∷ []) → IfSome (cells_of other) (λ wanted. length wanted ≡ width) =
       λ other other_is some. wants width (cells_of other) other other_is refuses refl some in
       let bad : IsOtherWidth Readable kind before l = record { is = is; fits = (row, alike, begins); cells = found; good = w; width = width; wanted = wanted; differs = not_same (length found) width k.0 } in
-      subst (λ e. RowSays Readable kind e before l) k.1 (refl, bad)
+      subst P k.1 (other_cells bad)

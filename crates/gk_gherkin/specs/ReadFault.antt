@@ -18,6 +18,20 @@ use Rattle.gk_gherkin.specs.Hooks.{HookValue}
 use Rattle.gk_gherkin.specs.HookHeadings.{hooks_class, hook_heading}
 use Rattle.gk_gherkin.specs.HooksGrammar.{heading_of, ReadsHooks, AreHooksReadable}
 
+-- The line that a fault names.
+abbrev pub line_of_fault : ReadFault → Option ℕ
+line_of_fault (NotUtf8 n) = Some n
+line_of_fault (Unexpected n) = Some n
+line_of_fault (BadTag n) = Some n
+line_of_fault (CellCount n) = Some n
+line_of_fault (UnclosedText n) = Some n
+line_of_fault (TagsAtEnd n) = Some n
+line_of_fault (Language n) = Some n
+line_of_fault TooLong = None
+line_of_fault Memory = None
+line_of_fault (BadHook n) = Some n
+line_of_fault (BadRow n) = Some n
+
 -- Definitions for both grammars. `Readable` says which lists of lines have a reading, and `kind` gives the class of a line.
 module _ (Readable : Lines → Type 0) {C : Type 0} (kind : LineValue → C) where
   -- Some readable list begins with these lines.
@@ -36,16 +50,16 @@ module _ (Readable : Lines → Type 0) {C : Type 0} (kind : LineValue → C) whe
   abbrev pub NoneLikeIt : Lines → LineValue → Type 0
   NoneLikeIt before line = (other : LineValue) → kind other ≡ kind line → BeginsNone (before ++ other ∷ [])
 
-  -- A fault on line `n`. The lines before it are readable, alone or with one more line after them. With line `n` they begin no readable list. The fault's own fact holds for line `n`.
-  pub record StopsAt (ls : Lines) (n : ℕ) (Fault : Lines → LineValue → Type 0) : Type 0 where
+  -- A fault on a line. The lines before it are readable, alone or with one more line after them. With the line they begin no readable list. What such a fault says of a line holds for it.
+  pub record StopsAt (ls : Lines) (fault : ReadFault) (Says : ReadFault → Lines → LineValue → Type 0) : Type 0 where
     pub before : Lines
     pub line : LineValue
     pub after : Lines
     pub whole : ls ≡ before ++ line ∷ after
-    pub number : line.line ≡ n
+    pub number : line_of_fault fault ≡ Some line.line
     pub fits : Readable before ⊎ ((extra : LineValue) × Readable (before ++ extra ∷ []))
     pub stops : BeginsNone (before ++ line ∷ [])
-    pub fault : Fault before line
+    pub says : Says fault before line
 
   -- A row that isn't between two bars, in a place where rows are allowed.
   pub record IsBadRow (before : Lines) (line : LineValue) : Type 0 where
@@ -121,17 +135,25 @@ pub record NeedsMemory (ls : Lines) : Type 0 where
   pub next : Next IsIgnoredAbove ls line rest
   pub needs : (class line ≡ FeatureHeading) ⊎ ((class line ≡ TagLine) × BeginsWithTag line)
 
+-- What a fault on a line of a feature file says of the line and of those before it.
+abbrev pub LineSays : ReadFault → Lines → LineValue → Type 0
+LineSays (Unexpected n) before line = NoneLikeIt IsReadable class before line
+LineSays (BadTag n) before line = IsBadTag before line
+LineSays (BadRow n) before line = IsBadRow IsReadable class before line
+LineSays (CellCount n) before line = IsOtherWidth IsReadable class before line
+LineSays (Language n) before line = IsOtherLanguage before line
+LineSays _ before line = ⊥
+
+-- A fault on a line of a feature file.
+abbrev pub IsLineFault : ReadFault → Lines → Type 0
+IsLineFault fault ls = StopsAt IsReadable class ls fault LineSays
+
 -- The meaning of a fault for the lines of a feature file. Refused memory means that they need some.
 abbrev pub FeatureFault : ReadFault → Lines → Type 0
-FeatureFault (Unexpected n) ls = StopsAt IsReadable class ls n (NoneLikeIt IsReadable class)
-FeatureFault (BadTag n) ls = StopsAt IsReadable class ls n IsBadTag
-FeatureFault (BadRow n) ls = StopsAt IsReadable class ls n (IsBadRow IsReadable class)
-FeatureFault (CellCount n) ls = StopsAt IsReadable class ls n (IsOtherWidth IsReadable class)
-FeatureFault (Language n) ls = StopsAt IsReadable class ls n IsOtherLanguage
 FeatureFault (UnclosedText n) ls = EndsInDocString IsReadable class ls n
 FeatureFault (TagsAtEnd n) ls = EndsInTags ls n
 FeatureFault Memory ls = NeedsMemory ls
-FeatureFault _ ls = ⊥
+FeatureFault fault ls = IsLineFault fault ls
 
 -- A heading that an earlier hook has, with the same tag if it has one.
 pub record StoodBefore (before : Lines) (line : LineValue) : Type 0 where
@@ -157,15 +179,23 @@ pub record HooksNeedMemory (ls : Lines) : Type 0 where
   pub is : hooks_class line ≡ HookLine
   pub heading : hook_heading line ≢ None
 
+-- What a fault on a line of a hooks file says of the line and of those before it.
+abbrev pub HooksLineSays : ReadFault → Lines → LineValue → Type 0
+HooksLineSays (Unexpected n) before line = NoneLikeIt AreHooksReadable hooks_class before line
+HooksLineSays (BadHook n) before line = IsBadHook before line
+HooksLineSays (BadRow n) before line = IsBadRow AreHooksReadable hooks_class before line
+HooksLineSays (CellCount n) before line = IsOtherWidth AreHooksReadable hooks_class before line
+HooksLineSays _ before line = ⊥
+
+-- A fault on a line of a hooks file.
+abbrev pub IsHooksLineFault : ReadFault → Lines → Type 0
+IsHooksLineFault fault ls = StopsAt AreHooksReadable hooks_class ls fault HooksLineSays
+
 -- The meaning of a fault for the lines of a hooks file. Refused memory means that they need some.
 abbrev pub HooksFault : ReadFault → Lines → Type 0
-HooksFault (Unexpected n) ls = StopsAt AreHooksReadable hooks_class ls n (NoneLikeIt AreHooksReadable hooks_class)
-HooksFault (BadHook n) ls = StopsAt AreHooksReadable hooks_class ls n IsBadHook
-HooksFault (BadRow n) ls = StopsAt AreHooksReadable hooks_class ls n (IsBadRow AreHooksReadable hooks_class)
-HooksFault (CellCount n) ls = StopsAt AreHooksReadable hooks_class ls n (IsOtherWidth AreHooksReadable hooks_class)
 HooksFault (UnclosedText n) ls = EndsInDocString AreHooksReadable hooks_class ls n
 HooksFault Memory ls = HooksNeedMemory ls
-HooksFault _ ls = ⊥
+HooksFault fault ls = IsHooksLineFault fault ls
 
 -- The meaning of a fault for the bytes. Too many bytes come before bytes that aren't UTF-8, and both come before any fault of the lines.
 abbrev pub FaultSays : (ReadFault → Lines → Type 0) → ReadFault → List ℕ → Type 0
@@ -186,20 +216,6 @@ LinesFaultSays fault bytes = FaultSays (λ other ls. ⊥) fault bytes
 abbrev pub AnswersOrLacksMemory : {X V : Type 0} → (X → V) → Result X ReadFault → V → Type 0
 AnswersOrLacksMemory value (Ok answer) said = value answer ≡ said
 AnswersOrLacksMemory value (Err fault) said = fault ≡ Memory
-
--- The line that a fault names.
-abbrev pub line_of_fault : ReadFault → Option ℕ
-line_of_fault (NotUtf8 n) = Some n
-line_of_fault (Unexpected n) = Some n
-line_of_fault (BadTag n) = Some n
-line_of_fault (CellCount n) = Some n
-line_of_fault (UnclosedText n) = Some n
-line_of_fault (TagsAtEnd n) = Some n
-line_of_fault (Language n) = Some n
-line_of_fault TooLong = None
-line_of_fault Memory = None
-line_of_fault (BadHook n) = Some n
-line_of_fault (BadRow n) = Some n
 
 -- What is said of a fault: its text, without its line, and a hint on how to fix it.
 pub record FaultSaid : Type 0 where

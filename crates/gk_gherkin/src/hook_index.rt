@@ -1,7 +1,7 @@
 //! An index of the hooks of a file by their tags.
-ghost use Rattle.std.specs.Prelude.{◌≡◌, ◌++◌, ◌∷◌, [], ℕ, List, Option, true, length};
+ghost use Rattle.std.specs.Prelude.{◌≡◌, ◌≢◌, ◌++◌, ◌∷◌, [], ℕ, List, Option, true, length};
 ghost use Rattle.std.specs.Prelude.{if◌then◌else◌};
-ghost use Rattle.std.specs.Prelude.{IfOk, OnOk, OnErr, map, option_map, option_copied, bytes_eq};
+ghost use Rattle.std.specs.Prelude.{IfOk, IfErr, OnOk, OnErr, map, option_map, option_copied, bytes_eq};
 ghost use Rattle.std.specs.String.{string_bytes};
 ghost use Rattle.gk_gherkin.specs.Hooks.{hook_value, is_for};
 ghost use Rattle.gk_gherkin.specs.HookTable.{hook_for};
@@ -39,7 +39,9 @@ fn add_under(
 
 impl HookIndex {
     /// Returns an empty index. Doesn't allocate.
-    pub fn new(alloc: Global) -> HookIndex {
+    pub fn new(alloc: Global) -> HookIndex
+        ensures { (t : Option (List ℕ)) → spec.positions_of result t ≡ [] }
+    {
         HookIndex {
             untagged: Vec::new(alloc),
             tagged: BTreeMap::new(alloc),
@@ -59,13 +61,20 @@ impl HookIndex {
         }
     }
 
-    /// Adds the position of a hook with this tag. A refusal of memory adds nothing.
+    /// Adds the position of a hook with this tag, after the earlier ones. Positions under other tags
+    /// stay as they are. A refusal of memory adds nothing.
     pub fn add(&mut self, tag: &Option<String>, position: usize) -> Result<(), AllocError>
         ensures kept { (t : Option (List ℕ)) (n : ℕ) →
             is_among n (spec.positions_of self.old t) ≡ true
             → is_among n (spec.positions_of self.new t) ≡ true }
         ensures added { OnOk result (is_among position
             (spec.positions_of self.new (option_map string_bytes tag.now)) ≡ true) }
+        ensures last { let t = option_map string_bytes tag.now in OnOk result
+            (spec.positions_of self.new t ≡ spec.positions_of self.old t ++ position ∷ []) }
+        ensures others { (t : Option (List ℕ)) → t ≢ option_map string_bytes tag.now
+            → spec.positions_of self.new t ≡ spec.positions_of self.old t }
+        ensures refused { OnErr result ((t : Option (List ℕ)) →
+            spec.positions_of self.new t ≡ spec.positions_of self.old t) }
     {
         match tag {
             None => {
@@ -77,9 +86,10 @@ impl HookIndex {
     }
 }
 
-/// Returns the index of some hooks.
+/// Returns the index of some hooks. Memory is refused only if there is a hook.
 pub fn index_of(alloc: Global, hooks: &[Hook]) -> Result<HookIndex, AllocError>
-    ensures { IfOk result (λ index. AreListed index hooks.now) }
+    ensures ok { IfOk result (λ index. AreListed index hooks.now) }
+    ensures memory { IfErr result (λ _. hooks.now ≢ []) }
 {
     let mut index = HookIndex::new(alloc);
     for position in 0..hooks.len() {

@@ -1,5 +1,5 @@
 //! The lines of a text.
-ghost use Rattle.std.specs.Prelude.{◌≡◌, ◌≢◌, ◌≤◌, ◌==◌, map, length, count_by, IfOk, IfErr};
+ghost use Rattle.std.specs.Prelude.{◌≡◌, ◌≢◌, ◌≤◌, ◌==◌, [], map, length, count_by, IfOk, IfErr};
 ghost use Rattle.std.specs.List.{prefix_len};
 ghost use Rattle.std.specs.Str.Lines.{lines};
 ghost use Rattle.gk_gherkin.specs.Lines as spec;
@@ -94,6 +94,7 @@ fn lines_from(alloc: Global, text: &str) -> Result<Document, ReadFault>
     ensures ok { IfOk result (λ d.
         map line_value d.lines.items ≡ numbered_from 1 (lines text.now)) }
     ensures fault { IfErr result (λ e. e ≡ Memory) }
+    ensures memory { IfErr result (λ e. numbered_from 1 (lines text.now) ≢ []) }
 {
     let mut lines = Vec::new(alloc);
     let mut number: u32 = 1;
@@ -128,13 +129,16 @@ pub fn text_of(bytes: &[u8]) -> Result<&str, ReadFault>
 ///
 /// More than `LIMIT` bytes are `TooLong`, whatever they contain. Other bytes that aren't UTF-8 are
 /// `NotUtf8`, with the line of the first byte after the longest prefix that is UTF-8. `Memory`
-/// comes only if a growth was refused. A fault returns no line. (this project's profile)
+/// comes only if a growth was refused, and so never for a text without lines. A fault returns no
+/// line. (this project's profile)
 pub fn read_lines(alloc: Global, bytes: &[u8]) -> Result<Document, ReadFault>
     // The lines returned are those of the text.
     ensures ok { IfOk result (λ d.
         IsText bytes.now × (map line_value d.lines.items ≡ lines_of bytes.now)) }
     // Which fault is returned.
     ensures fault { IfErr result (λ e. LinesFaultSays e bytes.now) }
+    // Memory is refused only if there is a line to copy.
+    ensures memory { IfErr result (λ e. e ≡ Memory → lines_of bytes.now ≢ []) }
 {
     let text = text_of(bytes)?;
     lines_from(alloc, text)
