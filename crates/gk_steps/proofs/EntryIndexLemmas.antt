@@ -1,10 +1,11 @@
 -- An index over the literals at the ends of patterns.
 use Rattle.std.proofs.Common.{◌≡◌, ℕ, Bool, zero, suc, ◌+◌, ◌-◌, ◌%◌, ◌<◌, ◌≤◌, ◌⊎◌, inl, inr, List, [], ◌∷◌, ◌++◌, length, take, drop, map, get_or, Option, Some, refl, ap, sym, subst, ◌∙◌, arith, length-append, Bor, None}
-use Rattle.std.specs.Prelude.{slice_get, slice_set, IfSome, option_copied, Vec, ◌==◌, true, false, Result, Ok, Err, OnOk}
+use Rattle.std.specs.Prelude.{slice_get, slice_set, IfSome, option_copied, Vec, ◌==◌, true, false, Result, Ok, Err, OnOk, if◌then◌else◌}
+use Rattle.std.specs.Int.{w64, from_le_bytes}
 use Rattle.std.specs.declared.alloc.Global.{Global}
 use Rattle.std.proofs.Math.Nat.{eq-or-lt_of_le, mod-lt}
-use Rattle.std.proofs.lemmas.Bool.{cases_lt, eq-eqb}
-use Rattle.std.proofs.lemmas.List.{append-nil, take_at, drop_at}
+use Rattle.std.proofs.lemmas.Bool.{cases_lt, eq-eqb, lt-ltb, le-ltb}
+use Rattle.std.proofs.lemmas.List.{append-nil, take_at, drop_at, take_all, take-append-le}
 use Rattle.gk_steps.specs.declared.library.Entry.{Entry}
 use Rattle.gk_steps.specs.declared.pattern.Piece.{Piece}
 use Rattle.gk_steps.specs.declared.entry_index.Index.{Index}
@@ -15,7 +16,7 @@ use Rattle.gk_steps.specs.LiteralEnds.{FitsEnd}
 use Rattle.gk_gherkin.specs.declared.feature.StepType.{StepType}
 use Rattle.gk_steps.specs.Finding.{EntryValue, entry_value, NoneBefore}
 use Rattle.gk_steps.specs.FilledCells.{cells_of_type}
-use Rattle.gk_steps.specs.EntryIndex.{literal_of, first_literal, last_literal, key_more, key_over, first_key, ends_key, keyed, IsAmong, IsUnder, IsMarked, bucket_at, bucket_of, HasBuckets, Lists, AreListed, IsLeastFrom, Skips, CanStand, HasFirst, HasEnds, HasEndsAmong, IsShorter, IsAny, SkipsEntries}
+use Rattle.gk_steps.specs.EntryIndex.{literal_of, first_literal, last_literal, key_more, key_over, first_key, ends_key, keyed, IsAmong, IsUnder, IsMarked, bucket_at, bucket_of, HasBuckets, Lists, AreListed, IsLeastFrom, Skips, CanStand, HasFirst, HasEnds, HasEndsAmong, IsShorter, IsAny, SkipsEntries, word_of, head_of, IsOther, PassesHeads, AreHeads}
 use Rattle.gk_steps.proofs.LiteralEndLemmas.{match_fits}
 
 -- the last literal
@@ -369,3 +370,76 @@ if_taken (Some i) p entries slice n e same h = listed_taken i.now entries slice 
 pub if_asked : (o : Option Index) (index : Index) (entries : List Entry) → IfSome o (λ i. i ≡ index) → AreListed index entries → IfSome o (λ i. AreListed i entries)
 if_asked None index entries e h = tt
 if_asked (Some i) index entries e h = subst (λ (j : Index). AreListed j entries) (sym e) h
+
+-- the word of a text
+pub all_before : {X : Type 0} (xs : List X) (size : ℕ) → length xs ≤ size → xs ≡ take size xs
+all_before xs size le = sym (take_all size xs le)
+
+abbrev word_by : Bool → List ℕ → Option ℕ
+word_by short text = if short then None else Some (from_le_bytes w64 (take 8 text))
+
+word_more : (first rest : List ℕ) (word : ℕ) → Some word ≡ word_of first → Some word ≡ word_of (first ++ rest)
+word_more first rest word e = elim (cases_lt (length first) 8) [
+  | inl short ↦
+      let bad : ◌≡◌ {A = Option ℕ} (Some word) None = e ∙ ap (λ b. word_by b first) (lt-ltb (length first) 8 short) in
+      absurd (let none : ⊥ = cc in none)
+  | inr long ↦
+      let longer : 8 ≤ length (first ++ rest) = omega (arith, long, length-append first rest) in
+      e ∙ ap (λ b. word_by b first) (le-ltb (length first) 8 long) ∙ ap (λ t. Some (from_le_bytes w64 t)) (sym (take-append-le 8 first rest long)) ∙ sym (ap (λ b. word_by b (first ++ rest)) (le-ltb (length (first ++ rest)) 8 longer))
+]
+
+match_word : (ps : List PieceValue) (text : List ℕ) (spans : List (List ℕ)) (word : ℕ) → Matches ps text spans → Some word ≡ head_of ps → Some word ≡ word_of text
+match_word ps text spans word m e =
+    let a = match_begins ps text spans m in
+    word_more (first_literal ps) a.0 word e ∙ ap word_of (sym a.1)
+
+-- entries that are passed over by their heads
+other_never : (head : Option ℕ) (heads : List (Option ℕ)) (entries : List Entry) (position : ℕ) (entry : Entry) (word : Option ℕ) (text : List ℕ) → word ≡ word_of text → AreHeads heads entries → slice_get heads position ≡ Some head → slice_get entries position ≡ Some entry → IsOther head word → MatchesNot (pattern_value entry.pattern) text
+other_never None heads entries position entry word text e h there is other spans m = other
+other_never (Some w) heads entries position entry word text e h there is other spans m = other (match_word (pattern_value entry.pattern) text spans w m (h position w entry there is) ∙ sym e)
+
+pub heads_passed : (heads : List (Option ℕ)) (entries : List Entry) (from middle result : ℕ) (word : Option ℕ) (text : List ℕ) → word ≡ word_of text → AreHeads heads entries → SkipsEntries entries from text middle → PassesHeads heads middle word result → SkipsEntries entries from text result
+heads_passed heads entries from middle result word text e h s p = record {
+  low = λ le. omega (arith, s.low le, p.low);
+  skipped = λ position entry is low under. elim (cases_lt position middle) [
+    | inl before ↦ s.skipped position entry is low before
+    | inr from ↦ let o = p.passed position from under in other_never o.0 heads entries position entry word text e h o.1 is o.2
+  ];
+}
+
+pub passes_none : (heads : List (Option ℕ)) (from : ℕ) (word : Option ℕ) → PassesHeads heads from word from
+passes_none heads from word = record { low = omega arith; passed = λ position low under. absurd (omega arith) }
+
+pub passes_more : (heads : List (Option ℕ)) (from position : ℕ) (word head : Option ℕ) → slice_get heads position ≡ Some head → IsOther head word → PassesHeads heads from word position → PassesHeads heads from word (position + 1)
+passes_more heads from position word head is other h = record {
+  low = omega (arith, h.low);
+  passed = λ before low under. elim (let le : before ≤ position = omega arith in eq-or-lt_of_le le) [
+    | inr old ↦ h.passed before low old
+    | inl same ↦ (head, ap (slice_get heads) same ∙ is, other)
+  ];
+}
+
+-- the heads of entries
+pub no_heads : (entries : List Entry) → AreHeads [] entries
+no_heads entries position word entry there is = let bad : ⊥ = cc in absurd bad
+
+pub heads_push : (old new : List (Option ℕ)) (entries items : List Entry) (head : Option ℕ) (x : Entry) → length old ≡ length entries → new ≡ old ++ head ∷ [] → items ≡ entries ++ x ∷ [] → head ≡ head_of (pattern_value x.pattern) → AreHeads old entries → AreHeads new items
+heads_push old new entries items head x size same_heads same own h position word entry there is =
+    elim (get_push old head position (Some word) (ap (λ hs. slice_get hs position) (sym same_heads) ∙ there)) [
+      | inl a ↦ elim (get_push entries x position entry (ap (λ es. slice_get es position) (sym same) ∙ is)) [
+        | inl b ↦ h position word entry a b
+        | inr b ↦ absurd (omega (arith, get_within old position (Some word) a, b.0, size))
+      ]
+      | inr a ↦ elim (get_push entries x position entry (ap (λ es. slice_get es position) (sym same) ∙ is)) [
+        | inl b ↦ absurd (omega (arith, get_within entries position entry b, a.0, size))
+        | inr b ↦ sym a.1 ∙ own ∙ ap (λ (v : Entry). head_of (pattern_value v.pattern)) b.1
+      ]
+    ]
+
+pub heads_taken : (heads some : List (Option ℕ)) (entries slice : List Entry) (n : ℕ) → some ≡ take n heads → slice ≡ take n entries → AreHeads heads entries → AreHeads some slice
+heads_taken heads some entries slice n same_heads same h position word entry there is =
+    h position word entry (get_taken heads n position (Some word) (ap (λ hs. slice_get hs position) (sym same_heads) ∙ there)) (get_taken entries n position entry (ap (λ es. slice_get es position) (sym same) ∙ is))
+
+pub heads_size : (old middle new : List (Option ℕ)) (entries items : List Entry) (head : Option ℕ) (x : Entry) → length old ≡ length entries → middle ≡ old → new ≡ middle ++ head ∷ [] → items ≡ entries ++ x ∷ [] → length new ≡ length items
+heads_size old middle new entries items head x size kept same_heads same =
+    omega (arith, size, ap length kept, ap length same_heads, ap length same, length-append middle (head ∷ []), length-append entries (x ∷ []))

@@ -1,5 +1,6 @@
 -- How an index lists the entries of a library by the literals at their patterns' ends, and which entries it passes over.
-use Rattle.std.specs.Prelude.{◌≡◌, ◌⊎◌, ◌+◌, ◌*◌, ◌%◌, ◌<◌, ◌≤◌, ℕ, zero, suc, Bool, true, List, [], ◌∷◌, length, slice_get, Vec, Some, IfSome}
+use Rattle.std.specs.Prelude.{◌≡◌, ◌⊎◌, ◌+◌, ◌*◌, ◌%◌, ◌<◌, ◌≤◌, nat_lt, ℕ, zero, suc, Bool, true, List, [], ◌∷◌, length, take, slice_get, Vec, Option, Some, None, IfSome, if◌then◌else◌}
+use Rattle.std.specs.Int.{w64, from_le_bytes}
 use Rattle.std.specs.declared.alloc.Global.{Global}
 use Rattle.gk_steps.specs.declared.library.Entry.{Entry}
 use Rattle.gk_steps.specs.declared.library.LibraryBuilder.{LibraryBuilder}
@@ -24,6 +25,14 @@ abbrev pub last_literal : List PieceValue → List ℕ
 last_literal [] = []
 last_literal (p ∷ []) = literal_of p
 last_literal (p ∷ q ∷ ps) = last_literal (q ∷ ps)
+
+-- The word of a text: its first 8 bytes as one number; none if it is shorter.
+abbrev pub word_of : List ℕ → Option ℕ
+word_of text = if nat_lt (length text) 8 then None else Some (from_le_bytes w64 (take 8 text))
+
+-- The head of a pattern: the word of the literal that it begins with.
+abbrev pub head_of : List PieceValue → Option ℕ
+head_of ps = word_of (first_literal ps)
 
 -- A key extended by one byte.
 abbrev pub key_more : ℕ → ℕ → ℕ
@@ -124,10 +133,27 @@ pub record SkipsEntries (entries : List Entry) (from : ℕ) (text : List ℕ) (r
   pub low : from ≤ length entries → from ≤ result
   pub skipped : (position : ℕ) (entry : Entry) → slice_get entries position ≡ Some entry → from ≤ position → position < result → MatchesNot (pattern_value entry.pattern) text
 
--- The index of these entries, if there is one, lists them.
-abbrev pub IsIndexed : IndexedEntries → Type 0
-IsIndexed indexed = IfSome indexed.index (λ i. AreListed i.now indexed.entries.now)
+-- A head is another word than that of a text.
+abbrev pub IsOther : Option ℕ → Option ℕ → Type 0
+IsOther None word = ⊥
+IsOther (Some head) word = Some head ≡ word → ⊥
 
--- The index of the entries read so far lists them.
-abbrev pub HasIndex : LibraryBuilder → Type 0
-HasIndex builder = AreListed builder.index builder.entries.items
+-- The heads between two positions are other words than that of a text.
+pub record PassesHeads (heads : List (Option ℕ)) (from : ℕ) (word : Option ℕ) (result : ℕ) : Type 0 where
+  pub low : from ≤ result
+  pub passed : (position : ℕ) → from ≤ position → position < result → (head : Option ℕ) × (slice_get heads position ≡ Some head) × IsOther head word
+
+-- Each head that is a word is that of the entry at its position.
+abbrev pub AreHeads : List (Option ℕ) → List Entry → Type 0
+AreHeads heads entries = (position word : ℕ) (entry : Entry) → slice_get heads position ≡ Some (Some word) → slice_get entries position ≡ Some entry → Some word ≡ head_of (pattern_value entry.pattern)
+
+-- The heads of these entries are theirs, and their index, if there is one, lists them.
+pub record IsIndexed (indexed : IndexedEntries) : Type 0 where
+  pub heads : AreHeads indexed.heads.now indexed.entries.now
+  pub index : IfSome indexed.index (λ i. AreListed i.now indexed.entries.now)
+
+-- The entries read so far have their heads, and their index lists them.
+pub record HasIndex (builder : LibraryBuilder) : Type 0 where
+  pub size : length builder.heads.items ≡ length builder.entries.items
+  pub heads : AreHeads builder.heads.items builder.entries.items
+  pub index : AreListed builder.index builder.entries.items

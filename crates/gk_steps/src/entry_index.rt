@@ -1,11 +1,12 @@
 //! An index over the literals at the ends of patterns.
-ghost use Rattle.std.specs.Prelude.{◌≡◌, ◌<◌, ℕ, List, length, false, IsTrue, IfOk, IfSome, OnOk};
+ghost use Rattle.std.specs.Prelude.{◌≡◌, ◌<◌, ℕ, List, length, take, false, IsTrue, IfOk, IfSome, OnOk};
 ghost use Rattle.gk_steps.specs.declared.entry_index.Keyed.{Keyed};
 ghost use Rattle.gk_steps.specs.Pattern.{PieceValue, piece_value, pieces_said};
 ghost use Rattle.gk_steps.specs.EntryIndex as spec;
 ghost use Rattle.gk_steps.specs.EntryIndex.{IsAmong, IsMarked, bucket_of, HasBuckets, Lists, AreListed};
 ghost use Rattle.gk_steps.specs.EntryIndex.{IsUnder, IsLeastFrom, Skips, HasFirst, HasEnds};
 ghost use Rattle.gk_steps.specs.EntryIndex.{IsAny, CanStand, SkipsEntries, IsIndexed};
+ghost use Rattle.gk_steps.specs.EntryIndex.{IsOther, PassesHeads};
 
 use crate::library::Entry;
 use crate::pattern::Piece;
@@ -59,6 +60,66 @@ fn last_literal(pieces: &[Piece]) -> &str
     match pieces.last() {
         Some(piece) => literal_of(piece),
         None => "",
+    }
+}
+
+/// Returns the word of a text: its first 8 bytes as one number, or `None` if it is shorter.
+#[inline(always)]
+pub(crate) fn word_of(text: &str) -> Option<u64>
+    ensures { result ≡ spec.word_of text.now }
+{
+    let bytes = text.as_bytes();
+    if bytes.len() < 8 {
+        return None;
+    }
+    let (first, _) = bytes.split_at(8);
+    Some(u64::from_le_bytes([
+        first[0], first[1], first[2], first[3], first[4], first[5], first[6], first[7],
+    ]))
+}
+
+/// Returns the head of a pattern: the word of the literal that it begins with.
+pub(crate) fn head_of(pieces: &[Piece]) -> Option<u64>
+    ensures { result ≡ spec.head_of (pieces_said pieces.now) }
+{
+    word_of(first_literal(pieces))
+}
+
+// Returns whether a head is another word than that of a text.
+#[inline(always)]
+fn is_other(head: Option<u64>, word: Option<u64>) -> bool
+    ensures { IsTrue result → IsOther head word }
+{
+    match head {
+        Some(head) => match word {
+            Some(word) => head != word,
+            None => true,
+        },
+        None => false,
+    }
+}
+
+// Returns the first position at or after `from` whose head isn't another word than that of a text.
+#[inline(always)]
+fn next_head(heads: &[Option<u64>], from: usize, word: Option<u64>) -> usize
+    ensures { PassesHeads heads.now from word result }
+{
+    let mut position = from;
+    while position < heads.len() && is_other(heads[position], word) {
+        position += 1;
+    }
+    position
+}
+
+/// Returns the heads before a position.
+#[tactic(auto, using(crate::proofs::EntryIndexLemmas::all_before))]
+pub(crate) fn heads_before(heads: &[Option<u64>], size: usize) -> &[Option<u64>]
+    ensures { result.now ≡ take size heads.now }
+{
+    if size < heads.len() {
+        &heads[..size]
+    } else {
+        heads
     }
 }
 
@@ -308,18 +369,19 @@ impl Index {
     }
 }
 
-/// Entries, with their index if there is one.
+/// Entries, with their heads and with their index if there is one. An entry without a head is always tried.
 #[derive(Clone, Copy, Debug)]
 pub(crate) struct IndexedEntries<'a> {
     pub entries: &'a [Entry],
+    pub heads: &'a [Option<u64>],
     pub index: Option<&'a Index>,
 }
 
 impl IndexedEntries<'_> {
-    /// Returns a position at or after `from`. No entry from `from` up to, but not including, that position matches a
-    /// text. After a few tries the index isn't used, because a lookup would take longer.
+    // Returns a position at or after `from`, by the index. No entry from `from` up to, but not including, that position
+    // matches a text. After a few tries the index isn't used, because a lookup would take longer.
     #[inline(always)]
-    pub(crate) fn next(&self, from: usize, tries: usize, text: &str) -> usize
+    fn next_listed(&self, from: usize, tries: usize, text: &str) -> usize
         requires { IsIndexed self.now }
         ensures { SkipsEntries self.now.entries.now from text.now result }
     {
@@ -333,5 +395,16 @@ impl IndexedEntries<'_> {
             }
             None => from,
         }
+    }
+
+    /// Returns a position at or after `from`. No entry from `from` up to, but not including, that position matches a
+    /// text, which has this word.
+    #[inline(always)]
+    pub(crate) fn next(&self, from: usize, tries: usize, word: Option<u64>, text: &str) -> usize
+        requires indexed { IsIndexed self.now }
+        requires word { word ≡ spec.word_of text.now }
+        ensures { SkipsEntries self.now.entries.now from text.now result }
+    {
+        next_head(self.heads, self.next_listed(from, tries, text), word)
     }
 }

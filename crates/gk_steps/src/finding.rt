@@ -10,7 +10,7 @@ ghost use Rattle.gk_steps.specs.EntryIndex.{IsIndexed};
 
 use crate::action::Action;
 use crate::captures::{Captures, NoCaptures};
-use crate::entry_index::IndexedEntries;
+use crate::entry_index::{IndexedEntries, word_of};
 use crate::filled_cells::Cells;
 use crate::library::Library;
 use crate::matching::match_from_left;
@@ -65,8 +65,9 @@ pub(crate) fn find_of<'t, K: Captures<'t>>(
     ensures least { cells.old.filled ≤ cells.new.filled }
 {
     let entries = indexed.entries;
+    let word = word_of(text);
     let mut tries: usize = 0;
-    let mut position = indexed.next(0, tries, text);
+    let mut position = indexed.next(0, tries, word, text);
     while position < entries.len() {
         let entry = &entries[position];
         if is_same(entry.step_type, step_type) && entry.pattern.can_match(text) {
@@ -79,7 +80,7 @@ pub(crate) fn find_of<'t, K: Captures<'t>>(
             }
         }
         tries = tries.saturating_add(1);
-        position = indexed.next(position + 1, tries, text);
+        position = indexed.next(position + 1, tries, word, text);
     }
     Ok(None)
 }

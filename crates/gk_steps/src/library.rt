@@ -2,10 +2,10 @@
 ghost use Rattle.std.specs.Prelude.{◌≡◌, ◌≤◌, ◌++◌, ◌∷◌, [], length, take, IsTrue, IfSome, OnOk};
 ghost use Rattle.std.proofs.Props.{props};
 ghost use Rattle.gk_steps.specs.Library.{IsTypedEnd, are_for_each_from, is_for_one_before};
-ghost use Rattle.gk_steps.specs.EntryIndex.{AreListed, HasIndex, IsIndexed};
+ghost use Rattle.gk_steps.specs.EntryIndex.{AreHeads, AreListed, HasIndex, IsIndexed};
 
 use crate::action::Action;
-use crate::entry_index::{Index, IndexedEntries};
+use crate::entry_index::{Index, IndexedEntries, head_of, heads_before};
 use crate::pattern::Pattern;
 use gk_gherkin::StepType;
 use std::alloc::{AllocError, Global};
@@ -26,10 +26,13 @@ pub struct Library {
     // The end of the entries for steps of one type. Those from here on are for steps of every type, so a search for one
     // type ends here.
     pub(crate) typed: usize,
-    // Which entries may match a text. A short library and one that was not read from lines have no index: all entries
-    // are tried.
+    // The heads of the first entries; none if the library was not read from lines. An entry whose head is another word
+    // than that of a text is passed over.
+    heads: Vec<Option<u64>>,
+    // Which entries may match a text. A short library and one that was not read from lines have no index.
     index: Option<Index>,
     ghost typed_end: { IsTypedEnd typed entries.items } by { Prim.hlevel props },
+    ghost headed: { AreHeads heads.items entries.items } by { Prim.hlevel props },
     ghost listed: { IfSome index (λ i. AreListed i entries.items) } by { Prim.hlevel props },
 }
 
@@ -46,10 +49,11 @@ fn typed_len(entries: &[Entry]) -> usize
     typed
 }
 
-/// The entries that were read so far, with their index.
+/// The entries that were read so far, with their heads and their index.
 #[derive(Debug, Drop)]
 pub(crate) struct LibraryBuilder {
     pub entries: Vec<Entry>,
+    pub heads: Vec<Option<u64>>,
     pub index: Index,
 }
 
@@ -61,16 +65,19 @@ impl LibraryBuilder {
     {
         LibraryBuilder {
             entries: Vec::new(alloc),
+            heads: Vec::new(alloc),
             index: Index::new(alloc),
         }
     }
 
-    /// Appends an entry. The index is made once there are many entries, and made again with more room when it is full.
-    pub(crate) fn push(&mut self, alloc: Global, entry: Entry) -> Result<(), AllocError>
-        requires { HasIndex self.old }
+    // Appends an entry, and lists it. The index is made once there are many entries, and made again with more room when
+    // it is full.
+    fn push_listed(&mut self, alloc: Global, entry: Entry) -> Result<(), AllocError>
+        requires { AreListed self.old.index self.old.entries.items }
         ensures items { OnOk result
             (self.new.entries.items ≡ self.old.entries.items ++ entry ∷ []) }
-        ensures indexed { OnOk result (HasIndex self.new) }
+        ensures indexed { OnOk result (AreListed self.new.index self.new.entries.items) }
+        ensures heads { self.new.heads ≡ self.old.heads }
     {
         let position = self.entries.len();
         if self.index.has_room(position) {
@@ -87,6 +94,19 @@ impl LibraryBuilder {
         Ok(())
     }
 
+    /// Appends an entry and its head.
+    pub(crate) fn push(&mut self, alloc: Global, entry: Entry) -> Result<(), AllocError>
+        requires { HasIndex self.old }
+        ensures items { OnOk result
+            (self.new.entries.items ≡ self.old.entries.items ++ entry ∷ []) }
+        ensures indexed { OnOk result (HasIndex self.new) }
+    {
+        let head = head_of(&entry.pattern.pieces);
+        self.push_listed(alloc, entry)?;
+        self.heads.push(head)?;
+        Ok(())
+    }
+
     /// Borrows the entries for a search.
     pub(crate) fn indexed(&self) -> IndexedEntries<'_>
         requires { HasIndex self.now }
@@ -95,6 +115,7 @@ impl LibraryBuilder {
     {
         IndexedEntries {
             entries: &self.entries,
+            heads: &self.heads,
             index: Some(&self.index),
         }
     }
@@ -107,6 +128,7 @@ impl Library {
     {
         let typed = typed_len(&entries);
         Library {
+            heads: Vec::new(*entries.allocator()),
             entries,
             typed,
             index: None,
@@ -122,6 +144,7 @@ impl Library {
         Library {
             entries: builder.entries,
             typed,
+            heads: builder.heads,
             index: builder.index.into_asked(),
         }
     }
@@ -133,6 +156,7 @@ impl Library {
     {
         IndexedEntries {
             entries: &self.entries,
+            heads: &self.heads,
             index: self.index.as_ref(),
         }
     }
@@ -145,6 +169,7 @@ impl Library {
     {
         IndexedEntries {
             entries: &self.entries[..size],
+            heads: heads_before(&self.heads, size),
             index: self.index.as_ref(),
         }
     }

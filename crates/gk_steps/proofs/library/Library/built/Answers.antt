@@ -13,5 +13,6 @@ invariant_of-result c =
         rest = subst (λ es. IsTrue (are_for_each_from typed es)) c.deref.ensures.value c.typed_len-typed.ensures.rest;
         last = subst (λ es. IsTrue (is_for_one_before typed es)) c.deref.ensures.value c.typed_len-typed.ensures.last;
       };
-      listed = if_asked c.into_asked.result c.args.builder.index c.args.builder.entries.items c.into_asked.ensures c.requires;
+      headed = c.requires.heads;
+      listed = if_asked c.into_asked.result c.args.builder.index c.args.builder.entries.items c.into_asked.ensures c.requires.index;
     }
