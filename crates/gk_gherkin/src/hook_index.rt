@@ -61,8 +61,8 @@ impl HookIndex {
         }
     }
 
-    /// Adds the position of a hook with this tag, after the earlier ones. Positions under other tags
-    /// stay as they are. A refusal of memory adds nothing.
+    /// Adds the position of a hook with this tag, after the earlier ones. Positions under other
+    /// tags stay as they are. A refusal of memory adds nothing.
     pub fn add(&mut self, tag: &Option<String>, position: usize) -> Result<(), AllocError>
         ensures kept { (t : Option (List ℕ)) (n : ℕ) →
             is_among n (spec.positions_of self.old t) ≡ true
