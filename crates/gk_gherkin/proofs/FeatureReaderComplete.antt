@@ -17,7 +17,8 @@ use Rattle.gk_gherkin.specs.Grammar.{AreExamples, AreSteps, AreTags, Describes, 
 use Rattle.gk_gherkin.specs.Results.{◌>>=◌}
 use Rattle.gk_gherkin.proofs.ReadingRuns.{no_ok, ok_same, run_nil, run_over}
 use Rattle.gk_gherkin.proofs.ReadingStates.{IsNoFence, ignored_no_fence, no_fence, step_plain}
-use Rattle.gk_gherkin.proofs.ReadingSteps.{AllAre, row_takes, run_steps}
+use Rattle.gk_gherkin.proofs.ReadingSteps.{AllAre, run_steps}
+use Rattle.gk_gherkin.proofs.RowStops.{row_takes}
 use Rattle.gk_gherkin.proofs.FeatureReaderSound.{IgnoredAt}
 
 -- ignored lines are passed over

@@ -142,7 +142,7 @@ grid_row header rows l e row cells is w fits h = record {
   row = row;
   cells = cells;
   row_is = is;
-  row_cells = row_takes (length header) row cells w fits;
+  row_cells = row_takes (Some (length header)) row cells w fits;
   takes = λ o cells k. (Rows header (rows ++ row_from o cells ∷ []), ap (λ (r : Result (List (List ℕ)) ReadFault). r >>= λ cells. let a : Result Grid ReadFault = Ok (Rows header (rows ++ row_from o cells ∷ [])) in a) k);
   refuses = λ o e k. ap (λ (r : Result (List (List ℕ)) ReadFault). r >>= λ cells. let a : Result Grid ReadFault = Ok (Rows header (rows ++ row_from o cells ∷ [])) in a) k;
   stops = h;

@@ -2,15 +2,16 @@
 use Rattle.std.specs.Prelude.{◌&&◌, ◌||◌, ◌==◌, is_some, Bool, true, false, cond, find, slice_get, option_copied, option_map, bytes_eq, Result, Ok, Err, OnOk, IfErr, IfSome, ltb}
 use Rattle.std.specs.List.{list_any}
 use Rattle.std.specs.String.{string_bytes}
-use Rattle.std.proofs.Common.{◌≡◌, ◌≢◌, ℕ, zero, suc, ◌+◌, ◌≤◌, ◌<◌, inl, inr, List, [], ◌∷◌, ◌++◌, length, map, get_or, Option, Some, None, Bor, refl, sym, ap, subst, ◌∙◌, arith}
+use Rattle.std.proofs.Common.{◌≡◌, ◌≢◌, ℕ, zero, suc, ◌+◌, ◌≤◌, ◌<◌, inl, inr, ◌⊎◌, List, [], ◌∷◌, ◌++◌, length, map, get_or, Option, Some, None, Bor, refl, sym, ap, subst, ◌∙◌, arith}
 use Rattle.std.proofs.lemmas.Bool.{cases_lt, eqb-true, eq-eqb, lt-ltb, ltb-true}
 use Rattle.std.proofs.lemmas.Option.{slice_get_past, slice_get_within}
+use Rattle.std.proofs.lemmas.Bool.Decides.{nat_tests}
 use Rattle.std.proofs.lemmas.Slice.Eq.{bytes_eq-Decides}
 use Rattle.gk_gherkin.specs.declared.hooks.Hook.{Hook}
 use Rattle.gk_gherkin.specs.declared.hooks.HookKind.{HookKind}
 use Rattle.gk_gherkin.specs.declared.hook_index.HookIndex.{HookIndex}
 use Rattle.gk_gherkin.specs.Hooks.{HookValue, hook_value, is_same_kind, is_same_tag, is_for}
-use Rattle.gk_gherkin.specs.HookIndex.{is_among, positions_of, AreListed, AreListedTo, IsFirst}
+use Rattle.gk_gherkin.specs.HookIndex.{is_among, positions_of, AreListed, AreListedTo, ListsOnly, IsFirst}
 
 second : (a b : Bool) → (a && b) ≡ true → b ≡ true
 second true b e = e
@@ -73,6 +74,73 @@ pub listed_push : (old new : HookIndex) (hooks : List Hook) (hook : Hook) → ((
 listed_push old new hooks hook kept added listed position other at =
     last_or_before hooks hook other position (λ i h. is_among i (positions_of new (option_map string_bytes h.tag)) ≡ true) (listed_kept old new hooks kept listed) added at
 
+-- the next hook is listed, and nothing else
+next_by : (b : Bool) (position k : ℕ) (hooks : List Hook) (hook other : Hook) (P : ℕ → Hook → Type 0) → (position == k) ≡ b → position < k + 1 → slice_get hooks k ≡ Some hook → slice_get hooks position ≡ Some other → P k hook → (position < k → P position other) → P position other
+next_by true position k hooks hook other P e within at other_at here before =
+    let same = eqb-true position k e in
+    let there : slice_get hooks k ≡ Some other = subst (λ i. slice_get hooks i ≡ Some other) same other_at in
+    let hook_is : hook ≡ other = cc in
+    subst (λ i. P i other) (sym same) (subst (P k) hook_is here)
+next_by false position k hooks hook other P e within at other_at here before = before (grind (arith, nat_tests))
+
+pub listed_next : (old new : HookIndex) (hooks : List Hook) (k : ℕ) (hook : Hook) → slice_get hooks k ≡ Some hook → ((t : Option (List ℕ)) (n : ℕ) → is_among n (positions_of old t) ≡ true → is_among n (positions_of new t) ≡ true)
+    → is_among k (positions_of new (option_map string_bytes hook.tag)) ≡ true → AreListedTo old hooks k → AreListedTo new hooks (k + 1)
+listed_next old new hooks k hook at kept added before position other within other_at =
+    next_by (position == k) position k hooks hook other (λ i h. is_among i (positions_of new (option_map string_bytes h.tag)) ≡ true) refl within at other_at added
+    (λ earlier. kept (option_map string_bytes other.tag) position (before position other earlier other_at))
+
+same_tag : (a b : Option (List ℕ)) → is_same_tag a b ≡ true → a ≡ b
+same_tag None None e = refl
+same_tag None (Some b) e = cc
+same_tag (Some a) None e = cc
+same_tag (Some a) (Some b) e = ap Some ((bytes_eq-Decides a b).0 e)
+
+split_by : (b c d : Bool) {P : Type 0} → (c ≡ true → (d ≡ true) ⊎ P) → (b || c) ≡ true → ((b || d) ≡ true) ⊎ P
+split_by true c d f h = inl refl
+split_by false c d f h = f h
+
+last_by : (n p : ℕ) (b : Bool) → (n == p) ≡ b → (b || false) ≡ true → n ≡ p
+last_by n p true e h = eqb-true n p e
+last_by n p false e h = let no : ⊥ = cc in absurd no
+
+among_split : (n p : ℕ) (ns : List ℕ) → is_among n (ns ++ p ∷ []) ≡ true → (is_among n ns ≡ true) ⊎ (n ≡ p)
+among_split n p [] h = inr (last_by n p (n == p) refl h)
+among_split n p (k ∷ ns) h = split_by (n == k) (is_among n (ns ++ p ∷ [])) (is_among n ns) (among_split n p ns) h
+
+tag_itself : (a : Option (List ℕ)) → is_same_tag a a ≡ true
+tag_itself None = refl
+tag_itself (Some a) = (bytes_eq-Decides a a).1 refl
+
+only_pushed : (old new : HookIndex) (hooks : List Hook) (k : ℕ) (hook : Hook) (tag : Option (List ℕ)) (position : ℕ) → slice_get hooks k ≡ Some hook → option_map string_bytes hook.tag ≡ tag → ListsOnly old hooks
+    → (is_among position (positions_of old tag) ≡ true) ⊎ (position ≡ k) → (other : Hook) × (slice_get hooks position ≡ Some other) × (option_map string_bytes other.tag ≡ tag)
+only_pushed old new hooks k hook tag position at same before (inl h) = before tag position h
+only_pushed old new hooks k hook tag position at same before (inr e) = (hook, subst (λ i. slice_get hooks i ≡ Some hook) (sym e) at, same)
+
+only_by : (b : Bool) (old new : HookIndex) (hooks : List Hook) (k : ℕ) (hook : Hook) (tag : Option (List ℕ)) (position : ℕ) → is_same_tag tag (option_map string_bytes hook.tag) ≡ b → slice_get hooks k ≡ Some hook
+    → positions_of new (option_map string_bytes hook.tag) ≡ positions_of old (option_map string_bytes hook.tag) ++ k ∷ []
+    → ((t : Option (List ℕ)) → t ≢ option_map string_bytes hook.tag → positions_of new t ≡ positions_of old t)
+    → ListsOnly old hooks → is_among position (positions_of new tag) ≡ true → (other : Hook) × (slice_get hooks position ≡ Some other) × (option_map string_bytes other.tag ≡ tag)
+only_by true old new hooks k hook tag position e at last others before h =
+    let own = option_map string_bytes hook.tag in
+    let same : tag ≡ own = same_tag tag own e in
+    let h_own : is_among position (positions_of new own) ≡ true = subst (λ t. is_among position (positions_of new t) ≡ true) same h in
+    let among : is_among position (positions_of old own ++ k ∷ []) ≡ true = subst (λ ns. is_among position ns ≡ true) last h_own in
+    let parts = subst (λ t. (is_among position (positions_of old t) ≡ true) ⊎ (position ≡ k)) (sym same) (among_split position k (positions_of old own) among) in
+    only_pushed old new hooks k hook tag position at (sym same) before parts
+only_by false old new hooks k hook tag position e at last others before h =
+    let own = option_map string_bytes hook.tag in
+    let other : tag ≢ own = λ same. let t : is_same_tag tag own ≡ true = subst (λ t. is_same_tag tag t ≡ true) same (tag_itself tag) in let no : ⊥ = cc in no in
+    before tag position (subst (λ ns. is_among position ns ≡ true) (others tag other) h)
+
+pub only_next : (old new : HookIndex) (hooks : List Hook) (k : ℕ) (hook : Hook) → slice_get hooks k ≡ Some hook
+    → positions_of new (option_map string_bytes hook.tag) ≡ positions_of old (option_map string_bytes hook.tag) ++ k ∷ []
+    → ((t : Option (List ℕ)) → t ≢ option_map string_bytes hook.tag → positions_of new t ≡ positions_of old t)
+    → ListsOnly old hooks → ListsOnly new hooks
+only_next old new hooks k hook at last others before tag position h = only_by (is_same_tag tag (option_map string_bytes hook.tag)) old new hooks k hook tag position refl at last others before h
+
+pub only_none : (index : HookIndex) (hooks : List Hook) → ((t : Option (List ℕ)) → positions_of index t ≡ []) → ListsOnly index hooks
+only_none index hooks none tag position h = let listed : is_among position [] ≡ true = subst (λ ns. is_among position ns ≡ true) (none tag) h in let no : ⊥ = cc in absurd no
+
 -- the first that passes
 find_past : {X : Type 0} (test : X → Bool) (x : X) (xs : List X) (r : ℕ) (b : Bool) → test x ≡ b → (test x ≡ true → suc r ≤ 0) → slice_get xs r ≡ find test xs → slice_get xs r ≡ cond (test x) (Some x) (find test xs)
 find_past test x xs r true e never same = let l = never e in let bad : ⊥ = omega arith in absurd bad
@@ -94,12 +162,6 @@ find_mapped test f [] = refl
 find_mapped test f (x ∷ xs) = ap (λ o. cond (test (f x)) (Some (f x)) o) (find_mapped test f xs) ∙ sym (kept_choice f (test (f x)) x (find (λ y. test (f y)) xs))
 
 -- the hook of a kind and a tag
-same_tag : (a b : Option (List ℕ)) → is_same_tag a b ≡ true → a ≡ b
-same_tag None None e = refl
-same_tag None (Some b) e = cc
-same_tag (Some a) None e = cc
-same_tag (Some a) (Some b) e = ap Some ((bytes_eq-Decides a b).0 e)
-
 within_all : (ns : List ℕ) (k n : ℕ) → slice_get ns k ≡ Some n → k < length ns
 within_all [] k n e = let never : ⊥ = cc in absurd never
 within_all (m ∷ ns) zero n e = omega arith

@@ -20,13 +20,13 @@ pub mod HookHeadingsDecided
 pub mod OpenPartsSound
 pub mod FeatureReaderSound
 pub mod HooksReaderSound
+pub mod RowStops
 pub mod ReadingSteps
 pub mod FeatureReaderComplete
 pub mod HooksReaderComplete
 pub mod Prefixes
 pub mod RuleCounts
 pub mod FreshHookHeadings
-pub mod RowStops
 pub mod ReadingStops
 pub mod FeatureReaderStops
 pub mod HooksReaderStops

@@ -7,9 +7,10 @@ use Rattle.gk_gherkin.specs.DocStrings.{closes}
 use Rattle.gk_gherkin.specs.declared.class.Fence.{Fence}
 use Rattle.gk_gherkin.specs.declared.class.Fence.TheVariants.{Quotes, Backticks}
 use Rattle.gk_gherkin.specs.Class.{class, fence_text}
+use Rattle.gk_gherkin.specs.Rows.{cells_of}
 use Rattle.gk_gherkin.specs.Grammar.{IsReadable}
-use Rattle.gk_gherkin.specs.ReadFault.{SomeLikeIt, NoneLikeIt, StopsAt, EndsInDocString, EndsInTags, IsLineFault, LineSays, line_of_fault}
-use Rattle.gk_gherkin.specs.declared.class.Class.TheVariants.{FenceLine}
+use Rattle.gk_gherkin.specs.ReadFault.{SomeLikeIt, NoneLikeIt, AnyLineSays, StopsAt, EndsInDocString, EndsInTags, IsLineFault, LineSays, line_of_fault}
+use Rattle.gk_gherkin.specs.declared.class.Class.TheVariants.{FenceLine, RowLine}
 use Rattle.gk_gherkin.specs.declared.read_fault.ReadFault.{ReadFault}
 use Rattle.gk_gherkin.specs.declared.read_fault.ReadFault.TheVariants.{BadRow, CellCount, Unexpected}
 
@@ -45,6 +46,14 @@ unfolding closes
 closing_line Quotes = refl
 closing_line Backticks = refl
 
+-- the fault of a row that may stand
+abbrev pub row_fault : Option (List (List ℕ)) → ℕ → ReadFault
+row_fault None n = BadRow n
+row_fault (Some cells) n = CellCount n
+
+pub same_line : (n m : ℕ) → ◌≡◌ {A = Option ℕ} (Some n) (Some m) → n ≡ m
+same_line n m e = cc
+
 module _ (Readable : Lines → Type 0) {C : Type 0} (kind : LineValue → C) where
   pub some_or_none : (before : Lines) (line : LineValue) → NoneLikeIt Readable kind before line → SomeLikeIt Readable kind before line → ⊥
   some_or_none before line none (other, alike, (more, readable)) = none other alike more readable
@@ -61,6 +70,14 @@ module _ (Readable : Lines → Type 0) {C : Type 0} (kind : LineValue → C) whe
   -- a fault of a line: none like it can stand there, or one can, and the fault is this line's own
   abbrev pub Decided : (LineValue → ReadFault) → ReadFault → Lines → LineValue → Type 0
   Decided own e before l = ((e ≡ Unexpected l.line) × NoneLikeIt Readable kind before l) ⊎ ((e ≡ own l) × SomeLikeIt Readable kind before l)
+
+  -- of_row: the fault of a row is its line's own
+  pub decided_any : (own : LineValue → ReadFault) → ((l : LineValue) (cells : Option (List (List ℕ))) → class l ≡ RowLine → cells_of l ≡ cells → row_fault cells l.line ≡ own l)
+      → (e : ReadFault) (before : Lines) (l : LineValue) → line_of_fault e ≡ Some l.line → AnyLineSays Readable kind e before l → Decided own e before l
+  decided_any own of_row (Unexpected n) before l number h = inl (ap Unexpected (same_line n l.line number), h)
+  decided_any own of_row (BadRow n) before l number h = inr (ap BadRow (same_line n l.line number) ∙ of_row l None h.is h.bad, h.fits)
+  decided_any own of_row (CellCount n) before l number h = inr (ap CellCount (same_line n l.line number) ∙ of_row l (Some h.cells) h.is h.good, h.fits)
+  decided_any own of_row _ before l number h = absurd h
 
   -- two facts of one line are the same fault
   pub same_fault : (own : LineValue → ReadFault) (one other : ReadFault) (before : Lines) (l : LineValue) → Decided own one before l → Decided own other before l → one ≡ other
@@ -110,11 +127,3 @@ module _ (Readable : Lines → Type 0) {C : Type 0} (kind : LineValue → C) (Sa
 -- lines that end after tags have no faulty line
 pub no_fault_before_end : (ls : Lines) (e : ReadFault) (n : ℕ) → IsLineFault e ls → EndsInTags ls n → ⊥
 no_fault_before_end ls e n f ends = no_fault IsReadable class LineSays ls e ends.fits.0 f ends.fits.2
-
--- the fault of a row that may stand
-abbrev pub row_fault : Option (List (List ℕ)) → ℕ → ReadFault
-row_fault None n = BadRow n
-row_fault (Some cells) n = CellCount n
-
-pub same_line : (n m : ℕ) → ◌≡◌ {A = Option ℕ} (Some n) (Some m) → n ≡ m
-same_line n m e = cc

@@ -24,7 +24,7 @@ use Rattle.gk_gherkin.proofs.ReadingRuns.{no_ok, one_more_line, run-append}
 use Rattle.gk_gherkin.proofs.ReadingStates.{no_fence, step_plain, step_stays}
 use Rattle.gk_gherkin.proofs.ReadingStops.{IsOpen, closed, not_in_text, open_until, still_open}
 use Rattle.gk_gherkin.proofs.FeatureReaderStops.{before_text, behind_text, feature_runs, heading_for, plain_fence, readable_after_tags, readable_at, text_takes}
-use Rattle.gk_gherkin.proofs.OneFault.{Cuts, Decided, closing_line, cuts, first, no_fault_before_end, no_fault_in_doc_string, one_line_fault, one_opening, row_fault, same, same_line, second}
+use Rattle.gk_gherkin.proofs.OneFault.{Cuts, Decided, closing_line, cuts, decided_any, first, no_fault_before_end, no_fault_in_doc_string, one_line_fault, one_opening, row_fault, same, same_line, second}
 use Rattle.gk_gherkin.proofs.RowStops.{line_of}
 
 -- a comment that names no language can stand wherever the lines before it begin a readable list
@@ -98,12 +98,9 @@ own_row : (l : LineValue) (cells : Option (List (List ℕ))) → class l ≡ Row
 own_row l cells is w = ap (λ (cells : Option (List (List ℕ))). row_fault cells l.line) (sym w) ∙ own_class l RowLine is
 
 decided : (e : ReadFault) (before : Lines) (l : LineValue) → IsReadable before ⊎ ((extra : LineValue) × IsReadable (before ++ extra ∷ [])) → line_of_fault e ≡ Some l.line → LineSays e before l → Decided IsReadable class own e before l
-decided (faults.Unexpected n) before l fits number h = inl (ap faults.Unexpected (same_line n l.line number), h)
 decided (faults.BadTag n) before l fits number h = inr (ap faults.BadTag (same_line n l.line number) ∙ own_class l TagLine h.is, h.fits)
-decided (faults.BadRow n) before l fits number h = inr (ap faults.BadRow (same_line n l.line number) ∙ own_row l None h.is h.bad, h.fits)
-decided (faults.CellCount n) before l fits number h = inr (ap faults.CellCount (same_line n l.line number) ∙ own_row l (Some h.cells) h.is h.good, h.fits)
 decided (faults.Language n) before l fits number h = inr (ap faults.Language (same_line n l.line number) ∙ own_class l Comment h.is, (comment, comment_class ∙ sym h.is, comment_stands before fits))
-decided _ before l fits number h = absurd h
+decided e before l fits number h = decided_any IsReadable class own own_row e before l number h
 
 -- a fence that opens a doc string is at no readable end until it is closed
 abbrev Open : Lines → Fence → Type 0

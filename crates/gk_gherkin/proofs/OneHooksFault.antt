@@ -1,5 +1,5 @@
 -- No lines have two faults of a hooks file.
-use Rattle.std.proofs.Common.{◌≡◌, ◌≢◌, ◌⊎◌, inl, inr, ℕ, List, [], ◌∷◌, ◌++◌, Option, Some, None, refl, ap, sym, ◌∙◌}
+use Rattle.std.proofs.Common.{◌≡◌, ◌≢◌, ◌⊎◌, inr, ℕ, List, [], ◌∷◌, ◌++◌, Option, Some, refl, ap, sym, ◌∙◌}
 use Rattle.gk_gherkin.specs.declared.class.Class.TheVariants.{RowLine}
 use Rattle.gk_gherkin.specs.declared.hook_headings.HooksClass.TheVariants.{HookLine, Plain}
 use Rattle.gk_gherkin.specs.declared.hook_headings.HooksClass.{HooksClass}
@@ -15,7 +15,7 @@ use Rattle.gk_gherkin.specs.ReadFault.{EndsInDocString, HooksFault, HooksLineSay
 use Rattle.gk_gherkin.proofs.HookClasses.{class_plain}
 use Rattle.gk_gherkin.proofs.ReadingStops.{open_until}
 use Rattle.gk_gherkin.proofs.HooksReaderStops.{hook_runs, hooks_readable_at}
-use Rattle.gk_gherkin.proofs.OneFault.{Decided, cuts, no_fault_in_doc_string, one_line_fault, one_opening, row_fault, same_line}
+use Rattle.gk_gherkin.proofs.OneFault.{Decided, cuts, decided_any, no_fault_in_doc_string, one_line_fault, one_opening, row_fault, same_line}
 
 -- the fault of a line that may stand, by its class
 abbrev own_of : HooksClass → Option (List (List ℕ)) → ℕ → ReadFault
@@ -33,11 +33,8 @@ own_row : (l : LineValue) (cells : Option (List (List ℕ))) → class l ≡ Row
 own_row l cells is w = ap (λ (cells : Option (List (List ℕ))). row_fault cells l.line) (sym w) ∙ own_class l (Plain RowLine) (class_plain l RowLine is (λ e. cc))
 
 decided : (e : ReadFault) (before : Lines) (l : LineValue) → AreHooksReadable before ⊎ ((extra : LineValue) × AreHooksReadable (before ++ extra ∷ [])) → line_of_fault e ≡ Some l.line → HooksLineSays e before l → Decided AreHooksReadable hooks_class own e before l
-decided (faults.Unexpected n) before l fits number h = inl (ap faults.Unexpected (same_line n l.line number), h)
 decided (faults.BadHook n) before l fits number h = inr (ap faults.BadHook (same_line n l.line number) ∙ own_class l HookLine h.is, h.fits)
-decided (faults.BadRow n) before l fits number h = inr (ap faults.BadRow (same_line n l.line number) ∙ own_row l None h.is h.bad, h.fits)
-decided (faults.CellCount n) before l fits number h = inr (ap faults.CellCount (same_line n l.line number) ∙ own_row l (Some h.cells) h.is h.good, h.fits)
-decided _ before l fits number h = absurd h
+decided e before l fits number h = decided_any AreHooksReadable hooks_class own own_row e before l number h
 
 -- a fence that opens a doc string is at no readable end until it is closed
 one_text : (ls : Lines) (n m : ℕ) → EndsInDocString AreHooksReadable hooks_class ls n → EndsInDocString AreHooksReadable hooks_class ls m → n ≡ m

@@ -3,7 +3,6 @@ use Rattle.std.proofs.Common.{◌≡◌, ℕ, Bool, true, false, cond, ◌==◌,
 use Rattle.std.proofs.lemmas.List.{append-nil, map_push}
 use Rattle.std.proofs.lemmas.Bool.Decides.{nat_tests}
 use Rattle.gk_gherkin.specs.declared.class.Class.TheVariants.{BackgroundHeading, ExamplesHeading, FenceLine, Other, RowLine, ScenarioHeading, StepLine}
-use Rattle.gk_gherkin.specs.declared.read_fault.ReadFault.TheVariants.{CellCount}
 use Rattle.gk_gherkin.specs.declared.feature.StepType.TheVariants.{Given}
 use Rattle.gk_gherkin.specs.declared.class.Class.{Class}
 use Rattle.gk_gherkin.specs.declared.read_fault.ReadFault.{ReadFault}
@@ -158,7 +157,7 @@ row_by None l None cells e = no_ok e
 row_by None l (Some c) cells e = (ap Some (ok_same e), tt)
 row_by (Some width) l None cells e = no_ok e
 row_by (Some width) l (Some c) cells e =
-    let r = cond_ok (length c == width) c cells (CellCount l.line) e in
+    let r = cond_ok (length c == width) c cells _ e in
     (ap Some r.1, ap length (sym r.1) ∙ eqb_same (length c) width r.0)
 
 pub row_ok : (width : Option ℕ) (l : LineValue) (cells : List (List ℕ)) → on_row width l ≡ Ok cells → (cells_of l ≡ Some cells) × Fits width cells

@@ -1,20 +1,17 @@
 -- Steps with their tables and doc strings, run over line after line, the same for both kinds of file.
-use Rattle.std.proofs.Common.{◌≡◌, ℕ, ◌-◌, Bool, true, false, cond, ◌==◌, List, [], ◌∷◌, ◌++◌, length, map, Option, Some, None, Result, Ok, Err, refl, sym, ap, ◌∙◌, append_assoc, arith}
+use Rattle.std.proofs.Common.{◌≡◌, ℕ, ◌-◌, true, false, List, [], ◌∷◌, ◌++◌, length, map, Option, Some, None, Result, Ok, refl, sym, ap, ◌∙◌, append_assoc}
 use Rattle.std.proofs.lemmas.List.{append-nil}
-use Rattle.std.proofs.lemmas.Bool.Decides.{nat_tests}
 use Rattle.std.specs.List.{AllByRecursion}
 use Rattle.gk_gherkin.specs.declared.class.Class.TheVariants.{FenceLine, RowLine, StepLine}
-use Rattle.gk_gherkin.specs.declared.read_fault.ReadFault.TheVariants.{CellCount}
 use Rattle.gk_gherkin.specs.declared.feature.StepType.TheVariants.{Given}
 use Rattle.gk_gherkin.specs.declared.class.Class.{Class}
 use Rattle.gk_gherkin.specs.declared.class.Fence.{Fence}
 use Rattle.gk_gherkin.specs.declared.read_fault.ReadFault.{ReadFault}
 use Rattle.gk_gherkin.specs.declared.feature.StepType.{StepType}
 use Rattle.gk_gherkin.specs.Reading.{Outside, InText, Readers, State, opening, run, run_by, step, whole_text, with_line}
-use Rattle.gk_gherkin.specs.OpenParts.{Body, NoSteps, Steps, body_takes_text, body_with_text, is_empty, on_block, on_body, on_row, row_of, step_from, steps_of, with_block}
+use Rattle.gk_gherkin.specs.OpenParts.{Body, NoSteps, Steps, body_takes_text, body_with_text, is_empty, on_block, on_body, step_from, steps_of, with_block}
 use Rattle.gk_gherkin.specs.Lines.{LineValue, Lines}
 use Rattle.gk_gherkin.specs.Class.{class, step_keyword, step_text}
-use Rattle.gk_gherkin.specs.Rows.{cells_of}
 use Rattle.gk_gherkin.specs.DocStrings.{closes, content_of, doc_string}
 use Rattle.gk_gherkin.specs.StepTypes.{AreTypedAfter, type_after}
 use Rattle.gk_gherkin.specs.Feature.{BlockValue, Empty, RowValue, StepValue, Table, Text, texts}
@@ -23,21 +20,13 @@ use Rattle.gk_gherkin.specs.Results.{◌>>=◌}
 use Rattle.gk_gherkin.proofs.ReadingRuns.{run_over}
 use Rattle.gk_gherkin.proofs.ReadingSound.{joined, joined_push, joined_text}
 use Rattle.gk_gherkin.proofs.ReadingStates.{IsNoFence, ignored_no_fence, no_fence, step_closes, step_opens, step_plain, step_stays}
-use Rattle.gk_gherkin.proofs.OpenPartsSound.{Fits}
+use Rattle.gk_gherkin.proofs.RowStops.{row_takes}
 
 -- what a step's line says
 same_step : (st : StepValue) (before : StepType) (l : LineValue) → st.keyword ≡ step_keyword l → st.step_type ≡ type_after before st.keyword → st.text ≡ step_text l → st.line ≡ l.line → step_from before l ≡ with_block st Empty
 same_step st before l k ty t n = rw (← k, ← ty, ← t, ← n) refl
 
 -- rows
-same_eqb : (m n : ℕ) → m ≡ n → (m == n) ≡ true
-same_eqb m n h = grind (arith, nat_tests)
-
-pub row_takes : (width : Option ℕ) (l : LineValue) (cells : List (List ℕ)) → cells_of l ≡ Some cells → Fits width cells → on_row width l ≡ Ok cells
-unfolding on_row
-row_takes None l cells w f = ap (row_of None l) w
-row_takes (Some width) l cells w f = ap (row_of (Some width) l) w ∙ ap (λ (b : Bool). let r : Result (List (List ℕ)) ReadFault = cond b (Ok cells) (Err (CellCount l.line)) in r) (same_eqb (length cells) width f)
-
 abbrev cells_in : List RowValue → List (List (List ℕ))
 cells_in rows = map (λ (row : RowValue). row.cells) rows
 

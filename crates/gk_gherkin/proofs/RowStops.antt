@@ -16,7 +16,7 @@ use Rattle.gk_gherkin.specs.Grammar.{IsBlock, IsRow, IsTable, Many, more}
 use Rattle.gk_gherkin.specs.ReadFault.{BeginsNone, BeginsSome, IsBadRow, IsOtherWidth}
 use Rattle.gk_gherkin.specs.Results.{◌>>=◌}
 use Rattle.gk_gherkin.proofs.ReadingRuns.{bind_err, err_same, no_err}
-use Rattle.gk_gherkin.proofs.OpenPartsSound.{StepsBuilt, eqb_same}
+use Rattle.gk_gherkin.proofs.OpenPartsSound.{Fits, StepsBuilt, eqb_same}
 
 -- a line of no number
 abbrev pub line_of : List ℕ → LineValue
@@ -72,9 +72,10 @@ good_row_cells = refl
 same_eqb : (m n : ℕ) → m ≡ n → (m == n) ≡ true
 same_eqb m n h = grind (arith, nat_tests)
 
-pub row_takes : (width : ℕ) (l : LineValue) (cells : List (List ℕ)) → cells_of l ≡ Some cells → length cells ≡ width → on_row (Some width) l ≡ Ok cells
+pub row_takes : (width : Option ℕ) (l : LineValue) (cells : List (List ℕ)) → cells_of l ≡ Some cells → Fits width cells → on_row width l ≡ Ok cells
 unfolding on_row
-row_takes width l cells w f = ap (row_of (Some width) l) w ∙ ap (λ (b : Bool). let r : Result (List (List ℕ)) ReadFault = cond b (Ok cells) (Err (CellCount l.line)) in r) (same_eqb (length cells) width f)
+row_takes None l cells w f = ap (row_of None l) w
+row_takes (Some width) l cells w f = ap (row_of (Some width) l) w ∙ ap (λ (b : Bool). let r : Result (List (List ℕ)) ReadFault = cond b (Ok cells) (Err (CellCount l.line)) in r) (same_eqb (length cells) width f)
 
 -- any width: the row of one cell
 pub first_row : {A : Type 0} (f : List (List ℕ) → A) (l : LineValue) (e : ReadFault) → on_row None l ≡ Err e → RowStop (λ o. on_row None o >>= λ cells. Ok (f cells)) l RowLine e
@@ -98,7 +99,7 @@ next_row {A} f l e width row cells is w fits h = record {
   row = row;
   cells = cells;
   row_is = is;
-  row_cells = row_takes width row cells w fits;
+  row_cells = row_takes (Some width) row cells w fits;
   takes = λ o cells k. (f cells, ap (λ (r : Result (List (List ℕ)) ReadFault). r >>= λ cells. let a : Result A ReadFault = Ok (f cells) in a) k);
   refuses = λ o e k. ap (λ (r : Result (List (List ℕ)) ReadFault). r >>= λ cells. let a : Result A ReadFault = Ok (f cells) in a) k;
   stops = h;

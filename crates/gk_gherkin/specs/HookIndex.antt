@@ -25,6 +25,10 @@ positions_of index (Some tag) = positions_under index.tagged tag
 abbrev pub AreListed : HookIndex → List Hook → Type 0
 AreListed index hooks = (position : ℕ) (hook : Hook) → slice_get hooks position ≡ Some hook → is_among position (positions_of index (option_map string_bytes hook.tag)) ≡ true
 
+-- Nothing else is listed: each position under a tag is that of a hook with this tag.
+abbrev pub ListsOnly : HookIndex → List Hook → Type 0
+ListsOnly index hooks = (tag : Option (List ℕ)) (position : ℕ) → is_among position (positions_of index tag) ≡ true → (hook : Hook) × (slice_get hooks position ≡ Some hook) × (option_map string_bytes hook.tag ≡ tag)
+
 -- Proof machinery from here on: the same for the hooks before a position.
 abbrev pub AreListedTo : HookIndex → List Hook → ℕ → Type 0
 AreListedTo index hooks end = (position : ℕ) (hook : Hook) → position < end → slice_get hooks position ≡ Some hook → is_among position (positions_of index (option_map string_bytes hook.tag)) ≡ true

@@ -77,6 +77,13 @@ module _ (Readable : Lines → Type 0) {C : Type 0} (kind : LineValue → C) whe
     pub wanted : (other : LineValue) → class other ≡ RowLine → BeginsSome (before ++ other ∷ []) → IfSome (cells_of other) (λ wanted. length wanted ≡ width)
     pub differs : length cells ≢ width
 
+  -- What a fault on a line says of the line and of those before it, if both kinds of file have it.
+  abbrev pub AnyLineSays : ReadFault → Lines → LineValue → Type 0
+  AnyLineSays (Unexpected n) before line = NoneLikeIt before line
+  AnyLineSays (BadRow n) before line = IsBadRow before line
+  AnyLineSays (CellCount n) before line = IsOtherWidth before line
+  AnyLineSays _ before line = ⊥
+
   -- The lines end in a doc string that line `n` opened. The lines before it are readable, and with it they aren't. Any line that closes it would make all of them readable, but there is none.
   pub record EndsInDocString (ls : Lines) (n : ℕ) : Type 0 where
     pub before : Lines
@@ -137,12 +144,9 @@ pub record NeedsMemory (ls : Lines) : Type 0 where
 
 -- What a fault on a line of a feature file says of the line and of those before it.
 abbrev pub LineSays : ReadFault → Lines → LineValue → Type 0
-LineSays (Unexpected n) before line = NoneLikeIt IsReadable class before line
 LineSays (BadTag n) before line = IsBadTag before line
-LineSays (BadRow n) before line = IsBadRow IsReadable class before line
-LineSays (CellCount n) before line = IsOtherWidth IsReadable class before line
 LineSays (Language n) before line = IsOtherLanguage before line
-LineSays _ before line = ⊥
+LineSays fault before line = AnyLineSays IsReadable class fault before line
 
 -- A fault on a line of a feature file.
 abbrev pub IsLineFault : ReadFault → Lines → Type 0
@@ -181,11 +185,8 @@ pub record HooksNeedMemory (ls : Lines) : Type 0 where
 
 -- What a fault on a line of a hooks file says of the line and of those before it.
 abbrev pub HooksLineSays : ReadFault → Lines → LineValue → Type 0
-HooksLineSays (Unexpected n) before line = NoneLikeIt AreHooksReadable hooks_class before line
 HooksLineSays (BadHook n) before line = IsBadHook before line
-HooksLineSays (BadRow n) before line = IsBadRow AreHooksReadable hooks_class before line
-HooksLineSays (CellCount n) before line = IsOtherWidth AreHooksReadable hooks_class before line
-HooksLineSays _ before line = ⊥
+HooksLineSays fault before line = AnyLineSays AreHooksReadable hooks_class fault before line
 
 -- A fault on a line of a hooks file.
 abbrev pub IsHooksLineFault : ReadFault → Lines → Type 0

@@ -6,7 +6,7 @@ ghost use Rattle.std.specs.String.{string_bytes};
 ghost use Rattle.gk_gherkin.specs.Hooks.{hook_value, is_for};
 ghost use Rattle.gk_gherkin.specs.HookTable.{hook_for};
 ghost use Rattle.gk_gherkin.specs.HookIndex as spec;
-ghost use Rattle.gk_gherkin.specs.HookIndex.{is_among, AreListed, IsFirst};
+ghost use Rattle.gk_gherkin.specs.HookIndex.{is_among, AreListed, ListsOnly, IsFirst};
 
 use crate::hooks::{Hook, HookKind};
 use std::alloc::{AllocError, Global};
@@ -61,8 +61,8 @@ impl HookIndex {
         }
     }
 
-    /// Adds the position of a hook with this tag, after the earlier ones. Positions under other tags
-    /// stay as they are. A refusal of memory adds nothing.
+    /// Adds the position of a hook with this tag, after the earlier ones. Positions under other
+    /// tags stay as they are. A refusal of memory adds nothing.
     pub fn add(&mut self, tag: &Option<String>, position: usize) -> Result<(), AllocError>
         ensures kept { (t : Option (List ℕ)) (n : ℕ) →
             is_among n (spec.positions_of self.old t) ≡ true
@@ -89,6 +89,7 @@ impl HookIndex {
 /// Returns the index of some hooks. Memory is refused only if there is a hook.
 pub fn index_of(alloc: Global, hooks: &[Hook]) -> Result<HookIndex, AllocError>
     ensures ok { IfOk result (λ index. AreListed index hooks.now) }
+    ensures only { IfOk result (λ index. ListsOnly index hooks.now) }
     ensures memory { IfErr result (λ _. hooks.now ≢ []) }
 {
     let mut index = HookIndex::new(alloc);

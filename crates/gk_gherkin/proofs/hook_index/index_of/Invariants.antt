@@ -1,5 +1,5 @@
-use Rattle.gk_gherkin.specs.HookIndex.{AreListedTo}
+use Rattle.gk_gherkin.specs.HookIndex.{AreListedTo, ListsOnly}
 use Rattle.gk_gherkin.proofs.hook_index.index_of.Given as goal
 
 abbrev pub invariant-loop-position : goal.invariant-loop-position
-invariant-loop-position l = AreListedTo l.index l.hooks l.position
+invariant-loop-position l = AreListedTo l.index l.hooks l.position × ListsOnly l.index l.hooks
