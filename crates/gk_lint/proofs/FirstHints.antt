@@ -9,14 +9,24 @@ pub no_other_hint : (a : Option EntryHint) → option_or a None ≡ a
 no_other_hint None = refl
 no_other_hint (Some hint) = refl
 
-first_of_both : (hint_of : StepValue → Option EntryHint) (before : Option EntryHint) (a b : List StepValue) → first_hint hint_of before (a ++ b) ≡ first_hint hint_of (first_hint hint_of before a) b
-first_of_both hint_of before [] b = refl
-first_of_both hint_of before (s ∷ ss) b = first_of_both hint_of (option_or before (hint_of s)) ss b
+first_of_three : (a b c : Option EntryHint) → option_or (option_or a b) c ≡ option_or a (option_or b c)
+first_of_three None b c = refl
+first_of_three (Some hint) b c = refl
+
+first_of_both : (hint_of : StepValue → Option EntryHint) (a b : List StepValue) → first_hint hint_of (a ++ b) ≡ option_or (first_hint hint_of a) (first_hint hint_of b)
+first_of_both hint_of [] b = refl
+first_of_both hint_of (s ∷ ss) b = ap (option_or (hint_of s)) (first_of_both hint_of ss b) ∙ sym (first_of_three (hint_of s) (first_hint hint_of ss) (first_hint hint_of b))
 
 -- The hint after some steps, if it is known after these steps and the later ones.
-pub next_hints : (hint_of : StepValue → Option EntryHint) (before new end : Option EntryHint) (all these later : List StepValue) → all ≡ these ++ later → new ≡ first_hint hint_of before these → first_hint hint_of before all ≡ end → first_hint hint_of new later ≡ end
-next_hints hint_of before new end all these later split is so_far = ap (λ (h : Option EntryHint). first_hint hint_of h later) is ∙ sym (first_of_both hint_of before these later) ∙ ap (first_hint hint_of before) (sym split) ∙ so_far
+pub next_hints : (hint_of : StepValue → Option EntryHint) (before new end : Option EntryHint) (all these later : List StepValue) → all ≡ these ++ later → new ≡ option_or before (first_hint hint_of these) → option_or before (first_hint hint_of all) ≡ end → option_or new (first_hint hint_of later) ≡ end
+next_hints hint_of before new end all these later split is so_far =
+    ap (λ (h : Option EntryHint). option_or h (first_hint hint_of later)) is
+    ∙ first_of_three before (first_hint hint_of these) (first_hint hint_of later)
+    ∙ ap (option_or before) (sym (first_of_both hint_of these later))
+    ∙ ap (λ (ss : List StepValue). option_or before (first_hint hint_of ss)) (sym split)
+    ∙ so_far
 
 -- The same for one step.
-pub next_hint : (hint_of : StepValue → Option EntryHint) (before new end : Option EntryHint) (all : List StepValue) (this : StepValue) (later : List StepValue) → all ≡ this ∷ later → new ≡ option_or before (hint_of this) → first_hint hint_of before all ≡ end → first_hint hint_of new later ≡ end
-next_hint hint_of before new end all this later = next_hints hint_of before new end all (this ∷ []) later
+pub next_hint : (hint_of : StepValue → Option EntryHint) (before new end : Option EntryHint) (all : List StepValue) (this : StepValue) (later : List StepValue) → all ≡ this ∷ later → new ≡ option_or before (hint_of this) → option_or before (first_hint hint_of all) ≡ end → option_or new (first_hint hint_of later) ≡ end
+next_hint hint_of before new end all this later split is so_far =
+    next_hints hint_of before new end all (this ∷ []) later split (is ∙ ap (option_or before) (sym (no_other_hint (hint_of this)))) so_far

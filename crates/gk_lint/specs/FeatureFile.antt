@@ -15,7 +15,7 @@ use Rattle.gk_lint.specs.ScenarioNames.{same_names}
 use Rattle.gk_lint.specs.Placeholders.{of_outlines}
 use Rattle.gk_lint.specs.Misspelt.{misspelt}
 
--- The findings of a file with this feature, or none, and these lines: that they end with CR alone, the missing parts of the feature, scenarios with the name of an earlier one, misspelt placeholders, and the misspelt lines.
+-- The findings of a file with this feature, or none, and these lines. They are of all kinds of `FindingKind` that need neither a library nor hooks.
 abbrev pub file_findings : Option FeatureValue → Lines → List Finding
 file_findings feature lines = cr_alone lines ++ (missing_parts feature ++ (same_names feature ++ (of_outlines feature ++ misspelt Elsewhere lines)))
 

@@ -32,7 +32,7 @@ found_hint library (Some f) = registered_hint (action_of library f) library f
 unfoldable pub cleanup_hint : LibraryValue → StepValue → Option EntryHint
 cleanup_hint library step = found_hint library (found library step.step_type step.text)
 
--- The first hint of these: one that may be known before, and those for some steps.
-abbrev pub first_hint : (StepValue → Option EntryHint) → Option EntryHint → List StepValue → Option EntryHint
-first_hint hint_of before [] = before
-first_hint hint_of before (step ∷ steps) = first_hint hint_of (option_or before (hint_of step)) steps
+-- The hint for the first of some steps that has one.
+abbrev pub first_hint : (StepValue → Option EntryHint) → List StepValue → Option EntryHint
+first_hint hint_of [] = None
+first_hint hint_of (step ∷ steps) = option_or (hint_of step) (first_hint hint_of steps)

@@ -1,6 +1,7 @@
 -- Steps of a feature and of a hooks file, as they are written and as they are run.
 use Rattle.std.specs.List.{list_any}
-use Rattle.std.specs.Prelude.{◌≡◌, ℕ, Bool, ◌||◌, List, [], ◌∷◌, ◌++◌, map, flat_map, Option, None, if◌then◌else◌}
+use Rattle.std.specs.Prelude.{◌≡◌, ℕ, Bool, ◌||◌, List, [], ◌∷◌, ◌++◌, map, flat_map, Option, if◌then◌else◌}
+use Rattle.std.specs.Option.{option_or}
 use Rattle.gk_gherkin.specs.Feature.{StepValue, RowValue, ExamplesValue, BackgroundValue, ScenarioValue, RuleValue, FeatureValue}
 use Rattle.gk_gherkin.specs.Hooks.{HookValue}
 use Rattle.gk_select.specs.Case.{CaseValue}
@@ -90,16 +91,16 @@ of_hooks hooks = flat_map of_hook hooks
 pub record AreLookedUp (library : LibraryValue) (site : StepSite) (steps : List StepValue) (old new : Lookups) : Type 0 where
   pub faults : new.faults.items ≡ old.faults.items ++ faults_in library site steps
   pub used : new.used.items ≡ old.used.items ++ positions_in library steps
-  pub undefined : new.undefined ≡ first_hint (step_hint library) old.undefined steps
-  pub cleanup : new.cleanup ≡ first_hint (cleanup_hint library) old.cleanup steps
+  pub undefined : new.undefined ≡ option_or old.undefined (first_hint (step_hint library) steps)
+  pub cleanup : new.cleanup ≡ option_or old.cleanup (first_hint (cleanup_hint library) steps)
 
 -- The finding that at least one of the steps that a written step is run as is undefined, with the hint for the first.
 abbrev pub undefined_at : LibraryValue → WrittenStep → List Finding
-undefined_at library written = hinted written.line (λ hint. UndefinedStep hint) (first_hint (step_hint library) None written.runs)
+undefined_at library written = hinted written.line (λ hint. UndefinedStep hint) (first_hint (step_hint library) written.runs)
 
 -- The finding that at least one of them registers a cleanup without a step, with the hint for the first.
 abbrev pub cleanup_at : LibraryValue → WrittenStep → List Finding
-cleanup_at library written = hinted written.line (λ hint. CleanupWithoutStep hint) (first_hint (cleanup_hint library) None written.runs)
+cleanup_at library written = hinted written.line (λ hint. CleanupWithoutStep hint) (first_hint (cleanup_hint library) written.runs)
 
 -- The findings of a written step: each fault of at least one of the steps that it is run as.
 abbrev pub at_step : LibraryValue → WrittenStep → List Finding

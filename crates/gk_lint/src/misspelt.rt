@@ -1,6 +1,6 @@
 //! Description lines that were probably not meant as descriptions: those that begin like a keyword, and steps outside
 //! of scenarios. Lines that prose surrounds are part of it.
-ghost use Rattle.std.specs.Prelude.{◌≡◌, ◌≤◌, ◌++◌, ◌∷◌, false, true, IfOk, OnOk, length};
+ghost use Rattle.std.specs.Prelude.{◌≡◌, ◌≤◌, ◌++◌, ◌∷◌, false, true, cond, None, Some, IfOk, OnOk, length};
 ghost use Rattle.std.specs.Str.Lines.{lines};
 ghost use Rattle.gk_gherkin.specs.Lines.{borrowed_value, numbered_from};
 ghost use Rattle.gk_lint.specs.Likeness.{like};
@@ -214,6 +214,9 @@ fn add_at(
         ++ spec.unless_prose (spec.is_prose above.plain below.now)
         line.now.line line.now.wording) }
     ensures plain { IfOk result (λ next. next.plain ≡ spec.is_plain line.now.wording) }
+    // A line that begins like a keyword is in a group, and the next line is told whether the group is prose.
+    ensures group { IfOk result (λ next. next.group ≡ cond (spec.is_like line.now.wording)
+        (Some (spec.is_prose above.plain below.now)) None) }
     ensures known { IfOk result (λ next. IsAbove next below.now) }
 {
     if is_like(line.wording) {

@@ -103,6 +103,7 @@ fn look_up_examples(
 }
 
 // Looks up the steps that a step of a scenario is run as.
+#[tactic(auto, using(crate::proofs::FirstHints::no_other_hint))]
 fn look_up_runs(
     lookups: &mut Lookups,
     alloc: Global,
@@ -234,6 +235,7 @@ fn add_scenarios(
 }
 
 // Adds the results of a step that is run at a site as it is written.
+#[tactic(auto, using(crate::proofs::FirstHints::no_other_hint))]
 fn add_plain_step(
     found: &mut StepFindings,
     alloc: Global,

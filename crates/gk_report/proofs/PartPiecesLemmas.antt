@@ -1,8 +1,13 @@
--- What a part begins with.
-use Rattle.std.proofs.Common.{◌≡◌, ℕ, Bool, true, false, List, ◌++◌, ap, sym, ◌∙◌, append_assoc}
+-- What a part begins with, and which texts aren't empty.
+use Rattle.std.proofs.Common.{◌≡◌, ◌≢◌, ℕ, Bool, true, false, Result, Ok, Err, IfErr, List, [], ◌∷◌, ◌++◌, codes, ap, sym, ◌∙◌, append_assoc}
 use Rattle.gk_run.specs.Results.{FeatureRow}
-use Rattle.gk_report.specs.ReportTexts.{is_hidden}
-use Rattle.gk_report.specs.JsonReport.{object_start, objects_text, object_end, json_part}
+use Rattle.gk_report.specs.declared.plain_report.LinesLeft.{LinesLeft}
+use Rattle.gk_report.specs.declared.json_report.ObjectsLeft.{ObjectsLeft}
+use Rattle.gk_report.specs.declared.part_pieces.PartPieces.{PartPieces}
+use Rattle.gk_report.specs.ReportTexts.{is_hidden, line_feed}
+use Rattle.gk_report.specs.PlainReport.{around_line, lines_left}
+use Rattle.gk_report.specs.JsonReport.{object_start, objects_text, objects_left, object_end, json_part}
+use Rattle.gk_report.specs.PartPieces.{lines_and_end, objects_and_end}
 use Rattle.gk_report.proofs.JsonReportLemmas.{object_parts}
 
 -- In JSON what stands before the scenarios is pushed, and their objects and what follows them are left.
@@ -11,3 +16,26 @@ pub json_start : (no_skipped first : Bool) (f : FeatureRow) (old : List ℕ) {ne
 unfolding json_part
 json_start no_skipped first f old shown a b =
     rw (shown, a, b) (append_assoc old (object_start first f) (objects_text no_skipped true f.cases ++ object_end f) ∙ ap (λ (xs : List ℕ). old ++ xs) (sym (object_parts no_skipped first f)))
+
+some_first : (b : ℕ) (bs : List ℕ) → b ∷ bs ≢ []
+some_first b bs = λ e. absurd cc
+
+-- What ends with a text that isn't empty isn't empty.
+pub some_after : (xs ys : List ℕ) → ys ≢ [] → xs ++ ys ≢ []
+some_after [] ys some = some
+some_after (x ∷ xs) ys some = some_first x (xs ++ ys)
+
+-- The lines of scenarios and the text after them aren't empty.
+pub some_lines : (p : PartPieces) (lines : LinesLeft) → lines_and_end p lines ≢ []
+some_lines p lines =
+    some_after (lines_left p.style.no_skipped lines) _ (some_after (around_line (codes "  ") p.feature.now.around) line_feed (some_first _ _))
+
+-- The objects of scenarios and the text after them aren't empty.
+pub some_objects : (p : PartPieces) (objects : ObjectsLeft) → objects_and_end p objects ≢ []
+unfolding object_end
+some_objects p objects = some_after (objects_left p.style.no_skipped objects) _ (some_first _ _)
+
+-- What holds anyway holds at an error.
+pub if_err : {T E P : Type 0} (r : Result T E) → P → IfErr r (λ e. P)
+if_err (Ok x) p = tt
+if_err (Err e) p = p

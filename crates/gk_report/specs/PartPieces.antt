@@ -1,5 +1,5 @@
 -- The part of a feature in a report, made piece by piece.
-use Rattle.std.specs.Prelude.{◌≡◌, ◌≢◌, ℕ, ◌+◌, List, [], ◌++◌, length}
+use Rattle.std.specs.Prelude.{◌≡◌, ◌≢◌, ℕ, ◌+◌, ◌*◌, ◌<◌, List, [], ◌++◌, length}
 use Rattle.gk_run.specs.declared.results.FeatureResult.{FeatureResult}
 use Rattle.gk_run.specs.Results.{feature_row}
 use Rattle.gk_report.specs.declared.plain_report.LinesLeft.{LinesLeft}
@@ -30,10 +30,15 @@ rest_by p Nothing = []
 unfoldable pub rest : PartPieces → List ℕ
 rest p = rest_by p p.left
 
--- A piece isn't empty. Together with what is left after it, it is what was left before it.
+-- The least length of a piece that isn't the last one.
+abbrev pub full_length : ℕ
+full_length = 16 * 1024
+
+-- A piece isn't empty. Together with what is left after it, it is what was left before it. If the piece isn't full, nothing is left.
 pub record IsPiece (old text new : List ℕ) : Type 0 where
   pub whole : old ≡ text ++ new
   pub some : text ≢ []
+  pub full : length text < full_length → new ≡ []
 
 -- Proof machinery: the greatest number of texts to push if none is pushed yet.
 abbrev pub whole_to_go : FeatureResult → ℕ

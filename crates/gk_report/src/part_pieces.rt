@@ -1,5 +1,5 @@
 //! The part of a feature in a report, made whole or in pieces of bounded size.
-ghost use Rattle.std.specs.Prelude.{◌≡◌};
+ghost use Rattle.std.specs.Prelude.{◌≡◌, ◌≢◌, [], IfErr};
 ghost use Rattle.gk_run.specs.Results.{feature_row};
 ghost use Rattle.gk_report.specs.Report as spec;
 ghost use Rattle.gk_report.specs.ReportTexts.{AnswersText};
@@ -52,7 +52,7 @@ pub fn pieces(style: Style, first: bool, feature: &FeatureResult) -> PartPieces<
 }
 
 impl<'a> PartPieces<'a> {
-    ghost use Rattle.std.specs.Prelude.{◌≡◌, ◌<◌, ◌+◌, [], false, length, IfOk, IfNone, IfSome, IsTrue, OnOk, OnErr, string_bytes};
+    ghost use Rattle.std.specs.Prelude.{◌≡◌, ◌≢◌, ◌<◌, ◌+◌, ◌++◌, [], false, length, IfOk, IfErr, IfNone, IfSome, IsTrue, OnOk, OnErr, string_bytes};
     ghost use Rattle.gk_run.specs.Results.{feature_row};
     ghost use Rattle.gk_report.specs.Report as spec;
     ghost use Rattle.gk_report.specs.ReportTexts.{PushesSome};
@@ -74,6 +74,8 @@ impl<'a> PartPieces<'a> {
         ensures fewer { IfOk result (λ more.
             IsTrue more → to_go self.new < whole_to_go self.old.feature.now) }
         ensures over { IfOk result (λ more. more ≡ false → rest self.new ≡ []) }
+        ensures needed { IfErr result (λ e.
+            spec.part self.old.style first (feature_row self.old.feature.now) ≢ []) }
     {
         if hides(self.style.no_skipped, self.feature.status) {
             self.left = Left::Nothing;
@@ -106,6 +108,7 @@ impl<'a> PartPieces<'a> {
         ensures fewer { IfOk result (λ more.
             IsTrue more → to_go self.new < lines_to_go lines.entry + 1) }
         ensures over { IfOk result (λ more. more ≡ false → rest self.new ≡ []) }
+        ensures needed { IfErr result (λ e. lines_and_end self.old lines.entry ≢ []) }
     {
         let mut lines = lines;
         if lines.push_next(out, self.style.no_skipped)? {
@@ -130,6 +133,7 @@ impl<'a> PartPieces<'a> {
         ensures fewer { IfOk result (λ more.
             IsTrue more → to_go self.new < objects_to_go objects.entry + 1) }
         ensures over { IfOk result (λ more. more ≡ false → rest self.new ≡ []) }
+        ensures needed { IfErr result (λ e. objects_and_end self.old objects.entry ≢ []) }
     {
         let mut objects = objects;
         if objects.push_next(out, alloc, self.style.no_skipped)? {
@@ -147,6 +151,7 @@ impl<'a> PartPieces<'a> {
         ensures pushed { PushesSome out.old (rest self.old) result out.new (rest self.new) }
         ensures fewer { IfOk result (λ more. IsTrue more → to_go self.new < to_go self.old) }
         ensures over { IfOk result (λ more. more ≡ false → rest self.new ≡ []) }
+        ensures needed { IfErr result (λ e. rest self.old ≢ []) }
     {
         match self.left {
             Left::Whole(first) => self.push_start(out, alloc, first),
@@ -161,6 +166,7 @@ impl<'a> PartPieces<'a> {
         ensures pushed { PushesSome out.old (rest self.old) result out.new (rest self.new) }
         ensures full { OnOk result
             (length (string_bytes out.new) < PIECE_BYTES → rest self.new ≡ []) }
+        ensures needed { IfErr result (λ e. string_bytes out.old ++ rest self.old ≢ []) }
     {
         while out.len() < PIECE_BYTES {
             if !self.push_next(out, alloc)? {
@@ -170,15 +176,16 @@ impl<'a> PartPieces<'a> {
         Ok(())
     }
 
-    /// Makes and returns the next piece, which is never empty. Returns `None` if nothing is left, or if the style hides
-    /// the feature; then nothing is left in later calls either. An error comes only if a growth was refused, and it
-    /// leaves the rest of the part as it was.
+    /// Makes and returns the next piece, which is never empty. A piece of fewer than 16 KB is the last one. Returns
+    /// `None` if nothing is left, or if the style hides the feature; then nothing is left in later calls either. An
+    /// error comes only if a growth was refused, never if nothing is left, and it leaves the rest of the part as it was.
     pub fn next(&mut self, alloc: Global) -> Result<Option<String>, AllocError>
         ensures piece { IfOk result (λ piece. IfSome piece (λ text.
             IsPiece (rest self.old) (string_bytes text) (rest self.new))) }
         ensures none { IfOk result (λ piece. IfNone piece (rest self.old ≡ [])) }
         ensures ended { IfOk result (λ piece. IfNone piece (rest self.new ≡ [])) }
         ensures err { OnErr result (rest self.new ≡ rest self.old) }
+        ensures needed { IfErr result (λ e. rest self.old ≢ []) }
     {
         let mut later = *self;
         let mut out = String::new(alloc);
@@ -193,15 +200,16 @@ impl<'a> PartPieces<'a> {
 }
 
 /// Returns the part of a feature. `first` is true as long as each earlier part of the report was empty. The text is
-/// empty if the style hides the feature. An error comes only if a growth was refused.
-/// (behave's documentation: `--no-skipped`)
+/// empty if the style hides the feature. An error comes only if a growth was refused, and never in place of an empty
+/// text. (behave's documentation: `--no-skipped`)
 pub fn part(
     alloc: Global,
     style: Style,
     first: bool,
     feature: &FeatureResult,
 ) -> Result<String, AllocError>
-    ensures { AnswersText result (spec.part style first (feature_row feature.now)) }
+    ensures text { AnswersText result (spec.part style first (feature_row feature.now)) }
+    ensures needed { IfErr result (λ e. spec.part style first (feature_row feature.now) ≢ []) }
 {
     let mut out = String::new(alloc);
     let mut left = pieces(style, first, feature);

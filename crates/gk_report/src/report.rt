@@ -1,5 +1,5 @@
 //! The report of a run in a style: its head, the part of each feature, and its tail.
-ghost use Rattle.std.specs.Prelude.{◌≡◌, bytes_eq, find, IfOk, option_copied, string_bytes};
+ghost use Rattle.std.specs.Prelude.{◌≡◌, ◌≢◌, [], bytes_eq, find, IfOk, IfErr, option_copied, string_bytes};
 ghost use Rattle.std.specs.Option.{IfSome};
 ghost use Rattle.gk_report.specs.Report as spec;
 ghost use Rattle.gk_report.specs.ReportTexts.{AnswersText};
@@ -72,9 +72,11 @@ pub struct Style {
 }
 
 /// Returns the beginning of a report, which is empty in plain and progress. An error comes only if a growth was
-/// refused.
+/// refused, and never in place of an empty text.
+#[tactic(auto, unfolding(crate::specs::JsonReport::json_head))]
 pub fn head(alloc: Global, style: Style) -> Result<String, AllocError>
-    ensures { AnswersText result (spec.head style) }
+    ensures text { AnswersText result (spec.head style) }
+    ensures needed { IfErr result (λ e. spec.head style ≢ []) }
 {
     match style.format {
         Format::Plain | Format::Progress => Ok(String::new(alloc)),

@@ -1,5 +1,6 @@
 use Rattle.std.proofs.Common.{◌≡◌, ◌++◌, map, drop}
 use Rattle.std.specs.List.{AllByRecursion}
+use Rattle.std.specs.Option.{option_or}
 use Rattle.gk_gherkin.specs.Feature.{step_value, examples_value}
 use Rattle.gk_select.specs.Outline.{AllFit}
 use Rattle.gk_steps.specs.Finding.{library_value}
@@ -14,6 +15,6 @@ invariant-loop-part l = record {
   fit : AllByRecursion AllFit (map examples_value (drop l.part-index l.parts));
   found : l.lookups.faults.items ++ faults_in (library_value l.library) sites.Scenario (in_examples (step_value l.step) (map examples_value (drop l.part-index l.parts))) ≡ l.fn.lookups.faults.items ++ faults_in (library_value l.library) sites.Scenario (in_examples (step_value l.step) (map examples_value l.parts));
   used : l.lookups.used.items ++ positions_in (library_value l.library) (in_examples (step_value l.step) (map examples_value (drop l.part-index l.parts))) ≡ l.fn.lookups.used.items ++ positions_in (library_value l.library) (in_examples (step_value l.step) (map examples_value l.parts));
-  undefined : first_hint (step_hint (library_value l.library)) l.lookups.undefined (in_examples (step_value l.step) (map examples_value (drop l.part-index l.parts))) ≡ first_hint (step_hint (library_value l.library)) l.fn.lookups.undefined (in_examples (step_value l.step) (map examples_value l.parts));
-  cleanup : first_hint (cleanup_hint (library_value l.library)) l.lookups.cleanup (in_examples (step_value l.step) (map examples_value (drop l.part-index l.parts))) ≡ first_hint (cleanup_hint (library_value l.library)) l.fn.lookups.cleanup (in_examples (step_value l.step) (map examples_value l.parts));
+  undefined : option_or l.lookups.undefined (first_hint (step_hint (library_value l.library)) (in_examples (step_value l.step) (map examples_value (drop l.part-index l.parts)))) ≡ option_or l.fn.lookups.undefined (first_hint (step_hint (library_value l.library)) (in_examples (step_value l.step) (map examples_value l.parts)));
+  cleanup : option_or l.lookups.cleanup (first_hint (cleanup_hint (library_value l.library)) (in_examples (step_value l.step) (map examples_value (drop l.part-index l.parts)))) ≡ option_or l.fn.lookups.cleanup (first_hint (cleanup_hint (library_value l.library)) (in_examples (step_value l.step) (map examples_value l.parts)));
 }
