@@ -1,5 +1,5 @@
 -- The search over a library.
-use Rattle.std.proofs.Common.{◌≡◌, ℕ, zero, suc, ◌+◌, ◌<◌, ◌≤◌, inl, inr, Bool, true, false, List, [], ◌∷◌, length, map, get_or, Option, Some, None, refl, ap, sym, subst, ◌∙◌, arith}
+use Rattle.std.proofs.Common.{◌≡◌, ℕ, zero, suc, ◌+◌, ◌<◌, ◌≤◌, ◌⊎◌, inl, inr, Bool, true, false, List, [], ◌∷◌, length, map, get_or, Option, Some, None, refl, ap, sym, subst, ◌∙◌, arith}
 use Rattle.std.specs.Prelude.{slice_get, Result, Ok, Err, IfErr}
 use Rattle.std.specs.Option.{option_or}
 use Rattle.std.proofs.Math.Nat.{eq-or-lt_of_le}
@@ -13,7 +13,7 @@ use Rattle.gk_steps.specs.LiteralEnds.{FitsStart, FitsEnd}
 use Rattle.gk_steps.specs.Matching.{AreSpans, MatchesNot, IsMatchResult, FieldValue, span_values, match_of}
 use Rattle.gk_steps.proofs.MatchingLemmas.{one_result}
 use Rattle.gk_steps.proofs.BestMatchLemmas.{match_of_is}
-use Rattle.gk_steps.specs.Finding.{EntryValue, LibraryValue, FoundValue, entry_value, HasCandidate, NoneFound, NoneBefore, IsFirstFound, IsFoundOf, IsFound, IsFoundAny, is_same_type, is_of_type, match_where, found_at, found_from, found, found_any, HaveKindsOf, FitsLibrary, FindsWhatIsFound}
+use Rattle.gk_steps.specs.Finding.{EntryValue, LibraryValue, FoundValue, entry_value, HasCandidate, HasTableCandidate, MayNeedTable, NoneFound, NoneBefore, IsFirstFound, IsFoundOf, IsFound, IsFoundAny, is_same_type, is_of_type, match_where, found_at, found_from, found, found_any, HaveKindsOf, FitsLibrary, FindsWhatIsFound}
 
 pub same_option : {A : Type 0} (x y : A) → ◌≡◌ {A = Option A} (Some x) (Some y) → x ≡ y
 same_option x y e = cc
@@ -53,6 +53,19 @@ of_fault (Err e) p = p
 pub candidate : (entries : List Entry) (step_type : Option StepType) (text : List ℕ) (position : ℕ) (x : Entry) → position < length entries → x ≡ get_or entries position x → x.step_type ≡ step_type → FitsStart (entry_value x).pattern text × FitsEnd (entry_value x).pattern text
     → HasCandidate (map entry_value entries) step_type text
 candidate entries step_type text position x l e is fits = record { position = position; entry = entry_value x; stands = entry_at entries position x l e; is_type = is; prefix = fits.0; back = fits.1 }
+
+pub table_candidate : (entries : List Entry) (step_type : Option StepType) (text : List ℕ) (position : ℕ) (x : Entry) → position < length entries → x ≡ get_or entries position x → x.step_type ≡ step_type → FitsStart (entry_value x).pattern text × FitsEnd (entry_value x).pattern text
+    → MayNeedTable (entry_value x).pattern → HasTableCandidate (map entry_value entries) step_type text
+table_candidate entries step_type text position x l e is fits table = record { position = position; entry = entry_value x; stands = entry_at entries position x l e; is_type = is; prefix = fits.0; back = fits.1; table = table }
+
+pub none_refused : {P : Type 0} → ⊥ ⊎ P → P
+none_refused (inl never) = absurd never
+none_refused (inr p) = p
+
+pub either_more : {T E : Type 0} (r : Result T E) (A P Q : Type 0) → (P → Q) → IfErr r (λ e. A ⊎ P) → IfErr r (λ e. A ⊎ Q)
+either_more (Ok x) A P Q f h = tt
+either_more (Err e) A P Q f (inl a) = inl a
+either_more (Err e) A P Q f (inr p) = inr (f p)
 
 -- the computed test of types
 same_type_is : (a b : StepType) → is_same_type a b ≡ true → a ≡ b

@@ -13,6 +13,7 @@ use Rattle.gk_steps.specs.declared.pattern.Piece.{Piece}
 use Rattle.gk_steps.specs.Pattern.{PieceValue, Literal, FieldPiece, piece_value}
 use Rattle.gk_steps.specs.Matching.{IsSpan, Matches, MatchesNot, IsPreferred, IsBestMatch, IsMatchResult, FieldValue, TextField}
 use Rattle.gk_steps.specs.Advances.{values_of}
+use Rattle.gk_steps.specs.Finding.{MayNeedTable}
 use Rattle.gk_steps.specs.Leftmost.{CanStandAt, StandsNowhereBefore, IsFirst, TakesUpTo, IsLeft}
 use Rattle.gk_steps.proofs.MatchingLemmas.{same_prefix, same_back, split, join, nothing_left, best_nothing}
 use Rattle.gk_steps.proofs.BestMatchLemmas.{after_literal, begins_so, begins_with_itself}
@@ -219,3 +220,9 @@ none_left (x ∷ xs) e = absurd (omega arith)
 
 pub first_and_rest : (pieces : List Piece) (first : Piece) (rest : List Piece) (value : PieceValue) → pieces ≡ first ∷ rest → piece_value first ≡ value → map piece_value pieces ≡ value ∷ map piece_value rest
 first_and_rest pieces first rest value e is = ap (map piece_value) e ∙ ap (λ (v : PieceValue). v ∷ map piece_value rest) is
+
+-- a piece that may need a table
+pub table_after : (done left ps : List PieceValue) → done ++ left ≡ ps → MayNeedTable left → MayNeedTable ps
+table_after [] left ps e t = subst MayNeedTable e t
+table_after (p ∷ done) left [] e t = let bad : ⊥ = cc in absurd bad
+table_after (p ∷ done) left (q ∷ ps) e t = inr (table_after done left ps (ap (λ xs. drop 1 xs) e) t)

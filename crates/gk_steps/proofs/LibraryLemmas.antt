@@ -5,7 +5,7 @@ use Rattle.std.proofs.lemmas.Bool.{cases_lt}
 use Rattle.std.proofs.lemmas.List.{take-map}
 use Rattle.gk_gherkin.specs.declared.feature.StepType.{StepType}
 use Rattle.gk_steps.specs.declared.library.Entry.{Entry}
-use Rattle.gk_steps.specs.Finding.{EntryValue, LibraryValue, FoundValue, HasCandidate, IsFoundOf, entry_value}
+use Rattle.gk_steps.specs.Finding.{EntryValue, LibraryValue, FoundValue, HasCandidate, HasTableCandidate, IsFoundOf, entry_value}
 use Rattle.gk_steps.specs.Library.{are_for_each_from}
 use Rattle.gk_steps.proofs.DecimalLemmas.{and_left, and_right}
 
@@ -75,6 +75,20 @@ candidate_before es n step_type text h = record {
 
 pub typed_candidate : (entries : List Entry) (typed : ℕ) (t : StepType) (text : List ℕ) → HasCandidate (map entry_value (take typed entries)) (Some t) text → HasCandidate (map entry_value entries) (Some t) text
 typed_candidate entries typed t text h = candidate_before (map entry_value entries) typed (Some t) text (subst (λ es. HasCandidate es (Some t) text) (sym (take-map entry_value typed entries)) h)
+
+table_candidate_before : (es : LibraryValue) (n : ℕ) (step_type : Option StepType) (text : List ℕ) → HasTableCandidate (take n es) step_type text → HasTableCandidate es step_type text
+table_candidate_before es n step_type text h = record {
+  position = h.position;
+  entry = h.entry;
+  stands = sym (get_before es n h.position (get_taken es n h.position h.entry h.stands)) ∙ h.stands;
+  is_type = h.is_type;
+  prefix = h.prefix;
+  back = h.back;
+  table = h.table;
+}
+
+pub typed_table_candidate : (entries : List Entry) (typed : ℕ) (t : StepType) (text : List ℕ) → HasTableCandidate (map entry_value (take typed entries)) (Some t) text → HasTableCandidate (map entry_value entries) (Some t) text
+typed_table_candidate entries typed t text h = table_candidate_before (map entry_value entries) typed (Some t) text (subst (λ es. HasTableCandidate es (Some t) text) (sym (take-map entry_value typed entries)) h)
 
 both_true : (a b : Bool) → a ≡ true → b ≡ true → (a && b) ≡ true
 both_true true b e f = f

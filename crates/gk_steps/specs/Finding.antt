@@ -15,6 +15,7 @@ use Rattle.gk_steps.specs.declared.used_fields.UsedFields.{UsedFields}
 use Rattle.gk_steps.specs.declared.used_fields.FoundUse.{FoundUse}
 use Rattle.gk_steps.specs.Pattern.{PieceValue, Literal, FieldPiece, pattern_value}
 use Rattle.gk_steps.specs.LiteralEnds.{FitsStart, FitsEnd}
+use Rattle.gk_steps.specs.Leftmost.{DependsOnMore}
 use Rattle.gk_steps.specs.Matching.{FieldValue, TextField, NumberField, field_value, MatchesNot, IsMatchResult, match_of}
 
 -- An entry: its step type, its pattern and its action. An entry without a type is for steps of every type. (behave's documentation: step implementations)
@@ -60,6 +61,25 @@ pub record HasCandidate (entries : LibraryValue) (step_type : Option StepType) (
 -- Such an entry exists among the entries of a step's type and those for steps of every type.
 abbrev pub HasCandidateFor : LibraryValue → StepType → List ℕ → Type 0
 HasCandidateFor entries step_type text = HasCandidate entries (Some step_type) text ⊎ HasCandidate entries None text
+
+-- A match of the pattern may need a table. What some piece takes depends on more than a literal and a plain field after it: the piece is a number, or a plain field before another field or before a literal that a number or another literal follows.
+abbrev pub MayNeedTable : List PieceValue → Type 0
+MayNeedTable [] = ⊥
+MayNeedTable (p ∷ ps) = DependsOnMore p ps ⊎ MayNeedTable ps
+
+-- An entry of exactly this type whose ends fit the text, and whose match may need a table.
+pub record HasTableCandidate (entries : LibraryValue) (step_type : Option StepType) (text : List ℕ) : Type 0 where
+  pub position : ℕ
+  pub entry : EntryValue
+  pub stands : slice_get entries position ≡ Some entry
+  pub is_type : entry.step_type ≡ step_type
+  pub prefix : FitsStart entry.pattern text
+  pub back : FitsEnd entry.pattern text
+  pub table : MayNeedTable entry.pattern
+
+-- Such an entry exists among the entries of a step's type and those for steps of every type.
+abbrev pub HasTableCandidateFor : LibraryValue → StepType → List ℕ → Type 0
+HasTableCandidateFor entries step_type text = HasTableCandidate entries (Some step_type) text ⊎ HasTableCandidate entries None text
 
 -- No entry of exactly this type matches the text. `None` is the type of entries for steps of every type.
 abbrev pub NoneFound : LibraryValue → Option StepType → List ℕ → Type 0

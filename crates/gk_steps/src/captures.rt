@@ -1,5 +1,5 @@
 //! What a match keeps of its fields' values.
-ghost use Rattle.std.specs.Prelude.{◌≡◌, ◌++◌, ◌∷◌, List, [], map, IfOk, OnOk};
+ghost use Rattle.std.specs.Prelude.{◌≡◌, ◌++◌, ◌∷◌, List, [], map, IfOk, IfErr, OnOk};
 ghost use Rattle.gk_steps.specs.Pattern.{PieceValue, piece_value};
 ghost use Rattle.gk_steps.specs.Matching.{FieldValue, IsSpan, field_value, span_value};
 ghost use Rattle.gk_steps.specs.Advances.{Takes, values_of};
@@ -20,6 +20,8 @@ pub(crate) enum Capture<'t> {
 pub(crate) trait Captures<'t>: Drop {
     /// Whether this is what is kept of these fields of these pieces.
     ghost keeps: { List PieceValue → Self → List FieldValue → Type 0 };
+    /// Whether keeping a field may take memory.
+    ghost allocates: { Type 0 };
 
     /// Returns what is kept of no fields. Doesn't allocate.
     fn empty(alloc: Global) -> Self
@@ -28,10 +30,11 @@ pub(crate) trait Captures<'t>: Drop {
     /// Adds what is kept of a piece that took a span.
     fn add(&mut self, alloc: Global, piece: &Piece, span: &'t str) -> Result<(), AllocError>
         requires { Takes (piece_value piece.now) span.now }
-        ensures { let p = piece_value piece.now in
+        ensures kept { let p = piece_value piece.now in
             OnOk result ((ps : List PieceValue) (before : List FieldValue)
             → keeps ps self.old before
-            → keeps (ps ++ p ∷ []) self.new (before ++ values_of p span.now)) };
+            → keeps (ps ++ p ∷ []) self.new (before ++ values_of p span.now)) }
+        ensures memory { IfErr result (λ e. allocates) };
 
     /// Adds what is kept of the fields of the pieces after these.
     fn join(&mut self, later: Self) -> Result<(), AllocError>
@@ -85,6 +88,8 @@ fn push_capture(
 impl<'t> Captures<'t> for Vec<Field> {
     ghost keeps = { λ pieces kept fields. map field_value kept.items ≡ fields };
 
+    ghost allocates = { Unit {0} };
+
     fn empty(alloc: Global) -> Self {
         Vec::new(alloc)
     }
@@ -106,6 +111,8 @@ pub(crate) struct NoCaptures;
 
 impl<'t> Captures<'t> for NoCaptures {
     ghost keeps = { λ pieces kept fields. Unit {0} };
+
+    ghost allocates = { ⊥ };
 
     fn empty(_alloc: Global) -> Self {
         NoCaptures

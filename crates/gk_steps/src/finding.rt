@@ -1,8 +1,9 @@
 //! The library entry that a step's text finds.
-ghost use Rattle.std.specs.Prelude.{◌≡◌, ◌≤◌, ◌+◌, List, IfOk, IfErr, MatchBool, option_map, is_some, Option, Some, None};
+ghost use Rattle.std.specs.Prelude.{◌≡◌, ◌⊎◌, ◌≤◌, ◌+◌, List, IfOk, IfErr, MatchBool, option_map, is_some, Option, Some, None};
 ghost use Rattle.gk_steps.specs.Matching.{FieldValue};
 ghost use Rattle.gk_steps.specs.Finding as spec;
 ghost use Rattle.gk_steps.specs.Finding.{HasCandidate, HasCandidateFor};
+ghost use Rattle.gk_steps.specs.Finding.{HasTableCandidate, HasTableCandidateFor};
 ghost use Rattle.gk_steps.specs.Finding.{FoundValue, LibraryValue, entries_said, library_value, found_value};
 ghost use Rattle.gk_steps.specs.Captures.{IsHit, HitsWhatIsFound};
 ghost use Rattle.gk_steps.specs.FilledCells.{cells_of_type, cells_of_step};
@@ -60,6 +61,8 @@ pub(crate) fn find_of<'t, K: Captures<'t>>(
         HitsWhatIsFound K.keeps entries step_type text.now hit) }
     ensures memory { IfErr result (λ e.
         HasCandidate (entries_said indexed.now.entries.now) step_type text.now) }
+    ensures table { IfErr result (λ e. K.allocates
+        ⊎ HasTableCandidate (entries_said indexed.now.entries.now) step_type text.now) }
     ensures most { cells.new.filled ≤ cells.old.filled
         + cells_of_type (entries_said indexed.now.entries.now) step_type text.now }
     ensures least { cells.old.filled ≤ cells.new.filled }
@@ -117,6 +120,8 @@ impl Library {
             (spec.found (library_value self.now) step_type text.now)) }
         ensures memory { IfErr result (λ e.
             HasCandidateFor (library_value self.now) step_type text.now) }
+        ensures table { IfErr result (λ e. K.allocates
+            ⊎ HasTableCandidateFor (library_value self.now) step_type text.now) }
         ensures most { cells.new.filled
             ≤ cells.old.filled + cells_of_step (library_value self.now) step_type text.now }
         ensures least { cells.old.filled ≤ cells.new.filled }
@@ -139,6 +144,8 @@ impl Library {
             IsHit K.keeps (library_value self.now) hit
             (spec.found_any (library_value self.now) text.now)) }
         ensures memory { IfErr result (λ e. HasCandidate (library_value self.now) None text.now) }
+        ensures table { IfErr result (λ e. K.allocates
+            ⊎ HasTableCandidate (library_value self.now) None text.now) }
         ensures most { cells.new.filled
             ≤ cells.old.filled + cells_of_type (library_value self.now) None text.now }
         ensures least { cells.old.filled ≤ cells.new.filled }
@@ -187,6 +194,9 @@ impl Library {
         // Memory is refused only if the text fits the ends of an entry.
         ensures memory { IfErr result (λ e.
             HasCandidateFor (library_value self.now) step_type text.now) }
+        // Memory is refused only if the match of such an entry may need a table.
+        ensures table { IfErr result (λ e.
+            HasTableCandidateFor (library_value self.now) step_type text.now) }
     {
         let mut cells = Cells::new();
         let hit: Option<Hit<NoCaptures>> = self.search(alloc, &mut cells, step_type, text)?;

@@ -1,5 +1,5 @@
 //! Matching a text by a table.
-ghost use Rattle.std.specs.Prelude.{◌≡◌, ◌<◌, ◌≤◌, ◌+◌, ◌*◌, ℕ, List, length};
+ghost use Rattle.std.specs.Prelude.{◌≡◌, ◌⊎◌, ◌<◌, ◌≤◌, ◌+◌, ◌*◌, ℕ, List, length};
 ghost use Rattle.std.specs.Prelude.{false, IfOk, IfErr, OnOk, IsTrue, Some};
 ghost use Rattle.std.specs.Str.{chars};
 ghost use Rattle.gk_steps.specs.Pattern.{PieceValue, pieces_said, pattern_value};
@@ -9,6 +9,7 @@ ghost use Rattle.gk_steps.specs.CharBoundaries.{AreBoundaries};
 ghost use Rattle.gk_steps.specs.TableRows.{IsWholeTable};
 ghost use Rattle.gk_steps.specs.Captures.{IsKeptResult, KeepsRest};
 ghost use Rattle.gk_steps.specs.LiteralEnds.{FitsStart, FitsEnd};
+ghost use Rattle.gk_steps.specs.Finding.{MayNeedTable};
 ghost use Rattle.gk_steps.specs.FilledCells.{GoesOnBy, table_cells};
 
 use crate::advances::advance;
@@ -178,6 +179,7 @@ pub(crate) fn match_from_left<'t, K: Captures<'t>>(
 ) -> Result<Option<K>, AllocError>
     ensures found { IfOk result (λ found.
         IsKeptResult K.keeps (pieces_said pieces.now) text.now found) }
+    ensures table { IfErr result (λ e. K.allocates ⊎ MayNeedTable (pieces_said pieces.now)) }
     ensures most { cells.new.filled
         ≤ cells.old.filled + table_cells (pieces_said pieces.now) text.now }
     ensures least { cells.old.filled ≤ cells.new.filled }

@@ -4,7 +4,7 @@ ghost use Rattle.gk_steps.specs.Pattern.{PieceValue, piece_value, pieces_said};
 ghost use Rattle.gk_steps.specs.Advances.{Takes, values_of};
 ghost use Rattle.gk_steps.specs.Matching.{FieldValue, field_value};
 ghost use Rattle.gk_steps.specs.Finding as spec;
-ghost use Rattle.gk_steps.specs.Finding.{FoundValue, HasCandidateFor, HasUsedFields, IsUseOf, LibraryValue, library_value, found_value};
+ghost use Rattle.gk_steps.specs.Finding.{FoundValue, HasCandidateFor, HasTableCandidateFor, HasUsedFields, IsUseOf, LibraryValue, library_value, found_value};
 ghost use Rattle.gk_steps.specs.Captures.{capture_value};
 ghost use Rattle.gk_steps.specs.UsedFields.{said, first_of, AreFirst, AreJoined, IsAdded, KeepsFirst};
 
@@ -53,6 +53,8 @@ pub(crate) struct FirstFields<'a> {
 /// Keeps no other fields, and doesn't allocate.
 impl<'t> Captures<'t> for FirstFields<'t> {
     ghost keeps = { KeepsFirst };
+
+    ghost allocates = { ⊥ };
 
     #[inline(always)]
     fn empty(_alloc: Global) -> Self {
@@ -250,6 +252,9 @@ impl Library {
         // Memory is refused only if the text fits the ends of an entry.
         ensures memory { IfErr result (λ e.
             HasCandidateFor (library_value self.now) step_type text.now) }
+        // Memory is refused only if the match of such an entry may need a table.
+        ensures table { IfErr result (λ e.
+            HasTableCandidateFor (library_value self.now) step_type text.now) }
     {
         let mut cells = Cells::new();
         let hit: Option<Hit<FirstFields<'a>>> = self.search(alloc, &mut cells, step_type, text)?;

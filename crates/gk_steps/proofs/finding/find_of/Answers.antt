@@ -1,11 +1,11 @@
-use Rattle.std.proofs.Common.{◌≤◌, ◌+◌, arith, sym, map, drop, subst, refl, Some, None}
+use Rattle.std.proofs.Common.{◌≤◌, ◌+◌, inl, inr, arith, sym, map, drop, subst, refl, Some, None}
 use Rattle.gk_steps.specs.declared.filled_cells.Cells.{Cells}
 use Rattle.gk_steps.specs.FilledCells.{cells_of_type}
-use Rattle.gk_steps.specs.Finding.{NoneBefore, entry_value, found_at}
+use Rattle.gk_steps.specs.Finding.{NoneBefore, MayNeedTable, entry_value, found_at}
 use Rattle.gk_steps.proofs.FilledCellsLemmas.{asked, passed_over}
 use Rattle.gk_steps.specs.Captures.{IsKeptResult}
 use Rattle.gk_steps.specs.Pattern.{piece_value}
-use Rattle.gk_steps.proofs.FindingLemmas.{entry_at, none_more, none_all, first_at, candidate, of_fault}
+use Rattle.gk_steps.proofs.FindingLemmas.{entry_at, none_more, none_all, first_at, candidate, table_candidate, of_fault}
 use Rattle.gk_steps.proofs.CaptureLemmas.{kept_some, kept_none}
 use Rattle.gk_steps.proofs.EntryIndexLemmas.{none_skipped, cells_skipped}
 use Rattle.gk_steps.proofs.finding.find_of.Goals as goal
@@ -32,6 +32,14 @@ returns-clause-found g c = (None, tt, none_all c.args.indexed.now.entries.now c.
 pub returns-in_err-kept-clause-memory : goal.returns-in_err-kept-clause-memory
 returns-in_err-kept-clause-memory g c =
     of_fault c.from_residual.result (candidate c.args.indexed.now.entries.now c.args.step_type c.args.text.now c.loop-position.position c.index-entries-position.result c.loop-position-test.true c.index-entries-position.is c.if-is_same.ensures (c.if-can_match.ensures.prefix refl, c.if-can_match.ensures.back refl))
+
+pub returns-in_err-kept-clause-table : goal.returns-in_err-kept-clause-table
+returns-in_err-kept-clause-table g c =
+    of_fault c.from_residual.result (elim c.in_err-kept.ensures.table [
+      | inl memory ↦ inl memory
+      | inr table ↦ inr (table_candidate c.args.indexed.now.entries.now c.args.step_type c.args.text.now c.loop-position.position c.index-entries-position.result c.loop-position-test.true c.index-entries-position.is c.if-is_same.ensures (c.if-can_match.ensures.prefix refl, c.if-can_match.ensures.back refl)
+          (subst (λ ps. MayNeedTable (map piece_value ps)) c.deref.ensures.value table))
+    ])
 
 pub loop-position-init : goal.loop-position-init
 loop-position-init g c =

@@ -1,12 +1,14 @@
-use Rattle.std.proofs.Common.{rules, ◌≡◌, ◌∷◌, ◌++◌, ◌-◌, length, drop, List, Some, None, [], take, map, refl, ap, subst, sym, ◌∙◌, arith}
+use Rattle.std.proofs.Common.{rules, inl, inr, ◌≡◌, ◌∷◌, ◌++◌, ◌-◌, length, drop, List, Some, None, [], take, map, refl, ap, subst, sym, ◌∙◌, arith}
 use Rattle.std.specs.Str.{chars}
 use Rattle.gk_steps.specs.declared.pattern.Piece.{Piece}
 use Rattle.gk_steps.specs.Pattern.{PieceValue, piece_value}
 use Rattle.gk_steps.specs.Advances.{values_of}
 use Rattle.gk_steps.specs.Leftmost.{IsLeft}
 use Rattle.gk_steps.specs.Captures.{AreKept, IsKeptResult, KeepsRest}
+use Rattle.gk_steps.specs.Finding.{MayNeedTable}
+use Rattle.gk_steps.proofs.FindingLemmas.{of_fault}
 use Rattle.gk_steps.proofs.TableRowLemmas.{if_ok}
-use Rattle.gk_steps.proofs.LeftmostLemmas.{left_start, none_left, left_more, left_nothing, left_over}
+use Rattle.gk_steps.proofs.LeftmostLemmas.{left_start, none_left, left_more, left_nothing, left_over, table_after}
 use Rattle.gk_steps.proofs.FilledCellsLemmas.{fewer_chars, left_most}
 use Rattle.gk_steps.proofs.CaptureLemmas.{done_more, done_all}
 use Rattle.gk_steps.proofs.matching.match_from_left.Goals as goal
@@ -32,7 +34,7 @@ pieces-preserved g c =
         (
           done ++ piece ∷ [],
           done_more done (map piece_value c.pieces.left.now) (map piece_value c.args.pieces.now) others piece c.pieces.invariant.1.1.1 (ap (map piece_value) c.in-Some.ensures.cases.0),
-          c.in_ok-add-in-At.ensures done before c.pieces.invariant.1.1.2,
+          c.in_ok-add-in-At.ensures.kept done before c.pieces.invariant.1.1.2,
         ),
         subst (IsLeft (map piece_value c.args.pieces.now) c.args.text.now after others) (sym c.range_from-rest.ensures.value)
             (left_more (map piece_value c.args.pieces.now) c.args.text.now before after piece others rest c.in-At.position known c.in-At.ensures (ap (λ x. before ++ values_of piece x) taken)),
@@ -73,3 +75,11 @@ returns-else-is_empty-clause-found g c =
 pub returns-in-Unknown-clause-most : goal.returns-in-Unknown-clause-most
 returns-in-Unknown-clause-most g c =
     left_most c.pieces.left.now c.args.pieces.now c.pieces.rest.now c.args.text.now c.args.cells.now.filled c.pieces.cells.filled c.match_rest.new.cells.filled c.pieces.invariant.2 c.pieces.invariant.3 c.pieces.invariant.4 c.match_rest.ensures.most
+
+pub returns-in_err-add-in-At-clause-table : goal.returns-in_err-add-in-At-clause-table
+returns-in_err-add-in-At-clause-table g c = of_fault c.from_residual.result (inl c.in_err-add-in-At.ensures.memory)
+
+pub returns-in-Unknown-clause-table : goal.returns-in-Unknown-clause-table
+returns-in-Unknown-clause-table g c =
+    let here : MayNeedTable (map piece_value c.pieces.left.now) = subst MayNeedTable (sym (ap (map piece_value) c.in-Some.ensures.cases.0)) (inl c.in-Unknown.ensures) in
+    of_fault c.match_rest.result (inr (table_after c.pieces.invariant.1.1.0 (map piece_value c.pieces.left.now) (map piece_value c.args.pieces.now) c.pieces.invariant.1.1.1 here))

@@ -41,7 +41,7 @@ loop-taken-preserved g c =
       (
         done ++ piece_value c.index-pieces-taken.result ∷ [],
         done_more done (drop taken ps) ps (drop (taken + 1) ps) (piece_value c.index-pieces-taken.result) c.loop-taken.invariant.1.1 here,
-        c.in_ok-add.ensures done before c.loop-taken.invariant.1.2,
+        c.in_ok-add.ensures.kept done before c.loop-taken.invariant.1.2,
       ),
       read_more ps (drop (taken + 1) ps) (piece_value c.index-pieces-taken.result) text boundaries c.deref.result.now taken column c.unwrap-next.result before after c.utf8.text (text_piece c.index-pieces-taken.result) c.requires.boundaries here (λ i. drop (taken + 1) ps)
           (row_under c.args.pieces.now text boundaries c.args.rows.now taken c.index-rows-pieces.result c.deref.result.now c.requires.table c.loop-taken-test.true c.index-rows-pieces.is c.deref.ensures.value)

@@ -1,8 +1,8 @@
-use Rattle.std.proofs.Common.{arith, inl, map, subst, Some}
-use Rattle.gk_steps.specs.Finding.{HasCandidate, HasCandidateFor, entry_value, library_value}
+use Rattle.std.proofs.Common.{arith, inl, inr, map, subst, Some, None}
+use Rattle.gk_steps.specs.Finding.{HasCandidate, HasCandidateFor, HasTableCandidate, HasTableCandidateFor, entry_value, library_value}
 use Rattle.gk_steps.specs.Captures.{HitsWhatIsFound}
-use Rattle.gk_steps.proofs.LibraryLemmas.{typed_candidate}
-use Rattle.gk_steps.proofs.FindingLemmas.{of_fault}
+use Rattle.gk_steps.proofs.LibraryLemmas.{typed_candidate, typed_table_candidate}
+use Rattle.gk_steps.proofs.FindingLemmas.{of_fault, either_more}
 use Rattle.gk_steps.proofs.CaptureLemmas.{typed_hit, own_hit, other_hit}
 use Rattle.gk_steps.proofs.FilledCellsLemmas.{typed_cells}
 use Rattle.gk_steps.proofs.library.Library.search.Goals as goal
@@ -42,3 +42,15 @@ pub returns-clause-most : goal.returns-clause-most
 returns-clause-most g c =
     let typed = typed_cells c.args.self.now.entries.items c.indexed-typed.result.entries.now c.args.self.now.typed (Some c.args.step_type) c.args.text.now c.indexed-typed.ensures.entries in
     omega (arith, typed, c.find_of.ensures.most, c.search_any.ensures.most)
+
+pub returns-in_err-hit-clause-table : goal.returns-in_err-hit-clause-table
+returns-in_err-hit-clause-table g c =
+    of_fault c.from_residual.result (elim c.in_err-hit.ensures.table [
+      | inl memory ↦ inl memory
+      | inr table ↦ inr (inl (typed_table_candidate c.args.self.now.entries.items c.args.self.now.typed c.args.step_type c.args.text.now
+          (subst (λ es. HasTableCandidate (map entry_value es) (Some c.args.step_type) c.args.text.now) c.indexed-typed.ensures.entries table)))
+    ])
+
+pub returns-clause-table : goal.returns-clause-table
+returns-clause-table g c =
+    either_more c.search_any.result g.K.Captures.allocates (HasTableCandidate (library_value c.args.self.now) None c.args.text.now) (HasTableCandidateFor (library_value c.args.self.now) c.args.step_type c.args.text.now) (λ table. inr table) c.search_any.ensures.table
