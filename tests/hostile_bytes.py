@@ -6,8 +6,8 @@
 - Each example whole; each prefix of its feature file, of its library and of its hooks file; each of these files with
   one byte changed, at every place, to a byte of a list, in turn. These aren't random, and tests/search.py leaves them out.
 
-Each of these runs is made with a report of one format, plain, as progress or as JSON, and some with --no-skipped,
---dry-run or --stop. It has to end with status 0 or 1, the report that follows from one in JSON of the same run, whose
+Each of these runs is made with a report of one format, plain, as progress or as JSON, and some with the flags of a
+run, such as --stop. It has to end with status 0 or 1, the report that follows from one in JSON of the same run, whose
 counts are those of its rows, and nothing on standard error; or with status 3, nothing on standard output and one line on
 standard error; or, if options are hostile, with status 2 and nothing on standard output.
 """
@@ -22,12 +22,12 @@ import driver
 import search
 from generator import BYTES, Maker
 from reports import Report, in_json, style_of
-from tables import FLAGS, FORMATS, VALUED
+from tables import FLAGS, FORMATS, RUN_FLAGS, VALUED
 
 COUNT = 2400  # random cases
-OWN_STYLE = {"--format", "--no-skipped", "--dry-run", "--stop"}
+OWN_STYLE = {"--format", *RUN_FLAGS}
 STYLES = [[("--format", it)] for it in FORMATS] + [[]]
-RUN_OPTIONS = [["--no-skipped"], [], ["--dry-run"], [], ["--stop"], ["--no-skipped", "--dry-run", "--stop"], []]
+RUN_OPTIONS = [*(it for flag in RUN_FLAGS for it in ([flag], [])), RUN_FLAGS]
 # Words of options: those of the program that print a report or the help, and others.
 OPTIONS = [
     *VALUED, *(it for it in FLAGS if it not in ("--explain", "--lint")), *FORMATS, *(f"--format={it}" for it in FORMATS),

@@ -17,8 +17,9 @@ OPTIONS = written.options()
 FORMATS = tuple(written.formats())
 STEPS = written.steps()
 ACTIONS = written.actions()
-# The options by what is given with them.
+# The options by what is given with them; of the flags, those of a run with its report.
 FLAGS = [f"--{it.name}" for it in OPTIONS if it.takes == "Nothing"]
+RUN_FLAGS = [f"--{it.name}" for it in written.flags()]
 VALUED = [f"--{it.name}" for it in OPTIONS if it.takes != "Nothing"]
 REFUSED_BY_LINT = [f"--{it.name}" for it in OPTIONS if not it.beside_lint]
 

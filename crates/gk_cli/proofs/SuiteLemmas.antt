@@ -1,7 +1,8 @@
 -- Features, one after another, and what their status says of them.
-use Rattle.std.proofs.Common.{◌≡◌, ◌≢◌, ℕ, Bool, true, false, cond, ◌&&◌, ◌||◌, List, [], ◌∷◌, Result, Ok, Err, IfOk, IfErr, ◌++◌, map, refl, ap, sym, subst, ◌∙◌, inl, inr, length, arith}
+use Rattle.std.proofs.Common.{◌≡◌, ◌≢◌, ℕ, Bool, true, false, cond, ◌&&◌, ◌||◌, List, [], ◌∷◌, Result, Ok, Err, IfOk, IfErr, ◌++◌, map, take, drop, refl, ap, sym, subst, ◌∙◌, inl, inr, length, arith}
 use Rattle.std.specs.List.{AllByRecursion, list_any}
 use Rattle.std.proofs.lemmas.Bool.{true≢false}
+use Rattle.std.proofs.lemmas.List.{append-nil, drop_all, take_all}
 use Rattle.std.proofs.lemmas.List.Folds.{list_any-append}
 use Rattle.gk_world.specs.State.{Contents, State, state_of}
 use Rattle.gk_world.specs.Sandbox.{SandboxValue, IsSame}
@@ -22,8 +23,9 @@ use Rattle.gk_report.specs.Summary.{feature_statuses, scenario_statuses, step_st
 use Rattle.gk_request.specs.declared.run_fault.RunFault.{RunFault}
 use Rattle.gk_request.specs.declared.run_fault.RunFault.TheVariants.{Read, Library, Hooks, Select, Write, Memory}
 use Rattle.gk_request.specs.Inputs.{Inputs, AreInputs, InputsAreUnique}
-use Rattle.gk_request.specs.Request.{Request}
+use Rattle.gk_request.specs.Request.{Request, AreLeftAt}
 use Rattle.gk_request.specs.RunFault.{IsUnread}
+use Rattle.gk_request.specs.Source.{SourceValue, without_bytes}
 use Rattle.gk_cli.specs.Suite.{IsReported, JudgedReport, OnlyReport, AreJudged, ReportedInPart, SaysFaultBy, run_with}
 use Rattle.gk_cli.specs.Writing.{Device, IsUntouched, IsWritten, StopsBy, UsesWriter}
 use Rattle.gk_cli.specs.WrittenRun.{IsWhole, IsPrefix}
@@ -193,6 +195,19 @@ unread_says IsCut r old new (Hooks why) unread same = (unread, same)
 unread_says IsCut r old new (Select input why) unread same = (unread, same)
 unread_says IsCut r old new Write unread same = absurd unread
 unread_says IsCut r old new Memory unread same = inl same
+
+-- What a fault after the sources were read leaves of them: each has dropped its bytes.
+pub left_by_run : (old new : Device) (before after : List SourceValue) (fault : RunFault) → StopsBy old new fault → after ≡ map without_bytes before → AreLeftAt before after fault
+left_by_run old new before after (Read input why) by gone = absurd by
+left_by_run old new before after (Library why) by gone = absurd by
+left_by_run old new before after (Hooks why) by gone = absurd by
+left_by_run old new before after (Select input why) by gone = absurd by
+left_by_run old new before after Write by gone = gone
+left_by_run old new before after Memory by gone =
+    let all = length before in
+    let first : map without_bytes (take all before) ++ drop all before ≡ map without_bytes before =
+    ap (λ xs. map without_bytes xs ++ drop all before) (take_all all before (omega arith)) ∙ ap (λ xs. map without_bytes before ++ xs) (drop_all all before (omega arith)) ∙ append-nil (map without_bytes before) in
+    (all, gone ∙ sym first)
 
 -- How the writer was used, by what was written.
 pub used_by_run : {P : ℕ → Type 0} {Q : RunFault → Type 0} (result : Result ℕ RunFault) (old new : Device) → ((status : ℕ) → P status → (text : List ℕ) × IsWritten old new text) → ((fault : RunFault) → Q fault → new.flushes ≡ old.flushes)

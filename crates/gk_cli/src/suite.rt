@@ -179,8 +179,8 @@ fn lint_suite<S: FeatureSource, W: Write>(
 /// that has reached `u64::MAX` stays there.
 ///
 /// Each source of a run drops its bytes as soon as its feature is read, before the next one is read. So the bytes of
-/// sources that own them, and what is made of the bytes, are never all held at once. The names stay, so a caller can name
-/// the source of a fault. With `Findings` all files stay as they were.
+/// sources that own them, and what is made of the bytes, are never all held at once. Sources after one that doesn't read
+/// keep theirs. The names stay, so a caller can name the source of a fault. With `Findings` all files stay as they were.
 pub fn write_suite<S: FeatureSource, W: Write>(
     alloc: Global,
     sandbox: &mut Sandbox,
@@ -202,7 +202,7 @@ pub fn write_suite<S: FeatureSource, W: Write>(
         (device_of W.contents out.old) (device_of W.contents out.new)) }
     // Whatever is returned, files, variables, values and layers are as they were.
     ensures same { IsSame sandbox.old sandbox.new }
-    // Whatever is returned, the names of the files stay.
+    // Whatever is returned, the names of the files stay. A run's fault says which sources have dropped their bytes.
     ensures left { AreLeft mode result
         (suite_value S.value files.old) (suite_value S.value files.new) }
     // The writer isn't flushed. With a status, it didn't fail, and each call moved at least one byte.

@@ -1,6 +1,7 @@
 //! A run whose report is written as each feature ends.
-ghost use Rattle.std.specs.Prelude.{◌≡◌, map, IfOk, IfErr};
+ghost use Rattle.std.specs.Prelude.{◌≡◌, [], map, IfOk, IfErr};
 ghost use Rattle.std.specs.List.{AllByRecursion};
+ghost use Rattle.gk_select.specs.ExampleRows.{row_lists};
 ghost use Rattle.gk_world.specs.Sandbox.{depth, IsSame};
 ghost use Rattle.gk_run.specs.Chosen.{chosen_value, IsFormed};
 ghost use Rattle.gk_request.specs.Inputs.{inputs_value};
@@ -28,6 +29,8 @@ pub fn write_run<W: Write>(
 ) -> Result<u8, RunFault>
     requires outside { depth sandbox.old ≡ 0 }
     requires formed { AllByRecursion IsFormed inputs.features.items }
+    // A report names no rows of outlines, so none were copied for it.
+    requires no_rows { row_lists inputs.rows.items ≡ [] }
     ensures ok { IfOk result (IsWhole (run_by options.now (inputs_value inputs)) sandbox.old.now
         (map chosen_value inputs.features.items) options.now.style
         (device_of W.contents out.old) (device_of W.contents out.new)) }

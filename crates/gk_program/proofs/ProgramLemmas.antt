@@ -1,11 +1,11 @@
 -- A run whose output is flushed, the program's faults for those of the run, help, and variables one after another.
-use Rattle.std.proofs.Common.{◌≡◌, ◌∙◌, ◌+◌, ◌-◌, ◌^◌, ◌<◌, ◌≤◌, ◌++◌, ap, sym, subst, refl, inl, inr, arith, suc, zero, ℕ, Bool, List, [], ◌∷◌, length, map, take, drop, get_or, Option, Some, None, Result, Ok, Err, add-one}
+use Rattle.std.proofs.Common.{◌≡◌, ◌⊎◌, ◌∙◌, ◌+◌, ◌-◌, ◌^◌, ◌<◌, ◌≤◌, ◌++◌, ap, sym, subst, refl, inl, inr, arith, suc, zero, ℕ, Bool, true, List, [], ◌∷◌, length, map, take, drop, get_or, Option, Some, None, Result, Ok, Err, add-one}
 use Rattle.std.specs.Prelude.{IfErr, IfOk, IsSome, IsSomeAnd, String, is_some, option_map, slice_get, string_bytes}
 use Rattle.std.specs.declared.alloc.Global.{Global}
 use Rattle.std.specs.List.{All, Any}
 use Rattle.std.specs.Io.KnownBytes.{Appends, Keeps}
 use Rattle.std.proofs.lemmas.Option.{slice_get-map, slice_get_read}
-use Rattle.std.proofs.lemmas.List.{append-nil, drop_all, map-append, map_push, take-append-drop, take_all}
+use Rattle.std.proofs.lemmas.List.{append-nil, map-append, map_push, take-append-drop, take_all}
 use Rattle.std.proofs.lemmas.List.Elements.{All-push}
 use Rattle.std.proofs.Math.Seq.{drop-cons, take-suc}
 use Rattle.gk_world.specs.State.{Contents, nothing_yet}
@@ -29,10 +29,9 @@ use Rattle.gk_cli.specs.declared.arguments.Words.{Words}
 use Rattle.gk_request.specs.declared.run_fault.RunFault.{RunFault}
 use Rattle.gk_request.specs.declared.run_fault.RunFault.TheVariants as run
 use Rattle.gk_program.specs.Files.{AreRead, IsFaultOfFiles, IsFileFault, Reading, StopsHere, StopsReading, files_in_order, name_of}
-use Rattle.gk_program.specs.Program.{AreGiven, AreTaken, IsFaultAs, IsFaultOfGiven, IsFaultOfRun, IsFirstRefused, IsFlushedRun, IsGiven, IsRefused, IsRun, SaysCallsOfRun, IsRunFrom, SaysProgram, SaysRunFrom, SaysSuite, SaysVariables, contents_given, variables_given, with_variables, hinted}
+use Rattle.gk_program.specs.Program.{AreGiven, AreTaken, IsFaultAs, IsFaultOfGiven, IsFaultOfRun, IsFirstRefused, IsFlushedRun, IsGiven, IsMemoryAfter, IsRefused, IsRun, SaysCallsOfRun, IsRunFrom, SaysProgram, SaysRunFrom, SaysSuite, SaysVariables, contents_given, variables_given, with_variables, hinted}
 use Rattle.gk_program.specs.Asked.{files_to_put, names_given}
 use Rattle.gk_program.specs.WorldFiles.{ArePut, StopsPutting}
-use Rattle.gk_findings.specs.declared.env_notes.EnvMistake.{EnvMistake}
 use Rattle.gk_program.specs.EnvFault.{IsEnvFault, IsFaultOfVariable, is_lint, mistake_of}
 use Rattle.gk_program.specs.FaultListing.{IsListedAs}
 use Rattle.gk_program.specs.declared.fault.Fault.{Fault}
@@ -145,58 +144,77 @@ kept (Some x) (Some y) (Some z) xs wrote same = same ∙ wrote
 
 -- ---- variables
 
-pub put_more : {X : Type 0} (f : X → PairValue) (xs : List X) (i : ℕ) (x : X) (old new all : Contents) → i < length xs → x ≡ get_or xs i x → new ≡ with_env old (f x).name (f x).text
-    → with_variables old (map f (drop i xs)) ≡ all → with_variables new (map f (drop (i + 1) xs)) ≡ all
-put_more f xs i x old new all lt is put before =
-    let split : drop i xs ≡ x ∷ drop (i + 1) xs = drop-cons xs i x lt ∙ ap (λ y. y ∷ drop (suc i) xs) (sym is) ∙ ap (λ n. x ∷ drop n xs) (sym (add-one i)) in
-    ap (λ c. with_variables c (map f (drop (i + 1) xs))) put ∙ (sym (ap (λ l. with_variables old (map f l)) split) ∙ before)
+-- one variable after some others
+after_variables : (c : Contents) (vs : List PairValue) (v : PairValue) → with_variables c (vs ++ v ∷ []) ≡ with_env (with_variables c vs) v.name v.text
+after_variables c [] v = refl
+after_variables c (x ∷ xs) v = after_variables (with_env c x.name x.text) xs v
+
+one_taken : {X : Type 0} (xs : List X) (i : ℕ) (x : X) → i < length xs → x ≡ get_or xs i x → take (i + 1) xs ≡ take i xs ++ x ∷ []
+one_taken xs i x lt is = ap (λ n. take n xs) (add-one i) ∙ take-suc xs i x lt ∙ ap (λ y. take i xs ++ y ∷ []) (sym is)
+
+pub put_more : {X : Type 0} (f : X → PairValue) (xs : List X) (i : ℕ) (x : X) (start old new : Contents) → i < length xs → x ≡ get_or xs i x → new ≡ with_env old (f x).name (f x).text
+    → old ≡ with_variables start (map f (take i xs)) → new ≡ with_variables start (map f (take (i + 1) xs))
+put_more f xs i x start old new lt is put before =
+    let last : with_variables start (map f (take (i + 1) xs)) ≡ with_env (with_variables start (map f (take i xs))) (f x).name (f x).text =
+    ap (λ l. with_variables start (map f l)) (one_taken xs i x lt is) ∙ ap (with_variables start) (map_push f (take i xs) x) ∙ after_variables start (map f (take i xs)) (f x) in
+    put ∙ ap (λ c. with_env c (f x).name (f x).text) before ∙ sym last
 
 pub taken_more : {X : Type 0} (P : PairValue → Type 0) (f : X → PairValue) (xs : List X) (i : ℕ) (x : X) → i < length xs → x ≡ get_or xs i x → P (f x) → All P (map f (take i xs)) → All P (map f (take (i + 1) xs))
 taken_more P f xs i x lt is here before =
-    let more : take (i + 1) xs ≡ take i xs ++ x ∷ [] = ap (λ n. take n xs) (add-one i) ∙ take-suc xs i x lt ∙ ap (λ y. take i xs ++ y ∷ []) (sym is) in
-    subst (λ l. All P (map f l)) (sym more) (subst (All P) (sym (map_push f (take i xs) x)) (All-push P (map f (take i xs)) (f x) before here))
+    subst (λ l. All P (map f l)) (sym (one_taken xs i x lt is)) (subst (All P) (sym (map_push f (take i xs) x)) (All-push P (map f (take i xs)) (f x) before here))
 
-pub all_put : {X : Type 0} (f : X → PairValue) (xs : List X) (i : ℕ) (c all : Contents) → length xs ≤ i → with_variables c (map f (drop i xs)) ≡ all → c ≡ all
-all_put f xs i c all le before = ap (λ l. with_variables c (map f l)) (sym (drop_all i xs le)) ∙ before
+pub all_put : {X : Type 0} (f : X → PairValue) (xs : List X) (i : ℕ) (start new : Contents) → length xs ≤ i → new ≡ with_variables start (map f (take i xs)) → new ≡ with_variables start (map f xs)
+all_put f xs i start new le before = before ∙ ap (λ l. with_variables start (map f l)) (take_all i xs le)
 
 pub all_taken : {X : Type 0} (P : PairValue → Type 0) (f : X → PairValue) (xs : List X) (i : ℕ) → length xs ≤ i → All P (map f (take i xs)) → All P (map f xs)
 all_taken P f xs i le good = subst (λ l. All P (map f l)) (take_all i xs le) good
 
+-- why memory may be refused at a variable
+abbrev MayLackMemory : Mode → PairValue → Type 0
+MayLackMemory mode v = (put_refusal v.name v.text ≡ None) ⊎ (is_lint mode ≡ true)
+
+-- what is known at a variable that isn't put: those before it are in the sandbox, and what each fault would say
+pub record IsNextVariable (mode : Mode) (before variables : List PairValue) (v : PairValue) (old new : SandboxValue) : Type 0 where
+  pub refused : (fault : Fault) → IsRefused mode fault v → IsFirstRefused mode fault variables
+  pub memory : MayLackMemory mode v → IsMemoryAfter mode before variables
+  pub put : new.now ≡ with_variables old.now before
+  pub layers : new.saved ≡ old.saved
+
+without_memory : (mode : Mode) (before variables : List PairValue) (v : PairValue) (old new : SandboxValue) → IsNextVariable mode before variables v old new → MayLackMemory mode v → SaysVariables mode variables old new (Err Memory)
+without_memory mode before variables v old new next why = (before, next.memory why, next.put, next.layers)
+
 -- what a refusal says of the program's fault
-same_fault : (mode : Mode) (variables : List PairValue) (old new : SandboxValue) (mistake : EnvMistake) (name : List ℕ) (fault : Fault) → IsEnvFault mode mistake name fault
-    → ((notes : String Global) → fault ≡ Env notes → IsFirstRefused mode (Env notes) variables) → SaysVariables mode variables old new (Err fault)
-same_fault mode variables old new mistake name (Env notes) is any = any notes refl
-same_fault mode variables old new mistake name Memory is any = tt
-same_fault mode variables old new mistake name _ is any = absurd is
+told_so : (mode : Mode) (before variables : List PairValue) (v : PairValue) (old new : SandboxValue) (by : WorldFault) (fault : Fault) → IsNextVariable mode before variables v old new → put_refusal v.name v.text ≡ Some by
+    → IsFaultOfVariable mode v.name by fault → IsEnvFault mode (mistake_of by) v.name fault → SaysVariables mode variables old new (Err fault)
+told_so mode before variables v old new by (Env notes) next h is env = next.refused (Env notes) (subst (λ r. IsSomeAnd r (λ reason. IsFaultOfVariable mode v.name reason (Env notes))) (sym h) is)
+told_so mode before variables v old new by Memory next h is env = without_memory mode before variables v old new next (inr env)
+told_so mode before variables v old new by _ next h is env = absurd env
 
-told_so : (mode : Mode) (variables : List PairValue) (old new : SandboxValue) (v : PairValue) (by : WorldFault) (fault : Fault) → put_refusal v.name v.text ≡ Some by → IsFaultOfVariable mode v.name by fault → IsEnvFault mode (mistake_of by) v.name fault
-    → (IsRefused mode fault v → IsFirstRefused mode fault variables) → SaysVariables mode variables old new (Err fault)
-told_so mode variables old new v by fault h is env any = same_fault mode variables old new (mistake_of by) v.name fault env
-    (λ notes same. subst (λ f. IsFirstRefused mode f variables) same (any (subst (λ r. IsSomeAnd r (λ reason. IsFaultOfVariable mode v.name reason fault)) (sym h) is)))
+pub refused : (mode : Mode) (before variables : List PairValue) (v : PairValue) (old new : SandboxValue) (by : WorldFault) (fault : Fault) → IsNextVariable mode before variables v old new → IsFault (put_refusal v.name v.text) by
+    → IsFaultOfVariable mode v.name by fault → SaysVariables mode variables old new (Err fault)
+refused mode before variables v old new world.Memory fault next h is = subst (λ x. SaysVariables mode variables old new (Err x)) (sym is) (without_memory mode before variables v old new next (inl h))
+refused mode before variables v old new world.Absent fault next h is = told_so mode before variables v old new world.Absent fault next h is is
+refused mode before variables v old new world.TextTooLong fault next h is = told_so mode before variables v old new world.TextTooLong fault next h is is
+refused mode before variables v old new world.BadName fault next h is = told_so mode before variables v old new world.BadName fault next h is is
+refused mode before variables v old new world.OtherLayer fault next h is = told_so mode before variables v old new world.OtherLayer fault next h is is
 
-pub refused : (mode : Mode) (variables : List PairValue) (old new : SandboxValue) (v : PairValue) (by : WorldFault) (fault : Fault) → IsFault (put_refusal v.name v.text) by → IsFaultOfVariable mode v.name by fault
-    → (IsRefused mode fault v → IsFirstRefused mode fault variables) → SaysVariables mode variables old new (Err fault)
-refused mode variables old new v world.Memory fault h is any = subst (λ x. SaysVariables mode variables old new (Err x)) (sym is) tt
-refused mode variables old new v world.Absent fault h is any = told_so mode variables old new v world.Absent fault h is is any
-refused mode variables old new v world.TextTooLong fault h is any = told_so mode variables old new v world.TextTooLong fault h is is any
-refused mode variables old new v world.BadName fault h is any = told_so mode variables old new v world.BadName fault h is is any
-refused mode variables old new v world.OtherLayer fault h is any = told_so mode variables old new v world.OtherLayer fault h is is any
+-- the variables are those before one, it, and those after it
+split_at : {X : Type 0} (f : X → PairValue) (xs : List X) (i : ℕ) (x : X) → i < length xs → x ≡ get_or xs i x → map f xs ≡ map f (take i xs) ++ f x ∷ map f (drop (suc i) xs)
+split_at f xs i x lt is = ap (map f) (sym (take-append-drop i xs) ∙ ap (λ l. take i xs ++ l) (drop-cons xs i x lt ∙ ap (λ y. y ∷ drop (suc i) xs) (sym is))) ∙ map-append f (take i xs) (x ∷ drop (suc i) xs)
 
-pub refused_here : {X : Type 0} (mode : Mode) (fault : Fault) (f : X → PairValue) (xs : List X) (i : ℕ) (x : X) → i < length xs → x ≡ get_or xs i x → All (λ v. put_refusal v.name v.text ≡ None) (map f (take i xs))
-    → IsRefused mode fault (f x) → IsFirstRefused mode fault (map f xs)
-refused_here mode fault f xs i x lt is taken here = record {
-  before = map f (take i xs);
-  variable = f x;
-  after = map f (drop (suc i) xs);
-  whole = ap (map f) (sym (take-append-drop i xs) ∙ ap (λ l. take i xs ++ l) (drop-cons xs i x lt ∙ ap (λ y. y ∷ drop (suc i) xs) (sym is))) ∙ map-append f (take i xs) (x ∷ drop (suc i) xs);
-  taken = taken;
-  refused = here;
+pub next_variable : {X : Type 0} (mode : Mode) (f : X → PairValue) (xs : List X) (i : ℕ) (x : X) (old new : SandboxValue) → i < length xs → x ≡ get_or xs i x → AreTaken (map f (take i xs))
+    → new.now ≡ with_variables old.now (map f (take i xs)) → new.saved ≡ old.saved → IsNextVariable mode (map f (take i xs)) (map f xs) (f x) old new
+next_variable mode f xs i x old new lt is taken put layers = record {
+  refused = λ fault here. record { before = map f (take i xs); variable = f x; after = map f (drop (suc i) xs); whole = split_at f xs i x lt is; taken = taken; refused = here };
+  memory = λ why. record { variable = f x; after = map f (drop (suc i) xs); whole = split_at f xs i x lt is; taken = taken; why = why };
+  put = put;
+  layers = layers;
 }
 
 pub of_variables : {S : Type 0} (r : Reading S) (w : Words) (s : S) (d : Device) (variables : List (String Global × String Global)) (old new : SandboxValue) (fault : Fault) → variables ≡ w.env.items
     → SaysVariables w.mode (map pair_value variables) old new (Err fault) → SaysProgram r w s s d d fault
 of_variables r w s d variables old new (Env notes) same says = inl (subst (λ xs. IsFirstRefused w.mode (Env notes) (map pair_value xs)) same says, refl, untouched d)
-of_variables r w s d variables old new Memory same says = inl (refl, untouched d)
+of_variables r w s d variables old new Memory same says = inl ((says.0, subst (λ xs. IsMemoryAfter w.mode says.0 (map pair_value xs)) same says.1), refl, untouched d)
 of_variables r w s d variables old new _ same says = absurd says
 
 pub calls_of_variables : (d : Device) (mode : Mode) (variables : List PairValue) (old new : SandboxValue) (fault : Fault) → SaysVariables mode variables old new (Err fault) → SaysCallsOfRun d d fault

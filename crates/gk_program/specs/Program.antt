@@ -92,11 +92,19 @@ pub record IsFirstRefused (mode : Mode) (fault : Fault) (variables : List PairVa
   pub taken : AreTaken before
   pub refused : IsRefused mode fault variable
 
--- The variables are in the sandbox, and its layers are unchanged; or the first that is refused has the fault. Nothing is said of refused memory.
+-- Memory was refused at the variable after these. A sandbox takes these, and that variable, too, unless the memory was for notes, which only `--lint` has.
+pub record IsMemoryAfter (mode : Mode) (before variables : List PairValue) : Type 0 where
+  pub variable : PairValue
+  pub after : List PairValue
+  pub whole : variables ≡ before ++ variable ∷ after
+  pub taken : AreTaken before
+  pub why : (put_refusal variable.name variable.text ≡ None) ⊎ (is_lint mode ≡ true)
+
+-- The variables are in the sandbox, and its layers are unchanged; or the first that is refused has the fault. If memory was refused at a variable, those before it are in the sandbox.
 abbrev pub SaysVariables : Mode → List PairValue → SandboxValue → SandboxValue → Result (Unit {0}) Fault → Type 0
 SaysVariables mode variables old new (Ok u) = (new.now ≡ with_variables old.now variables) × (new.saved ≡ old.saved) × AreTaken variables
 SaysVariables mode variables old new (Err (Env notes)) = IsFirstRefused mode (Env notes) variables
-SaysVariables mode variables old new (Err Memory) = Unit {0}
+SaysVariables mode variables old new (Err Memory) = (before : List PairValue) × IsMemoryAfter mode before variables × (new.now ≡ with_variables old.now before) × (new.saved ≡ old.saved)
 SaysVariables mode variables old new (Err _) = ⊥
 
 -- The program's fault for a fault of the run: the same fault, with a file's name in place of its number.
@@ -197,10 +205,10 @@ SaysRunFrom reads w contents before after old new (TooLong name) = IsFaultOfName
 SaysRunFrom reads w contents before after old new Memory = (IsUntouched old new × StopsReading reads before (names_given w) after Memory) ⊎ IsFaultOfGiven reads w contents before after old new Memory
 SaysRunFrom reads w contents before after old new fault = IsFaultOfGiven reads w contents before after old new fault
 
--- A variable is refused, or memory. The system is unchanged, and standard output was not called.
+-- A variable is refused, or memory at a variable. The system is unchanged, and standard output was not called.
 abbrev pub IsFaultOfVariables : {S : Type 0} → Words → S → S → Device → Device → Fault → Type 0
 IsFaultOfVariables w before after old new (Env notes) = IsFirstRefused w.mode (Env notes) (variables_given w) × (before ≡ after) × IsUntouched old new
-IsFaultOfVariables w before after old new Memory = (before ≡ after) × IsUntouched old new
+IsFaultOfVariables w before after old new Memory = ((taken : List PairValue) × IsMemoryAfter w.mode taken (variables_given w)) × (before ≡ after) × IsUntouched old new
 IsFaultOfVariables w before after old new fault = ⊥
 
 -- The variables are taken, a file of `--file` is not put, and standard output was not called.

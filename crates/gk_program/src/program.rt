@@ -50,7 +50,8 @@ fn show_text<W: Write>(text: &str, out: &mut Counted<W>) -> Result<u8, Fault>
 }
 
 /// Puts the variables into the sandbox, in order. If several have the same name, the last one counts. A bad name or a
-/// text that is too long is `Env`.
+/// text that is too long is `Env`. `Memory` comes only if it is refused at a variable, or at the notes on one; those
+/// before it are in the sandbox then.
 fn put_variables(
     alloc: Global,
     mode: Mode,

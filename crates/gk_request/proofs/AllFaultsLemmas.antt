@@ -43,6 +43,11 @@ says_of_library file (library_faults.MissingField n) h = library_stops file h.0 
 says_of_library file (library_faults.FieldKind n) h = library_stops file h.0 (library_faults.FieldKind n) h.1 h.2 (λ e. cc)
 says_of_library file (library_faults.Ambiguous n) h = library_stops file h.0 (library_faults.Ambiguous n) h.1 h.2 (λ e. cc)
 
+-- The same, by the bytes that were read.
+pub says_of_given : (file : Option SourceValue) (s : SourceValue) (bytes : List ℕ) (fault : LibraryFault) → file ≡ Some s → bytes ≡ s.bytes → SaysLibrary (Some bytes) fault → SaysOfFiles (library_files file) (Err (library_fault fault))
+says_of_given file s bytes fault is same says =
+    subst (λ f. SaysOfFiles (library_files f) (Err (library_fault fault))) (sym is) (says_of_library (Some s) fault (subst (λ b. SaysLibrary (Some b) fault) same says))
+
 -- A hooks file that reads, or none.
 pub hooks_read : (file : Option SourceValue) (hooks : List HookValue) → AreHooks (bytes_of file) hooks → AreFaultsOf (hooks_files file) []
 hooks_read None hooks reads = refl

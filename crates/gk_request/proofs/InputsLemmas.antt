@@ -1,5 +1,6 @@
 -- Inputs, one after another, and that they are determined.
 use Rattle.std.proofs.Common.{◌≡◌, ◌⊎◌, inl, inr, ℕ, suc, zero, ◌+◌, ◌<◌, Bool, true, false, List, [], ◌∷◌, ◌++◌, map, take, drop, length, get_or, Option, Some, None, Result, Ok, Err, refl, ap, sym, subst, ◌∙◌, arith, add-one}
+use denote.Ref.{Bor}
 use Rattle.std.specs.Prelude.{option_map, slice_get, zip, OnOk}
 use Rattle.std.specs.List.{AllByRecursion}
 use Rattle.gk_gherkin.specs.declared.read_fault.ReadFault.{ReadFault}
@@ -26,12 +27,13 @@ use Rattle.gk_steps.specs.DefaultFile.{default_text}
 use Rattle.gk_steps.specs.LibraryFile.{LibraryReadingIsUnique}
 use Rattle.gk_run.specs.declared.chosen.Chosen.{Chosen}
 use Rattle.gk_run.specs.Chosen.{HeadValue, MemberValue, ChosenValue, chosen_value, member_of, members_of, IsFormed}
-use Rattle.gk_request.specs.Source.{SourceValue}
+use Rattle.gk_request.specs.Source.{SourceValue, GaveUpThrough}
 use Rattle.gk_request.specs.Inputs.{Inputs, InputsAreUnique, IsFirstBadText, AreRules, IsLibrary, AreHooks, member_by, chosen_of, with_reading, IsWithinLimit, AreRead, with_rows, AreRowsOf, AreRowsIf, AreRowsReadOnto, IsReading, IsReadOnto}
-use Rattle.gk_request.specs.Request.{Request}
+use Rattle.gk_request.specs.declared.request.Options.{Options}
+use Rattle.gk_request.specs.Request.{Request, AreLeftAt}
 use Rattle.gk_request.specs.declared.run_fault.RunFault.{RunFault}
 use Rattle.gk_request.specs.declared.run_fault.RunFault.TheVariants.{Read, Library, Hooks, Select, Write, Memory}
-use Rattle.gk_request.specs.RunFault.{IsUnread, SaysTags, SaysLibrary, SaysHooks, SaysSourceAt, SaysSources, SaysTooMany, select_fault_at, tags_fault, library_fault, hooks_fault, SaysExpansion}
+use Rattle.gk_request.specs.RunFault.{IsUnread, IsUnreadBefore, SaysTags, SaysLibrary, SaysHooks, SaysSourceAt, SaysSources, SaysTooMany, select_fault_at, tags_fault, library_fault, hooks_fault, SaysExpansion}
 
 -- The element at a place, as a loop has it.
 pub at_place : {A B : Type 0} (f : A → B) (xs : List A) (i : ℕ) (x : A) → i < length xs → x ≡ get_or xs i x → slice_get (map f xs) i ≡ Some (f x)
@@ -179,6 +181,30 @@ first_unread chooses sources features input source (Library fault) read place h 
 first_unread chooses sources features input source (Hooks fault) read place h = h
 first_unread chooses sources features input source Write read place h = h
 first_unread chooses sources features input source Memory read place h = tt
+
+-- What a fault of the source at a place leaves of the sources, which had given up their bytes up to it.
+pub left_at : (input : ℕ) (bytes : List ℕ) (fault : RunFault) (old new : List SourceValue) → SaysSourceAt input bytes fault → GaveUpThrough input old new → AreLeftAt old new fault
+left_at input bytes (Read i fault) old new says gave = subst (λ n. GaveUpThrough n old new) (sym says.0) gave
+left_at input bytes (Select (Some i) select_faults.TooMany) old new says gave = subst (λ n. GaveUpThrough n old new) (sym says.0) gave
+left_at input bytes (Select (Some i) select_faults.BadTagText) old new says gave = absurd says
+left_at input bytes (Select (Some i) select_faults.Memory) old new says gave = absurd says
+left_at input bytes (Select None fault) old new says gave = absurd says
+left_at input bytes (Library fault) old new says gave = absurd says
+left_at input bytes (Hooks fault) old new says gave = absurd says
+left_at input bytes Write old new says gave = absurd says
+left_at input bytes Memory old new says gave = (input + 1, gave)
+
+-- A fault of what is read before the sources leaves all of them.
+pub left_before : (options : Options) (library hooks : Option (Bor (List ℕ))) (fault : RunFault) (sources : List SourceValue) → IsUnreadBefore options library hooks fault → AreLeftAt sources sources fault
+left_before options library hooks (Read i fault) sources unread = let place = (unread []).0.first.place in let no : ⊥ = cc place in absurd no
+left_before options library hooks (Select (Some i) select_faults.TooMany) sources unread = let place = (unread []).first.place in let no : ⊥ = cc place in absurd no
+left_before options library hooks (Select (Some i) select_faults.BadTagText) sources unread = absurd (unread [])
+left_before options library hooks (Select (Some i) select_faults.Memory) sources unread = absurd (unread [])
+left_before options library hooks (Select None fault) sources unread = refl
+left_before options library hooks (Library fault) sources unread = refl
+left_before options library hooks (Hooks fault) sources unread = refl
+left_before options library hooks Write sources unread = absurd (unread [])
+left_before options library hooks Memory sources unread = (0, refl)
 
 pub first_bad : (tags : List (List ℕ)) (i : ℕ) (text : List ℕ) (rules : List Expression) → slice_get tags i ≡ Some text → AreRules (take i tags) rules → ((rule : Expression) → ReadsTags text rule → ⊥) → IsFirstBadText tags text
 first_bad tags i text rules place read bad = record { before = take i tags; after = drop (suc i) tags; whole = split_at tags i text place; rules = rules; read = read; bad = bad }

@@ -1,6 +1,7 @@
 -- Sources that give up their bytes one after another: a list whose first elements are changed.
 use Rattle.std.proofs.Common.{◌≡◌, ℕ, suc, zero, ◌+◌, ◌<◌, List, [], ◌∷◌, ◌++◌, map, set, get_or, length, take, drop, Option, Some, refl, ap, sym, ◌∙◌, arith, add-one}
 use Rattle.std.specs.Prelude.{slice_get}
+use Rattle.std.proofs.lemmas.List.{append-nil, drop_all, take_all}
 
 -- The first elements of a list are changed, and the others are as they were.
 abbrev pub changed_to : {A : Type 0} → (A → A) → ℕ → List A → List A
@@ -62,3 +63,7 @@ next_place value change i ys xs y are less = sym (next_unchanged change i xs) �
   go value [] i y less = absurd (omega arith)
   go value (z ∷ zs) zero y less = refl
   go value (z ∷ zs) (suc i) y less = go value zs i y (omega arith)
+
+-- A list of a vector's length takes the place of all its elements.
+pub put_back : {A : Type 0} (len : ℕ) (xs new : List A) → length new ≡ len → length xs ≡ len → take len (new ++ drop (length new) xs) ≡ new
+put_back len xs new same all = ap (λ rest. take len (new ++ rest)) (drop_all (length new) xs (omega arith)) ∙ ap (take len) (append-nil new) ∙ take_all len new (omega arith)

@@ -1,13 +1,14 @@
 -- What is asked of a run, and what remains of its files after they are read.
 use denote.Ref.{Bor}
-use Rattle.std.specs.Prelude.{◌≡◌, ℕ, Bool, List, [], map, unwrap_or, Option, OnOk, Result, option_map}
+use Rattle.std.specs.Prelude.{◌≡◌, ℕ, Bool, List, [], map, unwrap_or, Option, Some, IfErr, OnOk, Result, option_map}
 use Rattle.gk_gherkin.specs.Feature.{texts}
 use Rattle.gk_report.specs.declared.report.Style.{Style}
 use Rattle.gk_request.specs.declared.request.Options.{Options}
 use Rattle.gk_request.specs.declared.request.SuiteFiles.{SuiteFiles}
 use Rattle.gk_request.specs.declared.run_fault.RunFault.{RunFault}
+use Rattle.gk_request.specs.declared.run_fault.RunFault.TheVariants.{Read, Select, Write, Memory}
 use Rattle.gk_request.specs.declared.source.Source.{Source}
-use Rattle.gk_request.specs.Source.{SourceValue, source_value, names_of, without_bytes, GaveUpInTurn}
+use Rattle.gk_request.specs.Source.{SourceValue, source_value, names_of, without_bytes, GaveUpInTurn, GaveUpThrough}
 
 -- A request for a run: the texts of tags, the lines, whether it is a dry run, whether the first failure stops it, and the report's style; the bytes of the library file and of the hooks file, if they are given; and the sources.
 pub record Request : Type 0 where
@@ -78,16 +79,20 @@ pub record HaveSameNames (old new : FilesValue) : Type 0 where
   pub hooks : new.hooks ≡ old.hooks
   pub sources : names_of new.sources ≡ names_of old.sources
 
--- The first sources dropped their bytes, and the others are unchanged.
-abbrev pub AreGivenUpInTurn : FilesValue → FilesValue → Type 0
-AreGivenUpInTurn old new = GaveUpInTurn old.sources new.sources
-
 -- Each source dropped its bytes and kept its name.
 abbrev pub AreGivenUp : FilesValue → FilesValue → Type 0
 AreGivenUp old new = new.sources ≡ map without_bytes old.sources
 
--- What a run leaves of its files. The names stay, and the sources drop their bytes one after another; after a status, each has done so.
+-- What a fault leaves of the sources. If one of them doesn't read, it and those before it have dropped their bytes, and the others are unchanged. At a fault of the texts of tags, the library or the hooks, each is unchanged. If the writer failed, each has dropped its bytes. If memory was refused, some of the first have.
+abbrev pub AreLeftAt : List SourceValue → List SourceValue → RunFault → Type 0
+AreLeftAt old new (Read input fault) = GaveUpThrough input old new
+AreLeftAt old new (Select (Some input) fault) = GaveUpThrough input old new
+AreLeftAt old new Write = new ≡ map without_bytes old
+AreLeftAt old new Memory = GaveUpInTurn old new
+AreLeftAt old new fault = new ≡ old
+
+-- What a run leaves of its files. The names stay. After a status, each source has dropped its bytes; a fault says which have.
 pub record AreLeftByRun (result : Result ℕ RunFault) (old new : FilesValue) : Type 0 where
   pub names : HaveSameNames old new
-  pub in_turn : AreGivenUpInTurn old new
   pub given_up : OnOk result (AreGivenUp old new)
+  pub at_fault : IfErr result (AreLeftAt old.sources new.sources)

@@ -1,5 +1,5 @@
 -- Sources, and reading a whole source.
-use Rattle.std.specs.Prelude.{◌≡◌, ◌≤◌, ◌++◌, ℕ, List, [], length, map, take, drop, Option, Some, None, Result, Ok, Err, IsSomeAnd, string_bytes}
+use Rattle.std.specs.Prelude.{◌≡◌, ◌≤◌, ◌+◌, ◌++◌, ℕ, List, [], length, map, take, drop, Option, Some, None, Result, Ok, Err, IsSomeAnd, string_bytes}
 use Rattle.std.specs.Io.KnownBytes.{Consumes}
 use Rattle.gk_request.specs.Counted.{one_more}
 use Rattle.gk_request.specs.declared.source.BorrowedSource.{BorrowedSource}
@@ -28,9 +28,17 @@ names_of sources = map (λ (s : SourceValue). s.name) sources
 abbrev pub without_bytes : SourceValue → SourceValue
 without_bytes s = record { name = s.name; bytes = [] }
 
--- The first of some sources dropped their bytes, and the others are unchanged.
+-- The first sources, of this number, dropped their bytes, and the others are unchanged.
+abbrev pub GaveUpFirst : ℕ → List SourceValue → List SourceValue → Type 0
+GaveUpFirst count old new = new ≡ map without_bytes (take count old) ++ drop count old
+
+-- The source at a place, counted from 0, and those before it dropped their bytes, and the others are unchanged.
+abbrev pub GaveUpThrough : ℕ → List SourceValue → List SourceValue → Type 0
+GaveUpThrough place old new = GaveUpFirst (place + 1) old new
+
+-- Some of the first sources dropped their bytes, and the others are unchanged.
 abbrev pub GaveUpInTurn : List SourceValue → List SourceValue → Type 0
-GaveUpInTurn old new = (count : ℕ) × (new ≡ map without_bytes (take count old) ++ drop count old)
+GaveUpInTurn old new = (count : ℕ) × GaveUpFirst count old new
 
 -- The reader had this many bytes and gave exactly these, if its bytes are known.
 abbrev pub StopsAfter : ℕ → Option (List ℕ) → Option (List ℕ) → Type 0

@@ -1,5 +1,5 @@
 //! The faults of all files of a run.
-ghost use Rattle.std.specs.Prelude.{List, ◌∷◌, ◌+◌, [], drop, map, option_map, IfOk, OnOk};
+ghost use Rattle.std.specs.Prelude.{List, ◌∷◌, ◌+◌, [], drop, map, option_map, IfOk, IsSome, OnErr, OnOk};
 ghost use Rattle.gk_request.specs.AllFaults.{RunFile, source_at, AllFaultsAreFound, AreFaultsOf, AreAdded, SaysOfFiles, after_library, files_after, hooks_files, library_files, run_files, sources_from};
 ghost use Rattle.gk_request.specs.Request.{suite_value};
 ghost use Rattle.gk_request.specs.Source.{source_value};
@@ -14,11 +14,16 @@ use std::alloc::{AllocError, Global};
 
 // Checks that the library file reads, if there is one.
 fn check_library(alloc: Global, library: &Option<Source>) -> Result<(), RunFault>
-    ensures { SaysOfFiles (library_files (option_map source_value library.now)) result }
+    ensures says { SaysOfFiles (library_files (option_map source_value library.now)) result }
+    // The default library isn't built: without a file, memory isn't refused either.
+    ensures given { OnErr result (IsSome library.now) }
 {
-    match read_step_library(alloc, bytes_of(library)) {
-        Ok(_library) => Ok(()),
-        Err(fault) => Err(library_fault(fault)),
+    match library {
+        Some(source) => match read_step_library(alloc, Some(source.bytes.as_slice())) {
+            Ok(_library) => Ok(()),
+            Err(fault) => Err(library_fault(fault)),
+        },
+        None => Ok(()),
     }
 }
 

@@ -201,7 +201,8 @@ pub fn write_whole<W: Write>(out: &mut Counted<W>, bytes: &[u8]) -> Result<(), N
 }
 
 /// Writes a text as it is displayed, piece by piece, and flushes nothing. Of the calls that this takes, only a failure is
-/// counted. At `NotWritten` the writer failed, and the text was written in part. It doesn't allocate.
+/// counted, so the counts of calls and of idle calls stay. At `NotWritten` the writer failed, and the text was written in
+/// part. It doesn't allocate.
 pub fn write_displayed<W: Write, D: Display + Drop>(
     out: &mut Counted<W>,
     text: D,
@@ -210,6 +211,8 @@ pub fn write_displayed<W: Write, D: Display + Drop>(
         (Appends (W.contents (inner_of out.old)) (W.contents (inner_of out.new)))) }
     ensures quiet { OnOk result (HasNotFailed out.old out.new) }
     ensures failed { OnErr result (HasFailedOnce out.old out.new) }
+    ensures calls { calls_of out.new ≡ calls_of out.old }
+    ensures idle { IsNeverIdle out.old out.new }
     ensures unflushed { IsUnflushed out.old out.new }
 {
     match out.inner.write_fmt(text) {

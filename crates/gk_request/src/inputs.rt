@@ -11,8 +11,8 @@ ghost use Rattle.gk_select.specs.OwnTags.{untagged, untagged_rule};
 ghost use Rattle.gk_select.specs.TagRules.{tag_rule_value};
 ghost use Rattle.gk_steps.specs.Finding.{library_value};
 ghost use Rattle.gk_run.specs.Chosen.{chosen_value, head_value, IsFormed};
-ghost use Rattle.gk_request.specs.Source.{names_of, without_bytes, GaveUpInTurn};
-ghost use Rattle.gk_request.specs.Request.{suite_value, request_of_files, HaveSameNames, AreGivenUp, AreGivenUpInTurn, asked_of};
+ghost use Rattle.gk_request.specs.Source.{names_of, without_bytes};
+ghost use Rattle.gk_request.specs.Request.{suite_value, request_of_files, HaveSameNames, AreGivenUp, AreLeftAt, asked_of};
 ghost use Rattle.gk_request.specs.Inputs as spec;
 ghost use Rattle.gk_request.specs.Inputs.{InputsAreUnique, IsBadText, IsReadAs, AreRules, IsLibrary, AreHooks, AreRead, AreRowsIf, AreRowsReadOnto, AreInputs, IsReading, IsReadBefore, IsReadOnto, inputs_value};
 ghost use Rattle.gk_request.specs.RunFault as faults;
@@ -403,9 +403,10 @@ fn read_sources<S: FeatureSource>(
     ensures fault { IfErr result (λ e. SaysSources (chosen_by choice.now)
         (map S.value sources.old) e) }
     ensures names { names_of (map S.value sources.new) ≡ names_of (map S.value sources.old) }
-    ensures in_turn { GaveUpInTurn (map S.value sources.old) (map S.value sources.new) }
     ensures given_up { OnOk result (map S.value sources.new
         ≡ map without_bytes (map S.value sources.old)) }
+    ensures left { IfErr result (AreLeftAt
+        (map S.value sources.old) (map S.value sources.new)) }
 {
     let mut features = Vec::new(alloc);
     let mut rows = Vec::new(alloc);
@@ -466,8 +467,9 @@ pub fn read_before(
 }
 
 /// Reads the request: first the texts of tags, then the library, then the hooks, then each source. An error names the
-/// first that doesn't read. Each source drops its bytes before the next one is read, and the names stay. The rows of
-/// outlines are copied only if `with_rows` asks for them.
+/// first that doesn't read. Each source drops its bytes before the next one is read, and the names stay. At an error, the
+/// sources after the one at which reading stopped have their bytes. The rows of outlines are copied only if `with_rows`
+/// asks for them.
 pub fn read_inputs<S: FeatureSource>(
     alloc: Global,
     options: &Options,
@@ -475,10 +477,11 @@ pub fn read_inputs<S: FeatureSource>(
     files: &mut SuiteFiles<S>,
 ) -> Result<ReadInputs, RunFault>
     ensures names { HaveSameNames (suite_value S.value files.old) (suite_value S.value files.new) }
-    ensures in_turn { AreGivenUpInTurn
-        (suite_value S.value files.old) (suite_value S.value files.new) }
     ensures given_up { OnOk result (AreGivenUp
         (suite_value S.value files.old) (suite_value S.value files.new)) }
+    // The source that doesn't read and those before it have dropped their bytes, the others haven't.
+    ensures left { IfErr result (AreLeftAt
+        (map S.value files.old.sources.items) (map S.value files.new.sources.items)) }
     ensures read { IfOk result (λ inputs. AreInputs
         (request_of_files options.now (suite_value S.value files.old)) (inputs_value inputs)) }
     ensures rows { let files = suite_value S.value files.old in IfOk result (λ inputs.

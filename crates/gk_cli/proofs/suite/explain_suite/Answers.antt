@@ -7,7 +7,7 @@ use Rattle.gk_cli.specs.Writing.{device_of}
 use Rattle.gk_cli.proofs.ExplainedSuiteLemmas.{unflushed_so, why_stopped}
 use Rattle.gk_cli.proofs.GrowingReportLemmas.{untouched}
 use Rattle.gk_request.proofs.ResultLemmas.{if_ok, if_err, ok_known}
-use Rattle.gk_cli.proofs.SuiteLemmas.{cut_says, unread_says, used_by_run}
+use Rattle.gk_cli.proofs.SuiteLemmas.{cut_says, left_by_run, unread_says, used_by_run}
 use Rattle.gk_cli.proofs.suite.explain_suite.Goals as goal
 
 pub returns-in-Ok-clause-explained : goal.returns-in-Ok-clause-explained
@@ -33,11 +33,14 @@ returns-in-Err-clause-fault g c =
     unread_says (ExplainedInPart request (hooks_name (suite_value g.S.FeatureSource.value c.args.files.now)) c.args.sandbox.now.now device device) request device device c.in-Err.fault c.in-Err.ensures.fault (untouched device)
 
 pub returns-in-Ok-clause-left : goal.returns-in-Ok-clause-left
-returns-in-Ok-clause-left g c = record {
-  names = c.read_inputs.ensures.names;
-  in_turn = c.read_inputs.ensures.in_turn;
-  given_up = ok_known c.write_explanation.result (λ status said. c.in-Ok.ensures.given_up) c.write_explanation.ensures.ok;
-}
+returns-in-Ok-clause-left g c =
+    let old = device_of g.W.Write.contents c.args.out.now in
+    let new = device_of g.W.Write.contents c.write_explanation.new.out in
+    record {
+      names = c.read_inputs.ensures.names;
+      given_up = ok_known c.write_explanation.result (λ status said. c.in-Ok.ensures.given_up) c.write_explanation.ensures.ok;
+      at_fault = if_err c.write_explanation.result (λ fault part. left_by_run old new _ _ fault (why_stopped _ _ _ _ _ old new fault part) c.in-Ok.ensures.given_up) c.write_explanation.ensures.err;
+    }
 
 pub returns-in-Ok-clause-used : goal.returns-in-Ok-clause-used
 returns-in-Ok-clause-used g c =

@@ -2,7 +2,7 @@ use Rattle.gk_request.specs.Inputs.{inputs_value}
 use Rattle.gk_cli.specs.Suite.{ReportedInPart}
 use Rattle.gk_request.specs.Request.{suite_value, request_of_files}
 use Rattle.gk_cli.specs.Writing.{device_of}
-use Rattle.gk_cli.proofs.SuiteLemmas.{cut_says, reported_in_part, unread_says, used_by_run, whole_is_judged, whole_is_only}
+use Rattle.gk_cli.proofs.SuiteLemmas.{cut_says, left_by_run, reported_in_part, unread_says, used_by_run, whole_is_judged, whole_is_only}
 use Rattle.gk_cli.proofs.GrowingReportLemmas.{untouched}
 use Rattle.gk_request.proofs.ResultLemmas.{if_ok, if_err, ok_known}
 use Rattle.gk_cli.proofs.suite.report_suite.Goals as goal
@@ -36,11 +36,14 @@ returns-in-Err-clause-fault g c =
     unread_says (ReportedInPart request c.args.sandbox.now.now device device) request device device c.in-Err.fault c.in-Err.ensures.fault (untouched device)
 
 pub returns-in-Ok-clause-left : goal.returns-in-Ok-clause-left
-returns-in-Ok-clause-left g c = record {
-  names = c.read_inputs.ensures.names;
-  in_turn = c.read_inputs.ensures.in_turn;
-  given_up = ok_known c.write_run.result (λ status whole. c.in-Ok.ensures.given_up) c.write_run.ensures.ok;
-}
+returns-in-Ok-clause-left g c =
+    let old = device_of g.W.Write.contents c.args.out.now in
+    let new = device_of g.W.Write.contents c.write_run.new.out in
+    record {
+      names = c.read_inputs.ensures.names;
+      given_up = ok_known c.write_run.result (λ status whole. c.in-Ok.ensures.given_up) c.write_run.ensures.ok;
+      at_fault = if_err c.write_run.result (λ fault part. left_by_run old new _ _ fault part.2.why c.in-Ok.ensures.given_up) c.write_run.ensures.err;
+    }
 
 pub returns-in-Ok-clause-used : goal.returns-in-Ok-clause-used
 returns-in-Ok-clause-used g c =

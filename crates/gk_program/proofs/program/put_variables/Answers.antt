@@ -1,9 +1,9 @@
-use Rattle.std.proofs.Common.{◌≡◌, ◌∙◌, ap₂, map, sym, None, subst}
+use Rattle.std.proofs.Common.{◌≡◌, ◌∙◌, ap, ap₂, map, take, sym, None, subst}
 use Rattle.gk_world.specs.Refusals.{IsFault, put_refusal}
 use Rattle.gk_world.specs.Sandbox.{with_env}
 use Rattle.gk_cli.specs.Arguments.{pair_value}
 use Rattle.gk_program.specs.EnvFault.{IsFaultOfVariable}
-use Rattle.gk_program.proofs.ProgramLemmas.{all_taken, all_put, refused_here, taken_more, put_more, refused}
+use Rattle.gk_program.proofs.ProgramLemmas.{all_taken, all_put, next_variable, taken_more, put_more, refused}
 use Rattle.gk_program.proofs.program.put_variables.Goals as goal
 
 pub returns-in-Err : goal.returns-in-Err
@@ -11,10 +11,12 @@ returns-in-Err c =
     let name = c.as_str-name.ensures.value in
     let text = c.as_str.ensures.value in
     let fault = c.fault_of_variable.result in
-    refused c.args.mode (map pair_value c.args.variables.now) c.args.sandbox.now c.put_env.new.self (pair_value c.variable-item.result) c.in-Err.fault fault
+    let same = c.in-Err.ensures.err in
+    let next = next_variable c.args.mode pair_value c.args.variables.now c.loop-variable.variable-index c.variable-item.result c.args.sandbox.now c.put_env.new.self c.loop-variable-test.true c.variable-item.is
+    c.loop-variable.invariant.taken (ap (λ s. s.now) same ∙ c.loop-variable.invariant.put) (ap (λ s. s.saved) same ∙ c.loop-variable.invariant.layers) in
+    refused c.args.mode (map pair_value (take c.loop-variable.variable-index c.args.variables.now)) (map pair_value c.args.variables.now) (pair_value c.variable-item.result) c.args.sandbox.now c.put_env.new.self c.in-Err.fault fault next
     (subst (λ r. IsFault r c.in-Err.fault) (ap₂ put_refusal name text) c.in-Err.ensures.answer)
     (subst (λ n. IsFaultOfVariable c.args.mode n c.in-Err.fault fault) name c.fault_of_variable.ensures)
-    (refused_here c.args.mode fault pair_value c.args.variables.now c.loop-variable.variable-index c.variable-item.result c.loop-variable-test.true c.variable-item.is c.loop-variable.invariant.taken)
 
 pub loop-variable-preserved : goal.loop-variable-preserved
 loop-variable-preserved c =
@@ -22,7 +24,7 @@ loop-variable-preserved c =
     let text = c.as_str.ensures.value in
     let put = c.in-Ok.ensures.ok.contents ∙ ap₂ (with_env c.loop-variable.sandbox.now) name text in
     record {
-      put = put_more pair_value c.args.variables.now c.loop-variable.variable-index c.variable-item.result _ _ _ c.loop-variable-test.true c.variable-item.is put c.loop-variable.invariant.put;
+      put = put_more pair_value c.args.variables.now c.loop-variable.variable-index c.variable-item.result c.args.sandbox.now.now _ _ c.loop-variable-test.true c.variable-item.is put c.loop-variable.invariant.put;
       layers = c.in-Ok.ensures.ok.layers ∙ c.loop-variable.invariant.layers;
       taken = taken_more (λ v. put_refusal v.name v.text ≡ None) pair_value c.args.variables.now c.loop-variable.variable-index c.variable-item.result c.loop-variable-test.true c.variable-item.is
           (sym (ap₂ put_refusal name text) ∙ c.in-Ok.ensures.answer) c.loop-variable.invariant.taken;
@@ -30,7 +32,7 @@ loop-variable-preserved c =
 
 pub returns : goal.returns
 returns c = (
-  all_put pair_value c.args.variables.now c.loop-variable.variable-index _ _ c.loop-variable-test.false c.loop-variable.invariant.put,
+  all_put pair_value c.args.variables.now c.loop-variable.variable-index c.args.sandbox.now.now _ c.loop-variable-test.false c.loop-variable.invariant.put,
   c.loop-variable.invariant.layers,
   all_taken (λ v. put_refusal v.name v.text ≡ None) pair_value c.args.variables.now c.loop-variable.variable-index c.loop-variable-test.false c.loop-variable.invariant.taken,
 )

@@ -18,7 +18,7 @@ returns-clause-chosen c =
     let feature = feature_value c.args.feature in
     let cs = c.in_ok-cases.cases.items in
     let built = c.in_ok-cases.ensures.ok ∙ ap cases c.in_ok-heads.ensures.taken ∙ (c.cases_keep_without_tags.ensures feature).cases in
-    let members = ap (members_of cs) c.in_ok-selected.ensures ∙ members_chosen chooses cs (cases feature) built in
+    let members = ap (members_of cs) c.in_ok-selected.ensures.chosen ∙ members_chosen chooses cs (cases feature) built in
     chosen_again c.in_ok-source.ensures.ok (c.in_ok-name.ensures.ok ∙ c.as_str.ensures.value) c.in_ok-heads.ensures.tags c.in_ok-heads.ensures.rules members
 
 pub returns-clause-formed : goal.returns-clause-formed
@@ -32,6 +32,6 @@ returns-clause-formed c =
     length-map feature.rules untagged_rule ∙ sym (length-map feature.rules head_of) ∙ ap length (sym c.in_ok-heads.ensures.rules) ∙ length-map c.in_ok-heads.heads.rules.items head_value in
     let rules : map (λ (x : CaseValue). x.rule) (cases (untagged feature)) ≡ map (λ (x : Case). x.rule) cs = ap (map (λ (x : CaseValue). x.rule)) (sym same) ∙ rules_said cs in
     record {
-      paired = ap length c.in_ok-selected.ensures ∙ length-map (cases feature) chooses ∙ sym (length-map (cases feature) with_own_tags) ∙ ap length (sym built) ∙ length-map cs case_value;
+      paired = ap length c.in_ok-selected.ensures.chosen ∙ length-map (cases feature) chooses ∙ sym (length-map (cases feature) with_own_tags) ∙ ap length (sym built) ∙ length-map cs case_value;
       falls = subst (λ (n : ℕ). FallIntoRules n (map (λ (x : Case). x.rule) cs)) count (subst (λ (rs : List (Option ℕ)). FallIntoRules (length (untagged feature).rules) rs) rules (c.cases_fall_into_rules.ensures (untagged feature)));
     }

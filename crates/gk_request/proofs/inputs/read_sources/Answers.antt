@@ -1,11 +1,11 @@
-use Rattle.std.proofs.Common.{◌≡◌, ◌∙◌, ◌+◌, ◌++◌, ◌∷◌, [], ap, map, take, get_or, subst, sym, refl, arith}
+use Rattle.std.proofs.Common.{◌≡◌, ◌∙◌, ◌+◌, ◌++◌, ◌∷◌, [], ap, map, take, get_or, set, subst, sym, refl, arith}
 use Rattle.std.proofs.lemmas.List.{length-map, take_all}
 use Rattle.gk_select.specs.Choice.{chosen_by}
 use Rattle.gk_select.specs.ExampleRows.{row_lists}
 use Rattle.gk_run.specs.Chosen.{chosen_value}
 use Rattle.gk_request.specs.Source.{SourceValue, names_of, without_bytes}
 use Rattle.gk_request.specs.Inputs.{AreRead, AreRowsIf}
-use Rattle.gk_request.proofs.InputsLemmas.{read_one, rows_one, take_one, first_unread}
+use Rattle.gk_request.proofs.InputsLemmas.{read_one, rows_one, take_one, first_unread, left_at}
 use Rattle.gk_request.proofs.TakenSourcesLemmas.{all_changed, changed_first, kept, next_place, one_more_changed}
 use Rattle.gk_request.proofs.inputs.read_sources.Goals as goal
 
@@ -19,8 +19,8 @@ returns-in-Err g c =
     let after = one_more_changed g.S.FeatureSource.value without_bytes input c.loop-input.sources sources source c.read_onto.new.source left place c.read_onto.ensures.given_up in
     record {
       names = ap names_of after ∙ kept without_bytes (λ (s : SourceValue). s.name) (λ s. refl) (input + 1) sources;
-      in_turn = (input + 1, after ∙ changed_first without_bytes (input + 1) sources);
       given_up = tt;
+      left = left_at input source.bytes c.in-Err.fault sources (map g.S.FeatureSource.value (set c.loop-input.sources input c.read_onto.new.source)) c.in-Err.ensures.fault (after ∙ changed_first without_bytes (input + 1) sources);
       read = tt;
       rows = tt;
       formed = tt;
@@ -64,9 +64,6 @@ returns-clause-rows g c =
 
 pub returns-clause-names : goal.returns-clause-names
 returns-clause-names g c = ap names_of c.loop-input.invariant.left ∙ kept without_bytes (λ (s : SourceValue). s.name) (λ s. refl) c.loop-input.input (map g.S.FeatureSource.value c.args.sources.now)
-
-pub returns-clause-in_turn : goal.returns-clause-in_turn
-returns-clause-in_turn g c = (c.loop-input.input, c.loop-input.invariant.left ∙ changed_first without_bytes c.loop-input.input (map g.S.FeatureSource.value c.args.sources.now))
 
 pub returns-clause-given_up : goal.returns-clause-given_up
 returns-clause-given_up g c =
