@@ -34,9 +34,6 @@ use Rattle.clap.proofs.WalkLemmas.{first_value-rows}
 use Rattle.clap.specs.declared.error.Error.{Error}
 use Rattle.clap.specs.declared.error.kind.ErrorKind.{ErrorKind}
 use Rattle.clap.specs.declared.error.kind.ErrorKind.TheVariants.{ArgumentConflict, InvalidValue}
-use Rattle.gk_report.specs.declared.report.Format.{Format}
-use Rattle.gk_report.specs.declared.report.Format.TheVariants.{Plain, Progress, Json}
-use Rattle.gk_report.specs.Report.{format_name}
 use Rattle.gk_cli.specs.Arguments.{HasRule, IsAskedBy, IsCommand, IsFaultBy, IsFirstWithout, IsLineNumber, PairValue, SaysArguments, SaysMatches, SaysPair, command, split_at_equals, faults_in, files_rule, format_asked, found_in, has_equals, is_format, line_number, values_of, is_clash, is_given, with_version}
 use Rattle.gk_cli.specs.OptionTable.{option_value, rule_of_option}
 use Rattle.gk_cli.specs.declared.arguments.Words.{Words}
@@ -449,11 +446,6 @@ simple = refl
 simple_and_free : is_simple_and_free command ≡ true
 simple_and_free = refl
 
-known : (format : Format) → is_format (format_name format) ≡ true
-known Plain = refl
-known Progress = refl
-known Json = refl
-
 -- what follows where clap finds no fault
 after_none : (kinds next : Kinds) → kinds ≡ [] → or_else kinds next ≡ next
 after_none kinds next none = ap (λ k. or_else k next) none
@@ -481,17 +473,17 @@ module _ (arguments : List Text) (old : Command) (m : ArgMatches) (is : IsComman
       after_none _ _ passed ∙ ap₂ kinds_by (ap is_clash (sym rows) ∙ c) (ap (λ r. is_format (format_asked r)) (sym rows) ∙ e)
 
 -- what a parse that succeeds says of the answer that was made of it
-pub says_found : (arguments : List Text) (old new : Command) (m : ArgMatches) (format : Format) (r : Result Words WordsFault) → IsCommand command old
+pub says_found : (arguments : List Text) (old new : Command) (m : ArgMatches) (r : Result Words WordsFault) → IsCommand command old
     → (is_broken new ≡ true → ⊥) → BuildsOrBreaks old new → BuildsTo old new
     → ((fields_of new).has_globals ≡ false → IsParsed new (found_of m) (has_subcommand m))
     → HasMatchesOf (app_of old) arguments m
     → (is_simple_and_free (app_of old) ≡ true → fault_of (app_of old) arguments ≡ [])
-    → is_clash (rows_of (found_of m)) ≡ false → format_name format ≡ format_asked (rows_of (found_of m))
+    → is_clash (rows_of (found_of m)) ≡ false → is_format (format_asked (rows_of (found_of m))) ≡ true
     → SaysMatches (rows_of (found_of m)) r → SaysArguments arguments r
-says_found arguments old new m format r is whole after from parsed matches kinds apart named says = go r says
+says_found arguments old new m r is whole after from parsed matches kinds apart known says = go r says
   where
     faultless : faults_in arguments ≡ []
-    faultless = faults arguments old m is matches kinds false true apart (ap is_format (sym named) ∙ known format)
+    faultless = faults arguments old m is matches kinds false true apart known
 
     same : rows_of (found_of m) ≡ found_in arguments
     same = rows arguments old m is matches kinds

@@ -46,10 +46,10 @@ use Rattle.gk_run.specs.Chosen.{ChosenValue}
 use Rattle.gk_run.specs.Judged.{Cuts, uncut, dry_results, results_from, results_of, plain_results}
 use Rattle.gk_report.specs.Summary.{status}
 use Rattle.gk_report.specs.Report.{report}
-use Rattle.gk_report.proofs.WorkedReports.{plain, Gives, plain_on_literals}
+use Rattle.gk_report.proofs.WorkedReports.{Gives, plain_on_literals}
 use Rattle.gk_request.specs.Source.{SourceValue}
 use Rattle.gk_request.specs.Inputs.{Inputs, IsReadAs, AreRead, AreInputs, AreHooks, IsLibrary, chosen_of, with_reading, InputsAreUnique}
-use Rattle.gk_request.specs.Request.{Request}
+use Rattle.gk_request.specs.Request.{Request, plain_request}
 use Rattle.gk_cli.specs.Suite.{OnlyReport, run_with}
 use Rattle.gk_cli.specs.Writing.{Device}
 
@@ -91,7 +91,7 @@ named name bytes = record { name = name; bytes = bytes }
 
 -- What is asked for: the scenarios on some lines of files, or all, with the default library and without hooks.
 abbrev pub asked_for : List ℕ → List SourceValue → Request
-asked_for lines sources = record { tags = []; lines = lines; dry_run = false; stop = false; style = plain; library = None; hooks = None; sources = sources }
+asked_for lines sources = record (plain_request sources) { lines = lines }
 
 -- Such a request reads as these inputs.
 abbrev pub read_with : List ChosenValue → Inputs

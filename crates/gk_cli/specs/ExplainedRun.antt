@@ -7,21 +7,16 @@ use Rattle.gk_run.specs.Results.{FeatureRow, Results}
 use Rattle.gk_run.specs.OpenSection.{Run}
 use Rattle.gk_run.specs.Chosen.{ChosenValue}
 use Rattle.gk_run.specs.Judged.{Judged}
-use Rattle.gk_report.specs.declared.report.Format.TheVariants as formats
-use Rattle.gk_report.specs.declared.report.Style.{Style}
 use Rattle.gk_report.specs.Report.{tail}
 use Rattle.gk_report.specs.Summary.{status}
 use Rattle.gk_explain.specs.declared.explainer.Explainer.{Explainer}
 use Rattle.gk_explain.specs.Headings.{failures_text}
 use Rattle.gk_explain.specs.Explanation.{ExplanationValue, nothing_said, with_source, with_feature, with_run, with_taken}
 use Rattle.gk_explain.specs.Explainer.{is_cut, said, Becomes, Hears, HearsEnd}
+use Rattle.gk_request.specs.Request.{plain_style}
 use Rattle.gk_request.specs.declared.run_fault.RunFault.{RunFault}
 use Rattle.gk_cli.specs.Writing.{Device, IsWritten, IsStopped}
 use Rattle.gk_cli.specs.ToldRun.{TellsFeature, IsFirstText, IsWholeText}
-
--- The style of the closing lines.
-abbrev pub plain_style : Style
-plain_style = record { format = formats.Plain; no_skipped = false }
 
 -- The end of an explanation, once an explainer was told the end of a run with these results: what it says about the run's own hooks and cleanups, the list of failures, and the closing lines of the plain report.
 abbrev pub last_text : ExplanationValue → List FeatureRow → Status → List ℕ

@@ -1,17 +1,23 @@
 -- A whole run with an explanation.
-use Rattle.std.specs.Prelude.{ℕ, false, List}
+use Rattle.std.specs.Prelude.{ℕ, false, List, [], None}
 use Rattle.gk_select.specs.ExampleRows.{ExampleRowValue}
 use Rattle.gk_world.specs.State.{Contents}
 use Rattle.gk_run.specs.OpenSection.{Run}
+use Rattle.gk_request.specs.declared.request.Options.{Options}
 use Rattle.gk_request.specs.declared.run_fault.RunFault.{RunFault}
 use Rattle.gk_request.specs.Inputs.{Inputs, AreInputs, AreRowsOf}
-use Rattle.gk_request.specs.Request.{Request}
+use Rattle.gk_request.specs.Request.{Request, request_of}
+use Rattle.gk_cli.specs.Suite.{run_with}
 use Rattle.gk_cli.specs.Writing.{Device}
 use Rattle.gk_cli.specs.ExplainedRun.{IsExplained, IsExplainedUpTo}
 
 -- What stays constant during an explained run of these inputs. It isn't dry, whatever the request says.
 abbrev pub explained_run : Request → Inputs → Run
-explained_run r inputs = record { library = inputs.library; hooks = inputs.hooks; dry_run = false; stop = r.stop }
+explained_run r inputs = record (run_with r inputs) { dry_run = false }
+
+-- Proof machinery: what stays constant during an explained run with these options, for any files and sources.
+abbrev pub explained_by : Options → Inputs → Run
+explained_by options inputs = explained_run (request_of options None None []) inputs
 
 -- The request reads as these inputs, with these rows of each feature's outlines.
 abbrev pub AreExplainable : Request → Inputs → List (List ExampleRowValue) → Type 0

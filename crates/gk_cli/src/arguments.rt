@@ -443,7 +443,7 @@ fn words_by<'a>(
 /// Reads the command-line arguments. The first is the program's name.
 ///
 /// `OPTIONS` lists the options. `--tags T`, `--line N` (1 to 4,294,967,295), `--env NAME=VALUE` and `--file NAME=PATH`
-/// can be given several times, and the others at most once. `--format` is `plain`, `progress` or `json`; `plain` by
+/// can be given several times, and the others at most once. `--format` is the name of one of `FORMATS`; `plain` by
 /// default. A report, `--explain`, `--lint` and `--lint --no-steps` exclude the options that their column of the table
 /// says. Options and files can be in any order, and `--opt=value` is the same as `--opt value`.
 ///

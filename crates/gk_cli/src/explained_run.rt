@@ -3,17 +3,18 @@ ghost use Rattle.std.specs.Prelude.{◌≡◌, map, IfOk, IfErr};
 ghost use Rattle.std.specs.List.{AllByRecursion};
 ghost use Rattle.gk_select.specs.ExampleRows.{row_lists};
 ghost use Rattle.gk_world.specs.Sandbox.{depth, IsSame};
-ghost use Rattle.gk_run.specs.OpenSection.{run_of};
 ghost use Rattle.gk_run.specs.Chosen.{chosen_value, IsFormed};
+ghost use Rattle.gk_request.specs.Inputs.{inputs_value};
 ghost use Rattle.gk_cli.specs.Writing.{device_of};
 ghost use Rattle.gk_cli.specs.ExplainedRun.{IsExplained, IsExplainedUpTo};
+ghost use Rattle.gk_cli.specs.ExplainedSuite.{explained_by};
 
 use crate::growing_report::write_piece;
 use crate::reporter::Reporter;
 use crate::told_run::{RunParts, tell_run};
 use gk_explain::Explainer;
 use gk_report::{Format, Style, Summary, tail};
-use gk_request::{Counted, ReadInputs, RunFault};
+use gk_request::{Counted, Options, ReadInputs, RunFault};
 use gk_run::{FeatureResult, Status};
 use gk_world::Sandbox;
 use std::alloc::{AllocError, Global};
@@ -71,11 +72,12 @@ impl Reporter for Explainer<'_> {
 /// Runs the inputs that were read, and writes the explanation. When a feature has ended, it says what happened in those
 /// of its scenarios that failed or ran out of memory, and names the row of each that is the case of a row. It does the
 /// same for the hooks and cleanups of the feature's rules and for the feature's own and, when the run has ended, for the
-/// run's own. Then come the list of all these and the closing lines of the plain report. `hooks` is the name of the hooks file. The errors are those of `tell_run`.
+/// run's own. Then come the list of all these and the closing lines of the plain report. `hooks` is the name of the
+/// hooks file. The run is never dry, whatever `options` say. The errors are those of `tell_run`.
 pub fn write_explanation<W: Write>(
     alloc: Global,
     sandbox: &mut Sandbox,
-    stop: bool,
+    options: &Options,
     hooks: &str,
     inputs: ReadInputs,
     out: &mut Counted<W>,
@@ -83,12 +85,12 @@ pub fn write_explanation<W: Write>(
     requires outside { depth sandbox.old ≡ 0 }
     requires formed { AllByRecursion IsFormed inputs.features.items }
     ensures ok { IfOk result (IsExplained
-        (run_of inputs.library inputs.hooks stop) hooks.now
+        (explained_by options.now (inputs_value inputs)) hooks.now
         (row_lists inputs.rows.items) sandbox.old.now
         (map chosen_value inputs.features.items)
         (device_of W.contents out.old) (device_of W.contents out.new)) }
     ensures err { IfErr result (IsExplainedUpTo
-        (run_of inputs.library inputs.hooks stop) hooks.now
+        (explained_by options.now (inputs_value inputs)) hooks.now
         (row_lists inputs.rows.items) sandbox.old.now
         (map chosen_value inputs.features.items)
         (device_of W.contents out.old) (device_of W.contents out.new)) }
@@ -106,5 +108,5 @@ pub fn write_explanation<W: Write>(
         library: &library,
         hooks: &hook_file,
     };
-    tell_run(&parts, sandbox, stop, features, explainer, out)
+    tell_run(&parts, sandbox, options.stop, features, explainer, out)
 }

@@ -109,7 +109,7 @@ fn explain_suite<S: FeatureSource, W: Write>(
     match read_inputs(alloc, options, true, files) {
         Ok(inputs) => {
             let hooks = name_of(&files.hooks);
-            write_explanation(alloc, sandbox, options.stop, hooks, inputs, out)
+            write_explanation(alloc, sandbox, options, hooks, inputs, out)
         }
         Err(fault) => Err(fault),
     }
@@ -160,10 +160,11 @@ fn lint_suite<S: FeatureSource, W: Write>(
 ///
 /// `Explanation`: runs them in the same way, and writes an explanation instead of the report. When a feature has ended,
 /// each of its scenarios that failed or ran out of memory gets a heading with its place and status. Below the heading
-/// is the row of the Examples, if the scenario is the case of a row, and a line for each of its events, in order. The hooks and cleanups of each of its rules, and the feature's own, get
-/// the same if they failed or ran out of memory. When the run has ended, so do its own. Then the headings appear as a
-/// list, followed by the closing lines of the plain report. Scenarios that passed, are skipped or aren't reached are
-/// only counted. The options `dry_run` and `style` are ignored.
+/// is the row of the Examples, if the scenario is the case of a row, and a line for each of its events, in order. The
+/// hooks and cleanups of each of its rules, and the feature's own, get the same if they failed or ran out of memory.
+/// When the run has ended, so do its own. Then the headings appear as a list, followed by the closing lines of the plain
+/// report. Scenarios that passed, are skipped or aren't reached are only counted. Of the options, `dry_run` and `style`
+/// are ignored.
 ///
 /// `Findings`: runs nothing, and writes the findings, each as a line `NAME:LINE: TEXT`. Those of the hooks file come
 /// first, then those of each source in order, each in the order of its lines. Then there is a line for each tag of
@@ -246,7 +247,7 @@ pub fn run_suite<W: Write>(
     ensures judged { IfOk result (JudgedReport
         (asked options.now library.entry hooks.entry sources.now) sandbox.old.now
         (device_of W.contents out.old) (device_of W.contents out.new)) }
-    // At each status except 4 that list is the one that plain maps give, and there is no other.
+    // At each status except 4 that list is the one that plain maps give, and no other judged list has this status.
     ensures plain { IfOk result (OnlyReport
         (asked options.now library.entry hooks.entry sources.now) sandbox.old.now
         (device_of W.contents out.old) (device_of W.contents out.new)) }

@@ -1,4 +1,4 @@
-use crate::whole_suite_tests::{files_with, oil, plain, source};
+use crate::whole_suite_tests::{files_with, oil, source};
 use gk_findings::{EnvMistake, findings_text, notes_on_env, push_notes};
 use gk_gherkin::ReadFault;
 use gk_request::{
@@ -22,22 +22,22 @@ fn bells(alloc: Global) -> Result<SuiteFiles<Source>, AllocError> {
 
 // The scenarios with a tag, on two lines.
 fn tagged(alloc: Global) -> Result<Options, AllocError> {
-    let mut options = plain(alloc);
+    let mut options = Options::plain(alloc);
     options.tags.push(String::from_str(alloc, "@bell")?)?;
     options.lines.push(3)?;
     options.lines.push(10)?;
     Ok(options)
 }
 
-// What was read of one feature: the numbers of entries and of hooks, the feature's file, its name, its rules, its choice
-// and the rows of its outlines.
+// What was read of one feature: whether the library is empty, the number of hooks, the feature's file, its name, its
+// rules, its choice and the rows of its outlines.
 fn shown(alloc: Global, read: &ReadInputs) -> Result<String, Fail> {
     let [feature] = read.features.as_slice() else {
         return Err("not one feature".into());
     };
     Ok(format!(in alloc;
         "{} {}; {} {} {:?} {:?} {:?}",
-        read.library.entries.len(),
+        read.library.entries.is_empty(),
         read.hooks.hooks.len(),
         feature.source,
         feature.name,
@@ -63,7 +63,7 @@ fn requests_are_read(rt: HostRuntime) -> Result<(), Fail> {
     let mut files = bells(rt.alloc())?;
     assert_eq!(rt;
         inputs(rt.alloc(), &options, false, &mut files)?.as_str(),
-        "28 2; bells.feature Bells [RuleHead { line: 4, tags: [] }] [true, false, true] []"
+        "false 2; bells.feature Bells [RuleHead { line: 4, tags: [] }] [true, false, true] []"
     );
     let left = format!(in rt.alloc(); "{:?}", files.sources)?;
     assert_eq!(rt;
@@ -75,7 +75,7 @@ fn requests_are_read(rt: HostRuntime) -> Result<(), Fail> {
 
 #[test]
 fn rows_are_read_if_they_are_asked_for(rt: HostRuntime) -> Result<(), Fail> {
-    let options = plain(rt.alloc());
+    let options = Options::plain(rt.alloc());
     let mut files = bells(rt.alloc())?;
     let read = read_inputs(rt.alloc(), &options, true, &mut files)?;
     let rows = format!(in rt.alloc(); "{:?}", read.rows)?;
@@ -167,7 +167,7 @@ fn findings_are_listed(rt: HostRuntime) -> Result<(), Fail> {
         hooks: None,
         sources: Vec::new(rt.alloc()),
     };
-    let text = findings_text(rt.alloc(), &plain(rt.alloc()), true, &none)?;
+    let text = findings_text(rt.alloc(), &Options::plain(rt.alloc()), true, &none)?;
     assert_eq!(rt; text.as_str(), "");
     let oil = oil(rt.alloc())?;
     let text = format!(in rt.alloc(); "{:?}", findings_text(rt.alloc(), &options, true, &oil))?;

@@ -2,7 +2,6 @@ use crate::counted_tests::{Writer, counted};
 use gk_cli::{Mode, write_suite};
 use gk_findings::push_notes;
 use gk_gherkin::ReadFault;
-use gk_report::{Format, Style};
 use gk_request::{Counted, Options, RunFault, Source, SuiteFiles, faults_after, name_at_fault};
 use gk_world::Sandbox;
 use std::alloc::{AllocError, Global};
@@ -35,20 +34,6 @@ pub fn files_with(
     })
 }
 
-// Each scenario is run, and the report is plain.
-pub fn plain(alloc: Global) -> Options {
-    Options {
-        tags: Vec::new(alloc),
-        lines: Vec::new(alloc),
-        dry_run: false,
-        stop: false,
-        style: Style {
-            format: Format::Plain,
-            no_skipped: false,
-        },
-    }
-}
-
 // What was written.
 fn text_of(out: &Counted<Writer>) -> Result<&str, Fail> {
     match str::from_utf8(out.inner().bytes.as_slice()) {
@@ -70,7 +55,7 @@ fn suites_are_reported(rt: HostRuntime) -> Result<(), Fail> {
     let mut files = files_with(rt.alloc(), None, None, feature)?;
     let mut out = counted(rt.alloc(), usize::MAX, 0);
     let mut sandbox = Sandbox::new(rt.alloc());
-    let options = plain(rt.alloc());
+    let options = Options::plain(rt.alloc());
     let status = write_suite(
         rt.alloc(),
         &mut sandbox,
@@ -107,7 +92,7 @@ fn suites_are_explained(rt: HostRuntime) -> Result<(), Fail> {
     )?;
     let mut out = counted(rt.alloc(), usize::MAX, 0);
     let mut sandbox = Sandbox::new(rt.alloc());
-    let options = plain(rt.alloc());
+    let options = Options::plain(rt.alloc());
     let status = write_suite(
         rt.alloc(),
         &mut sandbox,
@@ -162,7 +147,7 @@ fn suites_are_linted(rt: HostRuntime) -> Result<(), Fail> {
         Some(source(rt.alloc(), "wick.hooks", hooks)?),
         source(rt.alloc(), "wick.feature", feature)?,
     )?;
-    let mut options = plain(rt.alloc());
+    let mut options = Options::plain(rt.alloc());
     options.tags.push(String::from_str(rt.alloc(), "@quik")?)?;
     options.lines.push(7)?;
     assert_eq!(rt;
@@ -182,7 +167,7 @@ fn nothing_is_found_in_a_suite(rt: HostRuntime) -> Result<(), Fail> {
     let hall = source(rt.alloc(), "hall.feature", feature)?;
     let mut files = files_with(rt.alloc(), None, None, hall)?;
     assert_eq!(rt;
-        found(rt.alloc(), &plain(rt.alloc()), true, &mut files)?.as_str(),
+        found(rt.alloc(), &Options::plain(rt.alloc()), true, &mut files)?.as_str(),
         "0"
     );
     Ok(())
@@ -203,7 +188,7 @@ pub fn oil(alloc: Global) -> Result<SuiteFiles<Source>, AllocError> {
 fn first_fault(alloc: Global, files: &mut SuiteFiles<Source>) -> Result<RunFault, Fail> {
     let mut out = counted(alloc, usize::MAX, 0);
     let mut sandbox = Sandbox::new(alloc);
-    let options = plain(alloc);
+    let options = Options::plain(alloc);
     match write_suite(
         alloc,
         &mut sandbox,

@@ -267,7 +267,8 @@ fn run_words<S: System, W: Write>(
         (device_of W.contents out.old) (device_of W.contents out.new)) }
     ensures quiet { OnOk result (failures_of out.new ≡ failures_of out.old) }
     ensures flushed { OnOk result (flushes_of out.new ≡ one_more (flushes_of out.old)) }
-    // The fault is that of the first variable or file that can't be taken, and no file was read after it; or the run's.
+    // The fault is that of the first variable or file that can't be taken, and no file was read after it; or memory was
+    // refused; or it is the run's.
     ensures fault { IfErr result (SaysProgram S.reads words system.old system.new
         (device_of W.contents out.old) (device_of W.contents out.new)) }
     ensures calls { IfErr result

@@ -3,7 +3,6 @@ ghost use Rattle.std.specs.Prelude.{◌≡◌};
 ghost use Rattle.gk_world.specs.Sandbox.{depth};
 
 use gk_cli::{Counted, Options, RunFault, Source, read_source, run_suite};
-use gk_report::{Format, Style};
 use gk_world::Sandbox;
 use std::alloc::Global;
 use std::fs;
@@ -16,20 +15,6 @@ pub struct Inputs {
     options: Options,
     hooks: Option<Vec<u8>>,
     sources: Vec<Source>,
-}
-
-// Returns options for a run of each scenario, with a plain report.
-fn plain_options(alloc: Global) -> Options {
-    Options {
-        tags: Vec::new(alloc),
-        lines: Vec::new(alloc),
-        dry_run: false,
-        stop: false,
-        style: Style {
-            format: Format::Plain,
-            no_skipped: false,
-        },
-    }
 }
 
 // Returns all bytes of a file.
@@ -59,7 +44,7 @@ pub fn read_inputs<R: Files + AllocGlobal>(
         None => None,
     };
     Some(Inputs {
-        options: plain_options(rt.alloc()),
+        options: Options::plain(rt.alloc()),
         hooks,
         sources: sources_of(rt, feature)?,
     })

@@ -1,7 +1,8 @@
 -- What is asked of a run, and what remains of its files after they are read.
 use denote.Ref.{Bor}
-use Rattle.std.specs.Prelude.{◌≡◌, ℕ, Bool, List, [], map, unwrap_or, Option, Some, IfErr, OnOk, Result, option_map}
+use Rattle.std.specs.Prelude.{◌≡◌, ℕ, Bool, false, List, [], map, unwrap_or, Option, Some, None, IfErr, OnOk, Result, option_map}
 use Rattle.gk_gherkin.specs.Feature.{texts}
+use Rattle.gk_report.specs.declared.report.Format.TheVariants as formats
 use Rattle.gk_report.specs.declared.report.Style.{Style}
 use Rattle.gk_request.specs.declared.request.Options.{Options}
 use Rattle.gk_request.specs.declared.request.SuiteFiles.{SuiteFiles}
@@ -31,6 +32,23 @@ request_of options library hooks sources = record {
   style = options.style;
   library = library;
   hooks = hooks;
+  sources = sources;
+}
+
+-- The style of a plain report that omits nothing.
+abbrev pub plain_style : Style
+plain_style = record { format = formats.Plain; no_skipped = false }
+
+-- The request for a plain report of all scenarios of some sources, with the default library and without hooks and flags.
+abbrev pub plain_request : List SourceValue → Request
+plain_request sources = record {
+  tags = [];
+  lines = [];
+  dry_run = false;
+  stop = false;
+  style = plain_style;
+  library = None;
+  hooks = None;
   sources = sources;
 }
 

@@ -45,7 +45,7 @@ abbrev pub StopsAfter : ℕ → Option (List ℕ) → Option (List ℕ) → Type
 StopsAfter n None rest = Unit {0}
 StopsAfter n (Some bytes) rest = (n ≤ length bytes) × IsSomeAnd rest (λ left. left ≡ drop n bytes)
 
--- The reader gave at most this many bytes.
+-- The reader gave at most this many bytes, if its bytes are known.
 abbrev pub GivesAtMost : ℕ → Option (List ℕ) → Option (List ℕ) → Type 0
 GivesAtMost n old new = (bytes : List ℕ) × (length bytes ≤ n) × Consumes old new bytes
 

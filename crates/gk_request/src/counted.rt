@@ -180,7 +180,7 @@ pub fn write_whole<W: Write>(out: &mut Counted<W>, bytes: &[u8]) -> Result<(), N
     ensures quiet { OnOk result (HasNotFailed out.old out.new) }
     ensures cut { OnErr result (IsPrefixWritten
         (W.contents (inner_of out.old)) (W.contents (inner_of out.new)) bytes.now) }
-    // One failure ends the writing: no second call follows one that failed.
+    // At an error the writer failed once.
     ensures failed { OnErr result (HasFailedOnce out.old out.new) }
     // The number of calls is at most the number of bytes.
     ensures calls { calls_of out.new ≤ calls_of out.old + length bytes.now }
@@ -201,8 +201,8 @@ pub fn write_whole<W: Write>(out: &mut Counted<W>, bytes: &[u8]) -> Result<(), N
 }
 
 /// Writes a text as it is displayed, piece by piece, and flushes nothing. Of the calls that this takes, only a failure is
-/// counted, so the counts of calls and of idle calls stay. At `NotWritten` the writer failed, and the text was written in
-/// part. It doesn't allocate.
+/// counted, so the counts of calls and of idle calls stay. At `NotWritten` the writer failed, and how much was written
+/// isn't said. It doesn't allocate.
 pub fn write_displayed<W: Write, D: Display + Drop>(
     out: &mut Counted<W>,
     text: D,

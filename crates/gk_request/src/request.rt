@@ -3,7 +3,8 @@ ghost use Rattle.std.specs.Prelude.{◌≡◌, option_map};
 ghost use Rattle.gk_request.specs.Request as spec;
 
 use crate::source::FeatureSource;
-use gk_report::Style;
+use gk_report::{Format, Style};
+use std::alloc::Global;
 
 /// Which scenarios run, how they run, and how the report is written.
 #[derive(Debug, Drop)]
@@ -23,6 +24,28 @@ pub struct Options {
     /// The format of the report, and whether the report omits what was skipped.
     /// (behave's documentation: command line arguments)
     pub style: Style,
+}
+
+impl Options {
+    ghost use Rattle.std.specs.Prelude.{◌≡◌, [], None};
+    ghost use Rattle.gk_request.specs.Request.{request_of, plain_request};
+
+    /// Returns the options of a run without any: each scenario runs, and the report is plain and omits nothing. It
+    /// doesn't allocate.
+    pub fn plain(alloc: Global) -> Options
+        ensures { request_of result None None [] ≡ plain_request [] }
+    {
+        Options {
+            tags: Vec::new(alloc),
+            lines: Vec::new(alloc),
+            dry_run: false,
+            stop: false,
+            style: Style {
+                format: Format::Plain,
+                no_skipped: false,
+            },
+        }
+    }
 }
 
 /// The files of a run, each with its name.

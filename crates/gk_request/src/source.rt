@@ -93,7 +93,7 @@ pub enum SourceFault {
 /// The largest number of bytes that one call asks the reader for.
 const PIECE: usize = 16_384;
 
-/// Reads all bytes of a reader. Each call but the last gives at least one byte. The reader is never asked for a byte
+/// Reads all bytes of a reader. At most one call gives no byte: one that finds the end, or that fails. The reader is never asked for a byte
 /// after number `gk_gherkin::LIMIT` + 1, so a reader without an end gives `TooLong`. A reader that failed isn't called
 /// again. A count of the reader that has reached `u64::MAX` stays there.
 pub fn read_source<R: Read>(alloc: Global, reader: &mut Counted<R>) -> Result<Vec<u8>, SourceFault>
@@ -101,17 +101,17 @@ pub fn read_source<R: Read>(alloc: Global, reader: &mut Counted<R>) -> Result<Ve
         IfSome (R.remaining (inner_of reader.old)) (λ xs. v.items ≡ xs)) }
     ensures within { IfOk result (λ v. vec_len v ≤ limit) }
     ensures quiet { IfOk result (λ v. HasNotFailed reader.old reader.new) }
-    // `TooLong`: the reader gave one byte more than the limit, and never failed.
+    // `TooLong`: a reader whose bytes are known gave one more than the limit. No reader failed.
     ensures long { IsErrOf result SourceFault.TooLong →
         StopsAfter (limit + 1)
         (R.remaining (inner_of reader.old)) (R.remaining (inner_of reader.new)) }
     ensures long_quiet { IsErrOf result SourceFault.TooLong → HasNotFailed reader.old reader.new }
-    // `Device` comes from one failure, and only from that.
+    // At `Device` the reader failed once.
     ensures device { IsErrOf result SourceFault.Device → HasFailedOnce reader.old reader.new }
-    // `Memory` never comes if the reader has no byte.
+    // At `Memory` the reader didn't fail, and isn't known to be empty.
     ensures spare { IsErrOf result SourceFault.Memory → HasNotFailed reader.old reader.new }
     ensures free { IsErrOf result SourceFault.Memory → R.remaining (inner_of reader.old) ≢ Some [] }
-    // Whatever is returned, each call but the last gives a byte. If the reader's bytes are known, it gives none after
+    // Whatever is returned, at most one call gives no byte. If the reader's bytes are known, it gives none after
     // number LIMIT + 1; for other readers `given` says nothing.
     ensures idle { idle_of reader.new ≡ idle_after result (idle_of reader.old) }
     ensures given { GivesAtMost (limit + 1)

@@ -28,8 +28,8 @@ pub returns-in-Some-format_named : goal.returns-in-Some-format_named
 returns-in-Some-format_named c =
     let ensures = c.in_ok-matches.ensures in
     let format = format_read (found_of c.in_ok-matches.matches) c.get_str.result _ c.unwrap_or-name.result c.unwrap_or-name.ensures refl c.get_str.ensures in
-    says_found (map string_bytes c.args.words.now) c.args.reader.now c.try_get_matches_from_mut.new.self c.in_ok-matches.matches c.in-Some-format_named.format c.words_of.result
-    c.requires ensures.fails ensures.after ensures.ok.0 ensures.ok.1 ensures.ok.2 ensures.kinds (sym c.in_default.ensures) (c.in-Some-format_named.ensures.named ∙ format) c.words_of.ensures
+    says_found (map string_bytes c.args.words.now) c.args.reader.now c.try_get_matches_from_mut.new.self c.in_ok-matches.matches c.words_of.result
+    c.requires ensures.fails ensures.after ensures.ok.0 ensures.ok.1 ensures.ok.2 ensures.kinds (sym c.in_default.ensures) (ap is_format (sym format) ∙ ap is_some (sym c.in-Some-format_named.ensures.found)) c.words_of.ensures
 
 pub returns : goal.returns
 returns c =

@@ -1,7 +1,8 @@
-use Rattle.gk_run.specs.OpenSection.{run_of}
 use Rattle.std.proofs.Common.{map}
 use Rattle.gk_select.specs.ExampleRows.{row_lists}
 use Rattle.gk_run.specs.Chosen.{chosen_value}
+use Rattle.gk_request.specs.Inputs.{inputs_value}
+use Rattle.gk_cli.specs.ExplainedSuite.{explained_by}
 use Rattle.gk_cli.specs.Writing.{device_of}
 use Rattle.gk_request.proofs.ResultLemmas.{if_ok, if_err}
 use Rattle.gk_cli.proofs.ExplainedSuiteLemmas.{told_up_to}
@@ -24,7 +25,7 @@ returns-clause-ok g c =
 pub returns-clause-err : goal.returns-clause-err
 returns-clause-err g c =
     let silent = rw (c.as_slice.ensures.value) at c.new-explainer.ensures.said in
-    let run = run_of c.args.inputs.library c.args.inputs.hooks c.args.stop in
+    let run = explained_by c.args.options.now (inputs_value c.args.inputs) in
     let features = map chosen_value c.args.inputs.features.items in
     let old = device_of g.W.Write.contents c.args.out.now in
     let new = device_of g.W.Write.contents c.tell_run.new.out in

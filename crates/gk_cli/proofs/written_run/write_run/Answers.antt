@@ -58,7 +58,7 @@ returns-then-options g c =
 pub returns : goal.returns
 returns g c =
     let inputs = inputs_value c.args.inputs in
-    let run_if : Bool → Run = λ dry. record { library = inputs.library; hooks = inputs.hooks; dry_run = dry; stop = c.args.options.now.stop } in
+    let run_if : Bool → Run = λ dry. record (run_by c.args.options.now inputs) { dry_run = dry } in
     let contents = c.args.sandbox.now.now in
     let features = map chosen_value c.args.inputs.features.items in
     let style = c.args.options.now.style in
