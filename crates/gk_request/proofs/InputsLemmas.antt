@@ -182,7 +182,7 @@ first_unread chooses sources features input source (Hooks fault) read place h = 
 first_unread chooses sources features input source Write read place h = h
 first_unread chooses sources features input source Memory read place h = tt
 
--- What a fault of the source at a place leaves of the sources, which had given up their bytes up to it.
+-- What a fault of the source at a place leaves of the sources: those up to it have dropped their bytes.
 pub left_at : (input : ℕ) (bytes : List ℕ) (fault : RunFault) (old new : List SourceValue) → SaysSourceAt input bytes fault → GaveUpThrough input old new → AreLeftAt old new fault
 left_at input bytes (Read i fault) old new says gave = subst (λ n. GaveUpThrough n old new) (sym says.0) gave
 left_at input bytes (Select (Some i) select_faults.TooMany) old new says gave = subst (λ n. GaveUpThrough n old new) (sym says.0) gave
