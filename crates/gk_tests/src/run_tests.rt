@@ -3,7 +3,7 @@ ghost use Rattle.gk_gherkin.specs.Feature.{feature_value};
 ghost use Rattle.gk_select.specs.Expansion.{IsExpandable};
 ghost use Rattle.gk_run.specs.Chosen.{IsFormed};
 
-use gk_gherkin::{Feature, Hooks, Rule, read_feature, read_hooks};
+use gk_gherkin::{Feature, HookFile, Rule, read_feature, read_hooks};
 use gk_report::{Format, Style, part};
 use gk_run::{CaseResult, Chosen, FeatureResult, RuleHead, run_case, run_feature};
 use gk_select::{
@@ -130,7 +130,7 @@ pub fn cases_of(alloc: Global, text: &str) -> Result<Vec<Case>, Fail> {
 fn shown_results(
     alloc: Global,
     library: &Library,
-    hooks: &Hooks,
+    hooks: &HookFile,
     cases: Vec<Case>,
 ) -> Result<Vec<String>, Fail> {
     let mut sandbox = Sandbox::new(alloc);
