@@ -6,6 +6,7 @@ pub mod StandsIn
 pub mod KeywordWords
 pub mod RowParts
 pub mod TagWords
+pub mod FirstLines
 pub mod FirstTags
 pub mod FenceTexts
 pub mod HookHeadingTexts

@@ -1,7 +1,7 @@
 //! The lines of a text.
-ghost use Rattle.std.specs.Prelude.{◌≡◌, ◌≢◌, ◌≤◌, ◌==◌, [], map, length, count_by, IfOk, IfErr};
+ghost use Rattle.std.specs.Prelude.{◌≡◌, ◌≢◌, ◌≤◌, ◌<◌, ◌==◌, [], ◌∷◌, map, length, count_by, IfOk, IfErr};
 ghost use Rattle.std.specs.List.{prefix_len};
-ghost use Rattle.std.specs.Str.Lines.{lines};
+ghost use Rattle.std.specs.Str.Lines.{lines, strip_carriage_return};
 ghost use Rattle.gk_gherkin.specs.Lines as spec;
 ghost use Rattle.gk_gherkin.specs.Lines.{line_value, borrowed_value, line_at};
 ghost use Rattle.gk_gherkin.specs.Text.{is_blank};
@@ -11,6 +11,7 @@ ghost use Rattle.gk_gherkin.specs.declared.read_fault.ReadFault.TheVariants.{Mem
 
 use crate::read_fault::ReadFault;
 use crate::text::leading_blanks;
+use memchr::memchr;
 use std::alloc::Global;
 use std::str;
 
@@ -86,6 +87,31 @@ pub fn borrowed_line<'a>(line: u32, text: &'a str) -> BorrowedLine<'a>
     BorrowedLine {
         place: Place { line, column },
         text,
+    }
+}
+
+// Returns a line without the CR at its end, if it has one.
+fn without_return(line: &str) -> &str
+    ensures { result.now ≡ strip_carriage_return line.now }
+{
+    let size = line.len();
+    if size > 0 && line.as_bytes()[size - 1] == b'\r' {
+        &line[..size - 1]
+    } else {
+        line
+    }
+}
+
+/// Returns the first line of a text, without the LF or CRLF that ends it, and the text after it.
+pub fn first_line(text: &str) -> (&str, &str)
+    requires { 0 < length text.now }
+    ensures lines { lines text.now ≡ result.0.now ∷ lines result.1.now }
+    ensures within { length result.0.now ≤ length text.now }
+    ensures shorter { length result.1.now < length text.now }
+{
+    match memchr(b'\n', text.as_bytes()) {
+        Some(end) => (without_return(&text[..end]), &text[end + 1..]),
+        None => (text, ""),
     }
 }
 

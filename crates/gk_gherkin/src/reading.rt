@@ -11,7 +11,7 @@ ghost use Rattle.gk_gherkin.specs.declared.read_fault.ReadFault.TheVariants.{Mem
 
 use crate::class::{Class, Fence, class_of_line};
 use crate::doc_strings::DocString;
-use crate::lines::{BorrowedLine, LIMIT, borrowed_line, text_of};
+use crate::lines::{BorrowedLine, LIMIT, borrowed_line, first_line, text_of};
 use crate::read_fault::ReadFault;
 use std::alloc::Global;
 use std::mem;
@@ -160,9 +160,12 @@ fn run<P: FileReader>(
         (numbered_from 1 (lines text.now))) }
 {
     let mut number: u32 = 1;
-    for part in text.lines() {
-        next_line(alloc, reader, doc_string, &borrowed_line(number, part))?;
+    let mut rest = text;
+    'lines: while !rest.is_empty() {
+        let (line, after) = first_line(rest);
+        next_line(alloc, reader, doc_string, &borrowed_line(number, line))?;
         number += 1;
+        rest = after;
     }
     Ok(())
 }

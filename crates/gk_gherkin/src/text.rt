@@ -106,8 +106,7 @@ pub(crate) fn begins_word(text: &str, word: &str) -> bool
         ≡ (spec.begins text.now word.now && is_blank (slice_index text.now (length word.now))) }
 {
     let bytes = text.as_bytes();
-    let word = word.as_bytes();
-    bytes.starts_with(word) && word.len() < bytes.len() && is_blank(bytes[word.len()])
+    word.len() < bytes.len() && is_blank(bytes[word.len()]) && begins(text, word)
 }
 
 /// Returns whether a text occurs in another. The empty text occurs in every text.

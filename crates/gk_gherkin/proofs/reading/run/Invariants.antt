@@ -1,18 +1,25 @@
-use Rattle.std.proofs.Common.{◌≡◌, ◌+◌, length, drop}
+use Rattle.std.proofs.Common.{◌≡◌, ◌≤◌, ◌+◌, length}
+use denote.Text.{Utf8}
+use denote.Shadow.{shadow}
 use Rattle.std.specs.Str.Lines.{lines}
 use Rattle.gk_gherkin.specs.Lines.{numbered_from}
 use Rattle.gk_gherkin.specs.Reading as spec
 use Rattle.gk_gherkin.specs.Reading.Views.{state_value}
 use Rattle.gk_gherkin.proofs.reading.run.Given as goal
 
-abbrev pub invariant-loop-part : goal.invariant-loop-part
-invariant-loop-part g l =
+abbrev pub invariant-lines : goal.invariant-lines
+invariant-lines g l =
     let readers = g.P.FileReader.readers in
     let value = g.P.FileReader.value in
-    let left = numbered_from l.number (drop (length l.yielded) (lines l.text)) in
+    let left = numbered_from l.number (lines l.rest) in
     let all = numbered_from 1 (lines l.text) in
     record {
+      utf8 : shadow (Utf8 l.rest);
       so_far : spec.run readers (state_value (value l.reader) l.doc_string) left ≡ spec.run readers (state_value (value l.fn.reader) l.fn.doc_string) all;
-      counted : l.number ≡ 1 + length l.yielded;
+      counted : l.number + length l.rest ≤ 1 + length l.text;
+      within : length l.rest ≤ length l.text;
       needs : spec.NeedSome readers (state_value (value l.reader) l.doc_string) left → spec.NeedSome readers (state_value (value l.fn.reader) l.fn.doc_string) all;
     }
+
+abbrev pub decreases-lines : goal.decreases-lines
+decreases-lines g l = length l.rest
