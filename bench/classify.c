@@ -13,32 +13,40 @@
 enum class { BLANK, COMMENT, TAGS, HEADING, STEP, ROW, FENCE, OTHER, CLASSES };
 
 static const char *const names[CLASSES] = {"blank", "comment", "tags", "heading", "step", "row", "fence", "other"};
-static const char *const headings[] = {"Feature:",           "Rule:",     "Background:", "Scenario:", "Example:", "Scenario Outline:",
-                                       "Scenario Template:", "Examples:", "Scenarios:"};
-static const char *const steps[] = {"Given", "When", "Then", "And", "But", "*"};
-
-static int begins(const char *text, size_t length, const char *word) {
-  size_t n = strlen(word);
-  return length >= n && memcmp(text, word, n) == 0;
-}
-
 static int is_blank(char c) { return c == ' ' || c == '\t'; }
 
+static int begins(const char *text, size_t length, const char *word, size_t size) {
+  return length >= size && memcmp(text, word, size) == 0;
+}
+
+#define BEGINS(word) begins(text, length, word, sizeof word - 1)
+#define IS_STEP(word) (length >= sizeof word && is_blank(text[sizeof word - 1]) && BEGINS(word))
+
+/* The first byte decides, but for what begins with the same letter. */
 static enum class class_of(const char *text, size_t length) {
   while (length > 0 && is_blank(*text)) text++, length--;
   while (length > 0 && is_blank(text[length - 1])) length--;
   if (length == 0) return BLANK;
-  if (*text == '#') return COMMENT;
-  if (*text == '@') return TAGS;
-  for (size_t i = 0; i < sizeof headings / sizeof *headings; i++)
-    if (begins(text, length, headings[i])) return HEADING;
-  for (size_t i = 0; i < sizeof steps / sizeof *steps; i++) {
-    size_t n = strlen(steps[i]);
-    if (begins(text, length, steps[i]) && length > n && is_blank(text[n])) return STEP;
+  switch (*text) {
+    case '#': return COMMENT;
+    case '@': return TAGS;
+    case '|': return ROW;
+    case 'G': return IS_STEP("Given") ? STEP : OTHER;
+    case 'W': return IS_STEP("When") ? STEP : OTHER;
+    case 'T': return IS_STEP("Then") ? STEP : OTHER;
+    case 'A': return IS_STEP("And") ? STEP : OTHER;
+    case '*': return IS_STEP("*") ? STEP : OTHER;
+    case 'B': return IS_STEP("But") ? STEP : BEGINS("Background:") ? HEADING : OTHER;
+    case 'F': return BEGINS("Feature:") ? HEADING : OTHER;
+    case 'R': return BEGINS("Rule:") ? HEADING : OTHER;
+    case 'E': return BEGINS("Example:") || BEGINS("Examples:") ? HEADING : OTHER;
+    case 'S':
+      return BEGINS("Scenario:") || BEGINS("Scenarios:") || BEGINS("Scenario Outline:") || BEGINS("Scenario Template:") ? HEADING
+                                                                                                                       : OTHER;
+    case '"': return BEGINS("\"\"\"") ? FENCE : OTHER;
+    case '`': return BEGINS("```") ? FENCE : OTHER;
+    default: return OTHER;
   }
-  if (*text == '|') return ROW;
-  if (begins(text, length, "\"\"\"") || begins(text, length, "```")) return FENCE;
-  return OTHER;
 }
 
 /* Reads a file whole; ends the program where that can't be done. */
