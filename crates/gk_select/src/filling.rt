@@ -48,7 +48,7 @@ pub fn fill(
         string_bytes s ≡ filled columns.now (texts row.now) text.now) }
 {
     // A placeholder ends at the first `>` after its `<`, so only text before a `>` is looked up.
-    let mut filled = String::new(alloc);
+    let mut filled = String::with_capacity(alloc, text.len())?;
     let mut rest = text;
     while let Some((piece, after)) = rest.split_once('>') {
         push_piece(&mut filled, piece, columns, row)?;
