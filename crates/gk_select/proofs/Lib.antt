@@ -17,6 +17,7 @@ pub mod CaseCounts
 pub mod CaseRules
 pub mod RisingLines
 pub mod CaseLines
+pub mod CaseNames
 pub mod RowLines
 pub mod RowOrder
 pub mod ChosenLines

@@ -18,7 +18,7 @@ use crate::case::Case;
 use crate::columns::Columns;
 use crate::copies::{copied_texts, push_filled_steps, push_steps, push_texts};
 use crate::counting::has_room;
-use crate::filling::fill;
+use crate::filling::push_filled;
 use crate::inherited::{
     Inherited, after_inherited_steps, after_inherited_tags, inherited_in_feature,
     inherited_in_rule, push_inherited_steps,
@@ -64,6 +64,9 @@ struct Part<'a> {
     columns: Columns<'a>,
 }
 
+// The room for the numbers in the name of a row's case. With greater numbers the name grows.
+const NUMBERS_ROOM: usize = 16;
+
 // Returns the name of a row's case: the scenario's filled name, the numbers of the Examples and the row, and
 // the name of the Examples.
 fn row_name(
@@ -78,14 +81,11 @@ fn row_name(
     ensures { IfOk result (λ name. string_bytes name
         ≡ name_of_row scenario.now part.now.number part.now.examples.now row_number row.now) }
 {
-    let name = fill(alloc, scenario.name.as_str(), &part.columns, &row.cells)?;
-    case_name(
-        alloc,
-        name.as_str(),
-        part.number,
-        row_number,
-        part.examples.name.as_str(),
-    )
+    let examples_name = part.examples.name.as_str();
+    let room = (scenario.name.len() + NUMBERS_ROOM).saturating_add(examples_name.len());
+    let mut name = String::with_capacity(alloc, room)?;
+    push_filled(&mut name, scenario.name.as_str(), &part.columns, &row.cells)?;
+    case_name(name, part.number, row_number, examples_name)
 }
 
 // Returns a row's own tags: those of its scenario, then those of its Examples.

@@ -32,6 +32,26 @@ fn push_piece(
     filled.push('>')
 }
 
+/// Appends a text, filled as `fill` does it.
+pub fn push_filled(
+    filled: &mut String,
+    text: &str,
+    columns: &Columns<'_>,
+    row: &[String],
+) -> Result<(), AllocError>
+    requires { length row.now ≡ length columns.now }
+    ensures { IfOk result (λ _. string_bytes filled.new ≡ string_bytes filled.old
+        ++ spec.filled columns.now (texts row.now) text.now) }
+{
+    // A placeholder ends at the first `>` after its `<`, so only text before a `>` is looked up.
+    let mut rest = text;
+    while let Some((piece, after)) = rest.split_once('>') {
+        push_piece(filled, piece, columns, row)?;
+        rest = after;
+    }
+    filled.push_str(rest)
+}
+
 /// Returns a text with the row's cell in place of each `<h>` whose h is a header without `>`, from left to right.
 ///
 /// The text of a cell isn't filled again. Of two equal headers the first counts. A `<` that begins no
@@ -47,13 +67,7 @@ pub fn fill(
     ensures { IfOk result (λ s.
         string_bytes s ≡ filled columns.now (texts row.now) text.now) }
 {
-    // A placeholder ends at the first `>` after its `<`, so only text before a `>` is looked up.
     let mut filled = String::with_capacity(alloc, text.len())?;
-    let mut rest = text;
-    while let Some((piece, after)) = rest.split_once('>') {
-        push_piece(&mut filled, piece, columns, row)?;
-        rest = after;
-    }
-    filled.push_str(rest)?;
+    push_filled(&mut filled, text, columns, row)?;
     Ok(filled)
 }

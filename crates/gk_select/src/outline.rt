@@ -6,7 +6,7 @@ ghost use Rattle.gk_select.specs.Outline as spec;
 ghost use Rattle.gk_select.specs.Outline.{outline_name};
 
 use gk_gherkin::{Keyword, Scenario, trim_back};
-use std::alloc::{AllocError, Global};
+use std::alloc::AllocError;
 
 /// Returns whether a scenario is an outline: by its keyword, or because it has Examples. (Cucumber's
 /// Gherkin reference: scenario outline)
@@ -20,17 +20,20 @@ pub fn is_outline(scenario: &Scenario) -> bool
     by_keyword || !scenario.examples.is_empty()
 }
 
-/// Returns the name of the case of a row under Examples. Rows and Examples are counted from 1.
+/// Returns the name of the case of a row under Examples, from the filled name of its scenario. Rows and Examples are
+/// counted from 1.
 pub fn case_name(
-    alloc: Global,
-    name: &str,
+    name: String,
     examples_number: usize,
     row_number: usize,
     examples_name: &str,
 ) -> Result<String, AllocError>
-    ensures { IfOk result (λ s.
-        string_bytes s ≡ outline_name name.now examples_number row_number examples_name.now) }
+    ensures { IfOk result (λ s. string_bytes s
+        ≡ outline_name (string_bytes name) examples_number row_number examples_name.now) }
 {
-    let whole = format!(in alloc; "{name} -- @{examples_number}.{row_number} {examples_name}")?;
-    String::from_str(alloc, trim_back(whole.as_str()))
+    let mut whole = name;
+    write!(whole, " -- @{examples_number}.{row_number} {examples_name}")?;
+    let end = trim_back(whole.as_str()).len();
+    whole.truncate(end);
+    Ok(whole)
 }

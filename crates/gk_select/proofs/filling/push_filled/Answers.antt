@@ -3,8 +3,8 @@ use Rattle.std.specs.String.{string_bytes}
 use Rattle.gk_gherkin.specs.Feature.{texts}
 use Rattle.gk_select.specs.Filling.{filled}
 use Rattle.gk_select.proofs.FilledPieces.{fills_piece, fills_end}
-use Rattle.gk_select.proofs.FillingLoops.{cut, uncut, pushed, fit}
-use Rattle.gk_select.proofs.filling.fill.Goals as goal
+use Rattle.gk_select.proofs.FillingLoops.{cut, uncut, pushed, if_ok, fit}
+use Rattle.gk_select.proofs.filling.push_filled.Goals as goal
 
 pub loop-piece-preserved : goal.loop-piece-preserved
 loop-piece-preserved c =
@@ -15,4 +15,4 @@ loop-piece-preserved c =
 pub returns : goal.returns
 returns c =
     let e = fills_end c.args.columns.now (texts c.args.row.now) c.loop-piece.rest.now (uncut 62 c.loop-piece.rest.now c.split_once.result c.split_once.ensures.cases (omega arith) c.in_default.is) in
-    c.in_ok-push_str.ensures.bytes ∙ ap (λ (bs : List ℕ). string_bytes c.loop-piece.filled ++ bs) (sym e) ∙ c.loop-piece.invariant.1
+    if_ok c.push_str.result _ c.push_str.ensures.bytes (ap (λ (bs : List ℕ). string_bytes c.loop-piece.filled ++ bs) (sym e) ∙ c.loop-piece.invariant.1)

@@ -4,10 +4,10 @@ use denote.Shadow.{shadow}
 use Rattle.std.specs.String.{string_bytes}
 use Rattle.gk_gherkin.specs.Feature.{texts}
 use Rattle.gk_select.specs.Filling.{filled}
-use Rattle.gk_select.proofs.filling.fill.Given as goal
+use Rattle.gk_select.proofs.filling.push_filled.Given as goal
 
 abbrev pub invariant-loop-piece : goal.invariant-loop-piece
-invariant-loop-piece l = shadow (Utf8 l.rest) × (string_bytes l.filled ++ filled l.columns (texts l.row) l.rest ≡ filled l.columns (texts l.row) l.text)
+invariant-loop-piece l = shadow (Utf8 l.rest) × (string_bytes l.filled ++ filled l.columns (texts l.row) l.rest ≡ string_bytes l.fn.filled ++ filled l.columns (texts l.row) l.text)
 
 abbrev pub decreases-loop-piece : goal.decreases-loop-piece
 decreases-loop-piece l = length l.rest
