@@ -39,7 +39,7 @@ fn fill_texts(
     ensures { IfOk result (λ v.
         texts v.items ≡ map (filled columns.now (texts row.now)) (texts from.now)) }
 {
-    let mut filled = Vec::new(alloc);
+    let mut filled = Vec::with_capacity(alloc, from.len())?;
     for text in from {
         filled.push(fill(alloc, text.as_str(), columns, row)?)?;
     }
@@ -56,7 +56,7 @@ fn fill_table(
     ensures { let cells = map (λ row. texts row.items) in IfOk result (λ v.
         cells v.items ≡ map (map (filled columns.now (texts row.now))) (cells from.now)) }
 {
-    let mut filled = Vec::new(alloc);
+    let mut filled = Vec::with_capacity(alloc, from.len())?;
     for cells in from {
         filled.push(fill_texts(alloc, cells.as_slice(), columns, row)?)?;
     }

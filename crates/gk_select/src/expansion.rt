@@ -116,7 +116,9 @@ fn row_steps(
         (inherited_value inherited.now).steps
         ++ map (filled_step fill) (scenario_value scenario.now).steps) }
 {
-    let mut steps = Vec::new(alloc);
+    let inherited_count = inherited.feature_steps.len().saturating_add(inherited.rule_steps.len());
+    let count = inherited_count.saturating_add(scenario.steps.len());
+    let mut steps = Vec::with_capacity(alloc, count)?;
     push_inherited_steps(alloc, &mut steps, inherited)?;
     push_filled_steps(alloc, &mut steps, &scenario.steps, columns, cells)?;
     Ok(steps)
@@ -160,6 +162,7 @@ fn push_row_cases(
     ensures { Appends case_value result cases.old.items cases.new.items (cases_of_rows
         inherited.now scenario.now part.now.number part.now.examples.now 1 rows.now) }
 {
+    cases.reserve(rows.len())?;
     for (i, row) in rows.iter().enumerate() {
         cases.push(row_case(alloc, inherited, scenario, part, i + 1, row)?)?;
     }
@@ -282,7 +285,7 @@ fn moved_cases(alloc: Global, feature: Feature) -> Result<Vec<Case>, AllocError>
     let mut feature = feature;
     let scenarios = replace(&mut feature.scenarios, Vec::new(alloc));
     let rules = replace(&mut feature.rules, Vec::new(alloc));
-    let mut cases = Vec::new(alloc);
+    let mut cases = Vec::with_capacity(alloc, scenarios.len())?;
     let inherited = inherited_in_feature(&feature);
     push_scenarios_cases(alloc, &mut cases, &inherited, scenarios)?;
     push_rules_cases(alloc, &mut cases, &feature, rules)?;
