@@ -1,6 +1,7 @@
 //! The plain report: the lines of a feature, and the closing lines, which it shares with the progress report.
-ghost use Rattle.std.specs.Prelude.{◌≡◌, [], ◌++◌, map, option_map, codes, cond};
+ghost use Rattle.std.specs.Prelude.{◌≡◌, [], ◌++◌, Some, map, option_map, codes, cond};
 ghost use Rattle.gk_run.specs.Results.{step_row, case_row, rule_row, feature_row};
+ghost use Rattle.gk_report.specs.ReportTexts as spec;
 ghost use Rattle.gk_report.specs.ReportTexts.{is_hidden, line_feed, Pushes, AnswersText};
 ghost use Rattle.gk_report.specs.RuleGroups as by_rule;
 ghost use Rattle.gk_report.specs.PlainReport.{step_verdict, step_line, case_line, around_line, case_lines, rule_line, line_of, feature_line, feature_end, counted, counted_if_any, passed_part, undefined_part, count_line, closing_lines};
@@ -10,15 +11,29 @@ use crate::summary::{Counts, Summary};
 use gk_run::{CaseResult, FeatureResult, Reason, RuleResult, Status, StepResult};
 use std::alloc::{AllocError, Global};
 
-fn push_verdict(out: &mut String, status: Status, reason: Option<Reason>) -> Result<(), AllocError>
-    ensures { Pushes out.old (step_verdict status reason) result out.new }
+#[tactic(auto, unfolding(crate::specs::ReportTexts::status_text))]
+fn ending_text(status: Status) -> &'static str
+    ensures { result.now ≡ codes " ... " ++ spec.status_text status ++ line_feed }
 {
-    out.push_str(status_text(status))?;
-    if let Some(reason) = reason {
-        out.push_str(": ")?;
-        out.push_str(reason_text(reason))?;
+    match status {
+        Status::Passed => " ... passed\n",
+        Status::Failed => " ... failed\n",
+        Status::Skipped => " ... skipped\n",
+        Status::Undefined => " ... undefined\n",
+        Status::Untested => " ... untested\n",
+        Status::Memory => " ... memory\n",
     }
-    Ok(())
+}
+
+fn push_reason_ending(out: &mut String, status: Status, reason: Reason) -> Result<(), AllocError>
+    ensures { Pushes out.old
+        (codes " ... " ++ step_verdict status (Some reason) ++ line_feed) result out.new }
+{
+    out.push_str(" ... ")?;
+    out.push_str(status_text(status))?;
+    out.push_str(": ")?;
+    out.push_str(reason_text(reason))?;
+    out.push_str("\n")
 }
 
 /// Pushes the end of a line with a status: three dots, the status, the reason if there is one, and a line feed. An
@@ -32,9 +47,10 @@ pub fn push_ending(
     ensures { Pushes out.old
         (codes " ... " ++ step_verdict status reason ++ line_feed) result out.new }
 {
-    out.push_str(" ... ")?;
-    push_verdict(out, status, reason)?;
-    out.push_str("\n")
+    match reason {
+        Some(reason) => push_reason_ending(out, status, reason),
+        None => out.push_str(ending_text(status)),
+    }
 }
 
 // Pushes a keyword after an indent, and the text behind it.
