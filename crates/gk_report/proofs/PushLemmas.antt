@@ -1,8 +1,9 @@
 -- What pushing one text after another gives.
-use Rattle.std.proofs.Common.{◌≡◌, ◌≢◌, ℕ, suc, ◌<◌, List, [], ◌∷◌, ◌++◌, length, get_or, Option, Some, None, Bor, refl, ap, sym, ◌∙◌, arith}
-use Rattle.std.proofs.lemmas.Bool.{ne_eqb}
+use Rattle.std.proofs.Common.{◌≡◌, ◌≢◌, ℕ, suc, ◌<◌, false, ◌==◌, List, [], ◌∷◌, ◌++◌, length, get_or, Option, Some, None, Bor, refl, ap, sym, ◌∙◌, arith}
+use Rattle.std.proofs.lemmas.Bool.{ne_eqb, or_parts}
 use Rattle.std.proofs.lemmas.List.{append_assoc}
 use Rattle.std.proofs.lemmas.Str.Pattern.{IsSplitOnceResult, split_parts}
+use Rattle.std.specs.List.{list_any}
 use Rattle.gk_report.specs.ReportTexts.{one_line}
 
 -- One text after another.
@@ -42,6 +43,14 @@ pub one_line_end : (bs : List ℕ) → Without 10 bs → one_line bs ≡ bs
 unfolding one_line
 one_line_end [] w = refl
 one_line_end (b ∷ bs) w = rw (ne_eqb b 10 (without_first w)) (ap (λ (bs : List ℕ). b ∷ bs) (one_line_end bs (without_after w)))
+
+-- A text in which no line feed is found stays.
+pub one_line_plain : (bs : List ℕ) → list_any (λ b. b == 10) bs ≡ false → one_line bs ≡ bs
+unfolding one_line
+one_line_plain [] none = refl
+one_line_plain (b ∷ bs) none =
+    let parts = or_parts (b == 10) (list_any (λ b. b == 10) bs) none in
+    rw parts.0 (ap (λ (bs : List ℕ). b ∷ bs) (one_line_plain bs parts.1))
 
 -- A line feed becomes a backslash and `n`.
 pub one_line_feed : (after : List ℕ) → one_line (10 ∷ after) ≡ 92 ∷ 110 ∷ one_line after

@@ -51,10 +51,8 @@ pub fn reason_text(reason: Reason) -> &'static str
     }
 }
 
-/// Pushes a name or a text, with a backslash and `n` in place of each line feed. An error comes only if a growth was
-/// refused.
-#[inline(always)]
-pub fn push_one_line(out: &mut String, text: &str) -> Result<(), AllocError>
+// Pushes a text that may have line feeds, with a backslash and `n` in place of each.
+fn push_lines(out: &mut String, text: &str) -> Result<(), AllocError>
     ensures { Pushes out.old (one_line text.now) result out.new }
 {
     let mut rest = text;
@@ -65,4 +63,16 @@ pub fn push_one_line(out: &mut String, text: &str) -> Result<(), AllocError>
     }
     out.push_str(rest)?;
     Ok(())
+}
+
+/// Pushes a name or a text, with a backslash and `n` in place of each line feed. An error comes only if a growth was
+/// refused.
+#[inline(always)]
+pub fn push_one_line(out: &mut String, text: &str) -> Result<(), AllocError>
+    ensures { Pushes out.old (one_line text.now) result out.new }
+{
+    if text.as_bytes().contains(&b'\n') {
+        return push_lines(out, text);
+    }
+    out.push_str(text)
 }

@@ -1,16 +1,10 @@
-use Rattle.std.proofs.Common.{◌++◌, ◌∷◌, [], List, ℕ, rules, ap, sym, ◌∙◌, arith}
-use Rattle.std.specs.String.{string_bytes}
-use Rattle.gk_report.specs.ReportTexts.{one_line}
-use Rattle.gk_report.proofs.PushLemmas.{cut, uncut, pushed, one_line_to, one_line_end, one_line_feed}
+use Rattle.std.proofs.Common.{◌≡◌, rules, sym, subst, ◌∙◌}
+use Rattle.gk_report.specs.ReportTexts.{one_line, Pushes}
+use Rattle.gk_report.proofs.PushLemmas.{one_line_plain}
 use Rattle.gk_report.proofs.report_texts.push_one_line.Goals as goal
-
-pub loop-line-preserved : goal.loop-line-preserved
-loop-line-preserved c =
-    let p = cut 10 c.loop-line.rest.now c.split_once.result c.split_once.ensures.cases (omega arith) (c.in-Some.line, c.in-Some.after) c.in-Some.is in
-    let e = ap one_line p.0 ∙ one_line_to c.in-Some.line.now _ p.1 in
-    (search rules, pushed _ (92 ∷ 110 ∷ []) _ c.in_ok-push_str-2.ensures.bytes (one_line_feed c.in-Some.after.now) (pushed _ _ _ c.in_ok-push_str.ensures.bytes e c.loop-line.invariant.1))
 
 pub returns : goal.returns
 returns c =
-    let e = one_line_end c.loop-line.rest.now (uncut 10 c.loop-line.rest.now c.split_once.result c.split_once.ensures.cases (omega arith) c.in_default.is) in
-    c.in_ok-push_str-3.ensures.bytes ∙ ap (λ (bs : List ℕ). string_bytes c.loop-line.out ++ bs) (sym e) ∙ c.loop-line.invariant.1
+    let plain = one_line_plain c.as_bytes.result.now (sym c.contains.ensures.value ∙ c.if-contains.false) in
+    let e = subst (λ bs. one_line bs ≡ bs) c.as_bytes.ensures.value plain in
+    subst (λ bs. Pushes c.args.out.now bs c.push_str.result c.push_str.new.self) (sym e) (search rules)

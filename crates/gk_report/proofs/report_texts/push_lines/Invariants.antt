@@ -3,7 +3,7 @@ use denote.Text.{Utf8}
 use denote.Shadow.{shadow}
 use Rattle.std.specs.String.{string_bytes}
 use Rattle.gk_report.specs.ReportTexts.{one_line}
-use Rattle.gk_report.proofs.report_texts.push_one_line.Given as goal
+use Rattle.gk_report.proofs.report_texts.push_lines.Given as goal
 
 abbrev pub invariant-loop-line : goal.invariant-loop-line
 invariant-loop-line l = shadow (Utf8 l.rest) × (string_bytes l.out ++ one_line l.rest ≡ string_bytes l.initial.out ++ one_line l.text)
