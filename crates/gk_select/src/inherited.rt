@@ -98,6 +98,9 @@ pub fn after_inherited_tags(
     ensures { IfOk result (λ tags. texts tags.items ≡
         (inherited_value inherited.now).tags ++ texts own.now) }
 {
+    if inherited.feature_tags.is_empty() && inherited.rule_tags.is_empty() {
+        return copied_texts(alloc, own);
+    }
     let mut tags = copied_texts(alloc, inherited.feature_tags)?;
     push_texts(alloc, &mut tags, inherited.rule_tags)?;
     push_texts(alloc, &mut tags, own)?;
