@@ -11,6 +11,7 @@ use crate::summary::{Counts, Summary};
 use gk_run::{CaseResult, FeatureResult, Reason, RuleResult, Status, StepResult};
 use std::alloc::{AllocError, Global};
 
+// Returns the end of a line with a status and no reason.
 #[tactic(auto, unfolding(crate::specs::ReportTexts::status_text))]
 fn ending_text(status: Status) -> &'static str
     ensures { result.now ≡ codes " ... " ++ spec.status_text status ++ line_feed }
@@ -25,6 +26,7 @@ fn ending_text(status: Status) -> &'static str
     }
 }
 
+// Pushes the end of a line with a status and a reason.
 fn push_reason_ending(out: &mut String, status: Status, reason: Reason) -> Result<(), AllocError>
     ensures { Pushes out.old
         (codes " ... " ++ step_verdict status (Some reason) ++ line_feed) result out.new }

@@ -116,7 +116,8 @@ fn row_steps(
         (inherited_value inherited.now).steps
         ++ map (filled_step fill) (scenario_value scenario.now).steps) }
 {
-    let inherited_count = inherited.feature_steps.len().saturating_add(inherited.rule_steps.len());
+    let feature_count = inherited.feature_steps.len();
+    let inherited_count = feature_count.saturating_add(inherited.rule_steps.len());
     let count = inherited_count.saturating_add(scenario.steps.len());
     let mut steps = Vec::with_capacity(alloc, count)?;
     push_inherited_steps(alloc, &mut steps, inherited)?;

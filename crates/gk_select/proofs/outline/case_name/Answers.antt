@@ -9,11 +9,11 @@ pub truncate-requires : goal.truncate-requires
 truncate-requires c =
     let left = c.trim_back-end.result.now in
     λ _. subst (λ bs. IsSplitPoint bs (length left)) c.as_str.ensures.value
-        (splits c.as_str.result.now left c.trim_back-end.ensures c.as_str.utf8 c.trim_back-end.utf8)
+    (splits c.as_str.result.now left c.trim_back-end.ensures c.as_str.utf8 c.trim_back-end.utf8)
 
 pub returns : goal.returns
 returns c =
     let left = c.trim_back-end.result.now in
     c.truncate.ensures.bytes ∙ ap (take (length left)) (sym c.as_str.ensures.value)
-        ∙ front_is c.as_str.result.now left c.trim_back-end.ensures ∙ c.trim_back-end.ensures
-        ∙ ap trim_back (c.as_str.ensures.value ∙ simp append_assoc c.in_ok-write.ensures.bytes)
+    ∙ front_is c.as_str.result.now left c.trim_back-end.ensures ∙ c.trim_back-end.ensures
+    ∙ ap trim_back (c.as_str.ensures.value ∙ simp append_assoc c.in_ok-write.ensures.bytes)
