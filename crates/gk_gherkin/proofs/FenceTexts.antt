@@ -1,6 +1,7 @@
 -- The text of a content line, from one escaped fence to the next.
-use Rattle.std.proofs.Common.{◌≡◌, ◌≢◌, ℕ, suc, ◌+◌, ◌<◌, ◌≤◌, Bool, false, cond, List, [], ◌∷◌, ◌++◌, length, drop, take, Option, Some, None, Bor, refl, sym, ap, ◌∙◌, subst, arith}
+use Rattle.std.proofs.Common.{◌≡◌, ◌≢◌, ℕ, suc, ◌+◌, ◌<◌, ◌≤◌, Bool, false, cond, List, [], ◌∷◌, ◌++◌, length, drop, take, get_or, Option, Some, None, Bor, refl, sym, ap, ◌∙◌, subst, arith}
 use Rattle.std.specs.Prelude.{MatchOption}
+use Rattle.std.proofs.lemmas.Bool.Decides.{nat_tests}
 use Rattle.std.proofs.lemmas.List.{append-nil}
 use Rattle.std.proofs.lemmas.Str.Pattern.{starts_text, split_text_parts}
 use Rattle.std.specs.Str.Pattern.{FindsText}
@@ -37,6 +38,17 @@ no_fence fence text h =
     ap (fences_read fence 0) (sym whole)
     ∙ before_fence fence text [] (λ i below. ap (λ (t : List ℕ). begins (drop i t) (escaped_fence fence)) whole ∙ lacks fence text i (h i (omega arith)))
     ∙ whole
+
+no_start : (fence : Fence) (b : ℕ) (bs : List ℕ) → b ≢ 92 → begins (b ∷ bs) (escaped_fence fence) ≡ false
+no_start Quotes b bs h = grind (arith, nat_tests)
+no_start Backticks b bs h = grind (arith, nat_tests)
+
+-- A text without a backslash has no escaped fence.
+pub plain_text : (fence : Fence) (text : List ℕ) → ((i : ℕ) → i < length text → get_or text i 0 ≢ 92) → fences_read fence 0 text ≡ text
+plain_text fence [] h = refl
+plain_text fence (b ∷ bs) h =
+    let first : b ≢ 92 = h 0 (omega arith) in
+    not_here fence b bs (no_start fence b bs first) ∙ ap (λ (t : List ℕ). b ∷ t) (plain_text fence bs (λ i below. h (suc i) (omega arith)))
 
 abbrev IsTextSplit : List ℕ → List ℕ → Option (Bor (List ℕ) × Bor (List ℕ)) → Type 0
 IsTextSplit p bs r = MatchOption r (FindsText p bs None) (λ x. (i : ℕ) × (j : ℕ) × FindsText p bs (Some (i, j)) × (x.0.now ≡ take i bs) × (x.1.now ≡ drop j bs) × (i ≤ j) × (length x.0.now ≡ i) × (length x.1.now + j ≡ length bs))

@@ -138,9 +138,6 @@ pub only_next : (old new : HookIndex) (hooks : List Hook) (k : ℕ) (hook : Hook
     → ListsOnly old hooks → ListsOnly new hooks
 only_next old new hooks k hook at last others before tag position h = only_by (is_same_tag tag (option_map string_bytes hook.tag)) old new hooks k hook tag position refl at last others before h
 
-pub only_none : (index : HookIndex) (hooks : List Hook) → ((t : Option (List ℕ)) → positions_of index t ≡ []) → ListsOnly index hooks
-only_none index hooks none tag position h = let listed : is_among position [] ≡ true = subst (λ ns. is_among position ns ≡ true) (none tag) h in let no : ⊥ = cc in absurd no
-
 -- the first that passes
 find_past : {X : Type 0} (test : X → Bool) (x : X) (xs : List X) (r : ℕ) (b : Bool) → test x ≡ b → (test x ≡ true → suc r ≤ 0) → slice_get xs r ≡ find test xs → slice_get xs r ≡ cond (test x) (Some x) (find test xs)
 find_past test x xs r true e never same = let l = never e in let bad : ⊥ = omega arith in absurd bad
@@ -254,16 +251,5 @@ looked_up hooks position None none same = elim (cases_lt position (length hooks)
 looked_up hooks position (Some x) some same = sym (got_at hooks position x.now (ltb-true position (length hooks) (sym some)) same)
 
 -- hooks that are listed up to a position
-pub none_listed : (index : HookIndex) (hooks : List Hook) → AreListedTo index hooks 0
-none_listed index hooks position hook less at = let never : ⊥ = omega arith in absurd never
-
-pub one_more_listed : (old new : HookIndex) (hooks : List Hook) (k : ℕ) → ((t : Option (List ℕ)) (n : ℕ) → is_among n (positions_of old t) ≡ true → is_among n (positions_of new t) ≡ true)
-    → ((hook : Hook) → slice_get hooks k ≡ Some hook → is_among k (positions_of new (option_map string_bytes hook.tag)) ≡ true) → AreListedTo old hooks k → AreListedTo new hooks (k + 1)
-one_more_listed old new hooks k kept added listed position hook less at = elim (cases_lt position k) [
-  | inl lt ↦ kept (option_map string_bytes hook.tag) position (listed position hook lt at)
-  | inr ge ↦ let end : k ≡ position = omega (arith, less, ge) in
-      subst (λ p. is_among p (positions_of new (option_map string_bytes hook.tag)) ≡ true) end (added hook (subst (λ p. slice_get hooks p ≡ Some hook) (sym end) at))
-]
-
 pub all_listed : (index : HookIndex) (hooks : List Hook) (k : ℕ) → length hooks ≤ k → AreListedTo index hooks k → AreListed index hooks
 all_listed index hooks k past listed position hook at = let less = slice_get_within hooks position hook at in listed position hook (omega (arith, less, past)) at

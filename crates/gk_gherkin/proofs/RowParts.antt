@@ -1,9 +1,11 @@
 -- The parts of a row, byte by byte and part by part, and what escapes mean.
-use Rattle.std.proofs.Common.{◌≡◌, ◌≢◌, ℕ, suc, ◌+◌, ◌<◌, ◌≤◌, Bool, true, false, cond, ◌==◌, List, [], ◌∷◌, ◌++◌, length, map, take, drop, get_or, Option, Some, None, Bor, refl, sym, ap, ◌∙◌, append_assoc, arith}
+use Rattle.std.proofs.Common.{◌≡◌, ◌≢◌, ℕ, zero, suc, ◌+◌, ◌-◌, ◌<◌, ◌≤◌, Bool, true, false, cond, ◌==◌, List, [], ◌∷◌, ◌++◌, length, map, take, drop, get_or, Option, Some, None, Bor, min, refl, sym, ap, subst, ◌∙◌, arith, inl, inr}
 use Rattle.std.specs.Prelude.{option_map, codes}
 use Rattle.std.proofs.lemmas.Str.Pattern.{IsSplitOnceResult, split_parts}
+use Rattle.std.proofs.lemmas.Bool.{cases_lt}
 use Rattle.std.proofs.lemmas.Bool.Decides.{nat_tests}
-use Rattle.std.proofs.lemmas.List.{append-nil, drop_more, take_more, drop_all, take_all}
+use Rattle.memchr.specs.Find.{IsFirstByte, Nowhere, Passes, is_byte, is_byte2}
+use Rattle.std.proofs.lemmas.List.{append-nil, get_or-drop, length-drop, drop_more, take_more, drop_all, take_all}
 use Rattle.gk_gherkin.specs.Lines.{LineValue}
 use Rattle.gk_gherkin.specs.Text.{trim}
 use Rattle.gk_gherkin.specs.Text.{begins}
@@ -68,16 +70,75 @@ into_none [] = refl
 into_none (b ∷ []) = refl
 into_none (b ∷ c ∷ bs) = ap (into_first b) (into_none (c ∷ bs))
 
-no_more : (esc : Bool) → parts_in esc [] ≡ Some []
+nothing_left : (text : List ℕ) (i : ℕ) (esc : Bool) → length text ≤ i → parts_in esc (drop i text) ≡ Some []
 unfolding parts_of
-no_more false = refl
-no_more true = refl
+nothing_left text i false over = ap parts_of (drop_all i text over)
+nothing_left text i true over = ap (parts_in true) (drop_all i text over)
 
-pub at_end : (text : List ℕ) (i : ℕ) (esc : Bool) → length text ≤ i → parts_of text ≡ into_all (take i text) (parts_in esc (drop i text)) → parts_of text ≡ parts_after (take i text) (drop i text)
-at_end text i esc over so_far =
-    let none : drop i text ≡ [] = drop_all i text over in
-    so_far ∙ ap (λ (rest : List ℕ). into_all (take i text) (parts_in esc rest)) none ∙ ap (into_all (take i text)) (no_more esc)
-    ∙ into_none (take i text) ∙ ap (parts_after (take i text)) (sym none)
+pub at_end : (text : List ℕ) (i : ℕ) → length text ≤ i → parts_of text ≡ into_all (take i text) (parts_of (drop i text)) → parts_of text ≡ parts_after (take i text) (drop i text)
+at_end text i over so_far =
+    so_far ∙ ap (into_all (take i text)) (nothing_left text i false over)
+    ∙ into_none (take i text) ∙ ap (parts_after (take i text)) (sym (drop_all i text over))
+
+neither_byte : (b : ℕ) → ¬ (is_byte2 124 92 b ≡ true) → ((b == 92) ≡ false) × ((b == 124) ≡ false)
+neither_byte b h = (grind (arith, nat_tests), grind (arith, nat_tests))
+
+not_bar : (b : ℕ) → is_byte2 124 92 b ≡ true → b ≢ 124 → b ≡ 92
+not_bar b h n = grind (arith, nat_tests)
+
+-- Bytes that are neither bars nor backslashes are passed over.
+passed_over : (text : List ℕ) (i n : ℕ) → i + n ≤ length text → Nowhere (Passes (is_byte2 124 92) (drop i text)) 0 n → parts_of text ≡ into_all (take i text) (parts_of (drop i text)) → parts_of text ≡ into_all (take (i + n) text) (parts_of (drop (i + n) text))
+passed_over text i zero fits none so_far =
+    let same : i ≡ i + 0 = omega arith in
+    subst (λ (m : ℕ). parts_of text ≡ into_all (take m text) (parts_of (drop m text))) same so_far
+passed_over text i (suc n) fits none so_far =
+    let before = passed_over text i n (omega arith) (λ k low high. none k low (omega arith)) so_far in
+    let byte : get_or (drop i text) n 0 ≡ get_or text (i + n) 0 = get_or-drop i text n 0 in
+    let neither = neither_byte (get_or text (i + n) 0) (subst (λ (b : ℕ). ¬ (is_byte2 124 92 b ≡ true)) byte (none n (omega arith) (omega arith))) in
+    let same : i + n + 1 ≡ i + suc n = omega arith in
+    subst (λ (m : ℕ). parts_of text ≡ into_all (take m text) (parts_of (drop m text))) same
+    (next_byte text (i + n) false false (omega arith) (λ rest. other_byte (get_or text (i + n) 0) false rest neither.0 neither.1) before)
+
+-- A backslash is passed over with the byte after it, if there is one.
+pub after_escape : (text : List ℕ) (i : ℕ) → i < length text → get_or text i 0 ≡ 92 → parts_of text ≡ into_all (take i text) (parts_of (drop i text)) → parts_of text ≡ into_all (take (min (length text) (i + 2)) text) (parts_of (drop (min (length text) (i + 2)) text))
+after_escape text i below escape so_far =
+    let one = next_byte text i false true below (λ rest. other_byte (get_or text i 0) true rest (ap (λ (b : ℕ). b == 92) escape) (ap (λ (b : ℕ). b == 124) escape)) so_far in
+    elim (cases_lt (i + 1) (length text)) [
+      | inl more ↦
+          let same : i + 1 + 1 ≡ min (length text) (i + 2) = omega arith in
+          subst (λ (m : ℕ). parts_of text ≡ into_all (take m text) (parts_of (drop m text))) same
+          (next_byte text (i + 1) true false more (λ rest. escaped_byte (get_or text (i + 1) 0) rest) one)
+      | inr over ↦
+          let same : i + 1 ≡ min (length text) (i + 2) = omega arith in
+          subst (λ (m : ℕ). parts_of text ≡ into_all (take m text) (parts_of (drop m text))) same
+          (one ∙ ap (into_all (take (i + 1) text)) (nothing_left text (i + 1) true over ∙ sym (nothing_left text (i + 1) false over)))
+    ]
+
+-- A search for the next bar or backslash.
+module _ (text : List ℕ) (i : ℕ) (within : i ≤ length text) (so_far : parts_of text ≡ into_all (take i text) (parts_of (drop i text))) where
+  whole : take (length text - i) (drop i text) ≡ drop i text
+  whole = take_all (length text - i) (drop i text) (omega (arith, length-drop i text))
+
+  pub no_mark : IsFirstByte (is_byte2 124 92) (take (length text - i) (drop i text)) None → parts_of text ≡ parts_after (take (length text) text) (drop (length text) text)
+  no_mark none =
+      let nowhere = subst (λ (bs : List ℕ). IsFirstByte (is_byte2 124 92) bs None) whole none in
+      let all : i + (length text - i) ≡ length text = omega (arith, within) in
+      at_end text (length text) (omega arith)
+      (subst (λ (m : ℕ). parts_of text ≡ into_all (take m text) (parts_of (drop m text))) all
+      (passed_over text i (length text - i) (omega arith) (λ k low high. nowhere k low (omega (arith, length-drop i text))) so_far))
+
+  module _ (n : ℕ) (found : IsFirstByte (is_byte2 124 92) (take (length text - i) (drop i text)) (Some n)) where
+    first : IsFirstByte (is_byte2 124 92) (drop i text) (Some n)
+    first = subst (λ (bs : List ℕ). IsFirstByte (is_byte2 124 92) bs (Some n)) whole found
+
+    pub mark_within : i + n < length text
+    mark_within = omega (arith, length-drop i text, first.0.high)
+
+    pub to_mark : parts_of text ≡ into_all (take (i + n) text) (parts_of (drop (i + n) text))
+    to_mark = passed_over text i n (omega (arith, mark_within)) first.0.before so_far
+
+    pub is_escape : get_or text (i + n) 0 ≢ 124 → get_or text (i + n) 0 ≡ 92
+    is_escape = not_bar (get_or text (i + n) 0) (subst (λ (b : ℕ). is_byte2 124 92 b ≡ true) (get_or-drop i text n 0) first.1)
 
 -- The cells of the parts, where no parts aren't left out.
 abbrev pub cells_all : Option (List (List ℕ)) → Option (List (List ℕ))
@@ -95,15 +156,6 @@ pub cells_split : (o : Option (List (List ℕ))) → cells_of_parts o ≡ some_c
 cells_split None = refl
 cells_split (Some []) = refl
 cells_split (Some (part ∷ parts)) = refl
-
-onto_cell : (xs : List (List ℕ)) (part : List ℕ) (o : Option (List (List ℕ))) → onto xs (cells_all (option_map (λ parts. part ∷ parts) o)) ≡ onto (xs ++ cell_of part ∷ []) (cells_all o)
-onto_cell xs part None = refl
-onto_cell xs part (Some parts) = ap Some (sym (append_assoc xs (cell_of part ∷ []) (map cell_of parts)))
-
-pub next_cell : (text rest : List ℕ) (n : ℕ) (xs : List (List ℕ)) → n < length rest → get_or rest n 0 ≡ 124 → parts_of rest ≡ parts_after (take n rest) (drop n rest) → cells_all (parts_of text) ≡ onto xs (cells_all (parts_of rest)) → cells_all (parts_of text) ≡ onto (xs ++ cell_of (take n rest) ∷ []) (cells_all (parts_of (drop (n + 1) rest)))
-next_cell text rest n xs below bar parts so_far =
-    so_far ∙ ap (λ (o : Option (List (List ℕ))). onto xs (cells_all o)) (parts ∙ ap (parts_after (take n rest)) (drop_more rest n 0 below))
-    ∙ onto_cell xs (take n rest) (parts_of (drop (n + 1) rest))
 
 no_bar_none : (rest : List ℕ) → 0 < length rest → no_bar rest ≡ None
 no_bar_none [] h = absurd (omega arith)
@@ -147,6 +199,9 @@ plain_bytes [] ys h = refl
 plain_bytes (x ∷ xs) ys h =
     let first : x ≢ 92 = h 0 (omega arith) in
     plain_byte x (xs ++ ys) (same_eqb x 92 first) ∙ ap (λ (t : List ℕ). x ∷ t) (plain_bytes xs ys (λ i below. h (suc i) (omega arith)))
+
+pub no_backslash : (text : List ℕ) → IsFirstByte (is_byte 92) text None → (i : ℕ) → i < length text → get_or text i 0 ≢ 92
+no_backslash text none i below e = none i (omega arith) below (ap (λ (b : ℕ). b == 92) e)
 
 pub no_escape : (xs : List ℕ) → ((i : ℕ) → i < length xs → get_or xs i 0 ≢ 92) → unescaped xs ≡ xs
 unfolding unescaped

@@ -24,10 +24,6 @@ pub either_second : (a b : Bool) → b ≡ true → (a || b) ≡ true
 either_second true b h = refl
 either_second false b h = h
 
-no_bytes : (text : List ℕ) → [] ≡ text → (length text == 0) ≡ true
-no_bytes [] e = refl
-no_bytes (b ∷ bs) e = cc
-
 no_bytes_after : (before text rest : List ℕ) → [] ≡ before ++ (text ++ rest) → (length text == 0) ≡ true
 no_bytes_after [] [] rest e = refl
 no_bytes_after [] (b ∷ bs) rest e = cc

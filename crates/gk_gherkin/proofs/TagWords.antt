@@ -3,7 +3,7 @@ use Rattle.std.proofs.Common.{◌≡◌, ℕ, zero, suc, ◌+◌, ◌<◌, ◌�
 use Rattle.std.specs.Prelude.{String, option_map, codes, filter, take_while}
 use Rattle.std.specs.List.{prefix_len, position_or_len, slice_split, list_all}
 use Rattle.std.proofs.lemmas.Bool.Decides.{nat_tests}
-use Rattle.std.proofs.lemmas.List.{append-nil, map_push, drop_more, take-append-drop, get_or-take, drop_all, take_all, length-take, length-take-le}
+use Rattle.std.proofs.lemmas.List.{map_push, drop_more, take-append-drop, get_or-take, drop_all, take_all, length-take, length-take-le}
 use Rattle.std.proofs.lemmas.List.Sums.{prefix_len_passes, prefix_len-le-length, passes_at_first, fails_before_first, take_while-cons, prefix_len-drop_no, prefix_len-drop_all, prefix_len_stops}
 use Rattle.std.proofs.lemmas.List.Splits.{slice_split-cons_yes, slice_split_first, slice_split_none}
 use Rattle.std.proofs.Math.Nat.{eq-or-lt_of_le}
@@ -88,10 +88,6 @@ all_tags t words = cond t (Some words) None
 abbrev pub tags_by : List (List ℕ) → Option (List (List ℕ))
 tags_by words = all_tags (list_all is_tag (tag_words words)) (tag_words words)
 
-pub comment_word : (word : List ℕ) (words : List (List ℕ)) → begins word (codes "#") ≡ true → tags_by (word ∷ words) ≡ Some []
-comment_word word words e =
-    ap (λ (ws : List (List ℕ)). all_tags (list_all is_tag ws) ws) (take_while-cons (λ word. not (begins word (codes "#"))) word words ∙ ap (λ (t : Bool). cond (not t) (word ∷ tag_words words) []) e)
-
 pub word_kept : (word : List ℕ) (words : List (List ℕ)) → begins word (codes "#") ≡ false → tag_words (word ∷ words) ≡ word ∷ tag_words words
 word_kept word words e = take_while-cons (λ word. not (begins word (codes "#"))) word words ∙ ap (λ (t : Bool). cond (not t) (word ∷ tag_words words) []) e
 
@@ -140,20 +136,6 @@ module _ (all : Option (List (List ℕ))) (t : List ℕ) (n : ℕ) (xs : List (L
   refuses_word y =
       so_far ∙ ap (λ (words : List (List ℕ)). onto_tags xs (tags_by words)) (first_word t n some start e)
       ∙ ap (onto_tags xs) (no_tag (take n t) (words_of (drop n t)) word_plain y)
-
-empty_words : (t : List ℕ) → length t ≤ 0 → tags_by (words_of t) ≡ Some []
-empty_words [] h = refl
-empty_words (b ∷ bs) h = absurd (omega arith)
-
-pub ends_empty : (all : Option (List (List ℕ))) (t : List ℕ) (xs : List (List ℕ)) → length t ≤ 0 → all ≡ onto_tags xs (tags_by (words_of t)) → all ≡ Some xs
-ends_empty all t xs h so_far = so_far ∙ ap (onto_tags xs) (empty_words t h) ∙ ap Some (append-nil xs)
-
-pub ends_at_comment : (all : Option (List (List ℕ))) (t : List ℕ) (xs : List (List ℕ)) → 0 < length t → prefix_len is_blank t ≡ 0 → begins t (codes "#") ≡ true → all ≡ onto_tags xs (tags_by (words_of t)) → all ≡ Some xs
-ends_at_comment all t xs some start comment so_far =
-    let n = position_or_len is_blank t in
-    so_far ∙ ap (λ (words : List (List ℕ)). onto_tags xs (tags_by words)) (first_word t n some start refl)
-    ∙ ap (onto_tags xs) (comment_word (take n t) (words_of (drop n t)) (begins_cut t n (some_before t some start) ∙ comment))
-    ∙ ap Some (append-nil xs)
 
 onto_nothing : (o : Option (List (List ℕ))) → onto_tags [] o ≡ o
 onto_nothing None = refl

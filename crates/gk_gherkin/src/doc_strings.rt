@@ -14,6 +14,7 @@ use crate::class::Fence;
 use crate::lines::BorrowedLine;
 use crate::read_fault::ReadFault;
 use crate::text::{begins, leading_blanks, trim};
+use memchr::memchr;
 use std::alloc::Global;
 use std::mem;
 
@@ -52,18 +53,13 @@ fn escaped_fence(fence: Fence) -> &'static str
     }
 }
 
-// Appends the text of a content line to a text.
-fn with_content(
-    text: String,
-    fence: Fence,
-    column: u32,
-    line: &BorrowedLine<'_>,
-) -> Result<String, ReadFault>
+// Appends the rest of a content line with its escaped fences read.
+fn with_fences(text: String, fence: Fence, rest: &str) -> Result<String, ReadFault>
     ensures { Agrees string_bytes result
-        (Ok (string_bytes text ++ spec.content_of fence (column - 1) (borrowed_value line.now))) }
+        (Ok (string_bytes text ++ spec.fences_read fence 0 rest.now)) }
 {
     let mut text = text;
-    let mut rest = without_margin(column.saturating_sub(1) as usize, line.text);
+    let mut rest = rest;
     'fences: loop {
         match rest.split_once(escaped_fence(fence)) {
             Some((before, after)) => {
@@ -75,6 +71,27 @@ fn with_content(
                 text.push_str(rest)?;
                 return Ok(text);
             }
+        }
+    }
+}
+
+// Appends the text of a content line to a text.
+fn with_content(
+    text: String,
+    fence: Fence,
+    column: u32,
+    line: &BorrowedLine<'_>,
+) -> Result<String, ReadFault>
+    ensures { Agrees string_bytes result
+        (Ok (string_bytes text ++ spec.content_of fence (column - 1) (borrowed_value line.now))) }
+{
+    let rest = without_margin(column.saturating_sub(1) as usize, line.text);
+    match memchr(b'\\', rest.as_bytes()) {
+        Some(_) => with_fences(text, fence, rest),
+        None => {
+            let mut text = text;
+            text.push_str(rest)?;
+            Ok(text)
         }
     }
 }

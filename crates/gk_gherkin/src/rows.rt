@@ -9,6 +9,7 @@ ghost use Rattle.gk_gherkin.specs.Rows as spec;
 use crate::lines::BorrowedLine;
 use crate::read_fault::ReadFault;
 use crate::text::trim;
+use memchr::{memchr, memchr2};
 use std::alloc::Global;
 
 // Returns the number of bytes before the first bar that no backslash escapes, or before the end.
@@ -18,15 +19,13 @@ fn part_len(text: &[u8]) -> usize
     ensures within { result ≤ length text.now }
     ensures bar { result < length text.now → slice_index text.now result ≡ 124 }
 {
-    let mut escaped = false;
-    for (i, byte) in text.iter().enumerate() {
-        if escaped {
-            escaped = false;
-        } else if *byte == b'|' {
-            return i;
-        } else {
-            escaped = *byte == b'\\';
+    let mut at = 0;
+    'escapes: while let Some(found) = memchr2(b'|', b'\\', &text[at..]) {
+        let place = at + found;
+        if text[place] == b'|' {
+            return place;
         }
+        at = text.len().min(place + 2);
     }
     text.len()
 }
@@ -68,6 +67,16 @@ fn unescaped(alloc: Global, part: &str) -> Result<String, ReadFault>
     }
 }
 
+// Returns the cell of a trimmed part.
+fn cell_from(alloc: Global, part: &str) -> Result<String, ReadFault>
+    ensures { Agrees string_bytes result (Ok (spec.unescaped part.now)) }
+{
+    match memchr(b'\\', part.as_bytes()) {
+        Some(_) => unescaped(alloc, part),
+        None => Ok(String::from_str(alloc, part)?),
+    }
+}
+
 // Reserves room for `width` cells.
 fn cells_in(alloc: Global, width: usize, text: &str) -> Result<Option<Vec<String>>, ReadFault>
     ensures { Agrees found_texts result (Ok (spec.cells_of_parts (spec.parts_of text.now))) }
@@ -79,7 +88,7 @@ fn cells_in(alloc: Global, width: usize, text: &str) -> Result<Option<Vec<String
         if end == rest.len() {
             return Ok(None);
         }
-        cells.push(unescaped(alloc, trim(&rest[..end]))?)?;
+        cells.push(cell_from(alloc, trim(&rest[..end]))?)?;
         rest = &rest[end + 1..];
     }
     if cells.is_empty() {

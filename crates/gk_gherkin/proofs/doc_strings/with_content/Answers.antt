@@ -1,33 +1,23 @@
-use Rattle.std.proofs.Common.{rules, ◌≡◌, ◌++◌, ◌∙◌, ℕ, List, ap, sym, Ok, drop, min}
+use Rattle.std.proofs.Common.{rules, ◌≡◌, ◌++◌, ◌∙◌, ℕ, List, ap, subst, sym, Ok, drop, min}
 use Rattle.std.specs.List.{prefix_len}
 use Rattle.std.specs.String.{string_bytes}
+use Rattle.gk_gherkin.specs.Results.{Agrees}
 use Rattle.gk_gherkin.specs.Text.{is_blank}
-use Rattle.gk_gherkin.specs.Class.{fence_text}
 use Rattle.gk_gherkin.specs.DocStrings.{content_of, fences_read}
-use Rattle.gk_gherkin.proofs.FenceTexts.{found_fence, missed_fence}
-use Rattle.gk_gherkin.proofs.TextEnds.{two_more, last_piece}
+use Rattle.gk_gherkin.proofs.FenceTexts.{plain_text}
+use Rattle.gk_gherkin.proofs.RowParts.{no_backslash}
 use Rattle.gk_gherkin.proofs.doc_strings.with_content.Goals as goal
 
-pub fences-init : goal.fences-init
+pub returns-in-Some : goal.returns-in-Some
 unfolding content_of
-fences-init c = (
-  c.without_margin-rest.utf8,
-  ap (λ (r : List ℕ). string_bytes c.args.text ++ fences_read c.args.fence 0 r)
-      (c.without_margin-rest.ensures ∙ ap (λ (m : ℕ). drop (min m (prefix_len is_blank c.args.line.now.text.now)) c.args.line.now.text.now) c.saturating_sub.ensures),
-)
+returns-in-Some c =
+    let rest = c.without_margin-rest.ensures ∙ ap (λ (m : ℕ). drop (min m (prefix_len is_blank c.args.line.now.text.now)) c.args.line.now.text.now) c.saturating_sub.ensures in
+    subst (λ (t : List ℕ). Agrees string_bytes c.with_fences.result (Ok (string_bytes c.args.text ++ fences_read c.args.fence 0 t))) rest c.with_fences.ensures
 
-pub fences-preserved : goal.fences-preserved
-fences-preserved c =
-    let one : string_bytes c.push_str.new.self ≡ string_bytes c.fences.text ++ c.in-Some.before.now = search rules in
-    let two : string_bytes c.push_str-in-Some.new.self ≡ string_bytes c.push_str.new.self ++ c.fence_text.result.now = search rules in (
-      search rules,
-      two_more (string_bytes c.fences.text) (string_bytes c.push_str.new.self) (string_bytes c.push_str-in-Some.new.self) c.in-Some.before.now (fence_text c.args.fence) (fences_read c.args.fence 0 c.fences.rest.now) (fences_read c.args.fence 0 c.in-Some.after.now) _ one (two ∙ ap (λ (t : List ℕ). string_bytes c.push_str.new.self ++ t) c.fence_text.ensures)
-          (found_fence c.args.fence c.fences.rest.now c.escaped_fence.result.now _ c.escaped_fence.ensures c.split_once.ensures.cases _ c.in-Some.is)
-          c.fences.invariant.1,
-    )
-
-pub returns-in-None : goal.returns-in-None
-returns-in-None c =
-    let whole : string_bytes c.push_str-in-None.new.self ≡ string_bytes c.fences.text ++ c.fences.rest.now = search rules in
-    ap Ok (last_piece (string_bytes c.fences.text) (string_bytes c.push_str-in-None.new.self) c.fences.rest.now _ whole
-    (ap (λ (t : List ℕ). string_bytes c.fences.text ++ t) (sym (missed_fence c.args.fence c.fences.rest.now c.escaped_fence.result.now _ c.escaped_fence.ensures c.split_once.ensures.cases c.in-None.is)) ∙ c.fences.invariant.1))
+pub returns-in_ok-push_str-in-None : goal.returns-in_ok-push_str-in-None
+unfolding content_of
+returns-in_ok-push_str-in-None c =
+    let rest = c.without_margin-rest.ensures ∙ ap (λ (m : ℕ). drop (min m (prefix_len is_blank c.args.line.now.text.now)) c.args.line.now.text.now) c.saturating_sub.ensures in
+    let whole : string_bytes c.push_str.new.self ≡ string_bytes c.args.text ++ c.without_margin-rest.result.now = search rules in
+    let none = rw (c.in-None.is, c.as_bytes.ensures.value) at c.memchr.ensures in
+    ap Ok (ap (λ (t : List ℕ). string_bytes c.args.text ++ t) (ap (fences_read c.args.fence 0) (sym rest) ∙ plain_text c.args.fence c.without_margin-rest.result.now (no_backslash c.without_margin-rest.result.now none)) ∙ sym whole)

@@ -1,7 +1,10 @@
-use Rattle.std.proofs.Common.{◌≡◌, take, drop}
+use Rattle.std.proofs.Common.{◌≡◌, ◌-◌, ◌≤◌, length, take, drop}
 use Rattle.gk_gherkin.specs.Rows.{parts_of}
-use Rattle.gk_gherkin.proofs.RowParts.{into_all, parts_in}
+use Rattle.gk_gherkin.proofs.RowParts.{into_all}
 use Rattle.gk_gherkin.proofs.rows.part_len.Given as goal
 
-abbrev pub invariant-loop-i : goal.invariant-loop-i
-invariant-loop-i l = parts_of l.text ≡ into_all (take l.i l.text) (parts_in l.escaped (drop l.i l.text))
+abbrev pub invariant-escapes : goal.invariant-escapes
+invariant-escapes l = (l.at ≤ length l.text) × (parts_of l.text ≡ into_all (take l.at l.text) (parts_of (drop l.at l.text)))
+
+abbrev pub decreases-escapes : goal.decreases-escapes
+decreases-escapes l = length l.text - l.at

@@ -1,0 +1,23 @@
+use Rattle.std.proofs.Common.{rules, ◌≡◌, ◌++◌, ◌∙◌, ℕ, List, ap, sym, Ok}
+use Rattle.std.specs.String.{string_bytes}
+use Rattle.gk_gherkin.specs.Class.{fence_text}
+use Rattle.gk_gherkin.specs.DocStrings.{fences_read}
+use Rattle.gk_gherkin.proofs.FenceTexts.{found_fence, missed_fence}
+use Rattle.gk_gherkin.proofs.TextEnds.{two_more, last_piece}
+use Rattle.gk_gherkin.proofs.doc_strings.with_fences.Goals as goal
+
+pub fences-preserved : goal.fences-preserved
+fences-preserved c =
+    let one : string_bytes c.push_str.new.self ≡ string_bytes c.fences.text ++ c.in-Some.before.now = search rules in
+    let two : string_bytes c.push_str-in-Some.new.self ≡ string_bytes c.push_str.new.self ++ c.fence_text.result.now = search rules in (
+      search rules,
+      two_more (string_bytes c.fences.text) (string_bytes c.push_str.new.self) (string_bytes c.push_str-in-Some.new.self) c.in-Some.before.now (fence_text c.args.fence) (fences_read c.args.fence 0 c.fences.rest.now) (fences_read c.args.fence 0 c.in-Some.after.now) _ one (two ∙ ap (λ (t : List ℕ). string_bytes c.push_str.new.self ++ t) c.fence_text.ensures)
+          (found_fence c.args.fence c.fences.rest.now c.escaped_fence.result.now _ c.escaped_fence.ensures c.split_once.ensures.cases _ c.in-Some.is)
+          c.fences.invariant.1,
+    )
+
+pub returns-in-None : goal.returns-in-None
+returns-in-None c =
+    let whole : string_bytes c.push_str-in-None.new.self ≡ string_bytes c.fences.text ++ c.fences.rest.now = search rules in
+    ap Ok (last_piece (string_bytes c.fences.text) (string_bytes c.push_str-in-None.new.self) c.fences.rest.now _ whole
+    (ap (λ (t : List ℕ). string_bytes c.fences.text ++ t) (sym (missed_fence c.args.fence c.fences.rest.now c.escaped_fence.result.now _ c.escaped_fence.ensures c.split_once.ensures.cases c.in-None.is)) ∙ c.fences.invariant.1))
