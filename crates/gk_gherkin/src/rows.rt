@@ -73,7 +73,11 @@ fn cell_from(alloc: Global, part: &str) -> Result<String, ReadFault>
 {
     match memchr(b'\\', part.as_bytes()) {
         Some(_) => unescaped(alloc, part),
-        None => Ok(String::from_str(alloc, part)?),
+        None => {
+            let mut cell = String::with_capacity(alloc, part.len())?;
+            cell.push_str(part)?;
+            Ok(cell)
+        }
     }
 }
 
