@@ -2,9 +2,10 @@
 use Rattle.std.proofs.Common.{◌≡◌, ◌≢◌, ℕ, zero, suc, ◌+◌, ◌-◌, ◌<◌, ◌≤◌, Bool, true, false, cond, ◌==◌, List, [], ◌∷◌, ◌++◌, length, map, take, drop, get_or, Option, Some, None, Bor, min, refl, sym, ap, subst, ◌∙◌, arith, inl, inr}
 use Rattle.std.specs.Prelude.{option_map, codes}
 use Rattle.std.proofs.lemmas.Str.Pattern.{IsSplitOnceResult, split_parts}
-use Rattle.std.proofs.lemmas.Bool.{cases_lt}
+use Rattle.std.proofs.lemmas.Bool.{cases_lt, false≢true, or_parts}
+use Rattle.std.specs.List.{list_any}
 use Rattle.std.proofs.lemmas.Bool.Decides.{nat_tests}
-use Rattle.memchr.specs.Find.{IsFirstByte, Nowhere, Passes, is_byte, is_byte2}
+use Rattle.memchr.specs.Find.{IsFirstByte, Nowhere, Passes, is_byte2}
 use Rattle.std.proofs.lemmas.List.{append-nil, get_or-drop, length-drop, drop_more, take_more, drop_all, take_all}
 use Rattle.gk_gherkin.specs.Lines.{LineValue}
 use Rattle.gk_gherkin.specs.Text.{trim}
@@ -200,8 +201,10 @@ plain_bytes (x ∷ xs) ys h =
     let first : x ≢ 92 = h 0 (omega arith) in
     plain_byte x (xs ++ ys) (same_eqb x 92 first) ∙ ap (λ (t : List ℕ). x ∷ t) (plain_bytes xs ys (λ i below. h (suc i) (omega arith)))
 
-pub no_backslash : (text : List ℕ) → IsFirstByte (is_byte 92) text None → (i : ℕ) → i < length text → get_or text i 0 ≢ 92
-no_backslash text none i below e = none i (omega arith) below (ap (λ (b : ℕ). b == 92) e)
+pub no_backslash : (text : List ℕ) → list_any (λ b. b == 92) text ≡ false → (i : ℕ) → i < length text → get_or text i 0 ≢ 92
+no_backslash [] none i below e = absurd (omega arith)
+no_backslash (b ∷ text) none zero below e = false≢true (sym (or_parts (b == 92) (list_any (λ b. b == 92) text) none).0 ∙ ap (λ (b : ℕ). b == 92) e)
+no_backslash (b ∷ text) none (suc i) below e = no_backslash text (or_parts (b == 92) (list_any (λ b. b == 92) text) none).1 i (omega arith) e
 
 pub no_escape : (xs : List ℕ) → ((i : ℕ) → i < length xs → get_or xs i 0 ≢ 92) → unescaped xs ≡ xs
 unfolding unescaped

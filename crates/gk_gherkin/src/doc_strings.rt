@@ -14,7 +14,6 @@ use crate::class::Fence;
 use crate::lines::BorrowedLine;
 use crate::read_fault::ReadFault;
 use crate::text::{begins, leading_blanks, trim};
-use memchr::memchr;
 use std::alloc::Global;
 use std::mem;
 
@@ -86,14 +85,12 @@ fn with_content(
         (Ok (string_bytes text ++ spec.content_of fence (column - 1) (borrowed_value line.now))) }
 {
     let rest = without_margin(column.saturating_sub(1) as usize, line.text);
-    match memchr(b'\\', rest.as_bytes()) {
-        Some(_) => with_fences(text, fence, rest),
-        None => {
-            let mut text = text;
-            text.push_str(rest)?;
-            Ok(text)
-        }
+    if rest.as_bytes().contains(&b'\\') {
+        return with_fences(text, fence, rest);
     }
+    let mut text = text;
+    text.push_str(rest)?;
+    Ok(text)
 }
 
 #[tactic(auto, using(crate::proofs::TextEnds::after_end))]

@@ -9,7 +9,7 @@ ghost use Rattle.gk_gherkin.specs.Rows as spec;
 use crate::lines::BorrowedLine;
 use crate::read_fault::ReadFault;
 use crate::text::trim;
-use memchr::{memchr, memchr2};
+use memchr::memchr2;
 use std::alloc::Global;
 
 // Returns the number of bytes before the first bar that no backslash escapes, or before the end.
@@ -71,14 +71,12 @@ fn unescaped(alloc: Global, part: &str) -> Result<String, ReadFault>
 fn cell_from(alloc: Global, part: &str) -> Result<String, ReadFault>
     ensures { Agrees string_bytes result (Ok (spec.unescaped part.now)) }
 {
-    match memchr(b'\\', part.as_bytes()) {
-        Some(_) => unescaped(alloc, part),
-        None => {
-            let mut cell = String::with_capacity(alloc, part.len())?;
-            cell.push_str(part)?;
-            Ok(cell)
-        }
+    if part.as_bytes().contains(&b'\\') {
+        return unescaped(alloc, part);
     }
+    let mut cell = String::with_capacity(alloc, part.len())?;
+    cell.push_str(part)?;
+    Ok(cell)
 }
 
 // Reserves room for `width` cells.
