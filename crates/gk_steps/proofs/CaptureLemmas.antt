@@ -60,6 +60,9 @@ pub typed_hit : {K : Type 0} (keeps : List PieceValue → K → List FieldValue 
 typed_hit keeps entries typed t text hit all h =
     (h.0, hit_before keeps (map entry_value entries) typed hit h.0 (subst (λ es. IsHit keeps es hit h.0) (sym (take-map entry_value typed entries)) h.1), typed_found entries typed t text h.0 all h.2)
 
+pub none_typed : {K : Type 0} (keeps : List PieceValue → K → List FieldValue → Type 0) (entries : List Entry) (typed : ℕ) (t : StepType) (text : List ℕ) → are_for_each_from typed entries ≡ true → typed ≡ 0 → HitsWhatIsFound keeps (map entry_value entries) (Some t) text None
+none_typed keeps entries typed t text all none = typed_hit keeps entries 0 t text None (subst (λ n. are_for_each_from n entries ≡ true) none all) (None, tt, λ position entry is same. let bad : ⊥ = cc in absurd bad)
+
 -- the hit of what is computed
 pub own_hit : {K : Type 0} (keeps : List PieceValue → K → List FieldValue → Type 0) (es : LibraryValue) (step_type : StepType) (text : List ℕ) (hit : Hit K) → HitsWhatIsFound keeps es (Some step_type) text (Some hit) → IsHit keeps es (Some hit) (found es step_type text)
 own_hit keeps es step_type text hit (None, is, of) = absurd is

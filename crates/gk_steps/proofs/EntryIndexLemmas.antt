@@ -1,6 +1,6 @@
 -- An index over the literals at the ends of patterns.
 use Rattle.std.proofs.Common.{◌≡◌, ℕ, Bool, zero, suc, ◌+◌, ◌-◌, ◌%◌, ◌<◌, ◌≤◌, ◌⊎◌, inl, inr, List, [], ◌∷◌, ◌++◌, length, take, drop, map, get_or, Option, Some, refl, ap, sym, subst, ◌∙◌, arith, length-append, Bor, None}
-use Rattle.std.specs.Prelude.{slice_get, slice_set, IfSome, option_copied, Vec, ◌==◌, true, false, Result, Ok, Err, OnOk, if◌then◌else◌}
+use Rattle.std.specs.Prelude.{slice_get, slice_set, IfSome, option_copied, is_some, Vec, ◌==◌, true, false, Result, Ok, Err, OnOk, if◌then◌else◌}
 use Rattle.std.specs.Int.{w64, from_le_bytes}
 use Rattle.std.specs.declared.alloc.Global.{Global}
 use Rattle.std.proofs.Math.Nat.{eq-or-lt_of_le, mod-lt}
@@ -407,8 +407,9 @@ heads_passed heads entries from middle result word text e h s p = record {
   ];
 }
 
-pub passes_none : (heads : List (Option ℕ)) (from : ℕ) (word : Option ℕ) → PassesHeads heads from word from
-passes_none heads from word = record { low = omega arith; passed = λ position low under. absurd (omega arith) }
+pub other_none : (head : Option ℕ) → is_some head ≡ true → IsOther head None
+other_none None e = let bad : ⊥ = cc in bad
+other_none (Some word) e = λ same. let bad : ⊥ = cc in bad
 
 pub passes_more : (heads : List (Option ℕ)) (from position : ℕ) (word head : Option ℕ) → slice_get heads position ≡ Some head → IsOther head word → PassesHeads heads from word position → PassesHeads heads from word (position + 1)
 passes_more heads from position word head is other h = record {
@@ -420,9 +421,6 @@ passes_more heads from position word head is other h = record {
 }
 
 -- the heads of entries
-pub no_heads : (entries : List Entry) → AreHeads [] entries
-no_heads entries position word entry there is = let bad : ⊥ = cc in absurd bad
-
 pub heads_push : (old new : List (Option ℕ)) (entries items : List Entry) (head : Option ℕ) (x : Entry) → length old ≡ length entries → new ≡ old ++ head ∷ [] → items ≡ entries ++ x ∷ [] → head ≡ head_of (pattern_value x.pattern) → AreHeads old entries → AreHeads new items
 heads_push old new entries items head x size same_heads same own h position word entry there is =
     elim (get_push old head position (Some word) (ap (λ hs. slice_get hs position) (sym same_heads) ∙ there)) [

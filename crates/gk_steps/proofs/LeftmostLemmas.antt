@@ -1,10 +1,10 @@
 -- What the first piece of a pattern takes, and how a match goes on after it.
-use Rattle.std.proofs.Common.{◌≡◌, ℕ, ◌+◌, ◌-◌, ◌<◌, ◌≤◌, ◌⊎◌, inl, inr, Bool, true, false, List, [], ◌∷◌, ◌++◌, length, take, drop, map, nat_eq, Option, Some, None, option_map, refl, ap, sym, subst, ◌∙◌, arith, append_assoc, length-append}
+use Rattle.std.proofs.Common.{◌≡◌, ℕ, ◌+◌, ◌-◌, ◌<◌, ◌≤◌, ◌⊎◌, inl, inr, Bool, true, false, List, [], ◌∷◌, ◌++◌, length, take, drop, map, get_or, nat_eq, Option, Some, None, option_map, refl, ap, sym, subst, ◌∙◌, arith, append_assoc, length-append}
 use Rattle.std.specs.Str.{IsCharBoundary, IsUtf8}
 use Rattle.std.specs.Prelude.{MatchBool, IsTrue, ◌↔◌}
 use Rattle.std.specs.List.{starts_with}
 use Rattle.std.proofs.lemmas.Str.{IsUtf8-append, IsUtf8-drop, IsUtf8-take, IsCharBoundary-from_take, IsCharBoundary-from_drop}
-use Rattle.std.proofs.lemmas.List.{append-nil, take-append-drop, length-take-le, length-drop}
+use Rattle.std.proofs.lemmas.List.{append-nil, take-append-drop, length-take-le, length-drop, drop_more}
 use Rattle.std.proofs.lemmas.Bool.{cases_lt}
 use Rattle.std.proofs.Math.Nat.{eq-or-lt_of_le}
 use Rattle.std.proofs.Math.Seq.{take-append_seam, drop-append_seam, take-length}
@@ -174,6 +174,21 @@ pub first_more : (literal text : List ℕ) (position : ℕ) → StandsNowhereBef
 first_more literal text position before never = λ other some less here. elim (cases_lt other position) [
   | inl smaller ↦ before other some smaller here
   | inr le ↦ let same : other ≡ position = omega arith in never (subst (CanStandAt literal text) same here)
+]
+
+-- a literal that begins with a byte
+pub other_byte : (first : ℕ) (others literal text : List ℕ) (position : ℕ) → literal ≡ first ∷ others → position < length text → (get_or text position 0 ≡ first → ⊥) → CanStandAt literal text position → ⊥
+other_byte first others literal text position begins within other here =
+    let e : get_or text position 0 ∷ drop (position + 1) text ≡ first ∷ (others ++ here.rest) = sym (drop_more text position 0 within) ∙ here.stands ∙ ap (λ l. l ++ here.rest) begins in
+    other (ap (λ l. get_or l 0 0) e)
+
+-- a literal that is longer than what is left of a text
+pub no_room : (literal text : List ℕ) (end : ℕ) → length text < end + length literal → StandsNowhereBefore literal text end → StandsNowhereBefore literal text (length text + 1)
+no_room literal text end short before = λ other some less here. elim (cases_lt other end) [
+  | inl smaller ↦ before other some smaller here
+  | inr le ↦
+      let size : length text - other ≡ length literal + length here.rest = sym (length-drop other text) ∙ ap length here.stands ∙ length-append literal here.rest in
+      absurd (omega (arith, size, le, less, short))
 ]
 
 -- the pieces that are left

@@ -15,7 +15,6 @@ use Rattle.gk_steps.specs.declared.used_fields.UsedFields.{UsedFields}
 use Rattle.gk_steps.specs.declared.used_fields.FoundUse.{FoundUse}
 use Rattle.gk_steps.specs.Pattern.{PieceValue, Literal, FieldPiece, pattern_value}
 use Rattle.gk_steps.specs.LiteralEnds.{FitsStart, FitsEnd}
-use Rattle.gk_steps.specs.Leftmost.{DependsOnMore}
 use Rattle.gk_steps.specs.Matching.{FieldValue, TextField, NumberField, field_value, MatchesNot, IsMatchResult, match_of}
 
 -- An entry: its step type, its pattern and its action. An entry without a type is for steps of every type. (behave's documentation: step implementations)
@@ -62,7 +61,18 @@ pub record HasCandidate (entries : LibraryValue) (step_type : Option StepType) (
 abbrev pub HasCandidateFor : LibraryValue → StepType → List ℕ → Type 0
 HasCandidateFor entries step_type text = HasCandidate entries (Some step_type) text ⊎ HasCandidate entries None text
 
--- A match of the pattern may need a table. What some piece takes depends on more than a literal and a plain field after it: the piece is a number, or a plain field before another field or before a literal that a number or another literal follows.
+-- What the first piece takes depends on more than a literal and a plain field after it. The piece is a number, or a plain field before another field or before a literal that a number or another literal follows.
+abbrev pub DependsOnMore : PieceValue → List PieceValue → Type 0
+DependsOnMore (Literal literal) ps = ⊥
+DependsOnMore (FieldPiece name Decimal) ps = Unit {0}
+DependsOnMore (FieldPiece name Plain) [] = ⊥
+DependsOnMore (FieldPiece name Plain) (FieldPiece other kind ∷ ps) = Unit {0}
+DependsOnMore (FieldPiece name Plain) (Literal literal ∷ []) = ⊥
+DependsOnMore (FieldPiece name Plain) (Literal literal ∷ FieldPiece other Plain ∷ ps) = ⊥
+DependsOnMore (FieldPiece name Plain) (Literal literal ∷ FieldPiece other Decimal ∷ ps) = Unit {0}
+DependsOnMore (FieldPiece name Plain) (Literal literal ∷ Literal other ∷ ps) = Unit {0}
+
+-- A match of the pattern may need a table: what some piece takes depends on more than a literal and a plain field after it.
 abbrev pub MayNeedTable : List PieceValue → Type 0
 MayNeedTable [] = ⊥
 MayNeedTable (p ∷ ps) = DependsOnMore p ps ⊎ MayNeedTable ps

@@ -3,9 +3,10 @@ use Rattle.std.specs.Prelude.{◌≡◌, ◌<◌, ◌+◌, ◌++◌, [], ◌∷�
 use Rattle.std.specs.Str.{IsCharBoundary}
 use Rattle.gk_steps.specs.declared.leftmost.PieceEnd.{PieceEnd}
 use Rattle.gk_steps.specs.declared.leftmost.PieceEnd.TheVariants.{At, Nowhere, Unknown}
-use Rattle.gk_steps.specs.declared.pattern.FieldKind.TheVariants.{Plain, Decimal}
+use Rattle.gk_steps.specs.declared.pattern.FieldKind.TheVariants.{Plain}
 use Rattle.gk_steps.specs.Pattern.{PieceValue, Literal, FieldPiece}
 use Rattle.gk_steps.specs.Matching.{MatchesNot, IsMatchResult, FieldValue}
+use Rattle.gk_steps.specs.Finding.{DependsOnMore}
 use Rattle.gk_steps.specs.Advances.{Takes, values_of}
 
 -- A literal occurs in a text at a position that is a character boundary.
@@ -34,17 +35,6 @@ pub record TakesUpTo (piece : PieceValue) (ps : List PieceValue) (text : List �
   pub boundary : IsCharBoundary text position
   pub takes : Takes piece (take position text)
   pub goes_on : (found : Option (List FieldValue)) → IsMatchResult ps (drop position text) found → IsMatchResult (piece ∷ ps) text (option_map (λ (fields : List FieldValue). values_of piece (take position text) ++ fields) found)
-
--- What the first piece takes depends on more than a literal and a plain field after it. The piece is a number, or a plain field before another field or before a literal that a number or another literal follows.
-abbrev pub DependsOnMore : PieceValue → List PieceValue → Type 0
-DependsOnMore (Literal literal) ps = ⊥
-DependsOnMore (FieldPiece name Decimal) ps = Unit {0}
-DependsOnMore (FieldPiece name Plain) [] = ⊥
-DependsOnMore (FieldPiece name Plain) (FieldPiece other kind ∷ ps) = Unit {0}
-DependsOnMore (FieldPiece name Plain) (Literal literal ∷ []) = ⊥
-DependsOnMore (FieldPiece name Plain) (Literal literal ∷ FieldPiece other Plain ∷ ps) = ⊥
-DependsOnMore (FieldPiece name Plain) (Literal literal ∷ FieldPiece other Decimal ∷ ps) = Unit {0}
-DependsOnMore (FieldPiece name Plain) (Literal literal ∷ Literal other ∷ ps) = Unit {0}
 
 -- What is known about the first piece: what it takes, or that the pattern has no match. It is unknown only if it depends on more.
 abbrev pub IsPieceEnd : PieceValue → List PieceValue → List ℕ → PieceEnd → Type 0

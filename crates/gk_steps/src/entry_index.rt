@@ -85,18 +85,38 @@ pub(crate) fn head_of(pieces: &[Piece]) -> Option<u64>
     word_of(first_literal(pieces))
 }
 
-// Returns whether a head is another word than that of a text.
+// Returns whether a head is another word than this one.
 #[inline(always)]
-fn is_other(head: Option<u64>, word: Option<u64>) -> bool
-    ensures { IsTrue result → IsOther head word }
+fn is_other(head: Option<u64>, word: u64) -> bool
+    ensures { IsTrue result → IsOther head (Some word) }
 {
     match head {
-        Some(head) => match word {
-            Some(word) => head != word,
-            None => true,
-        },
+        Some(head) => head != word,
         None => false,
     }
+}
+
+// Returns the first position at or after `from` whose head isn't another word than this one.
+#[inline(always)]
+fn next_other(heads: &[Option<u64>], from: usize, word: u64) -> usize
+    ensures { PassesHeads heads.now from (Some word) result }
+{
+    let mut position = from;
+    while position < heads.len() && is_other(heads[position], word) {
+        position += 1;
+    }
+    position
+}
+
+// Returns the first position at or after `from` that has no head.
+fn next_without_head(heads: &[Option<u64>], from: usize) -> usize
+    ensures { PassesHeads heads.now from None result }
+{
+    let mut position = from;
+    while position < heads.len() && heads[position].is_some() {
+        position += 1;
+    }
+    position
 }
 
 // Returns the first position at or after `from` whose head isn't another word than that of a text.
@@ -104,11 +124,10 @@ fn is_other(head: Option<u64>, word: Option<u64>) -> bool
 fn next_head(heads: &[Option<u64>], from: usize, word: Option<u64>) -> usize
     ensures { PassesHeads heads.now from word result }
 {
-    let mut position = from;
-    while position < heads.len() && is_other(heads[position], word) {
-        position += 1;
+    match word {
+        Some(word) => next_other(heads, from, word),
+        None => next_without_head(heads, from),
     }
-    position
 }
 
 /// Returns the heads before a position.

@@ -126,6 +126,9 @@ impl Library {
             ≤ cells.old.filled + cells_of_step (library_value self.now) step_type text.now }
         ensures least { cells.old.filled ≤ cells.new.filled }
     {
+        if self.typed == 0 {
+            return self.search_any(alloc, cells, text);
+        }
         let typed = self.indexed(self.typed);
         if let Some(hit) = find_of(cells, alloc, &typed, Some(step_type), text)? {
             return Ok(Some(hit));

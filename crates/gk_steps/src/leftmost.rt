@@ -1,5 +1,5 @@
 //! What the first pieces of a pattern take from the left, if the pieces after them leave no choice.
-ghost use Rattle.std.specs.Prelude.{◌≤◌, [], ◌∷◌, ℕ, List, length, MatchBool};
+ghost use Rattle.std.specs.Prelude.{◌≡◌, ◌≤◌, [], ◌∷◌, ℕ, List, length, MatchBool};
 ghost use Rattle.gk_steps.specs.declared.pattern.FieldKind.TheVariants as kinds;
 ghost use Rattle.gk_steps.specs.Pattern.{Literal, FieldPiece, piece_value, pieces_said};
 ghost use Rattle.gk_steps.specs.Leftmost.{CanStandAt, IsFirstPosition, IsPieceEnd, IsEndBefore};
@@ -30,9 +30,8 @@ fn stands_at(literal: &str, text: &str, position: usize) -> bool
         && text.is_char_boundary(position)
 }
 
-// Returns the first position after one or more characters at which a literal occurs.
-#[inline(always)]
-fn first_position(literal: &str, text: &str) -> Option<usize>
+// Returns the first position after one or more characters at which an empty literal occurs.
+fn first_boundary(literal: &str, text: &str) -> Option<usize>
     ensures { IsFirstPosition literal.now text.now result }
 {
     for position in 1..text.len() + 1 {
@@ -41,6 +40,35 @@ fn first_position(literal: &str, text: &str) -> Option<usize>
         }
     }
     None
+}
+
+// Returns the first position after one or more characters at which a literal occurs that begins with this byte.
+#[inline(always)]
+fn first_of_byte(first: u8, literal: &str, text: &str) -> Option<usize>
+    requires { (rest : List ℕ) × (literal.now ≡ first ∷ rest) }
+    ensures { IsFirstPosition literal.now text.now result }
+{
+    let bytes = text.as_bytes();
+    if bytes.len() < literal.len() {
+        return None;
+    }
+    for position in 1..bytes.len() - literal.len() + 1 {
+        if bytes[position] == first && stands_at(literal, text, position) {
+            return Some(position);
+        }
+    }
+    None
+}
+
+// Returns the first position after one or more characters at which a literal occurs.
+#[inline(always)]
+fn first_position(literal: &str, text: &str) -> Option<usize>
+    ensures { IsFirstPosition literal.now text.now result }
+{
+    match literal.as_bytes().first() {
+        Some(first) => first_of_byte(*first, literal, text),
+        None => first_boundary(literal, text),
+    }
 }
 
 // Returns what a literal takes.

@@ -3,9 +3,15 @@ use Rattle.gk_steps.specs.Finding.{HasCandidate, HasCandidateFor, HasTableCandid
 use Rattle.gk_steps.specs.Captures.{HitsWhatIsFound}
 use Rattle.gk_steps.proofs.LibraryLemmas.{typed_candidate, typed_table_candidate}
 use Rattle.gk_steps.proofs.FindingLemmas.{of_fault, either_more}
-use Rattle.gk_steps.proofs.CaptureLemmas.{typed_hit, own_hit, other_hit}
+use Rattle.gk_steps.proofs.CaptureLemmas.{typed_hit, none_typed, own_hit, other_hit}
 use Rattle.gk_steps.proofs.FilledCellsLemmas.{typed_cells}
 use Rattle.gk_steps.proofs.library.Library.search.Goals as goal
+
+pub returns-then-self-eq0-clause-found : goal.returns-then-self-eq0-clause-found
+returns-then-self-eq0-clause-found g c =
+    other_hit g.K.Captures.keeps (library_value c.args.self.now) c.args.step_type c.args.text.now c.search_any.result
+    (none_typed g.K.Captures.keeps c.args.self.now.entries.items c.args.self.now.typed c.args.step_type c.args.text.now c.args.self.now.typed_end.rest c.if-self-eq0.true)
+    c.search_any.ensures.found
 
 pub returns-in-Some-clause-found : goal.returns-in-Some-clause-found
 returns-in-Some-clause-found g c =
@@ -16,11 +22,11 @@ returns-in-Some-clause-found g c =
 
 pub returns-clause-found : goal.returns-clause-found
 returns-clause-found g c =
-    other_hit g.K.Captures.keeps (library_value c.args.self.now) c.args.step_type c.args.text.now c.search_any.result
+    other_hit g.K.Captures.keeps (library_value c.args.self.now) c.args.step_type c.args.text.now c.search_any-2.result
     (subst (HitsWhatIsFound g.K.Captures.keeps (library_value c.args.self.now) (Some c.args.step_type) c.args.text.now) c.in_default.is
     (typed_hit g.K.Captures.keeps c.args.self.now.entries.items c.args.self.now.typed c.args.step_type c.args.text.now c.in_ok-hit.field-0 c.args.self.now.typed_end.rest
     (subst (λ es. HitsWhatIsFound g.K.Captures.keeps (map entry_value es) (Some c.args.step_type) c.args.text.now c.in_ok-hit.field-0) c.indexed-typed.ensures.entries c.in_ok-hit.ensures.found)))
-    c.search_any.ensures.found
+    c.search_any-2.ensures.found
 
 pub returns-in_err-hit-clause-memory : goal.returns-in_err-hit-clause-memory
 returns-in_err-hit-clause-memory g c =
@@ -41,7 +47,7 @@ returns-in-Some-clause-most g c =
 pub returns-clause-most : goal.returns-clause-most
 returns-clause-most g c =
     let typed = typed_cells c.args.self.now.entries.items c.indexed-typed.result.entries.now c.args.self.now.typed (Some c.args.step_type) c.args.text.now c.indexed-typed.ensures.entries in
-    omega (arith, typed, c.find_of.ensures.most, c.search_any.ensures.most)
+    omega (arith, typed, c.find_of.ensures.most, c.search_any-2.ensures.most)
 
 pub returns-in_err-hit-clause-table : goal.returns-in_err-hit-clause-table
 returns-in_err-hit-clause-table g c =
@@ -53,4 +59,4 @@ returns-in_err-hit-clause-table g c =
 
 pub returns-clause-table : goal.returns-clause-table
 returns-clause-table g c =
-    either_more c.search_any.result g.K.Captures.allocates (HasTableCandidate (library_value c.args.self.now) None c.args.text.now) (HasTableCandidateFor (library_value c.args.self.now) c.args.step_type c.args.text.now) (λ table. inr table) c.search_any.ensures.table
+    either_more c.search_any-2.result g.K.Captures.allocates (HasTableCandidate (library_value c.args.self.now) None c.args.text.now) (HasTableCandidateFor (library_value c.args.self.now) c.args.step_type c.args.text.now) (λ table. inr table) c.search_any-2.ensures.table

@@ -1,9 +1,9 @@
-use Rattle.std.proofs.Common.{◌-◌, length}
+use Rattle.std.proofs.Common.{◌-◌, length, Some}
 use Rattle.gk_steps.specs.EntryIndex.{PassesHeads}
-use Rattle.gk_steps.proofs.entry_index.next_head.Given as goal
+use Rattle.gk_steps.proofs.entry_index.next_other.Given as goal
 
 abbrev pub invariant-loop-position : goal.invariant-loop-position
-invariant-loop-position l = PassesHeads l.heads l.from l.word l.position
+invariant-loop-position l = PassesHeads l.heads l.from (Some l.word) l.position
 
 abbrev pub decreases-loop-position : goal.decreases-loop-position
 decreases-loop-position l = length l.heads - l.position

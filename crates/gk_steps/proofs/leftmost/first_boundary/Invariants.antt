@@ -1,5 +1,5 @@
 use Rattle.gk_steps.specs.Leftmost.{StandsNowhereBefore}
-use Rattle.gk_steps.proofs.leftmost.first_position.Given as goal
+use Rattle.gk_steps.proofs.leftmost.first_boundary.Given as goal
 
 -- It stands at none of the boundaries so far.
 abbrev pub invariant-loop-position : goal.invariant-loop-position
