@@ -4,19 +4,21 @@ use Rattle.std.specs.Prelude.{slice_get, slice_set, IfSome, option_copied, is_so
 use Rattle.std.specs.Int.{w64, from_le_bytes}
 use Rattle.std.specs.declared.alloc.Global.{Global}
 use Rattle.std.proofs.Math.Nat.{eq-or-lt_of_le, mod-lt}
+use Rattle.std.proofs.Math.ListN.{drop_of_length-le}
 use Rattle.std.proofs.lemmas.Bool.{cases_lt, eq-eqb, lt-ltb, le-ltb}
 use Rattle.std.proofs.lemmas.List.{append-nil, take_at, drop_at, take_all, take-append-le}
 use Rattle.gk_steps.specs.declared.library.Entry.{Entry}
 use Rattle.gk_steps.specs.declared.pattern.Piece.{Piece}
 use Rattle.gk_steps.specs.declared.entry_index.Index.{Index}
 use Rattle.gk_steps.specs.declared.entry_index.Keyed.{Keyed}
+use Rattle.gk_steps.specs.declared.entry_index.Head.{Head}
 use Rattle.gk_steps.specs.Pattern.{PieceValue, Literal, FieldPiece, piece_value, pattern_value}
 use Rattle.gk_steps.specs.Matching.{Matches, MatchesNot, woven}
 use Rattle.gk_steps.specs.LiteralEnds.{FitsEnd}
 use Rattle.gk_gherkin.specs.declared.feature.StepType.{StepType}
 use Rattle.gk_steps.specs.Finding.{EntryValue, entry_value, NoneBefore}
 use Rattle.gk_steps.specs.FilledCells.{cells_of_type}
-use Rattle.gk_steps.specs.EntryIndex.{literal_of, first_literal, last_literal, key_more, key_over, first_key, ends_key, keyed, IsAmong, IsUnder, IsMarked, bucket_at, bucket_of, HasBuckets, Lists, AreListed, IsLeastFrom, Skips, CanStand, HasFirst, HasEnds, HasEndsAmong, IsShorter, IsAny, SkipsEntries, word_of, head_of, IsOther, PassesHeads, AreHeads}
+use Rattle.gk_steps.specs.EntryIndex.{literal_of, first_literal, last_literal, key_more, key_over, first_key, ends_key, keyed, IsAmong, IsUnder, IsMarked, bucket_at, bucket_of, HasBuckets, Lists, AreListed, IsLeastFrom, Skips, CanStand, HasFirst, HasEnds, HasEndsAmong, IsShorter, IsAny, SkipsEntries, word_of, head_of, IsOther, PassesHeads, StandsFor, AreHeads, AreSingle}
 use Rattle.gk_steps.proofs.LiteralEndLemmas.{match_fits}
 
 -- the last literal
@@ -394,16 +396,16 @@ match_word ps text spans word m e =
     word_more (first_literal ps) a.0 word e ∙ ap word_of (sym a.1)
 
 -- entries that are passed over by their heads
-other_never : (head : Option ℕ) (heads : List (Option ℕ)) (entries : List Entry) (position : ℕ) (entry : Entry) (word : Option ℕ) (text : List ℕ) → word ≡ word_of text → AreHeads heads entries → slice_get heads position ≡ Some head → slice_get entries position ≡ Some entry → IsOther head word → MatchesNot (pattern_value entry.pattern) text
-other_never None heads entries position entry word text e h there is other spans m = other
-other_never (Some w) heads entries position entry word text e h there is other spans m = other (match_word (pattern_value entry.pattern) text spans w m (h position w entry there is) ∙ sym e)
+other_never : (o : Option ℕ) (heads : List Head) (entries : List Entry) (position other : ℕ) (head : Head) (entry : Entry) (word : Option ℕ) (text : List ℕ) → head.word ≡ o → word ≡ word_of text → AreHeads heads entries → StandsFor heads position other head → slice_get entries other ≡ Some entry → IsOther o word → MatchesNot (pattern_value entry.pattern) text
+other_never None heads entries position other head entry word text own e h for is never spans m = never
+other_never (Some w) heads entries position other head entry word text own e h for is never spans m = never (match_word (pattern_value entry.pattern) text spans w m (h position other w head entry for own is) ∙ sym e)
 
-pub heads_passed : (heads : List (Option ℕ)) (entries : List Entry) (from middle result : ℕ) (word : Option ℕ) (text : List ℕ) → word ≡ word_of text → AreHeads heads entries → SkipsEntries entries from text middle → PassesHeads heads middle word result → SkipsEntries entries from text result
+pub heads_passed : (heads : List Head) (entries : List Entry) (from middle result : ℕ) (word : Option ℕ) (text : List ℕ) → word ≡ word_of text → AreHeads heads entries → SkipsEntries entries from text middle → PassesHeads heads middle word result → SkipsEntries entries from text result
 heads_passed heads entries from middle result word text e h s p = record {
   low = λ le. omega (arith, s.low le, p.low);
-  skipped = λ position entry is low under. elim (cases_lt position middle) [
-    | inl before ↦ s.skipped position entry is low before
-    | inr from ↦ let o = p.passed position from under in other_never o.0 heads entries position entry word text e h o.1 is o.2
+  skipped = λ other entry is low under. elim (cases_lt other middle) [
+    | inl before ↦ s.skipped other entry is low before
+    | inr from ↦ let o = p.passed other from under in other_never o.1.word heads entries o.0 other o.1 entry word text refl e h o.2 is o.3
   ];
 }
 
@@ -411,33 +413,65 @@ pub other_none : (head : Option ℕ) → is_some head ≡ true → IsOther head 
 other_none None e = let bad : ⊥ = cc in bad
 other_none (Some word) e = λ same. let bad : ⊥ = cc in bad
 
-pub passes_more : (heads : List (Option ℕ)) (from position : ℕ) (word head : Option ℕ) → slice_get heads position ≡ Some head → IsOther head word → PassesHeads heads from word position → PassesHeads heads from word (position + 1)
-passes_more heads from position word head is other h = record {
-  low = omega (arith, h.low);
-  passed = λ before low under. elim (let le : before ≤ position = omega arith in eq-or-lt_of_le le) [
-    | inr old ↦ h.passed before low old
-    | inl same ↦ (head, ap (slice_get heads) same ∙ is, other)
+pub passes_more : (heads : List Head) (from position next : ℕ) (word : Option ℕ) (head : Head) → slice_get heads position ≡ Some head → IsOther head.word word → position < next → next ≤ position + 1 + head.more → PassesHeads heads from word position → PassesHeads heads from word next
+passes_more heads from position next word head is other later most h = record {
+  low = omega (arith, h.low, later);
+  passed = λ before low under. elim (cases_lt before position) [
+    | inl old ↦ h.passed before low old
+    | inr le ↦ (position, head, record { there = is; low = le; high = omega (arith, under, most) }, other)
   ];
 }
 
 -- the heads of entries
-pub heads_push : (old new : List (Option ℕ)) (entries items : List Entry) (head : Option ℕ) (x : Entry) → length old ≡ length entries → new ≡ old ++ head ∷ [] → items ≡ entries ++ x ∷ [] → head ≡ head_of (pattern_value x.pattern) → AreHeads old entries → AreHeads new items
-heads_push old new entries items head x size same_heads same own h position word entry there is =
-    elim (get_push old head position (Some word) (ap (λ hs. slice_get hs position) (sym same_heads) ∙ there)) [
-      | inl a ↦ elim (get_push entries x position entry (ap (λ es. slice_get es position) (sym same) ∙ is)) [
-        | inl b ↦ h position word entry a b
-        | inr b ↦ absurd (omega (arith, get_within old position (Some word) a, b.0, size))
+pub heads_push : (old new : List Head) (entries items : List Entry) (head : Head) (x : Entry) → length old ≡ length entries → new ≡ old ++ head ∷ [] → items ≡ entries ++ x ∷ [] → head.word ≡ head_of (pattern_value x.pattern) → AreSingle new → AreHeads old entries → AreHeads new items
+heads_push old new entries items head x size same_heads same own single h position other word found entry for is_word is =
+    let here : other ≡ position = omega (arith, for.low, for.high, single position found for.there) in
+    elim (get_push old head position found (ap (λ hs. slice_get hs position) (sym same_heads) ∙ for.there)) [
+      | inl a ↦ elim (get_push entries x other entry (ap (λ es. slice_get es other) (sym same) ∙ is)) [
+        | inl b ↦ h position other word found entry (record { there = a; low = for.low; high = for.high }) is_word b
+        | inr b ↦ absurd (omega (arith, get_within old position found a, b.0, size, here))
       ]
-      | inr a ↦ elim (get_push entries x position entry (ap (λ es. slice_get es position) (sym same) ∙ is)) [
-        | inl b ↦ absurd (omega (arith, get_within entries position entry b, a.0, size))
-        | inr b ↦ sym a.1 ∙ own ∙ ap (λ (v : Entry). head_of (pattern_value v.pattern)) b.1
+      | inr a ↦ elim (get_push entries x other entry (ap (λ es. slice_get es other) (sym same) ∙ is)) [
+        | inl b ↦ absurd (omega (arith, get_within entries other entry b, a.0, size, here))
+        | inr b ↦ sym is_word ∙ ap (λ (f : Head). f.word) (sym a.1) ∙ own ∙ ap (λ (v : Entry). head_of (pattern_value v.pattern)) b.1
       ]
     ]
 
-pub heads_taken : (heads some : List (Option ℕ)) (entries slice : List Entry) (n : ℕ) → some ≡ take n heads → slice ≡ take n entries → AreHeads heads entries → AreHeads some slice
-heads_taken heads some entries slice n same_heads same h position word entry there is =
-    h position word entry (get_taken heads n position (Some word) (ap (λ hs. slice_get hs position) (sym same_heads) ∙ there)) (get_taken entries n position entry (ap (λ es. slice_get es position) (sym same) ∙ is))
+pub single_push : (old new : List Head) (head : Head) → new ≡ old ++ head ∷ [] → head.more ≡ 0 → AreSingle old → AreSingle new
+single_push old new head same none h position found there = elim (get_push old head position found (ap (λ hs. slice_get hs position) (sym same) ∙ there)) [
+  | inl a ↦ h position found a
+  | inr a ↦ ap (λ (f : Head). f.more) (sym a.1) ∙ none
+]
 
-pub heads_size : (old middle new : List (Option ℕ)) (entries items : List Entry) (head : Option ℕ) (x : Entry) → length old ≡ length entries → middle ≡ old → new ≡ middle ++ head ∷ [] → items ≡ entries ++ x ∷ [] → length new ≡ length items
+get_set : {X : Type 0} (xs : List X) (i : ℕ) (y : X) (k : ℕ) (z : X) → slice_get (slice_set xs i y) k ≡ Some z → (slice_get xs k ≡ Some z) ⊎ ((k ≡ i) × (y ≡ z))
+get_set [] i y k z e = inl e
+get_set (x ∷ xs) zero y zero z e = inr (refl, same_some y z e)
+get_set (x ∷ xs) zero y (suc k) z e = inl e
+get_set (x ∷ xs) (suc i) y zero z e = inl e
+get_set (x ∷ xs) (suc i) y (suc k) z e = elim (get_set xs i y k z e) [ inl a ↦ inl a | inr b ↦ inr (ap suc b.0, b.1) ]
+
+-- a head that stands for the entries of an equal one after it, too
+pub heads_joined : (heads : List Head) (position : ℕ) (own later new : Head) → slice_get heads position ≡ Some own → slice_get heads (position + 1) ≡ Some later → own.word ≡ later.word → new.word ≡ later.word → new.more ≤ later.more + 1 → (entries : List Entry) → AreHeads heads entries → AreHeads (slice_set heads position new) entries
+heads_joined heads position own later new is_own is_later same kept most entries h k other word head entry for is_word is = elim (get_set heads position new k head for.there) [
+  | inl a ↦ h k other word head entry (record { there = a; low = for.low; high = for.high }) is_word is
+  | inr b ↦
+      let later_word : later.word ≡ Some word = sym kept ∙ ap (λ (f : Head). f.word) b.1 ∙ is_word in
+      let reach : other ≤ position + new.more = omega (arith, for.high, ap (λ (f : Head). f.more) b.1, b.0) in
+      elim (cases_lt position other) [
+        | inl after ↦ h (position + 1) other word later entry (record { there = is_later; low = omega (arith, after); high = omega (arith, reach, most) }) later_word is
+        | inr le ↦ h position other word own entry (record { there = is_own; low = omega (arith, for.low, b.0); high = omega (arith, le) }) (same ∙ later_word) is
+      ]
+]
+
+pub written_back : {X : Type 0} (n : ℕ) (new old : List X) → length new ≡ length old → n ≡ length old → take n (new ++ drop (length new) old) ≡ new
+written_back n new old same size =
+    let none : drop (length new) old ≡ [] = drop_of_length-le old {i = length new} (omega (arith, same)) in
+    ap (λ r. take n (new ++ r)) none ∙ ap (take n) (append-nil new) ∙ take_all n new (omega (arith, same, size))
+
+pub heads_taken : (heads some : List Head) (entries slice : List Entry) (n : ℕ) → some ≡ take n heads → slice ≡ take n entries → AreHeads heads entries → AreHeads some slice
+heads_taken heads some entries slice n same_heads same h position other word head entry for is_word is =
+    h position other word head entry (record { there = get_taken heads n position head (ap (λ hs. slice_get hs position) (sym same_heads) ∙ for.there); low = for.low; high = for.high }) is_word (get_taken entries n other entry (ap (λ es. slice_get es other) (sym same) ∙ is))
+
+pub heads_size : (old middle new : List Head) (entries items : List Entry) (head : Head) (x : Entry) → length old ≡ length entries → middle ≡ old → new ≡ middle ++ head ∷ [] → items ≡ entries ++ x ∷ [] → length new ≡ length items
 heads_size old middle new entries items head x size kept same_heads same =
     omega (arith, size, ap length kept, ap length same_heads, ap length same, length-append middle (head ∷ []), length-append entries (x ∷ []))

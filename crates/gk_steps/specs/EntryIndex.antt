@@ -6,6 +6,7 @@ use Rattle.gk_steps.specs.declared.library.Entry.{Entry}
 use Rattle.gk_steps.specs.declared.library.LibraryBuilder.{LibraryBuilder}
 use Rattle.gk_steps.specs.declared.entry_index.Index.{Index}
 use Rattle.gk_steps.specs.declared.entry_index.Keyed.{Keyed}
+use Rattle.gk_steps.specs.declared.entry_index.Head.{Head}
 use Rattle.gk_steps.specs.declared.entry_index.IndexedEntries.{IndexedEntries}
 use Rattle.gk_steps.specs.Pattern.{PieceValue, Literal, FieldPiece, pattern_value}
 use Rattle.gk_steps.specs.Matching.{MatchesNot}
@@ -138,14 +139,24 @@ abbrev pub IsOther : Option ℕ → Option ℕ → Type 0
 IsOther None word = ⊥
 IsOther (Some head) word = Some head ≡ word → ⊥
 
--- The heads between two positions are other words than that of a text.
-pub record PassesHeads (heads : List (Option ℕ)) (from : ℕ) (word : Option ℕ) (result : ℕ) : Type 0 where
-  pub low : from ≤ result
-  pub passed : (position : ℕ) → from ≤ position → position < result → (head : Option ℕ) × (slice_get heads position ≡ Some head) × IsOther head word
+-- A head stands for the entry at this other position: the entry is at the head's position or among the `more` after it.
+pub record StandsFor (heads : List Head) (position other : ℕ) (head : Head) : Type 0 where
+  pub there : slice_get heads position ≡ Some head
+  pub low : position ≤ other
+  pub high : other ≤ position + head.more
 
--- Each head that is a word is that of the entry at its position.
-abbrev pub AreHeads : List (Option ℕ) → List Entry → Type 0
-AreHeads heads entries = (position word : ℕ) (entry : Entry) → slice_get heads position ≡ Some (Some word) → slice_get entries position ≡ Some entry → Some word ≡ head_of (pattern_value entry.pattern)
+-- The heads of the entries between two positions are other words than that of a text.
+pub record PassesHeads (heads : List Head) (from : ℕ) (word : Option ℕ) (result : ℕ) : Type 0 where
+  pub low : from ≤ result
+  pub passed : (other : ℕ) → from ≤ other → other < result → (position : ℕ) × (head : Head) × StandsFor heads position other head × IsOther head.word word
+
+-- Each head that is a word is that of every entry that it stands for.
+abbrev pub AreHeads : List Head → List Entry → Type 0
+AreHeads heads entries = (position other word : ℕ) (head : Head) (entry : Entry) → StandsFor heads position other head → head.word ≡ Some word → slice_get entries other ≡ Some entry → Some word ≡ head_of (pattern_value entry.pattern)
+
+-- Each head stands for one entry.
+abbrev pub AreSingle : List Head → Type 0
+AreSingle heads = (position : ℕ) (head : Head) → slice_get heads position ≡ Some head → head.more ≡ 0
 
 -- The heads of these entries are theirs, and their index, if there is one, lists them.
 pub record IsIndexed (indexed : IndexedEntries) : Type 0 where
@@ -156,4 +167,5 @@ pub record IsIndexed (indexed : IndexedEntries) : Type 0 where
 pub record HasIndex (builder : LibraryBuilder) : Type 0 where
   pub size : length builder.heads.items ≡ length builder.entries.items
   pub heads : AreHeads builder.heads.items builder.entries.items
+  pub single : AreSingle builder.heads.items
   pub index : AreListed builder.index builder.entries.items

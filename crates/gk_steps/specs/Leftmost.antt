@@ -1,5 +1,5 @@
 -- Proof machinery: how much of a text the first piece of a pattern takes, if the pieces after it leave no choice.
-use Rattle.std.specs.Prelude.{◌≡◌, ◌<◌, ◌+◌, ◌++◌, [], ◌∷◌, ℕ, List, length, take, drop, Option, Some, None, option_map}
+use Rattle.std.specs.Prelude.{◌≡◌, ◌<◌, ◌+◌, ◌++◌, ◌∷◌, ℕ, List, length, take, drop, Option, Some, None, option_map}
 use Rattle.std.specs.Str.{IsCharBoundary}
 use Rattle.gk_steps.specs.declared.leftmost.PieceEnd.{PieceEnd}
 use Rattle.gk_steps.specs.declared.leftmost.PieceEnd.TheVariants.{At, Nowhere, Unknown}

@@ -6,7 +6,8 @@ ghost use Rattle.gk_steps.specs.EntryIndex as spec;
 ghost use Rattle.gk_steps.specs.EntryIndex.{IsAmong, IsMarked, bucket_of, HasBuckets, Lists, AreListed};
 ghost use Rattle.gk_steps.specs.EntryIndex.{IsUnder, IsLeastFrom, Skips, HasFirst, HasEnds};
 ghost use Rattle.gk_steps.specs.EntryIndex.{IsAny, CanStand, SkipsEntries, IsIndexed};
-ghost use Rattle.gk_steps.specs.EntryIndex.{IsOther, PassesHeads};
+ghost use Rattle.gk_steps.specs.EntryIndex.{IsOther, PassesHeads, AreHeads};
+ghost use Rattle.gk_steps.specs.declared.library.Entry.{Entry};
 
 use crate::library::Entry;
 use crate::pattern::Piece;
@@ -17,6 +18,14 @@ use std::alloc::{AllocError, Global};
 pub(crate) struct Keyed {
     pub key: usize,
     pub number: usize,
+}
+
+/// The word at the head of an entry's pattern, if it has one, and the number of entries after it that are known to have
+/// the same. A search passes over all of these at once.
+#[derive(Clone, Copy, Debug)]
+pub(crate) struct Head {
+    pub word: Option<u64>,
+    pub more: usize,
 }
 
 /// The positions of a library's entries, by the literals at their patterns' ends. A text that a pattern matches begins
@@ -98,22 +107,22 @@ fn is_other(head: Option<u64>, word: u64) -> bool
 
 // Returns the first position at or after `from` whose head isn't another word than this one.
 #[inline(always)]
-fn next_other(heads: &[Option<u64>], from: usize, word: u64) -> usize
+fn next_other(heads: &[Head], from: usize, word: u64) -> usize
     ensures { PassesHeads heads.now from (Some word) result }
 {
     let mut position = from;
-    while position < heads.len() && is_other(heads[position], word) {
-        position += 1;
+    while position < heads.len() && is_other(heads[position].word, word) {
+        position = (position + 1).saturating_add(heads[position].more);
     }
     position
 }
 
 // Returns the first position at or after `from` that has no head.
-fn next_without_head(heads: &[Option<u64>], from: usize) -> usize
+fn next_without_head(heads: &[Head], from: usize) -> usize
     ensures { PassesHeads heads.now from None result }
 {
     let mut position = from;
-    while position < heads.len() && heads[position].is_some() {
+    while position < heads.len() && heads[position].word.is_some() {
         position += 1;
     }
     position
@@ -121,7 +130,7 @@ fn next_without_head(heads: &[Option<u64>], from: usize) -> usize
 
 // Returns the first position at or after `from` whose head isn't another word than that of a text.
 #[inline(always)]
-fn next_head(heads: &[Option<u64>], from: usize, word: Option<u64>) -> usize
+fn next_head(heads: &[Head], from: usize, word: Option<u64>) -> usize
     ensures { PassesHeads heads.now from word result }
 {
     match word {
@@ -132,13 +141,42 @@ fn next_head(heads: &[Option<u64>], from: usize, word: Option<u64>) -> usize
 
 /// Returns the heads before a position.
 #[tactic(auto, using(crate::proofs::EntryIndexLemmas::all_before))]
-pub(crate) fn heads_before(heads: &[Option<u64>], size: usize) -> &[Option<u64>]
+pub(crate) fn heads_before(heads: &[Head], size: usize) -> &[Head]
     ensures { result.now ≡ take size heads.now }
 {
     if size < heads.len() {
         &heads[..size]
     } else {
         heads
+    }
+}
+
+// Returns whether two heads are equal.
+fn is_same_word(a: Option<u64>, b: Option<u64>) -> bool
+    ensures { IsTrue result → a ≡ b }
+{
+    match a {
+        None => b.is_none(),
+        Some(a) => match b {
+            None => false,
+            Some(b) => a == b,
+        },
+    }
+}
+
+/// Counts at each head the equal ones after it.
+pub(crate) fn count_equal(heads: &mut [Head])
+    ensures { (entries : List Entry) → AreHeads heads.old entries → AreHeads heads.new entries }
+{
+    for back in 1..heads.len() {
+        let position = heads.len() - 1 - back;
+        let later = heads[position + 1];
+        if is_same_word(heads[position].word, later.word) {
+            heads[position] = Head {
+                word: later.word,
+                more: later.more.saturating_add(1),
+            };
+        }
     }
 }
 
@@ -392,7 +430,7 @@ impl Index {
 #[derive(Clone, Copy, Debug)]
 pub(crate) struct IndexedEntries<'a> {
     pub entries: &'a [Entry],
-    pub heads: &'a [Option<u64>],
+    pub heads: &'a [Head],
     pub index: Option<&'a Index>,
 }
 

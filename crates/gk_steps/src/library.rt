@@ -5,7 +5,7 @@ ghost use Rattle.gk_steps.specs.Library.{IsTypedEnd, are_for_each_from, is_for_o
 ghost use Rattle.gk_steps.specs.EntryIndex.{AreHeads, AreListed, HasIndex, IsIndexed};
 
 use crate::action::Action;
-use crate::entry_index::{Index, IndexedEntries, head_of, heads_before};
+use crate::entry_index::{Head, Index, IndexedEntries, count_equal, head_of, heads_before};
 use crate::pattern::Pattern;
 use gk_gherkin::StepType;
 use std::alloc::{AllocError, Global};
@@ -28,7 +28,7 @@ pub struct Library {
     pub(crate) typed: usize,
     // The heads of the first entries; none if the library was not read from lines. An entry whose head is another word
     // than that of a text is passed over.
-    heads: Vec<Option<u64>>,
+    heads: Vec<Head>,
     // Which entries may match a text. A short library and one that was not read from lines have no index.
     index: Option<Index>,
     ghost typed_end: { IsTypedEnd typed entries.items } by { Prim.hlevel props },
@@ -53,7 +53,7 @@ fn typed_len(entries: &[Entry]) -> usize
 #[derive(Debug, Drop)]
 pub(crate) struct LibraryBuilder {
     pub entries: Vec<Entry>,
-    pub heads: Vec<Option<u64>>,
+    pub heads: Vec<Head>,
     pub index: Index,
 }
 
@@ -103,7 +103,10 @@ impl LibraryBuilder {
     {
         let head = head_of(&entry.pattern.pieces);
         self.push_listed(alloc, entry)?;
-        self.heads.push(head)?;
+        self.heads.push(Head {
+            word: head,
+            more: 0,
+        })?;
         Ok(())
     }
 
@@ -141,10 +144,12 @@ impl Library {
         ensures { result.entries ≡ builder.entries }
     {
         let typed = typed_len(&builder.entries);
+        let mut heads = builder.heads;
+        count_equal(&mut heads);
         Library {
             entries: builder.entries,
             typed,
-            heads: builder.heads,
+            heads,
             index: builder.index.into_asked(),
         }
     }

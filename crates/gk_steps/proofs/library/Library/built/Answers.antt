@@ -1,18 +1,23 @@
-use Rattle.std.proofs.Common.{◌≤◌, length, subst}
+use Rattle.std.proofs.Common.{◌≤◌, List, length, arith, ap, sym, subst}
 use Rattle.std.specs.Prelude.{IsTrue}
+use Rattle.gk_steps.specs.declared.entry_index.Head.{Head}
+use Rattle.gk_steps.specs.EntryIndex.{AreHeads}
 use Rattle.gk_steps.specs.Library.{are_for_each_from, is_for_one_before}
-use Rattle.gk_steps.proofs.EntryIndexLemmas.{if_asked}
+use Rattle.gk_steps.proofs.EntryIndexLemmas.{if_asked, written_back}
 use Rattle.gk_steps.proofs.library.Library.built.Goals as goal
 
 pub invariant_of-result : goal.invariant_of-result
 invariant_of-result c =
     let typed = c.typed_len-typed.result in
+    let heads = c.args.builder.heads.items in
+    let entries = c.args.builder.entries.items in
     record {
       typed_end = record {
         within = subst (λ es. typed ≤ length es) c.deref.ensures.value c.typed_len-typed.ensures.within;
         rest = subst (λ es. IsTrue (are_for_each_from typed es)) c.deref.ensures.value c.typed_len-typed.ensures.rest;
         last = subst (λ es. IsTrue (is_for_one_before typed es)) c.deref.ensures.value c.typed_len-typed.ensures.last;
       };
-      headed = c.requires.heads;
+      headed = subst (λ (hs : List Head). AreHeads hs entries) (sym (written_back c.args.builder.heads.len c.count_equal.new.heads heads (omega (arith, c.count_equal.auto.heads, ap length c.deref_mut.ensures.value)) (omega (arith, c.args.builder.heads.ok.0))))
+          (c.count_equal.ensures entries (subst (λ (hs : List Head). AreHeads hs entries) (sym c.deref_mut.ensures.value) c.requires.heads));
       listed = if_asked c.into_asked.result c.args.builder.index c.args.builder.entries.items c.into_asked.ensures c.requires.index;
     }

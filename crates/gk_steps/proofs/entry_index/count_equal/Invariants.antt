@@ -1,0 +1,7 @@
+use Rattle.std.proofs.Common.{List}
+use Rattle.gk_steps.specs.declared.library.Entry.{Entry}
+use Rattle.gk_steps.specs.EntryIndex.{AreHeads}
+use Rattle.gk_steps.proofs.entry_index.count_equal.Given as goal
+
+abbrev pub invariant-loop-back : goal.invariant-loop-back
+invariant-loop-back l = (entries : List Entry) → AreHeads l.fn.heads entries → AreHeads l.heads entries
