@@ -26,7 +26,7 @@ end_in text end first = (first.0.high, grind (arith, nat_tests, first.1))
 pub up_to_end : (text : List ℕ) (end : ℕ) → IsFirstByte (is_byte 10) text (Some end) → lines text ≡ strip_carriage_return (take end text) ∷ lines (drop (end + 1) text)
 up_to_end text end first =
     let at : position_or_len (is_byte 10) text ≡ end =
-        position_or_len_is (is_byte 10) text end 0 (omega (arith, first.0.high)) (λ k below. false_from_ne_true _ (first.0.before k (omega arith) below)) (λ _. first.1) in
+    position_or_len_is (is_byte 10) text end 0 (omega (arith, first.0.high)) (λ k below. false_from_ne_true _ (first.0.before k (omega arith) below)) (λ _. first.1) in
     let parts = slice_split_first (is_byte 10) text 0 (subst (λ (n : ℕ). n < length text) (sym at) first.0.high) in
     ap lines_of_parts parts
     ∙ before_parts (before_first (is_byte 10) text) (slice_split (is_byte 10) (after_first (is_byte 10) text)) (omega (arith, length-slice_split (is_byte 10) (after_first (is_byte 10) text)))
