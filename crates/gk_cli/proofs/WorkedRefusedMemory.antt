@@ -20,7 +20,8 @@ use Rattle.gk_run.specs.Running.{reached_row, first_or, without_first}
 use Rattle.gk_run.specs.Chosen.{MemberValue, ChosenValue}
 use Rattle.gk_run.specs.Features.{FeatureCuts, uncut_feature, feature_verdict, RuleCuts}
 use Rattle.gk_run.specs.Judged.{Cuts, Judged}
-use Rattle.gk_report.proofs.WorkedReports.{plain, Gives, plain_on_literals}
+use Rattle.gk_report.specs.Report.{plain_style}
+use Rattle.gk_report.proofs.WorkedReports.{Gives, plain_on_literals}
 use Rattle.gk_request.specs.Inputs.{Inputs, AreInputs, IsLibrary, member_by, InputsAreUnique}
 use Rattle.gk_request.specs.Request.{Request}
 use Rattle.gk_cli.specs.Suite.{IsReported, JudgedReport, run_with}
@@ -32,7 +33,7 @@ abbrev IsReturned : Device → Device → ℕ → List ℕ → ℕ → Type 0
 IsReturned old new answer text number = Appends old.bytes new.bytes text × (answer ≡ number)
 
 -- What was written and is returned, if these results were reported and have this report and this status.
-returned : (old new : Device) (answer : ℕ) (results : Results) (text : List ℕ) (number : ℕ) → IsReported plain old new answer results → Gives plain results text number → IsReturned old new answer text number
+returned : (old new : Device) (answer : ℕ) (results : Results) (text : List ℕ) (number : ℕ) → IsReported plain_style old new answer results → Gives plain_style results text number → IsReturned old new answer text number
 returned old new answer results text number r gives =
     (subst (λ (bytes : List ℕ). Appends old.bytes new.bytes bytes) gives.0 r.written.written, r.returned ∙ gives.1)
 
@@ -87,7 +88,7 @@ one_memory_report = codes "Feature: one ... memory\n  Scenario: first ... memory
 
 -- Results have the plain report of that scenario, or the one in which memory was refused.
 abbrev IsOneOfTwo : Results → Type 0
-IsOneOfTwo results = Gives plain results one_report 0 ⊎ Gives plain results one_memory_report 4
+IsOneOfTwo results = Gives plain_style results one_report 0 ⊎ Gives plain_style results one_memory_report 4
 
 -- So it is by the scenario's cut: a cut at an event that it doesn't have is none.
 one_by_cut : (cut : Cut) → IsOneOfTwo (results_from_bare (run_with one_request one_inputs) (cuts_of (cut ∷ [])) one_inputs.features)
@@ -153,7 +154,7 @@ memory_in_both_report = codes "Feature: two ... memory\n  Scenario: A ... memory
 
 -- Results have one of four reports.
 abbrev IsOneOfFour : Results → Type 0
-IsOneOfFour results = Gives plain results two_report 1 ⊎ (Gives plain results memory_in_A_report 4 ⊎ (Gives plain results memory_in_B_report 4 ⊎ Gives plain results memory_in_both_report 4))
+IsOneOfFour results = Gives plain_style results two_report 1 ⊎ (Gives plain_style results memory_in_A_report 4 ⊎ (Gives plain_style results memory_in_B_report 4 ⊎ Gives plain_style results memory_in_both_report 4))
 
 -- The scenarios' cases, and the state of their section.
 abbrev case_A : CaseValue

@@ -13,7 +13,7 @@ use Rattle.gk_explain.specs.declared.explainer.Explainer.{Explainer}
 use Rattle.gk_explain.specs.Headings.{failures_text}
 use Rattle.gk_explain.specs.Explanation.{ExplanationValue, nothing_said, with_source, with_feature, with_run, with_taken}
 use Rattle.gk_explain.specs.Explainer.{is_cut, said, Becomes, Hears, HearsEnd}
-use Rattle.gk_request.specs.Request.{plain_style}
+use Rattle.gk_report.specs.Report.{plain_style}
 use Rattle.gk_request.specs.declared.run_fault.RunFault.{RunFault}
 use Rattle.gk_cli.specs.Writing.{Device, IsWritten, IsStopped}
 use Rattle.gk_cli.specs.ToldRun.{TellsFeature, IsFirstText, IsWholeText}

@@ -15,16 +15,12 @@ use Rattle.gk_report.specs.Summary.{status}
 use Rattle.gk_report.specs.PlainReport.{status_line, step_line, case_line, around_line, rule_line, feature_line, plain_part, counted, count_line, closing_lines}
 use Rattle.gk_report.specs.ProgressReport.{progress_part}
 use Rattle.gk_report.specs.JsonReport.{json_head, json_part, json_tail}
-use Rattle.gk_report.specs.Report.{part, report}
+use Rattle.gk_report.specs.Report.{plain_style, part, report}
 
 -- What a proof unfolds to compute a plain report of results that are written out.
 unfoldable pub plain_on_literals : ⊤
 unfolding digits status_text reason_text one_line status_line step_line case_line around_line rule_line feature_line plain_part counted count_line closing_lines
 plain_on_literals = tt
-
--- Plain, with all features and scenarios.
-abbrev pub plain : Style
-plain = record { format = formats.Plain; no_skipped = false }
 
 -- Progress.
 abbrev progress : Style
@@ -105,31 +101,31 @@ failed_run_hook = record { features = feature (codes "f") Untested (scenario (co
 
 -- Plain reports, each with the status.
 plain_reports :
-    Gives plain nothing (codes "0 features passed, 0 failed, 0 skipped\n0 scenarios passed, 0 failed, 0 skipped\n0 steps passed, 0 failed, 0 skipped, 0 undefined\n") 0
+    Gives plain_style nothing (codes "0 features passed, 0 failed, 0 skipped\n0 scenarios passed, 0 failed, 0 skipped\n0 steps passed, 0 failed, 0 skipped, 0 undefined\n") 0
     -- A feature without scenarios.
-    × Gives plain (run (feature (codes "f") Skipped [] ∷ [])) (codes "Feature: f ... skipped\n\n0 features passed, 0 failed, 1 skipped\n0 scenarios passed, 0 failed, 0 skipped\n0 steps passed, 0 failed, 0 skipped, 0 undefined\n") 0
+    × Gives plain_style (run (feature (codes "f") Skipped [] ∷ [])) (codes "Feature: f ... skipped\n\n0 features passed, 0 failed, 1 skipped\n0 scenarios passed, 0 failed, 0 skipped\n0 steps passed, 0 failed, 0 skipped, 0 undefined\n") 0
     -- A step that passed.
-    × Gives plain (one_scenario Passed (step (codes "Given") (codes "a") Passed ∷ [])) (codes "Feature: f ... passed\n  Scenario: s ... passed\n    Given a ... passed\n\n1 feature passed, 0 failed, 0 skipped\n1 scenario passed, 0 failed, 0 skipped\n1 step passed, 0 failed, 0 skipped, 0 undefined\n") 0
+    × Gives plain_style (one_scenario Passed (step (codes "Given") (codes "a") Passed ∷ [])) (codes "Feature: f ... passed\n  Scenario: s ... passed\n    Given a ... passed\n\n1 feature passed, 0 failed, 0 skipped\n1 scenario passed, 0 failed, 0 skipped\n1 step passed, 0 failed, 0 skipped, 0 undefined\n") 0
     -- A scenario that is not chosen.
-    × Gives plain (one_scenario Skipped (step (codes "Given") (codes "a") Skipped ∷ [])) (codes "Feature: f ... skipped\n  Scenario: s ... skipped\n    Given a ... skipped\n\n0 features passed, 0 failed, 1 skipped\n0 scenarios passed, 0 failed, 1 skipped\n0 steps passed, 0 failed, 1 skipped, 0 undefined\n") 0
+    × Gives plain_style (one_scenario Skipped (step (codes "Given") (codes "a") Skipped ∷ [])) (codes "Feature: f ... skipped\n  Scenario: s ... skipped\n    Given a ... skipped\n\n0 features passed, 0 failed, 1 skipped\n0 scenarios passed, 0 failed, 1 skipped\n0 steps passed, 0 failed, 1 skipped, 0 undefined\n") 0
     -- A step that no entry matches.
-    × Gives plain (one_scenario Failed (step (codes "Given") (codes "a") Undefined ∷ [])) (codes "Feature: f ... failed\n  Scenario: s ... failed\n    Given a ... undefined\n\n0 features passed, 1 failed, 0 skipped\n0 scenarios passed, 1 failed, 0 skipped\n0 steps passed, 0 failed, 0 skipped, 1 undefined\n") 1
+    × Gives plain_style (one_scenario Failed (step (codes "Given") (codes "a") Undefined ∷ [])) (codes "Feature: f ... failed\n  Scenario: s ... failed\n    Given a ... undefined\n\n0 features passed, 1 failed, 0 skipped\n0 scenarios passed, 1 failed, 0 skipped\n0 steps passed, 0 failed, 0 skipped, 1 undefined\n") 1
     -- Steps after one that failed.
-    × Gives plain (one_scenario Failed (step (codes "Given") (codes "a") Passed ∷ failed_step reasons.Asked ∷ step (codes "When") (codes "b") Skipped ∷ step (codes "Then") (codes "c") Undefined ∷ [])) (codes "Feature: f ... failed\n  Scenario: s ... failed\n    Given a ... passed\n    Given a ... failed: fail step\n    When b ... skipped\n    Then c ... undefined\n\n0 features passed, 1 failed, 0 skipped\n0 scenarios passed, 1 failed, 0 skipped\n1 step passed, 1 failed, 1 skipped, 1 undefined\n") 1
+    × Gives plain_style (one_scenario Failed (step (codes "Given") (codes "a") Passed ∷ failed_step reasons.Asked ∷ step (codes "When") (codes "b") Skipped ∷ step (codes "Then") (codes "c") Undefined ∷ [])) (codes "Feature: f ... failed\n  Scenario: s ... failed\n    Given a ... passed\n    Given a ... failed: fail step\n    When b ... skipped\n    Then c ... undefined\n\n0 features passed, 1 failed, 0 skipped\n0 scenarios passed, 1 failed, 0 skipped\n1 step passed, 1 failed, 1 skipped, 1 undefined\n") 1
     -- A step at which memory was refused, and one after it.
-    × Gives plain (one_scenario Memory (step (codes "Given") (codes "a") Passed ∷ step (codes "When") (codes "b") Memory ∷ step (codes "Then") (codes "c") Untested ∷ [])) (codes "Feature: f ... memory\n  Scenario: s ... memory\n    Given a ... passed\n    When b ... memory\n    Then c ... untested\n\n0 features passed, 0 failed, 0 skipped, 1 memory\n0 scenarios passed, 0 failed, 0 skipped, 1 memory\n1 step passed, 0 failed, 0 skipped, 0 undefined, 1 untested, 1 memory\n") 4
+    × Gives plain_style (one_scenario Memory (step (codes "Given") (codes "a") Passed ∷ step (codes "When") (codes "b") Memory ∷ step (codes "Then") (codes "c") Untested ∷ [])) (codes "Feature: f ... memory\n  Scenario: s ... memory\n    Given a ... passed\n    When b ... memory\n    Then c ... untested\n\n0 features passed, 0 failed, 0 skipped, 1 memory\n0 scenarios passed, 0 failed, 0 skipped, 1 memory\n1 step passed, 0 failed, 0 skipped, 0 undefined, 1 untested, 1 memory\n") 4
     -- Memory was refused in one scenario, and another failed.
-    × Gives plain (run (feature (codes "f") Memory (scenario (codes "s") Failed (failed_step reasons.Absent ∷ []) ∷ scenario (codes "t") Memory (step (codes "Given") (codes "a") Memory ∷ []) ∷ []) ∷ [])) (codes "Feature: f ... memory\n  Scenario: s ... failed\n    Given a ... failed: absent\n  Scenario: t ... memory\n    Given a ... memory\n\n0 features passed, 0 failed, 0 skipped, 1 memory\n0 scenarios passed, 1 failed, 0 skipped, 1 memory\n0 steps passed, 1 failed, 0 skipped, 0 undefined, 1 memory\n") 4
+    × Gives plain_style (run (feature (codes "f") Memory (scenario (codes "s") Failed (failed_step reasons.Absent ∷ []) ∷ scenario (codes "t") Memory (step (codes "Given") (codes "a") Memory ∷ []) ∷ []) ∷ [])) (codes "Feature: f ... memory\n  Scenario: s ... failed\n    Given a ... failed: absent\n  Scenario: t ... memory\n    Given a ... memory\n\n0 features passed, 0 failed, 0 skipped, 1 memory\n0 scenarios passed, 1 failed, 0 skipped, 1 memory\n0 steps passed, 1 failed, 0 skipped, 0 undefined, 1 memory\n") 4
     -- Line feeds in names and in a text, which stay on one line.
-    × Gives plain (run (feature (codes "f\ng") Passed (scenario (codes "\ns") Passed (step (codes "*") (codes "a\n\nb\\n") Passed ∷ []) ∷ []) ∷ [])) (codes "Feature: f\\ng ... passed\n  Scenario: \\ns ... passed\n    * a\\n\\nb\\n ... passed\n\n1 feature passed, 0 failed, 0 skipped\n1 scenario passed, 0 failed, 0 skipped\n1 step passed, 0 failed, 0 skipped, 0 undefined\n") 0
+    × Gives plain_style (run (feature (codes "f\ng") Passed (scenario (codes "\ns") Passed (step (codes "*") (codes "a\n\nb\\n") Passed ∷ []) ∷ []) ∷ [])) (codes "Feature: f\\ng ... passed\n  Scenario: \\ns ... passed\n    * a\\n\\nb\\n ... passed\n\n1 feature passed, 0 failed, 0 skipped\n1 scenario passed, 0 failed, 0 skipped\n1 step passed, 0 failed, 0 skipped, 0 undefined\n") 0
     -- Two features, and counts of two digits.
-    × Gives plain (run (feature (codes "f") Passed (scenario (codes "s") Passed (replicate 10 (step (codes "*") (codes "a") Passed)) ∷ []) ∷ feature (codes "g") Passed (scenario (codes "t") Skipped [] ∷ scenario (codes "u") Passed (step (codes "*") (codes "b") Passed ∷ step (codes "*") (codes "c") Passed ∷ []) ∷ []) ∷ [])) (codes "Feature: f ... passed\n  Scenario: s ... passed\n    * a ... passed\n    * a ... passed\n    * a ... passed\n    * a ... passed\n    * a ... passed\n    * a ... passed\n    * a ... passed\n    * a ... passed\n    * a ... passed\n    * a ... passed\n\nFeature: g ... passed\n  Scenario: t ... skipped\n  Scenario: u ... passed\n    * b ... passed\n    * c ... passed\n\n2 features passed, 0 failed, 0 skipped\n2 scenarios passed, 0 failed, 1 skipped\n12 steps passed, 0 failed, 0 skipped, 0 undefined\n") 0
-    × Gives plain failed_cleanup (codes "Feature: f ... failed\n  Scenario: s ... failed\n    Given at cleanup the file \"log\" should be \"rp\" ... passed\n    And at cleanup the file \"log\" is extended with \"p\" ... passed\n    And at cleanup it fails ... passed\n    And at cleanup a file named \"log\" containing \"r\" ... passed\n    (hooks and cleanups) ... failed\n\n0 features passed, 1 failed, 0 skipped\n0 scenarios passed, 1 failed, 0 skipped\n4 steps passed, 0 failed, 0 skipped, 0 undefined\n") 1
-    × Gives plain memory_in_cleanup (codes "Feature: f ... memory\n  Scenario: s ... memory\n    Given a ... passed\n    (hooks and cleanups) ... memory\n  Scenario: t ... passed\n\n0 features passed, 0 failed, 0 skipped, 1 memory\n1 scenario passed, 0 failed, 0 skipped, 1 memory\n1 step passed, 0 failed, 0 skipped, 0 undefined\n") 4
-    × Gives plain failed_feature_hook (codes "Feature: f ... failed\n  Scenario: s ... untested\n    Given at cleanup the file \"log\" should be \"absSB\" ... untested\n    Then the file \"log\" should be \"abs\" ... untested\n  (hooks and cleanups) ... failed\n\n0 features passed, 1 failed, 0 skipped\n0 scenarios passed, 0 failed, 0 skipped, 1 untested\n0 steps passed, 0 failed, 0 skipped, 0 undefined, 2 untested\n") 1
-    × Gives plain failed_run_hook (codes "Feature: f ... untested\n  Scenario: s ... untested\n    Given a ... untested\n\n(hooks and cleanups) ... failed\n0 features passed, 0 failed, 0 skipped, 1 untested\n0 scenarios passed, 0 failed, 0 skipped, 1 untested\n0 steps passed, 0 failed, 0 skipped, 0 undefined, 1 untested\n") 1
+    × Gives plain_style (run (feature (codes "f") Passed (scenario (codes "s") Passed (replicate 10 (step (codes "*") (codes "a") Passed)) ∷ []) ∷ feature (codes "g") Passed (scenario (codes "t") Skipped [] ∷ scenario (codes "u") Passed (step (codes "*") (codes "b") Passed ∷ step (codes "*") (codes "c") Passed ∷ []) ∷ []) ∷ [])) (codes "Feature: f ... passed\n  Scenario: s ... passed\n    * a ... passed\n    * a ... passed\n    * a ... passed\n    * a ... passed\n    * a ... passed\n    * a ... passed\n    * a ... passed\n    * a ... passed\n    * a ... passed\n    * a ... passed\n\nFeature: g ... passed\n  Scenario: t ... skipped\n  Scenario: u ... passed\n    * b ... passed\n    * c ... passed\n\n2 features passed, 0 failed, 0 skipped\n2 scenarios passed, 0 failed, 1 skipped\n12 steps passed, 0 failed, 0 skipped, 0 undefined\n") 0
+    × Gives plain_style failed_cleanup (codes "Feature: f ... failed\n  Scenario: s ... failed\n    Given at cleanup the file \"log\" should be \"rp\" ... passed\n    And at cleanup the file \"log\" is extended with \"p\" ... passed\n    And at cleanup it fails ... passed\n    And at cleanup a file named \"log\" containing \"r\" ... passed\n    (hooks and cleanups) ... failed\n\n0 features passed, 1 failed, 0 skipped\n0 scenarios passed, 1 failed, 0 skipped\n4 steps passed, 0 failed, 0 skipped, 0 undefined\n") 1
+    × Gives plain_style memory_in_cleanup (codes "Feature: f ... memory\n  Scenario: s ... memory\n    Given a ... passed\n    (hooks and cleanups) ... memory\n  Scenario: t ... passed\n\n0 features passed, 0 failed, 0 skipped, 1 memory\n1 scenario passed, 0 failed, 0 skipped, 1 memory\n1 step passed, 0 failed, 0 skipped, 0 undefined\n") 4
+    × Gives plain_style failed_feature_hook (codes "Feature: f ... failed\n  Scenario: s ... untested\n    Given at cleanup the file \"log\" should be \"absSB\" ... untested\n    Then the file \"log\" should be \"abs\" ... untested\n  (hooks and cleanups) ... failed\n\n0 features passed, 1 failed, 0 skipped\n0 scenarios passed, 0 failed, 0 skipped, 1 untested\n0 steps passed, 0 failed, 0 skipped, 0 undefined, 2 untested\n") 1
+    × Gives plain_style failed_run_hook (codes "Feature: f ... untested\n  Scenario: s ... untested\n    Given a ... untested\n\n(hooks and cleanups) ... failed\n0 features passed, 0 failed, 0 skipped, 1 untested\n0 scenarios passed, 0 failed, 0 skipped, 1 untested\n0 steps passed, 0 failed, 0 skipped, 0 undefined, 1 untested\n") 1
     -- Memory was refused in the run's own hooks or cleanups, after a scenario that failed.
-    × Gives plain (record (failed_for reasons.Asked) { around = Memory }) (codes "Feature: f ... failed\n  Scenario: s ... failed\n    Given a ... failed: fail step\n\n(hooks and cleanups) ... memory\n0 features passed, 1 failed, 0 skipped\n0 scenarios passed, 1 failed, 0 skipped\n0 steps passed, 1 failed, 0 skipped, 0 undefined\n") 4
+    × Gives plain_style (record (failed_for reasons.Asked) { around = Memory }) (codes "Feature: f ... failed\n  Scenario: s ... failed\n    Given a ... failed: fail step\n\n(hooks and cleanups) ... memory\n0 features passed, 1 failed, 0 skipped\n0 scenarios passed, 1 failed, 0 skipped\n0 steps passed, 1 failed, 0 skipped, 0 undefined\n") 4
 unfolding plain_on_literals
 plain_reports = ((refl, refl), (refl, refl), (refl, refl), (refl, refl), (refl, refl), (refl, refl), (refl, refl), (refl, refl), (refl, refl), (refl, refl), (refl, refl), (refl, refl), (refl, refl), (refl, refl), (refl, refl))
 
@@ -139,7 +135,7 @@ report_with text = codes "Feature: f ... failed\n  Scenario: s ... failed\n    G
 
 -- Each reason as it is printed; the status is 1.
 abbrev IsPrintedAs : Reason → List ℕ → Type 0
-IsPrintedAs reason text = Gives plain (failed_for reason) (report_with text) 1
+IsPrintedAs reason text = Gives plain_style (failed_for reason) (report_with text) 1
 
 -- Each reason.
 each_reason : IsPrintedAs reasons.Absent (codes "absent")
@@ -220,14 +216,14 @@ odd_source = record (feature [] Skipped []) { source = codes "a\n\"b" }
 
 -- Plain reports and parts, by style and with rules.
 plain_choices :
-    (report plain one ≡ codes "Feature: one ... passed\n  Scenario: first ... passed\n    Given it passes ... passed\n\n1 feature passed, 0 failed, 0 skipped\n1 scenario passed, 0 failed, 0 skipped\n1 step passed, 0 failed, 0 skipped, 0 undefined\n")
+    (report plain_style one ≡ codes "Feature: one ... passed\n  Scenario: first ... passed\n    Given it passes ... passed\n\n1 feature passed, 0 failed, 0 skipped\n1 scenario passed, 0 failed, 0 skipped\n1 step passed, 0 failed, 0 skipped, 0 undefined\n")
     -- Without skipped scenarios.
-    × (report (record plain { no_skipped = true }) one_skipped ≡ codes "Feature: f ... passed\n  Scenario: 1 ... passed\n  Scenario: 3 ... passed\n  Scenario: 4 ... passed\n\n" ++ one_skipped_counts)
+    × (report (record plain_style { no_skipped = true }) one_skipped ≡ codes "Feature: f ... passed\n  Scenario: 1 ... passed\n  Scenario: 3 ... passed\n  Scenario: 4 ... passed\n\n" ++ one_skipped_counts)
     -- The first rule's line stands behind its scenarios.
-    × Gives plain failed_rule_hook (codes "Feature: f ... failed\n  Scenario: A ... passed\n    Then the number \"n\" should be 1 ... passed\n  Scenario: B ... untested\n    When the number \"n\" grows by 100 ... untested\n    Then the number \"n\" should be 111 ... untested\n  Scenario: C ... untested\n    Then the number \"n\" should be 11 ... untested\n  (rule, line 5: hooks and cleanups) ... failed\n  Scenario: D ... passed\n    Then the number \"n\" should be 11 ... passed\n\n" ++ failed_rule_hook_counts) 1
+    × Gives plain_style failed_rule_hook (codes "Feature: f ... failed\n  Scenario: A ... passed\n    Then the number \"n\" should be 1 ... passed\n  Scenario: B ... untested\n    When the number \"n\" grows by 100 ... untested\n    Then the number \"n\" should be 111 ... untested\n  Scenario: C ... untested\n    Then the number \"n\" should be 11 ... untested\n  (rule, line 5: hooks and cleanups) ... failed\n  Scenario: D ... passed\n    Then the number \"n\" should be 11 ... passed\n\n" ++ failed_rule_hook_counts) 1
     -- Without skipped scenarios, and with them: each rule's line at its place, and the feature's own at the end.
-    × (part (record plain { no_skipped = true }) true rules_without_scenarios ≡ codes "Feature: f ... failed\n  (rule, line 3: hooks and cleanups) ... failed\n  (rule, line 5: hooks and cleanups) ... failed\n  Scenario: t ... passed\n  (rule, line 6: hooks and cleanups) ... failed\n  (hooks and cleanups) ... failed\n\n")
-    × (part plain true rules_without_scenarios ≡ codes "Feature: f ... failed\n  Scenario: s ... skipped\n  (rule, line 3: hooks and cleanups) ... failed\n  (rule, line 5: hooks and cleanups) ... failed\n  Scenario: t ... passed\n  (rule, line 6: hooks and cleanups) ... failed\n  (hooks and cleanups) ... failed\n\n")
+    × (part (record plain_style { no_skipped = true }) true rules_without_scenarios ≡ codes "Feature: f ... failed\n  (rule, line 3: hooks and cleanups) ... failed\n  (rule, line 5: hooks and cleanups) ... failed\n  Scenario: t ... passed\n  (rule, line 6: hooks and cleanups) ... failed\n  (hooks and cleanups) ... failed\n\n")
+    × (part plain_style true rules_without_scenarios ≡ codes "Feature: f ... failed\n  Scenario: s ... skipped\n  (rule, line 3: hooks and cleanups) ... failed\n  (rule, line 5: hooks and cleanups) ... failed\n  Scenario: t ... passed\n  (rule, line 6: hooks and cleanups) ... failed\n  (hooks and cleanups) ... failed\n\n")
 unfolding plain_on_literals
 plain_choices = (refl, refl, (refl, refl), refl, refl)
 

@@ -20,6 +20,10 @@ format_name formats.Plain = codes "plain"
 format_name formats.Progress = codes "progress"
 format_name formats.Json = codes "json"
 
+-- The style of a plain report that omits nothing.
+abbrev pub plain_style : Style
+plain_style = record { format = formats.Plain; no_skipped = false }
+
 -- All formats.
 abbrev pub all_formats : List Format
 all_formats = formats.Plain ∷ formats.Progress ∷ formats.Json ∷ []

@@ -2,8 +2,8 @@
 use denote.Ref.{Bor}
 use Rattle.std.specs.Prelude.{◌≡◌, ℕ, Bool, false, List, [], map, unwrap_or, Option, Some, None, IfErr, OnOk, Result, option_map}
 use Rattle.gk_gherkin.specs.Feature.{texts}
-use Rattle.gk_report.specs.declared.report.Format.TheVariants as formats
 use Rattle.gk_report.specs.declared.report.Style.{Style}
+use Rattle.gk_report.specs.Report.{plain_style}
 use Rattle.gk_request.specs.declared.request.Options.{Options}
 use Rattle.gk_request.specs.declared.request.SuiteFiles.{SuiteFiles}
 use Rattle.gk_request.specs.declared.run_fault.RunFault.{RunFault}
@@ -34,10 +34,6 @@ request_of options library hooks sources = record {
   hooks = hooks;
   sources = sources;
 }
-
--- The style of a plain report that omits nothing.
-abbrev pub plain_style : Style
-plain_style = record { format = formats.Plain; no_skipped = false }
 
 -- The request for a plain report of all scenarios of some sources, with the default library and without hooks and flags.
 abbrev pub plain_request : List SourceValue → Request
