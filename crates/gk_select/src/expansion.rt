@@ -374,9 +374,9 @@ fn copied_cases(alloc: Global, feature: &Feature) -> Result<Vec<Case>, AllocErro
 ///
 /// `TooMany` comes if and only if the cases have more steps than `STEP_LIMIT`; they are counted before anything
 /// is built. `Memory` comes only if a growth was refused, and never in place of `TooMany`. On an error no cases
-/// are returned. The feature's texts are copied; `into_cases` moves them. A case numbers its rule as `u32`, so
-/// there have to be fewer than 2^32 rules, as in every feature that was read. (Cucumber's Gherkin reference:
-/// scenario outline, background, tag inheritance)
+/// are returned. The feature's texts are copied; `into_cases` moves them. Each row has to be as wide as its
+/// header, and there have to be fewer than 2^32 rules, as in every feature that was read. (Cucumber's Gherkin
+/// reference: scenario outline, background, tag inheritance)
 pub fn expand(alloc: Global, feature: &Feature) -> Result<Vec<Case>, SelectFault>
     requires { IsExpandable (feature_value feature.now) }
     // The result is the feature's cases.

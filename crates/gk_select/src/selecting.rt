@@ -130,8 +130,9 @@ fn select_scenarios(
     Ok(())
 }
 
-/// Returns for each case of a feature, in file order, whether it is chosen. No case is built. An error comes
-/// only if a growth was refused. (behave's documentation: tag expressions)
+/// Returns for each case of a feature, in file order, whether it is chosen. No case is built. The feature has
+/// to be as `expand` asks. An error comes only if a growth was refused. (behave's documentation: tag
+/// expressions)
 #[tactic(auto, using(crate::proofs::Selected::all_selected))]
 pub fn selected_cases(
     alloc: Global,

@@ -49,7 +49,7 @@ fn as_alloc_error(fault: LibraryFault) -> AllocError
     AllocError
 }
 
-/// Returns the library that `DEFAULT_TEXT` spells.
+/// Returns the library that `DEFAULT_TEXT` spells. An error comes only if a growth was refused.
 pub fn default_library(alloc: Global) -> Result<Library, AllocError>
     // What is returned is what the text says.
     ensures read { IfOk result (λ l. ReadsLibrary (lines_of default_text) (library_value l)) }

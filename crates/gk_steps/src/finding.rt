@@ -160,7 +160,8 @@ impl Library {
     /// Finds the preferred match of the first entry of the step's type that has a match, in library order. If there is
     /// none, finds that of the first such entry of type `step`. An entry whose ends don't fit the text is passed over
     /// without a table. At most one whole table is filled for each entry of these two types: (pieces + 1) times
-    /// (characters + 1) cells. (behave's documentation: step implementations)
+    /// (characters + 1) cells. An error comes only if memory was refused, and never if all of them are passed over.
+    /// (behave's documentation: step implementations)
     pub fn find(
         &self,
         alloc: Global,
@@ -178,7 +179,7 @@ impl Library {
     }
 
     /// Returns what `find` does, among the entries of type `step` only. At most one whole table is filled for each of
-    /// them.
+    /// them. Errors come as from `find`.
     pub fn find_any(&self, alloc: Global, text: &str) -> Result<Option<Found>, AllocError>
         ensures found { IfOk result (λ found.
             option_map found_value found ≡ spec.found_any (library_value self.now) text.now) }
@@ -190,7 +191,7 @@ impl Library {
     }
 
     /// Returns whether a step finds an entry. At most one whole table is filled for each entry of its type and of
-    /// type `step`.
+    /// type `step`. Errors come as from `find`, and only if a table may be needed.
     pub fn knows(&self, alloc: Global, step_type: StepType, text: &str) -> Result<bool, AllocError>
         ensures known { IfOk result (λ known.
             known ≡ is_some (spec.found (library_value self.now) step_type text.now)) }
@@ -218,7 +219,8 @@ impl Library {
         }
     }
 
-    /// Returns the action of what was found in this library. Doesn't allocate.
+    /// Returns the action of what was found in this library, or `Pass` if the library has no entry at that position.
+    /// Doesn't allocate.
     pub fn action(&self, found: &Found) -> Action
         ensures { result ≡ spec.action_of (library_value self.now) (found_value found.now) }
     {

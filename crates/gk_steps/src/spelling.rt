@@ -264,7 +264,7 @@ fn is_pattern(pieces: &[Piece]) -> bool
 /// other `{` opens a field: a name (an ASCII letter or `_`, then ASCII letters, digits and `_`), optionally `:d`, and
 /// `}`.
 ///
-/// `BadPattern` comes only if the text spells no pattern: the text is empty, or has a lone `}`, any other text in
+/// `BadPattern` comes only if the text spells no pattern: the text is empty, or has a lone `{` or `}`, any other text in
 /// braces, or a name that occurs twice. `Memory` comes only if a growth was refused, and only if the text begins with a
 /// literal or a field: any other text asks for no memory. (behave's documentation: step parameters)
 pub fn read_pattern(alloc: Global, text: &str) -> Result<Pattern, PatternFault>

@@ -239,7 +239,8 @@ impl Library {
 
     /// Finds what `find` does, and returns it as a step's action uses it. Copies no text: the field texts are slices of
     /// this text. At most one whole table is filled for each entry of the step's type and of type `step`:
-    /// (pieces + 1) times (characters + 1) cells. (behave's documentation: step implementations)
+    /// (pieces + 1) times (characters + 1) cells. Errors come as from `knows`. (behave's documentation: step
+    /// implementations)
     #[inline(always)]
     pub fn find_used<'a>(
         &self,
