@@ -203,7 +203,7 @@ pub fn write_suite<S: FeatureSource, W: Write>(
         (device_of W.contents out.old) (device_of W.contents out.new)) }
     // Whatever is returned, files, variables, values and layers are as they were.
     ensures same { IsSame sandbox.old sandbox.new }
-    // Whatever is returned, the names of the files stay. A run's fault says which sources have dropped their bytes.
+    // Whatever is returned, the names of the files stay. After a run's fault, only the last sources have bytes.
     ensures left { AreLeft mode result
         (suite_value S.value files.old) (suite_value S.value files.new) }
     // The writer isn't flushed. With a status, it didn't fail, and each call moved at least one byte.

@@ -28,7 +28,7 @@ use Rattle.gk_program.specs.declared.asked.ArgumentsFault.{ArgumentsFault}
 use Rattle.gk_program.specs.declared.asked.Asked.{Asked}
 use Rattle.gk_program.specs.declared.asked.Asked.TheVariants.{Help, Run}
 
--- Standard output failed, and moved a byte in each call except the one that failed, or it was not called at all.
+-- Standard output failed, and moved a byte in each call except at most one, or it was not called at all.
 abbrev pub SaysCalls : Device → Device → Fault → Type 0
 SaysCalls old new Write = (old.failures < new.failures) × (new.idle ≤ old.idle + 1)
 SaysCalls old new _ = IsUntouched old new

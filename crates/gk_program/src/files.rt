@@ -21,7 +21,7 @@ pub trait System {
     /// In the first state, reading the file of this name returns this result, and leaves the second state.
     ghost reads: { Self → List ℕ → Result (List ℕ) SourceFault → Self → Type 0 };
 
-    /// Returns all bytes of the file of this name, or why they can't be read.
+    /// Returns all bytes of the file of this name, at most `LIMIT`, or why they can't be read.
     fn read(&mut self, alloc: Global, name: &str) -> Result<Vec<u8>, SourceFault>
         ensures read { reads self.old name.now (bytes_or_fault result) self.new }
         ensures within { IfOk result (λ bytes. vec_len bytes ≤ LIMIT) };

@@ -305,7 +305,8 @@ fn run_given<S: System, W: Write>(
 }
 
 /// Runs the program on its arguments, with the files of this system, and tells on `errors` why what they ask for was not
-/// done.
+/// done. Returns the exit status, and the place of the fault if there is one. `out` must have failed fewer than 2^64 - 1
+/// times.
 #[tactic(auto, using(crate::proofs::EndedLemmas::says_done))]
 pub fn run<S: System, W: Write, E: Write>(
     alloc: Global,

@@ -31,7 +31,7 @@ pub record Inputs : Type 0 where
   pub hooks : List HookValue
   pub features : List ChosenValue
 
--- The texts of tags spell these rules, one each, in order. (behave's documentation: tag expressions)
+-- The texts of tags spell these rules, one each, in order. (behave's documentation and Cucumber's reference: tag expressions)
 abbrev pub AreRules : List (List ℕ) → List Expression → Type 0
 AreRules [] rules = rules ≡ []
 AreRules (text ∷ more) rules = (rule : Expression) × (others : List Expression) × ReadsTags text rule × AreRules more others × (rules ≡ rule ∷ others)
@@ -46,7 +46,7 @@ abbrev pub AreHooks : Option (List ℕ) → List HookValue → Type 0
 AreHooks None hooks = hooks ≡ []
 AreHooks (Some bytes) hooks = IsText bytes × ReadsHooks (lines_of bytes) hooks
 
--- A case that has only its own tags, with whether it is chosen by all of its tags. (behave's documentation: tag expressions)
+-- A case that has only its own tags, with whether it is chosen by all of its tags. (behave's documentation and Cucumber's reference: tag expressions)
 abbrev pub member_by : (CaseValue → Bool) → CaseValue → MemberValue
 member_by chooses case = record { scenario = with_own_tags case; selected = chooses case }
 

@@ -105,7 +105,7 @@ AreLeftAt old new Write = new ≡ map without_bytes old
 AreLeftAt old new Memory = GaveUpInTurn old new
 AreLeftAt old new fault = new ≡ old
 
--- What a run leaves of its files. The names stay. After a status, each source has dropped its bytes; a fault says which have.
+-- What a run leaves of its files. The names stay. After a status, each source has dropped its bytes; after a fault, some of the first have.
 pub record AreLeftByRun (result : Result ℕ RunFault) (old new : FilesValue) : Type 0 where
   pub names : HaveSameNames old new
   pub given_up : OnOk result (AreGivenUp old new)
