@@ -7,9 +7,9 @@ ghost use Rattle.gk_explain.specs.Nearest as spec;
 
 use crate::shown::push_char;
 use gk_gherkin::StepType;
-use gk_lint::{EntryHint, entry_hint};
+use gk_lint::EntryHint;
 use gk_steps::{Entry, FieldKind, Library, Piece};
-use std::alloc::{AllocError, Global};
+use std::alloc::AllocError;
 
 /// Returns the word for the steps that an entry is for. Doesn't allocate.
 pub fn type_word(step_type: Option<StepType>) -> &'static str
@@ -137,8 +137,10 @@ fn push_other_type_line(out: &mut String, entry: Option<&Entry>) -> Result<(), A
     }
 }
 
-// Appends the line for a hint.
-fn push_hint(out: &mut String, library: &Library, hint: EntryHint) -> Result<(), AllocError>
+/// Appends the line for a hint: an entry for steps of another type that matches, or the nearest entry. Nothing is
+/// appended if there is neither. An error comes only if a growth was refused; a part of the line may have been appended
+/// then.
+pub fn push_hint(out: &mut String, library: &Library, hint: EntryHint) -> Result<(), AllocError>
     ensures { Pushes out.old (spec.hint_told (library_value library.now) hint) result out.new }
 {
     match hint {
@@ -146,21 +148,4 @@ fn push_hint(out: &mut String, library: &Library, hint: EntryHint) -> Result<(),
         EntryHint::Nearest(place) => push_nearest_line(out, library.entries.get(place)),
         EntryHint::OtherType(place) => push_other_type_line(out, library.entries.get(place)),
     }
-}
-
-/// Appends the line that names the entry that the author of an undefined step with this text may have meant, as
-/// `gk_lint::entry_hint` finds it: an entry for steps of another type that matches, and otherwise the nearest. Nothing
-/// is appended if there is neither. An error comes only if a growth was refused; a part of the line may have been
-/// appended then.
-pub fn push_nearest(
-    out: &mut String,
-    alloc: Global,
-    library: &Library,
-    text: &str,
-) -> Result<(), AllocError>
-    ensures { Pushes out.old (spec.nearest_told (library_value library.now) text.now)
-        result out.new }
-{
-    let hint = entry_hint(alloc, library, text)?;
-    push_hint(out, library, hint)
 }

@@ -4,7 +4,8 @@ ghost use Rattle.gk_steps.specs.Finding.{library_value};
 ghost use Rattle.gk_report.specs.ReportTexts.{Pushes};
 ghost use Rattle.gk_explain.specs.Nearest.{nearest_told};
 
-use crate::nearest::push_nearest;
+use crate::nearest::push_hint;
+use gk_lint::EntryHints;
 use gk_steps::Library;
 use std::alloc::{AllocError, Global};
 use std::collections::HashMap;
@@ -14,19 +15,19 @@ use std::marker::Model;
 /// text that occurs again, such as a step of a Background in each scenario, isn't compared with all entries again.
 #[derive(Debug, Drop)]
 pub struct NearestLines<'a> {
-    library: &'a Library,
+    hints: EntryHints<'a>,
     lines: HashMap<String, String>,
 }
 
 impl<'a> Model for NearestLines<'a> {
-    ghost use Rattle.gk_steps.specs.Finding.{LibraryValue, library_value};
+    ghost use Rattle.gk_steps.specs.Finding.{LibraryValue};
     ghost use Rattle.gk_explain.specs.NearestLines.{AreNearest};
 
     ghost Value = { LibraryValue };
 
-    ghost view = { λ nearest. library_value nearest.library.now };
+    ghost view = { λ nearest. nearest.hints };
 
-    ghost invariant = { λ nearest. AreNearest (library_value nearest.library.now) nearest.lines };
+    ghost invariant = { λ nearest. AreNearest nearest.hints nearest.lines };
 }
 
 impl<'a> NearestLines<'a> {
@@ -35,7 +36,7 @@ impl<'a> NearestLines<'a> {
         ensures { result ≡ library_value library.entry.now }
     {
         NearestLines {
-            library,
+            hints: EntryHints::new(library),
             lines: HashMap::new(alloc),
         }
     }
@@ -44,7 +45,7 @@ impl<'a> NearestLines<'a> {
     pub fn library(&self) -> &'a Library
         ensures { library_value result.now ≡ self.now }
     {
-        self.library
+        self.hints.library()
     }
 
     // Returns the line kept for a text, if any.
@@ -67,8 +68,23 @@ impl<'a> NearestLines<'a> {
         Ok(())
     }
 
-    /// Appends the line that names the entry that a text may mean, as `push_nearest` does. An error comes only if
-    /// a growth was refused; a part of the line may have been appended then.
+    // Compares a text with the entries, and appends the line that names the entry that it may mean.
+    fn push_compared(
+        &mut self,
+        alloc: Global,
+        out: &mut String,
+        text: &str,
+    ) -> Result<(), AllocError>
+        ensures pushed { Pushes out.old (nearest_told self.old text.now) result out.new }
+        ensures kept { self.new ≡ self.old }
+    {
+        let hint = self.hints.hint(alloc, text)?;
+        push_hint(out, self.hints.library(), hint)
+    }
+
+    /// Appends the line that names the entry that a text may mean, as
+    /// `gk_lint::entry_hint` finds it. An error comes only if a growth was refused; a part of the line may have been
+    /// appended then.
     pub fn push(&mut self, alloc: Global, out: &mut String, text: &str) -> Result<(), AllocError>
         ensures pushed { Pushes out.old (nearest_told self.old text.now) result out.new }
         ensures kept { self.new ≡ self.old }
@@ -77,7 +93,7 @@ impl<'a> NearestLines<'a> {
             return out.push_str(line);
         }
         let mut line = String::new(alloc);
-        push_nearest(&mut line, alloc, self.library(), text)?;
+        self.push_compared(alloc, &mut line, text)?;
         out.push_str(line.as_str())?;
         self.keep(alloc, text, line)
     }

@@ -3,6 +3,7 @@ pub mod AsciiLetters
 pub mod CommonLetters
 pub mod ExchangedLetters
 pub mod OneLetterOff
+pub mod NearWords
 pub mod LineOrder
 pub mod NamedAgain
 pub mod RunSteps

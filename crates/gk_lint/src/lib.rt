@@ -5,6 +5,7 @@
 #![tactic(auto)]
 
 mod blocks;
+mod entry_hints;
 mod feature_file;
 mod findings;
 mod laws;
@@ -28,13 +29,14 @@ mod text_sets;
 mod unexpected_lines;
 mod written_steps;
 
+pub use entry_hints::{EntryHints, entry_hint};
 pub use feature_file::{lint_feature, lint_feature_file};
 pub use findings::{Finding, FindingKind, in_order};
 pub use laws::{exchanged_is_within_exchange, one_off_is_within_one, what_is_run_is_looked_up};
 pub use library_causes::{LibraryCause, library_cause};
 pub use library_use::{entry_lines, lint_library};
 pub use named_tags::tags_that_stand_nowhere;
-pub use nearest_entry::{EntryHint, entry_hint};
+pub use nearest_entry::EntryHint;
 pub use placeholders::column_at;
 pub use scenario_lines::lines_without_scenario;
 pub use scenario_names::scenarios_of;

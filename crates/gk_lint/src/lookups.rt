@@ -8,7 +8,8 @@ ghost use Rattle.gk_lint.specs.StepHints as hints;
 ghost use Rattle.gk_lint.specs.Lookups as spec;
 
 use crate::blocks::{add_block_faults, add_if};
-use crate::nearest_entry::{EntryHint, entry_hint};
+use crate::entry_hints::entry_hint;
+use crate::nearest_entry::EntryHint;
 use crate::step_faults::StepFault;
 use crate::step_sites::{StepSite, may_stand};
 use gk_gherkin::{Block, Step};

@@ -1,13 +1,12 @@
 use Rattle.std.proofs.Common.{◌≡◌, string_bytes}
 use Rattle.std.proofs.lemmas.Map.Text.{hash_map_updates_text}
-use Rattle.gk_steps.specs.Finding.{library_value}
 use Rattle.gk_explain.specs.Nearest.{nearest_told}
 use Rattle.gk_explain.proofs.NearestLinesLemmas.{still_nearest}
 use Rattle.gk_explain.proofs.nearest_lines.NearestLines.keep.Goals as goal
 
 pub invariant_of-self-2 : goal.invariant_of-self-2
 invariant_of-self-2 c =
-    let library = library_value c.self.inside.library.now in
+    let library = c.self.inside.hints in
     let key = string_bytes c.in_ok-text.text in
     let said = c.requires in
     let view = c.self.view_is in
