@@ -4,6 +4,7 @@ pub mod CommonLetters
 pub mod ExchangedLetters
 pub mod OneLetterOff
 pub mod NearWords
+pub mod NearLengths
 pub mod LineOrder
 pub mod NamedAgain
 pub mod RunSteps
