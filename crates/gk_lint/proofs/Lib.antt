@@ -5,6 +5,7 @@ pub mod ExchangedLetters
 pub mod OneLetterOff
 pub mod NearWords
 pub mod NearLengths
+pub mod UnlikeBeginnings
 pub mod LineOrder
 pub mod NamedAgain
 pub mod RunSteps
