@@ -1,8 +1,8 @@
 use crate::run_tests::feature_of;
 use gk_gherkin::{Feature, Keyword, ReadFault, read_feature, read_hooks, text_of};
 use gk_lint::{
-    Cause, EntryHint, Finding, FindingKind, LibraryCause, StepFault, StepFindings, cause_at,
-    column_at, entry_hint, entry_lines, in_order, library_cause, lines_without_scenario,
+    Cause, EntryHint, EntryHints, Finding, FindingKind, LibraryCause, StepFault, StepFindings,
+    cause_at, column_at, entry_hint, entry_lines, in_order, library_cause, lines_without_scenario,
     lint_feature, lint_feature_file, lint_hook_tags, lint_hooks, lint_library, lint_steps,
     scenarios_of, tags_that_stand_nowhere,
 };
@@ -151,10 +151,12 @@ const HINTS: [(&str, EntryHint); 3] = [
 #[test]
 fn entries_are_meant(rt: HostRuntime) -> Result<(), LibraryFault> {
     let library = read_library(rt.alloc(), LIBRARY.as_bytes())?;
+    let mut hints = EntryHints::new(&library);
     for (text, wanted) in HINTS {
-        let hint = entry_hint(rt.alloc(), &library, text)?;
-        assert_eq!(rt; hint, wanted);
+        assert_eq!(rt; entry_hint(rt.alloc(), &library, text)?, wanted);
+        assert_eq!(rt; hints.hint(rt.alloc(), text)?, wanted);
     }
+    assert_eq!(rt; hints.library().entries.len(), 2);
     let lines = entry_lines(rt.alloc(), LIBRARY)?;
     assert_eq!(rt; lines.len(), 2);
     assert_eq!(rt; lines.first().copied(), Some(2));
