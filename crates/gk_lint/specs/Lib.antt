@@ -23,4 +23,4 @@ pub mod TagUse
 pub mod NamedTags
 pub mod ScenarioLines
 -- Proof machinery: the words of the patterns of a library.
-pub mod EntryWords
+pub mod EntryHints

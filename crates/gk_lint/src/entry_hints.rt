@@ -2,7 +2,7 @@
 ghost use Rattle.std.specs.Prelude.{◌≡◌, map, IfOk};
 ghost use Rattle.gk_steps.specs.Finding.{library_value, found_value};
 ghost use Rattle.gk_lint.specs.NearestEntry as spec;
-ghost use Rattle.gk_lint.specs.EntryWords.{compared_words};
+ghost use Rattle.gk_lint.specs.EntryHints.{compared_words};
 
 use crate::nearest_entry::{EntryHint, compared_words, nearest};
 use gk_gherkin::StepType;
@@ -20,7 +20,7 @@ pub struct EntryHints<'a> {
 impl<'a> Model for EntryHints<'a> {
     ghost use Rattle.std.specs.Prelude.{◌≡◌, map, IfSome};
     ghost use Rattle.gk_steps.specs.Finding.{LibraryValue, library_value};
-    ghost use Rattle.gk_lint.specs.EntryWords.{compared_words};
+    ghost use Rattle.gk_lint.specs.EntryHints.{compared_words};
 
     ghost Value = { LibraryValue };
 
