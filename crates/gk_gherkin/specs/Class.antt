@@ -85,10 +85,10 @@ heading_keyword line = before_first is_colon (trim line.text)
 unfoldable pub heading_name : LineValue → List ℕ
 heading_name line = trim (after_first is_colon (trim line.text))
 
--- A step's keyword: the part of the trimmed line before its first space or tab. (Cucumber's Gherkin reference: steps)
+-- A step's keyword: the part of the trimmed line before its first space or tab. (Cucumber's Gherkin reference: steps; a tab is this project's profile)
 unfoldable pub step_keyword : LineValue → List ℕ
 step_keyword line = before_first is_blank (trim line.text)
 
--- A step's text: the part of the trimmed line after its first space or tab, trimmed again. (Cucumber's Gherkin reference: steps)
+-- A step's text: the part of the trimmed line after its first space or tab, trimmed again. (as for its keyword)
 unfoldable pub step_text : LineValue → List ℕ
 step_text line = trim (after_first is_blank (trim line.text))

@@ -24,7 +24,7 @@ IsIgnoredClass _ = ⊥
 abbrev pub IsIgnored : LineValue → Type 0
 IsIgnored line = IsIgnoredClass (class line)
 
--- A line that is ignored above the Feature line. A comment there names no language other than English. (Cucumber's Gherkin reference: spoken languages)
+-- A line that is ignored above the Feature line. A comment there names no language other than English. (this project's profile)
 abbrev pub IsIgnoredAbove : LineValue → Type 0
 IsIgnoredAbove line = IsIgnored line × IsEnglishOrNone (language_of line)
 
@@ -70,7 +70,7 @@ pub record IsTaggedHeading (Ignored : LineValue → Type 0) (kind : Class) (ls :
   pub above : AreTags Ignored ls tags after_tags
   pub heading : IsHeading Ignored kind after_tags line rest
 
--- DescA: the classes of lines allowed in the description of a feature or a rule. (Cucumber's Gherkin reference: descriptions)
+-- DescA: the classes of lines allowed in the description of a feature or a rule. (Cucumber's Gherkin reference: descriptions; that steps, rows and fences are is this project's profile)
 abbrev pub MayDescribeFeature : Class → Type 0
 MayDescribeFeature StepLine = Unit {0}
 MayDescribeFeature RowLine = Unit {0}
@@ -78,14 +78,14 @@ MayDescribeFeature (FenceLine fence) = Unit {0}
 MayDescribeFeature Other = Unit {0}
 MayDescribeFeature _ = ⊥
 
--- DescB: the classes of lines allowed in the description of a background or a scenario. (Cucumber's Gherkin reference: descriptions)
+-- DescB: the classes of lines allowed in the description of a background or a scenario. (as for DescA)
 abbrev pub MayDescribeScenario : Class → Type 0
 MayDescribeScenario RowLine = Unit {0}
 MayDescribeScenario (FenceLine fence) = Unit {0}
 MayDescribeScenario Other = Unit {0}
 MayDescribeScenario _ = ⊥
 
--- DescC: the classes of lines allowed in the description of examples. (Cucumber's Gherkin reference: descriptions)
+-- DescC: the classes of lines allowed in the description of examples. (as for DescA)
 abbrev pub MayDescribeExamples : Class → Type 0
 MayDescribeExamples StepLine = Unit {0}
 MayDescribeExamples (FenceLine fence) = Unit {0}

@@ -11,7 +11,7 @@ use Rattle.gk_gherkin.specs.Grammar.{IsIgnored, Skips, Next, Many, AreSteps}
 abbrev pub heading_of : HookValue → HookHeadingValue
 heading_of hook = record { kind = hook.kind; tag = hook.tag }
 
--- HookPart = hook StepPart*. (behave's documentation: environment file functions)
+-- HookPart = hook StepPart*. (this project's profile)
 pub record IsHook (ls : Lines) (hook : HookValue) (rest : Lines) : Type 0 where
   pub line : LineValue
   pub after_heading : Lines
@@ -26,7 +26,7 @@ abbrev pub AreDistinct : List HookValue → Type 0
 AreDistinct [] = Unit {0}
 AreDistinct (hook ∷ others) = AllByRecursion (λ other. heading_of other ≢ heading_of hook) others × AreDistinct others
 
--- Hooks = HookPart*. (behave's documentation: environment file functions)
+-- Hooks = HookPart*. (this project's profile)
 pub record ReadsHooks (ls : Lines) (hooks : List HookValue) : Type 0 where
   pub tail : Lines
   pub parts : Many IsHook ls hooks tail

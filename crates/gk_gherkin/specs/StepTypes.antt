@@ -5,7 +5,7 @@ use Rattle.gk_gherkin.specs.declared.feature.StepType.{StepType}
 use Rattle.gk_gherkin.specs.declared.feature.StepType.TheVariants.{Given, When, Then}
 use Rattle.gk_gherkin.specs.Feature.{StepValue}
 
--- The type that a keyword gives after a step of some type. `Given`, `When` and `Then` give their own; `And`, `But` and `*` give the type before. (behave's documentation: step implementations)
+-- The type that a keyword gives after a step of some type. `Given`, `When` and `Then` give their own; `And`, `But` and `*` give the type before. (behave's documentation: step implementations; that of `*` is this project's profile)
 unfoldable pub type_after : StepType → List ℕ → StepType
 type_after before keyword =
     if bytes_eq keyword (codes "Given") then Given else

@@ -78,7 +78,7 @@ fn line_from(alloc: Global, line: u32, text: &str) -> Result<Line, ReadFault>
     })
 }
 
-/// Returns the line with this number and this text.
+/// Returns the line with this number and this text, which has at most `LIMIT` bytes.
 pub fn borrowed_line<'a>(line: u32, text: &'a str) -> BorrowedLine<'a>
     requires { length text.now ≤ LIMIT }
     ensures { borrowed_value result ≡ line_at line text.now }
@@ -131,7 +131,8 @@ fn lines_from(alloc: Global, text: &str) -> Result<Document, ReadFault>
     Ok(Document { lines })
 }
 
-/// Returns some bytes as a text, without a leading byte-order mark.
+/// Returns some bytes as a text, without a leading byte-order mark. `TooLong` and `NotUtf8` come as
+/// from `read_lines`, and never `Memory`.
 pub fn text_of(bytes: &[u8]) -> Result<&str, ReadFault>
     ensures ok { IfOk result (λ t. IsText bytes.now × (t.now ≡ spec.without_mark bytes.now)) }
     ensures within { IfOk result (λ t. length t.now ≤ LIMIT) }

@@ -5,7 +5,7 @@ use Rattle.gk_run.specs.declared.results.Status.TheVariants as statuses
 use Rattle.gk_run.specs.Results.{CaseRow, FeatureRow}
 use Rattle.gk_report.specs.ReportTexts.{status_text, one_line, line_feed, is_hidden, printed_cases}
 
--- The character of a scenario: `.`, `F`, `S`, `U` or `M`. No verdict is undefined. (behave's documentation: the progress formatter)
+-- The character of a scenario: `.`, `F`, `S`, `U` or `M`. No verdict is undefined. (this project's profile, after behave's progress formatter)
 abbrev pub status_mark : Status → ℕ
 status_mark statuses.Passed = 46
 status_mark statuses.Failed = 70

@@ -154,7 +154,7 @@ abbrev pub StepsEndAtTheLeastStop : Type 0
 StepsEndAtTheLeastStop = (library : LibraryValue) (start : SectionNow) (steps : List StepValue) →
     EndsAtTheLeastStop library steps_of_case start steps (unrun_steps library) (steps_from library endings.Passed start.state steps)
 
--- If the before list of a case didn't pass whole, none of its steps is carried out: all are skipped after a skip; otherwise each is skipped or undefined. (behave's documentation: environment file functions)
+-- If the before list of a case didn't pass whole, none of its steps is carried out: all are skipped after a skip; otherwise each is skipped or undefined. (this project's profile)
 abbrev pub StoppedCasesRunNoStep : Type 0
 StoppedCasesRunNoStep = (library : LibraryValue) (ended : Ending) (s : State) (steps : List StepValue) →
     ended ≢ endings.Passed → steps_from library ended s steps ≡ unrun_steps library ended s steps

@@ -14,7 +14,7 @@ has_examples (e ∷ es) = true
 abbrev pub is_outline : ScenarioValue → Bool
 is_outline s = bytes_eq s.keyword (codes "Scenario Outline") || (bytes_eq s.keyword (codes "Scenario Template") || has_examples s.examples)
 
--- The name of the case of row R under Examples E of an outline: `NAME -- @E.R EXAMPLESNAME`, without trailing spaces and tabs. NAME is filled and EXAMPLESNAME is not. (behave's documentation: the option `scenario_outline_annotation_schema`)
+-- The name of the case of row R under Examples E of an outline: `NAME -- @E.R EXAMPLESNAME`, without trailing spaces and tabs. NAME is filled and EXAMPLESNAME is not. (behave's documentation: the option `scenario_outline_annotation_schema`; what is trimmed and filled is this project's profile)
 abbrev pub outline_name : List ℕ → ℕ → ℕ → List ℕ → List ℕ
 outline_name name e r examples = trim_back (name ++ codes " -- @" ++ decimal e ++ codes "." ++ decimal r ++ codes " " ++ examples)
 

@@ -63,6 +63,6 @@ stop_in place (word ∷ words) = unless_after (record { at = Some word; wanted =
 abbrev pub stop_in_pieces : List (List ℕ) → Option StopValue
 stop_in_pieces texts = option_map (λ piece. record { at = Some piece; wanted = Alternative }) (find (λ piece. not (is_some (alternative piece))) texts)
 
--- The place at which a text stops spelling a rule, in either form. (behave's documentation: tag expressions; Cucumber's tag expressions)
+-- The place at which a text stops spelling a rule, in either form; `None` also for one that is too deep. (behave's documentation: tag expressions; Cucumber's tag expressions)
 abbrev pub tag_stop : List ℕ → Option StopValue
 tag_stop text = if list_any is_of_new_form text then stop_in first_place (words_of_text text) else stop_in_pieces (pieces text)
