@@ -1,17 +1,20 @@
 -- What is kept of a match, and of what is found.
-use Rattle.std.proofs.Common.{◌≡◌, ℕ, ◌++◌, true, List, [], ◌∷◌, ap, map, take, Option, Some, None, refl, sym, subst, ◌∙◌}
+use Rattle.std.proofs.Common.{◌≡◌, ◌<◌, inl, inr, ℕ, ◌++◌, Bool, true, false, List, [], ◌∷◌, length, ap, map, take, Option, Some, None, refl, sym, subst, ◌∙◌, arith}
+use Rattle.std.proofs.lemmas.Bool.Decides.{nat_tests}
 use Rattle.std.proofs.lemmas.List.{append-nil, append_assoc, take-map}
-use Rattle.std.specs.Prelude.{Result, Ok, Err, IfOk}
+use Rattle.std.specs.Prelude.{Result, Ok, Err, IfOk, ◌==◌}
 use Rattle.std.specs.declared.alloc.AllocError.{AllocError}
 use Rattle.gk_gherkin.specs.declared.feature.StepType.{StepType}
-use Rattle.gk_steps.specs.declared.finding.Hit.{Hit}
 use Rattle.gk_steps.specs.declared.library.Entry.{Entry}
-use Rattle.gk_steps.specs.Pattern.{PieceValue}
+use Rattle.gk_steps.specs.Pattern.{PieceValue, Literal}
 use Rattle.gk_steps.specs.Library.{are_for_each_from}
 use Rattle.gk_steps.specs.Matching.{FieldValue, IsMatchResult}
 use Rattle.gk_steps.specs.Finding.{FoundValue, LibraryValue, IsFoundOf, entry_value, found, found_any}
-use Rattle.gk_steps.specs.Captures.{IsKeptResult, KeepsRest, IsHit, HitsWhatIsFound}
+use Rattle.gk_steps.specs.Captures.{AreKept, Hit, IsKeptResult, KeepsMore, KeepsRest, IsHit, HitsWhatIsFound, hit_of, kept_if}
+use Rattle.gk_steps.specs.Leftmost.{FindsRest}
+use Rattle.gk_steps.specs.LiteralEnds.{IsAfterStart}
 use Rattle.gk_steps.proofs.LibraryLemmas.{get_before, get_taken, typed_found}
+use Rattle.gk_steps.proofs.LeftmostLemmas.{left_after_start, left_nothing, left_over}
 use Rattle.gk_steps.proofs.FindingLemmas.{own_computed, any_computed, found_as_any}
 
 -- pieces that are gone through one by one, with those that are left
@@ -38,6 +41,24 @@ rest_none keeps done before left rest (Some fields, are, is) = absurd are
 pub rest_some : {K : Type 0} (keeps : List PieceValue → K → List FieldValue → Type 0) (done : List PieceValue) (before : List FieldValue) (left : List PieceValue) (rest : List ℕ) (later both : K) → ((after : List FieldValue) → keeps left later after → keeps (done ++ left) both (before ++ after)) → IsKeptResult keeps left rest (Some later) → KeepsRest keeps done before left rest (Some both)
 rest_some keeps done before left rest later both joined (None, are, is) = absurd are
 rest_some keeps done before left rest later both joined (Some after, are, is) = (Some (before ++ after), joined after are, λ ps text known. known (Some after) is)
+
+pub rest_over : {K : Type 0} (keeps : List PieceValue → K → List FieldValue → Type 0) (done : List PieceValue) (before fields : List FieldValue) (left : List PieceValue) (text rest : List ℕ) (kept : K) (over : Bool) → over ≡ (length rest == 0)
+    → keeps (done ++ left) kept fields → ((found : Option (List FieldValue)) → FindsRest fields [] rest found → FindsRest before left text found) → KeepsRest keeps done before left text (kept_if over kept)
+rest_over keeps done before fields left text rest kept true e is h =
+    let none : length rest ≡ 0 = grind (arith, nat_tests) in
+    (Some fields, is, h (Some fields) (λ ps whole known. left_nothing ps whole fields rest known none))
+rest_over keeps done before fields left text rest kept false e is h =
+    let some : 0 < length rest = grind (arith, nat_tests) in
+    (None, tt, h None (λ ps whole known. left_over ps whole fields rest known some))
+
+-- what is kept of all pieces is that of the pieces after the literal at their beginning
+pub after_literal : {K : Type 0} (keeps : List PieceValue → K → List FieldValue → Type 0) (ps : List PieceValue) (text : List ℕ) (left : List PieceValue) (rest : List ℕ) (old : K) (kept : Option K) → IsAfterStart ps text left rest → keeps [] old [] → ((literal : List ℕ) → keeps (Literal literal ∷ []) old []) → KeepsMore keeps old left rest kept → IsKeptResult keeps ps text kept
+after_literal keeps ps text left rest old kept (inl same) none literal more =
+    let r = more [] [] none in
+    (r.0, subst (λ qs. AreKept (keeps qs) kept r.0) same.0 r.1, r.2 ps text (left_after_start ps text left rest (inl same)))
+after_literal keeps ps text left rest old kept (inr cut) none literal more =
+    let r = more (Literal cut.0 ∷ []) [] (literal cut.0) in
+    (r.0, subst (λ qs. AreKept (keeps qs) kept r.0) (sym cut.1) r.1, r.2 ps text (left_after_start ps text left rest (inr cut)))
 
 -- hits
 pub hit_some : {K : Type 0} (keeps : List PieceValue → K → List FieldValue → Type 0) (es : LibraryValue) (hit : Hit K) (o : Option FoundValue) → IsHit keeps es (Some hit) o → (f : FoundValue) × (o ≡ Some f)
@@ -68,12 +89,12 @@ pub own_hit : {K : Type 0} (keeps : List PieceValue → K → List FieldValue �
 own_hit keeps es step_type text hit (None, is, of) = absurd is
 own_hit keeps es step_type text hit (Some f, is, of) = subst (IsHit keeps es (Some hit)) (own_computed es step_type text f of) is
 
-pub any_hit : {K : Type 0} (keeps : List PieceValue → K → List FieldValue → Type 0) (es : LibraryValue) (text : List ℕ) (r : Result (Option (Hit K)) AllocError) → IfOk r (HitsWhatIsFound keeps es None text) → IfOk r (λ hit. IsHit keeps es hit (found_any es text))
-any_hit keeps es text (Err e) h = tt
-any_hit keeps es text (Ok hit) h = subst (IsHit keeps es hit) (any_computed es text h.0 h.2) h.1
+pub any_hit : {K : Type 0} (keeps : List PieceValue → K → List FieldValue → Type 0) (es : LibraryValue) (text : List ℕ) (kept : K) (r : Result (Option ℕ) AllocError) → IfOk r (λ entry. HitsWhatIsFound keeps es None text (hit_of kept entry)) → IfOk r (λ entry. IsHit keeps es (hit_of kept entry) (found_any es text))
+any_hit keeps es text kept (Err e) h = tt
+any_hit keeps es text kept (Ok entry) h = subst (IsHit keeps es (hit_of kept entry)) (any_computed es text h.0 h.2) h.1
 
 -- where no entry of the own type has a match, what is found is what the entries of type `step` give
-pub other_hit : {K : Type 0} (keeps : List PieceValue → K → List FieldValue → Type 0) (es : LibraryValue) (step_type : StepType) (text : List ℕ) (r : Result (Option (Hit K)) AllocError) → HitsWhatIsFound keeps es (Some step_type) text None → IfOk r (λ hit. IsHit keeps es hit (found_any es text)) → IfOk r (λ hit. IsHit keeps es hit (found es step_type text))
-other_hit keeps es step_type text (Err e) none h = tt
-other_hit keeps es step_type text (Ok hit) none h =
-    subst (IsHit keeps es hit) (found_as_any es step_type text (subst (IsFoundOf es (Some step_type) text) (hit_none keeps es none.0 none.1) none.2)) h
+pub other_hit : {K : Type 0} (keeps : List PieceValue → K → List FieldValue → Type 0) (es : LibraryValue) (step_type : StepType) (text : List ℕ) (kept : K) (r : Result (Option ℕ) AllocError) → HitsWhatIsFound keeps es (Some step_type) text None → IfOk r (λ entry. IsHit keeps es (hit_of kept entry) (found_any es text)) → IfOk r (λ entry. IsHit keeps es (hit_of kept entry) (found es step_type text))
+other_hit keeps es step_type text kept (Err e) none h = tt
+other_hit keeps es step_type text kept (Ok entry) none h =
+    subst (IsHit keeps es (hit_of kept entry)) (found_as_any es step_type text (subst (IsFoundOf es (Some step_type) text) (hit_none keeps es none.0 none.1) none.2)) h

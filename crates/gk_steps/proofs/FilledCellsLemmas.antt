@@ -1,5 +1,5 @@
 -- How many cells were filled.
-use Rattle.std.proofs.Common.{◌≡◌, ℕ, zero, suc, ◌+◌, ◌*◌, ◌<◌, ◌≤◌, List, [], ◌∷◌, length, take, drop, map, get_or, cond, Option, ap, sym, subst, ◌∙◌, arith, length-append}
+use Rattle.std.proofs.Common.{◌≡◌, inl, inr, ℕ, zero, suc, ◌+◌, ◌*◌, ◌<◌, ◌≤◌, List, [], ◌∷◌, length, take, drop, map, get_or, cond, Option, ap, sym, subst, ◌∙◌, arith, length-append}
 use Rattle.std.specs.Str.{chars, IsCharBoundary, IsUtf8}
 use Rattle.std.proofs.Math.Nat.{mul-le-mul}
 use Rattle.std.proofs.lemmas.List.{take-append-drop, drop_more, length-map, take-map}
@@ -10,6 +10,7 @@ use Rattle.gk_steps.specs.declared.pattern.Piece.{Piece}
 use Rattle.gk_steps.specs.Pattern.{PieceValue, piece_value}
 use Rattle.gk_steps.specs.CharBoundaries.{AreBoundaries}
 use Rattle.gk_steps.specs.Finding.{LibraryValue, is_of_type, entry_value}
+use Rattle.gk_steps.specs.LiteralEnds.{IsAfterStart}
 use Rattle.gk_steps.specs.FilledCells.{table_cells, cells_of_type, GoesOnBy}
 use Rattle.gk_steps.proofs.TableLemmas.{width_is}
 use Rattle.gk_steps.proofs.FindingLemmas.{of_type_itself}
@@ -32,6 +33,10 @@ fewer_chars text position u b =
     let whole : length (chars text) ≡ length (chars (take position text)) + length (chars (drop position text)) =
     ap (λ t. length (chars t)) (sym (take-append-drop position text)) ∙ ap length (chars-append (take position text) (drop position text) (IsUtf8-take text position u b)) ∙ length-append (chars (take position text)) (chars (drop position text)) in
     omega (arith, whole)
+
+pub fewer_pieces : (ps : List PieceValue) (text : List ℕ) (left : List PieceValue) (rest : List ℕ) → IsAfterStart ps text left rest → length left ≤ length ps
+fewer_pieces ps text left rest (inl same) = omega (arith, ap length same.0)
+fewer_pieces ps text left rest (inr cut) = omega (arith, ap length cut.1)
 
 pub fewer_cells : (left ps : List PieceValue) (rest text : List ℕ) → length left ≤ length ps → length (chars rest) ≤ length (chars text) → table_cells left rest ≤ table_cells ps text
 fewer_cells left ps rest text l c = mul-le-mul {n₁ = length left + 1} {m₁ = length (chars rest) + 1} {n₂ = length ps + 1} {m₂ = length (chars text) + 1} (omega arith) (omega arith)

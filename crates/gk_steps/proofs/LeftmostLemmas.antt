@@ -14,7 +14,8 @@ use Rattle.gk_steps.specs.Pattern.{PieceValue, Literal, FieldPiece, piece_value}
 use Rattle.gk_steps.specs.Matching.{IsSpan, Matches, MatchesNot, IsPreferred, IsBestMatch, IsMatchResult, FieldValue, TextField}
 use Rattle.gk_steps.specs.Advances.{values_of}
 use Rattle.gk_steps.specs.Finding.{MayNeedTable}
-use Rattle.gk_steps.specs.Leftmost.{CanStandAt, StandsNowhereBefore, IsFirst, TakesUpTo, IsLeft}
+use Rattle.gk_steps.specs.Leftmost.{CanStandAt, StandsNowhereBefore, IsFirst, TakesUpTo, IsLeft, FindsRest}
+use Rattle.gk_steps.specs.LiteralEnds.{IsAfterStart}
 use Rattle.gk_steps.proofs.MatchingLemmas.{same_prefix, same_back, split, join, nothing_left, best_nothing}
 use Rattle.gk_steps.proofs.BestMatchLemmas.{after_literal, begins_so, begins_with_itself}
 
@@ -31,7 +32,7 @@ utf8_front front back whole part =
     subst IsUtf8 (take-append_seam front back)
     (IsUtf8-take (front ++ back) (length front) whole (IsCharBoundary-from_drop (front ++ back) (length front) le (subst IsUtf8 (sym (drop-append_seam front back)) part)))
 
-boundary_after : (text x rest : List ℕ) → IsUtf8 text → text ≡ x ++ rest → IsUtf8 x → IsCharBoundary text (length x)
+pub boundary_after : (text x rest : List ℕ) → IsUtf8 text → text ≡ x ++ rest → IsUtf8 x → IsCharBoundary text (length x)
 boundary_after text x rest whole e part =
     let le : length x ≤ length text = omega (arith, ap length e, length-append x rest) in
     IsCharBoundary-from_take text (length x) whole le (subst IsUtf8 (sym (ap (take (length x)) e ∙ take-append_seam x rest)) part)
@@ -192,16 +193,24 @@ no_room literal text end short before = λ other some less here. elim (cases_lt 
 ]
 
 -- the pieces that are left
-pub left_start : (ps : List PieceValue) (text : List ℕ) → IsLeft ps text [] ps text
+left_start : (ps : List PieceValue) (text : List ℕ) → IsLeft ps text [] ps text
 left_start ps text None h = h
 left_start ps text (Some fields) h = h
 
-pub left_more : (ps : List PieceValue) (text : List ℕ) (fields fields' : List FieldValue) (piece : PieceValue) (others : List PieceValue) (rest : List ℕ) (position : ℕ) → IsLeft ps text fields (piece ∷ others) rest → TakesUpTo piece others rest position
+left_more : (ps : List PieceValue) (text : List ℕ) (fields fields' : List FieldValue) (piece : PieceValue) (others : List PieceValue) (rest : List ℕ) (position : ℕ) → IsLeft ps text fields (piece ∷ others) rest → TakesUpTo piece others rest position
     → fields' ≡ fields ++ values_of piece (take position rest) → IsLeft ps text fields' others (drop position rest)
 left_more ps text fields fields' piece others rest position known cut e None h = known None (cut.goes_on None h)
 left_more ps text fields fields' piece others rest position known cut e (Some found) h =
     subst (λ (v : List FieldValue). IsMatchResult ps text (Some v)) (sym (append_assoc fields (values_of piece (take position rest)) found) ∙ ap (λ (v : List FieldValue). v ++ found) (sym e))
     (known (Some (values_of piece (take position rest) ++ found)) (cut.goes_on (Some found) h))
+
+pub finds_more : (fields fields' : List FieldValue) (piece : PieceValue) (others : List PieceValue) (rest : List ℕ) (position : ℕ) → TakesUpTo piece others rest position → fields' ≡ fields ++ values_of piece (take position rest)
+    → (found : Option (List FieldValue)) → FindsRest fields' others (drop position rest) found → FindsRest fields (piece ∷ others) rest found
+finds_more fields fields' piece others rest position cut e found h = λ ps text known. h ps text (left_more ps text fields fields' piece others rest position known cut e)
+
+pub left_after_start : (ps : List PieceValue) (text : List ℕ) (left : List PieceValue) (rest : List ℕ) → IsAfterStart ps text left rest → IsLeft ps text [] left rest
+left_after_start ps text left rest (inl same) = subst (λ ls. IsLeft ps text [] ls rest) (sym same.0) (subst (IsLeft ps text [] ps) (sym same.1) (left_start ps text))
+left_after_start ps text left rest (inr cut) = λ found h. subst (λ qs. IsMatchResult qs text (option_map (λ (fields : List FieldValue). fields) found)) (sym cut.1) (literal_goes_on cut.0 left text rest cut.2 found h)
 
 pub left_nothing : (ps : List PieceValue) (text : List ℕ) (fields : List FieldValue) (rest : List ℕ) → IsLeft ps text fields [] rest → length rest ≡ 0 → IsMatchResult ps text (Some fields)
 left_nothing ps text fields [] known e = subst (λ (v : List FieldValue). IsMatchResult ps text (Some v)) (append-nil fields) (known (Some []) ([], best_nothing [] refl, refl))

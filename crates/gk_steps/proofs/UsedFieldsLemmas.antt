@@ -3,7 +3,6 @@ use Rattle.std.proofs.Common.{◌≡◌, ℕ, ◌++◌, Bool, true, false, List,
 use Rattle.std.specs.Prelude.{codes, slice_get, option_and_then}
 use Rattle.std.specs.Option.{option_or}
 use Rattle.std.specs.Str.{bytes_eq}
-use Rattle.gk_steps.specs.declared.finding.Hit.{Hit}
 use Rattle.gk_steps.specs.declared.pattern.FieldKind.{FieldKind}
 use Rattle.gk_steps.specs.declared.pattern.FieldKind.TheVariants.{Plain, Decimal}
 use Rattle.gk_steps.specs.declared.used_fields.FirstFields.{FirstFields}
@@ -11,7 +10,7 @@ use Rattle.gk_steps.specs.declared.used_fields.FoundUse.{FoundUse}
 use Rattle.gk_steps.specs.Pattern.{PieceValue, Literal, FieldPiece}
 use Rattle.gk_steps.specs.Matching.{FieldValue, TextField, NumberField, span_value}
 use Rattle.gk_steps.specs.Finding.{EntryValue, FoundValue, LibraryValue, HasUsedFields, HaveKindsOf, IsUseOf, action_of, field_named, field_of, found_at}
-use Rattle.gk_steps.specs.Captures.{IsHit}
+use Rattle.gk_steps.specs.Captures.{Hit, IsHit}
 use Rattle.gk_steps.specs.UsedFields.{AreFirst, AreJoined, IsAdded, KeepsFirst}
 
 -- fields of pieces, and those of the pieces after them

@@ -1,5 +1,5 @@
 -- Texts that a pattern can't match because of the literals at its ends.
-use Rattle.std.specs.Prelude.{◌≡◌, ℕ, List, [], ◌∷◌, ◌++◌}
+use Rattle.std.specs.Prelude.{◌≡◌, ◌⊎◌, ℕ, List, [], ◌∷◌, ◌++◌}
 use Rattle.gk_steps.specs.Pattern.{PieceValue, Literal, FieldPiece}
 
 -- A text begins with another.
@@ -22,6 +22,10 @@ EndsNotWith text suffix = (prefix : List ℕ) → text ≡ prefix ++ suffix → 
 abbrev pub FitsStart : List PieceValue → List ℕ → Type 0
 FitsStart (Literal literal ∷ ps) text = BeginsWith text literal
 FitsStart _ text = Unit {0}
+
+-- These pieces and this rest are left after the literal that a pattern and a text begin with, or they are all pieces and the whole text.
+abbrev pub IsAfterStart : List PieceValue → List ℕ → List PieceValue → List ℕ → Type 0
+IsAfterStart ps text left rest = ((left ≡ ps) × (rest ≡ text)) ⊎ ((literal : List ℕ) × (ps ≡ Literal literal ∷ left) × (text ≡ literal ++ rest))
 
 -- What the last piece of a pattern requires of the text's end: a literal ends the text, a field requires nothing.
 abbrev pub EndsWithPiece : PieceValue → List ℕ → Type 0

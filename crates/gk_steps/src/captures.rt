@@ -1,6 +1,6 @@
 //! What a match keeps of its fields' values.
-ghost use Rattle.std.specs.Prelude.{◌≡◌, ◌++◌, ◌∷◌, List, [], map, IfOk, IfErr, OnOk};
-ghost use Rattle.gk_steps.specs.Pattern.{PieceValue, piece_value};
+ghost use Rattle.std.specs.Prelude.{◌≡◌, ◌++◌, ◌∷◌, ℕ, List, [], map, IfOk, IfErr, OnOk};
+ghost use Rattle.gk_steps.specs.Pattern.{PieceValue, Literal, piece_value};
 ghost use Rattle.gk_steps.specs.Matching.{FieldValue, IsSpan, field_value, span_value};
 ghost use Rattle.gk_steps.specs.Advances.{Takes, values_of};
 ghost use Rattle.gk_steps.specs.Captures.{capture_value};
@@ -25,7 +25,8 @@ pub(crate) trait Captures<'t>: Drop {
 
     /// Returns what is kept of no fields. Doesn't allocate.
     fn empty(alloc: Global) -> Self
-        ensures { keeps [] result [] };
+        ensures none { keeps [] result [] }
+        ensures literal { (text : List ℕ) → keeps (Literal text ∷ []) result [] };
 
     /// Adds what is kept of a piece that took a span.
     fn add(&mut self, alloc: Global, piece: &Piece, span: &'t str) -> Result<(), AllocError>

@@ -5,7 +5,7 @@ ghost use Rattle.gk_steps.specs.Finding as spec;
 ghost use Rattle.gk_steps.specs.Finding.{HasCandidate, HasCandidateFor};
 ghost use Rattle.gk_steps.specs.Finding.{HasTableCandidate, HasTableCandidateFor};
 ghost use Rattle.gk_steps.specs.Finding.{FoundValue, LibraryValue, entries_said, library_value, found_value};
-ghost use Rattle.gk_steps.specs.Captures.{IsHit, HitsWhatIsFound};
+ghost use Rattle.gk_steps.specs.Captures.{IsHit, HitsWhatIsFound, hit_of};
 ghost use Rattle.gk_steps.specs.FilledCells.{cells_of_type, cells_of_step};
 ghost use Rattle.gk_steps.specs.EntryIndex.{IsIndexed};
 
@@ -14,8 +14,8 @@ use crate::captures::{Captures, NoCaptures};
 use crate::entry_index::{IndexedEntries, word_of};
 use crate::filled_cells::Cells;
 use crate::library::Library;
-use crate::matching::match_from_left;
-use crate::pattern::{Field, Piece};
+use crate::matching::match_fitting;
+use crate::pattern::Field;
 use gk_gherkin::StepType;
 use std::alloc::{AllocError, Global};
 
@@ -24,13 +24,6 @@ use std::alloc::{AllocError, Global};
 pub struct Found {
     pub entry: usize,
     pub fields: Vec<Field>,
-}
-
-/// A found entry: its position in the library, and what was kept of its field values.
-#[derive(Debug, Drop)]
-pub(crate) struct Hit<K> {
-    pub entry: usize,
-    pub kept: K,
 }
 
 // Returns whether two types are equal.
@@ -46,19 +39,20 @@ fn is_same(a: Option<StepType>, b: Option<StepType>) -> bool
     }
 }
 
-// Searches the entries of one type for a text. An entry whose ends don't fit the text is passed over here, before a
-// match begins.
+// Searches the entries of one type for a text. Returns the position of the entry, and replaces what was kept by what is
+// kept of its field values. An entry whose ends don't fit the text is passed over here, before a match begins.
 #[inline(always)]
 pub(crate) fn find_of<'t, K: Captures<'t>>(
     cells: &mut Cells,
     alloc: Global,
+    kept: &mut K,
     indexed: &IndexedEntries<'_>,
     step_type: Option<StepType>,
     text: &'t str,
-) -> Result<Option<Hit<K>>, AllocError>
+) -> Result<Option<usize>, AllocError>
     requires { IsIndexed indexed.now }
-    ensures found { let entries = entries_said indexed.now.entries.now in IfOk result (λ hit.
-        HitsWhatIsFound K.keeps entries step_type text.now hit) }
+    ensures found { let entries = entries_said indexed.now.entries.now in IfOk result (λ entry.
+        HitsWhatIsFound K.keeps entries step_type text.now (hit_of kept.new entry)) }
     ensures memory { IfErr result (λ e.
         HasCandidate (entries_said indexed.now.entries.now) step_type text.now) }
     ensures table { IfErr result (λ e. K.allocates
@@ -73,14 +67,11 @@ pub(crate) fn find_of<'t, K: Captures<'t>>(
     let mut position = indexed.next(0, tries, word, text);
     while position < entries.len() {
         let entry = &entries[position];
-        if is_same(entry.step_type, step_type) && entry.pattern.can_match(text) {
-            match match_from_left(cells, alloc, &entry.pattern.pieces, text)? {
-                Some(kept) => return Ok(Some(Hit {
-                    entry: position,
-                    kept,
-                })),
-                None => {}
-            }
+        if is_same(entry.step_type, step_type)
+            && entry.pattern.can_match(text)
+            && match_fitting(cells, alloc, kept, &entry.pattern.pieces, text)?
+        {
+            return Ok(Some(position));
         }
         tries = tries.saturating_add(1);
         position = indexed.next(position + 1, tries, word, text);
@@ -88,35 +79,34 @@ pub(crate) fn find_of<'t, K: Captures<'t>>(
     Ok(None)
 }
 
-// Returns what was found, from a hit that kept all fields.
+// Returns what was found, from the position of an entry and all of its fields.
 #[inline(always)]
-fn found_of(hit: Option<Hit<Vec<Field>>>) -> Option<Found>
+fn found_of(entry: Option<usize>, fields: Vec<Field>) -> Option<Found>
     ensures { (entries : LibraryValue) (found : Option FoundValue)
-        → IsHit ⟦<Vec<Field> as Captures<'static>>⟧.keeps entries hit found
+        → IsHit ⟦<Vec<Field> as Captures<'static>>⟧.keeps entries (hit_of fields entry) found
         → option_map found_value result ≡ found }
 {
-    match hit {
-        Some(Hit { entry, kept }) => Some(Found {
-            entry,
-            fields: kept,
-        }),
+    match entry {
+        Some(entry) => Some(Found { entry, fields }),
         None => None,
     }
 }
 
 impl Library {
-    /// Returns what a step finds, with what is kept of it. Counts the cells that it fills: at most one whole table for
-    /// each entry of its type and of type `step`. Every lookup of a step uses this call.
+    /// Returns the position of the entry that a step finds, and replaces what was kept by what is kept of its field
+    /// values. Counts the cells that it fills: at most one whole table for each entry of its type and of type `step`.
+    /// Every lookup of a step uses this call.
     #[inline(always)]
     pub(crate) fn search<'t, K: Captures<'t>>(
         &self,
         alloc: Global,
         cells: &mut Cells,
+        kept: &mut K,
         step_type: StepType,
         text: &'t str,
-    ) -> Result<Option<Hit<K>>, AllocError>
-        ensures found { IfOk result (λ hit.
-            IsHit K.keeps (library_value self.now) hit
+    ) -> Result<Option<usize>, AllocError>
+        ensures found { IfOk result (λ entry.
+            IsHit K.keeps (library_value self.now) (hit_of kept.new entry)
             (spec.found (library_value self.now) step_type text.now)) }
         ensures memory { IfErr result (λ e.
             HasCandidateFor (library_value self.now) step_type text.now) }
@@ -127,13 +117,13 @@ impl Library {
         ensures least { cells.old.filled ≤ cells.new.filled }
     {
         if self.typed == 0 {
-            return self.search_any(alloc, cells, text);
+            return self.search_any(alloc, cells, kept, text);
         }
         let typed = self.indexed(self.typed);
-        if let Some(hit) = find_of(cells, alloc, &typed, Some(step_type), text)? {
-            return Ok(Some(hit));
+        if let Some(entry) = find_of(cells, alloc, kept, &typed, Some(step_type), text)? {
+            return Ok(Some(entry));
         }
-        self.search_any(alloc, cells, text)
+        self.search_any(alloc, cells, kept, text)
     }
 
     // Does the same among the entries of type `step` only. `find_any` uses it too.
@@ -141,10 +131,11 @@ impl Library {
         &self,
         alloc: Global,
         cells: &mut Cells,
+        kept: &mut K,
         text: &'t str,
-    ) -> Result<Option<Hit<K>>, AllocError>
-        ensures found { IfOk result (λ hit.
-            IsHit K.keeps (library_value self.now) hit
+    ) -> Result<Option<usize>, AllocError>
+        ensures found { IfOk result (λ entry.
+            IsHit K.keeps (library_value self.now) (hit_of kept.new entry)
             (spec.found_any (library_value self.now) text.now)) }
         ensures memory { IfErr result (λ e. HasCandidate (library_value self.now) None text.now) }
         ensures table { IfErr result (λ e. K.allocates
@@ -154,7 +145,7 @@ impl Library {
         ensures least { cells.old.filled ≤ cells.new.filled }
     {
         let all = self.whole();
-        find_of(cells, alloc, &all, None, text)
+        find_of(cells, alloc, kept, &all, None, text)
     }
 
     /// Finds the preferred match of the first entry of the step's type that has a match, in library order. If there is
@@ -175,7 +166,9 @@ impl Library {
             HasCandidateFor (library_value self.now) step_type text.now) }
     {
         let mut cells = Cells::new();
-        Ok(found_of(self.search(alloc, &mut cells, step_type, text)?))
+        let mut fields = Vec::new(alloc);
+        let entry = self.search(alloc, &mut cells, &mut fields, step_type, text)?;
+        Ok(found_of(entry, fields))
     }
 
     /// Returns what `find` does, among the entries of type `step` only. At most one whole table is filled for each of
@@ -187,7 +180,9 @@ impl Library {
         ensures memory { IfErr result (λ e. HasCandidate (library_value self.now) None text.now) }
     {
         let mut cells = Cells::new();
-        Ok(found_of(self.search_any(alloc, &mut cells, text)?))
+        let mut fields = Vec::new(alloc);
+        let entry = self.search_any(alloc, &mut cells, &mut fields, text)?;
+        Ok(found_of(entry, fields))
     }
 
     /// Returns whether a step finds an entry. At most one whole table is filled for each entry of its type and of
@@ -203,8 +198,8 @@ impl Library {
             HasTableCandidateFor (library_value self.now) step_type text.now) }
     {
         let mut cells = Cells::new();
-        let hit: Option<Hit<NoCaptures>> = self.search(alloc, &mut cells, step_type, text)?;
-        Ok(hit.is_some())
+        let entry = self.search(alloc, &mut cells, &mut NoCaptures, step_type, text)?;
+        Ok(entry.is_some())
     }
 
     /// Returns the action of the entry at a position. Doesn't allocate.

@@ -4,8 +4,7 @@ ghost use Rattle.gk_steps.specs.declared.pattern.FieldKind.TheVariants as kinds;
 ghost use Rattle.gk_steps.specs.Pattern.{Literal, FieldPiece, piece_value, pieces_said};
 ghost use Rattle.gk_steps.specs.Leftmost.{CanStandAt, IsFirstPosition, IsPieceEnd, IsEndBefore};
 
-use crate::advances::rest_after;
-use crate::literal_ends::{begins_with_bytes, ends_with};
+use crate::literal_ends::{begins_with, begins_with_bytes, ends_with};
 use crate::pattern::{FieldKind, Piece};
 
 /// How much of a text the first piece of a pattern takes.
@@ -76,9 +75,10 @@ fn first_position(literal: &str, text: &str) -> Option<usize>
 fn literal_end(literal: &str, after: &[Piece], text: &str) -> PieceEnd
     ensures { IsPieceEnd (Literal literal.now) (pieces_said after.now) text.now result }
 {
-    match rest_after(text, literal) {
-        Some(_) => PieceEnd::At(literal.len()),
-        None => PieceEnd::Nowhere,
+    if begins_with(text, literal) {
+        PieceEnd::At(literal.len())
+    } else {
+        PieceEnd::Nowhere
     }
 }
 

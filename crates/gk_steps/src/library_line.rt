@@ -229,7 +229,14 @@ fn entry_from(
         Err(fault) => return Err(fault),
     };
     let mut cells = Cells::new();
-    match find_of::<NoCaptures>(&mut cells, alloc, earlier, said.step_type, said.pattern)? {
+    match find_of(
+        &mut cells,
+        alloc,
+        &mut NoCaptures,
+        earlier,
+        said.step_type,
+        said.pattern,
+    )? {
         Some(_) => Err(LibraryFault::Ambiguous { line: number }),
         None => Ok(Entry {
             step_type: said.step_type,

@@ -1,10 +1,11 @@
 //! Texts that a pattern can't match because of its ends, found without a table.
-ghost use Rattle.std.specs.Prelude.{◌≡◌, false, IsTrue, MatchBool, nat_eq};
+ghost use Rattle.std.specs.Prelude.{◌≡◌, ◌≤◌, length, false, IsTrue, MatchBool, nat_eq};
 ghost use Rattle.std.specs.List.{starts_with, ends_with};
+ghost use Rattle.std.specs.Str.{chars};
 ghost use Rattle.gk_steps.specs.Pattern.{pieces_said, pattern_value};
 ghost use Rattle.gk_steps.specs.Matching.{MatchesNot};
 ghost use Rattle.gk_steps.specs.LiteralEnds.{BeginsWith, BeginsNotWith, EndsWith, EndsNotWith};
-ghost use Rattle.gk_steps.specs.LiteralEnds.{FitsStart, FitsEnd};
+ghost use Rattle.gk_steps.specs.LiteralEnds.{FitsStart, FitsEnd, IsAfterStart};
 
 use crate::pattern::{Pattern, Piece};
 
@@ -41,8 +42,9 @@ pub(crate) fn ends_with(text: &str, back: &str) -> bool
     ends_with_bytes(text.as_bytes(), back.as_bytes())
 }
 
-// Returns whether a text begins with another.
-fn begins_with(text: &str, start: &str) -> bool
+/// Returns whether a text begins with another.
+#[inline(always)]
+pub(crate) fn begins_with(text: &str, start: &str) -> bool
     ensures { MatchBool result (BeginsWith text.now start.now) (BeginsNotWith text.now start.now) }
 {
     begins_with_bytes(text.as_bytes(), start.as_bytes())
@@ -73,6 +75,22 @@ fn fits_end(pieces: &[Piece], text: &str) -> bool
             Piece::Field { .. } => true,
         },
         None => true,
+    }
+}
+
+/// Returns the pieces after the literal that a pattern begins with, and the text after that literal. Returns all pieces
+/// and the whole text if the pattern begins with a field or has no pieces.
+#[inline(always)]
+pub(crate) fn after_start<'p, 't>(pieces: &'p [Piece], text: &'t str) -> (&'p [Piece], &'t str)
+    requires { FitsStart (pieces_said pieces.now) text.now }
+    ensures cut { IsAfterStart (pieces_said pieces.now) text.now
+        (pieces_said result.0.now) result.1.now }
+    ensures fewer { length (chars result.1.now) ≤ length (chars text.now) }
+{
+    if let Some((Piece::Literal(literal), after)) = pieces.split_first() {
+        (after, &text[literal.len()..])
+    } else {
+        (pieces, text)
     }
 }
 

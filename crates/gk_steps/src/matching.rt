@@ -2,12 +2,12 @@
 ghost use Rattle.std.specs.Prelude.{◌≡◌, ◌⊎◌, ◌<◌, ◌≤◌, ◌+◌, ◌*◌, ℕ, List, length};
 ghost use Rattle.std.specs.Prelude.{false, IfOk, IfErr, OnOk, IsTrue, Some};
 ghost use Rattle.std.specs.Str.{chars};
-ghost use Rattle.gk_steps.specs.Pattern.{PieceValue, pieces_said, pattern_value};
-ghost use Rattle.gk_steps.specs.Matching.{FieldValue, Matches, IsMatchResult};
+ghost use Rattle.gk_steps.specs.Pattern.{pieces_said, pattern_value};
+ghost use Rattle.gk_steps.specs.Matching.{Matches, IsMatchResult};
 ghost use Rattle.gk_steps.specs.Matching.{fields_said};
 ghost use Rattle.gk_steps.specs.CharBoundaries.{AreBoundaries};
 ghost use Rattle.gk_steps.specs.TableRows.{IsWholeTable};
-ghost use Rattle.gk_steps.specs.Captures.{IsKeptResult, KeepsRest};
+ghost use Rattle.gk_steps.specs.Captures.{IsKeptResult, KeepsMore, kept_if};
 ghost use Rattle.gk_steps.specs.LiteralEnds.{FitsStart, FitsEnd};
 ghost use Rattle.gk_steps.specs.Finding.{MayNeedTable};
 ghost use Rattle.gk_steps.specs.FilledCells.{GoesOnBy, table_cells};
@@ -17,6 +17,7 @@ use crate::captures::Captures;
 use crate::char_boundaries::boundaries_of;
 use crate::filled_cells::Cells;
 use crate::leftmost::{PieceEnd, piece_end};
+use crate::literal_ends::after_start;
 use crate::pattern::{Field, Pattern, Piece};
 use crate::table_rows::{first_row, row_over};
 use std::alloc::{AllocError, Global};
@@ -139,17 +140,17 @@ impl Pattern {
     }
 }
 
-// Matches the pieces that are left by a table, after what is kept so far.
+// Matches the pieces that are left by a table, and adds to what is kept so far.
+#[inline(never)]
 fn match_rest<'t, K: Captures<'t>>(
     cells: &mut Cells,
     alloc: Global,
-    kept: K,
+    kept: &mut K,
     left: &[Piece],
     rest: &'t str,
-) -> Result<Option<K>, AllocError>
-    ensures found { IfOk result (λ found. (done : List PieceValue) (before : List FieldValue)
-        → K.keeps done kept before
-        → KeepsRest K.keeps done before (pieces_said left.now) rest.now found) }
+) -> Result<bool, AllocError>
+    ensures found { IfOk result (λ found. KeepsMore K.keeps kept.old
+        (pieces_said left.now) rest.now (kept_if found kept.new)) }
     ensures most { cells.new.filled
         ≤ cells.old.filled + table_cells (pieces_said left.now) rest.now }
     ensures least { cells.old.filled ≤ cells.new.filled }
@@ -159,32 +160,31 @@ fn match_rest<'t, K: Captures<'t>>(
     let boundaries = boundaries_of(alloc, rest)?;
     match match_pieces(cells, alloc, left, rest, &boundaries)? {
         Some(later) => {
-            let mut kept = kept;
             kept.join(later)?;
-            Ok(Some(kept))
+            Ok(true)
         }
-        None => Ok(None),
+        None => Ok(false),
     }
 }
 
-/// Matches pieces from the left. A table is made for the pieces from the first one whose share depends on the pieces
-/// after it.
+// Matches pieces from the left, and adds to what is kept so far. A table is made for the pieces from the first one whose
+// share depends on the pieces after it. What is kept is unspecified if there is no match.
 // Kept out of line, so that an entry that is passed over costs little.
 #[inline(never)]
-pub(crate) fn match_from_left<'t, K: Captures<'t>>(
+fn match_from_left<'t, K: Captures<'t>>(
     cells: &mut Cells,
     alloc: Global,
+    kept: &mut K,
     pieces: &[Piece],
     text: &'t str,
-) -> Result<Option<K>, AllocError>
-    ensures found { IfOk result (λ found.
-        IsKeptResult K.keeps (pieces_said pieces.now) text.now found) }
+) -> Result<bool, AllocError>
+    ensures found { IfOk result (λ found. KeepsMore K.keeps kept.old
+        (pieces_said pieces.now) text.now (kept_if found kept.new)) }
     ensures table { IfErr result (λ e. K.allocates ⊎ MayNeedTable (pieces_said pieces.now)) }
     ensures most { cells.new.filled
         ≤ cells.old.filled + table_cells (pieces_said pieces.now) text.now }
     ensures least { cells.old.filled ≤ cells.new.filled }
 {
-    let mut kept = K::empty(alloc);
     let mut left = pieces;
     let mut rest = text;
     'pieces: while let Some((piece, after)) = left.split_first() {
@@ -194,15 +194,35 @@ pub(crate) fn match_from_left<'t, K: Captures<'t>>(
                 left = after;
                 rest = &rest[position..];
             }
-            PieceEnd::Nowhere => return Ok(None),
+            PieceEnd::Nowhere => return Ok(false),
             PieceEnd::Unknown => return match_rest(cells, alloc, kept, left, rest),
         }
     }
-    if rest.is_empty() {
-        Ok(Some(kept))
-    } else {
-        Ok(None)
-    }
+    Ok(rest.is_empty())
+}
+
+/// Matches pieces that fit the ends of a text, and replaces what was kept. The literal at their beginning isn't compared
+/// again. A table is made only for the pieces from the first one whose share depends on the pieces after it. What is
+/// kept is unspecified if there is no match.
+#[inline(always)]
+pub(crate) fn match_fitting<'t, K: Captures<'t>>(
+    cells: &mut Cells,
+    alloc: Global,
+    kept: &mut K,
+    pieces: &[Piece],
+    text: &'t str,
+) -> Result<bool, AllocError>
+    requires { FitsStart (pieces_said pieces.now) text.now }
+    ensures found { IfOk result (λ found.
+        IsKeptResult K.keeps (pieces_said pieces.now) text.now (kept_if found kept.new)) }
+    ensures table { IfErr result (λ e. K.allocates ⊎ MayNeedTable (pieces_said pieces.now)) }
+    ensures most { cells.new.filled
+        ≤ cells.old.filled + table_cells (pieces_said pieces.now) text.now }
+    ensures least { cells.old.filled ≤ cells.new.filled }
+{
+    *kept = K::empty(alloc);
+    let (left, rest) = after_start(pieces, text);
+    match_from_left(cells, alloc, kept, left, rest)
 }
 
 impl Pattern {
@@ -221,6 +241,8 @@ impl Pattern {
             return Ok(None);
         }
         let mut cells = Cells::new();
-        match_from_left(&mut cells, alloc, &self.pieces, text)
+        let mut fields = Vec::new(alloc);
+        let found = match_fitting(&mut cells, alloc, &mut fields, &self.pieces, text)?;
+        Ok(if found { Some(fields) } else { None })
     }
 }

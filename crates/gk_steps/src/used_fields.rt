@@ -11,7 +11,7 @@ ghost use Rattle.gk_steps.specs.UsedFields.{said, first_of, AreFirst, AreJoined,
 use crate::action::Action;
 use crate::captures::{Capture, Captures, capture_of};
 use crate::filled_cells::Cells;
-use crate::finding::{Found, Hit};
+use crate::finding::Found;
 use crate::library::Library;
 use crate::pattern::{Field, Piece};
 use gk_gherkin::StepType;
@@ -63,7 +63,7 @@ impl<'t> Captures<'t> for FirstFields<'t> {
 
     #[inline(always)]
     fn add(&mut self, _alloc: Global, piece: &Piece, span: &'t str) -> Result<(), AllocError> {
-        *self = with_piece(*self, piece, span);
+        add_piece(self, piece, span);
         Ok(())
     }
 
@@ -83,45 +83,38 @@ const NO_FIELDS: FirstFields<'static> = FirstFields {
     text: None,
 };
 
-// Returns the first field of a name, after one more field, which may have that name.
+// Adds one more field to the first field of a name, if it has that name.
 #[inline(always)]
-fn first<'a>(so_far: Option<Capture<'a>>, is_named: bool, taken: Capture<'a>) -> Option<Capture<'a>>
-    ensures { said result ≡ first_of (said so_far.entry) is_named (capture_value taken.entry) }
+fn add_first<'a>(first: &mut Option<Capture<'a>>, is_named: bool, taken: Capture<'a>)
+    ensures { said first.new ≡ first_of (said first.old) is_named (capture_value taken.entry) }
 {
-    if so_far.is_none() && is_named {
-        Some(taken)
-    } else {
-        so_far
+    if is_named && first.is_none() {
+        *first = Some(taken);
     }
 }
 
-// Returns the first fields, after one more field.
+// Adds one more field to the first fields.
 #[inline(always)]
-fn with_field<'a>(so_far: FirstFields<'a>, name: &str, taken: Capture<'a>) -> FirstFields<'a>
-    ensures { IsAdded name.now (capture_value taken.entry) so_far.entry result }
+fn add_field<'a>(firsts: &mut FirstFields<'a>, name: &str, taken: Capture<'a>)
+    ensures { IsAdded name.now (capture_value taken.entry) firsts.old firsts.new }
 {
-    FirstFields {
-        name: first(so_far.name, name == "name", taken),
-        to: first(so_far.to, name == "to", taken),
-        step: first(so_far.step, name == "step", taken),
-        number: first(so_far.number, name == "n", taken),
-        text: first(so_far.text, name == "text", taken),
-    }
+    add_first(&mut firsts.name, name == "name", taken);
+    add_first(&mut firsts.to, name == "to", taken);
+    add_first(&mut firsts.step, name == "step", taken);
+    add_first(&mut firsts.number, name == "n", taken);
+    add_first(&mut firsts.text, name == "text", taken);
 }
 
-// Returns the first fields, after one more piece that took a span. Only a field changes them.
+// Adds one more piece that took a span to the first fields. Only a field changes them.
 #[inline(always)]
-fn with_piece<'a>(so_far: FirstFields<'a>, piece: &Piece, span: &'a str) -> FirstFields<'a>
+fn add_piece<'a>(firsts: &mut FirstFields<'a>, piece: &Piece, span: &'a str)
     requires { Takes (piece_value piece.now) span.now }
     ensures { let p = piece_value piece.now in (ps : List PieceValue) (before : List FieldValue)
-        → KeepsFirst ps so_far.entry before
-        → KeepsFirst (ps ++ p ∷ []) result (before ++ values_of p span.now) }
+        → KeepsFirst ps firsts.old before
+        → KeepsFirst (ps ++ p ∷ []) firsts.new (before ++ values_of p span.now) }
 {
-    match piece {
-        Piece::Literal(_) => so_far,
-        Piece::Field { name, kind } => {
-            with_field(so_far, name.as_str(), capture_of(*kind, span))
-        }
+    if let Piece::Field { name, kind } = piece {
+        add_field(firsts, name.as_str(), capture_of(*kind, span));
     }
 }
 
@@ -163,7 +156,7 @@ fn first_fields<'a>(pieces: &[Piece], fields: &'a [Field]) -> FirstFields<'a>
             let Some((field, later)) = rest.split_first() else {
                 return firsts;
             };
-            firsts = with_field(firsts, name.as_str(), lent(field));
+            add_field(&mut firsts, name.as_str(), lent(field));
             rest = later;
         }
     }
@@ -258,13 +251,13 @@ impl Library {
             HasTableCandidateFor (library_value self.now) step_type text.now) }
     {
         let mut cells = Cells::new();
-        let hit: Option<Hit<FirstFields<'a>>> = self.search(alloc, &mut cells, step_type, text)?;
-        let Some(Hit { entry, kept }) = hit else {
-            return Ok(None);
-        };
-        Ok(Some(FoundUse {
-            action: self.action_at(entry),
-            fields: used_in(kept),
-        }))
+        let mut firsts = NO_FIELDS;
+        match self.search(alloc, &mut cells, &mut firsts, step_type, text)? {
+            Some(entry) => Ok(Some(FoundUse {
+                action: self.action_at(entry),
+                fields: used_in(firsts),
+            })),
+            None => Ok(None),
+        }
     }
 }

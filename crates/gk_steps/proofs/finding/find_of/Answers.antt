@@ -3,19 +3,21 @@ use Rattle.gk_steps.specs.declared.filled_cells.Cells.{Cells}
 use Rattle.gk_steps.specs.FilledCells.{cells_of_type}
 use Rattle.gk_steps.specs.Finding.{NoneBefore, MayNeedTable, entry_value, found_at}
 use Rattle.gk_steps.proofs.FilledCellsLemmas.{asked, passed_over}
-use Rattle.gk_steps.specs.Captures.{IsKeptResult}
+use Rattle.gk_steps.specs.Captures.{IsKeptResult, kept_if}
 use Rattle.gk_steps.specs.Pattern.{piece_value}
 use Rattle.gk_steps.proofs.FindingLemmas.{entry_at, none_more, none_all, first_at, candidate, table_candidate, of_fault}
 use Rattle.gk_steps.proofs.CaptureLemmas.{kept_some, kept_none}
 use Rattle.gk_steps.proofs.EntryIndexLemmas.{none_skipped, cells_skipped}
 use Rattle.gk_steps.proofs.finding.find_of.Goals as goal
-use Rattle.gk_steps.proofs.finding.find_of.Goals.{then-is_same+then-can_match+in_ok-kept+in-None, else-is_same, else-is_same-via-then-is_same+else-can_match, else-is_same-via-else-is_same}
+use Rattle.gk_steps.proofs.finding.find_of.Goals.{else-is_same-via-then-is_same+then-can_match+in_ok-match_fitting+else-branch, else-is_same-via-then-is_same+else-can_match, else-is_same-via-else-is_same}
 
-pub returns-in-Some-clause-found : goal.returns-in-Some-clause-found
-returns-in-Some-clause-found g c =
-    let m = kept_some g.K.Captures.keeps (map piece_value c.index-entries-position.result.pattern.pieces.items) c.args.text.now c.in-Some.kept
-    (subst (IsKeptResult g.K.Captures.keeps (map piece_value c.index-entries-position.result.pattern.pieces.items) c.args.text.now) c.in-Some.is
-    (subst (λ ps. IsKeptResult g.K.Captures.keeps (map piece_value ps) c.args.text.now c.in_ok-kept.field-0) c.deref.ensures.value c.in_ok-kept.ensures.found)) in (
+pub returns-then-branch-clause-found : goal.returns-then-branch-clause-found
+returns-then-branch-clause-found g c =
+    let kept = c.match_fitting.new.kept in
+    let pieces = c.index-entries-position.result.pattern.pieces.items in
+    let m = kept_some g.K.Captures.keeps (map piece_value pieces) c.args.text.now kept
+    (subst (λ found. IsKeptResult g.K.Captures.keeps (map piece_value pieces) c.args.text.now (kept_if found kept)) c.if-branch.true
+    (subst (λ ps. IsKeptResult g.K.Captures.keeps (map piece_value ps) c.args.text.now (kept_if c.in_ok-match_fitting.field-0 kept)) c.deref.ensures.value c.in_ok-match_fitting.ensures.found)) in (
       Some (found_at c.loop-position.position m.0),
       record {
         position = refl;
@@ -29,13 +31,13 @@ returns-in-Some-clause-found g c =
 pub returns-clause-found : goal.returns-clause-found
 returns-clause-found g c = (None, tt, none_all c.args.indexed.now.entries.now c.args.step_type c.args.text.now c.loop-position.position c.loop-position-test.false c.loop-position.invariant.0)
 
-pub returns-in_err-kept-clause-memory : goal.returns-in_err-kept-clause-memory
-returns-in_err-kept-clause-memory g c =
+pub returns-in_err-match_fitting-clause-memory : goal.returns-in_err-match_fitting-clause-memory
+returns-in_err-match_fitting-clause-memory g c =
     of_fault c.from_residual.result (candidate c.args.indexed.now.entries.now c.args.step_type c.args.text.now c.loop-position.position c.index-entries-position.result c.loop-position-test.true c.index-entries-position.is c.if-is_same.ensures (c.if-can_match.ensures.prefix refl, c.if-can_match.ensures.back refl))
 
-pub returns-in_err-kept-clause-table : goal.returns-in_err-kept-clause-table
-returns-in_err-kept-clause-table g c =
-    of_fault c.from_residual.result (elim c.in_err-kept.ensures.table [
+pub returns-in_err-match_fitting-clause-table : goal.returns-in_err-match_fitting-clause-table
+returns-in_err-match_fitting-clause-table g c =
+    of_fault c.from_residual.result (elim c.in_err-match_fitting.ensures.table [
       | inl memory ↦ inl memory
       | inr table ↦ inr (table_candidate c.args.indexed.now.entries.now c.args.step_type c.args.text.now c.loop-position.position c.index-entries-position.result c.loop-position-test.true c.index-entries-position.is c.if-is_same.ensures (c.if-can_match.ensures.prefix refl, c.if-can_match.ensures.back refl)
           (subst (λ ps. MayNeedTable (map piece_value ps)) c.deref.ensures.value table))
@@ -56,34 +58,23 @@ loop-position-preserved g c =
     let entries = c.args.indexed.now.entries.now in
     let position = c.loop-position.position + 1 in
     let next = c.next-position-in-loop-position.result in
-    let here : NoneBefore (c.loop-position.position + 1) (map entry_value c.args.indexed.now.entries.now) c.args.step_type c.args.text.now
-    × (c.if-is_same.cells.filled + cells_of_type (map entry_value (drop (c.loop-position.position + 1) c.args.indexed.now.entries.now)) c.args.step_type c.args.text.now ≤ c.args.cells.now.filled + cells_of_type (map entry_value c.args.indexed.now.entries.now) c.args.step_type c.args.text.now)
-    × (c.args.cells.now.filled ≤ c.if-is_same.cells.filled) = elim c.if-is_same.branch [
-      | then-is_same+then-can_match+in_ok-kept+in-None w ↦ (
-        none_more c.args.indexed.now.entries.now c.args.step_type c.args.text.now c.loop-position.position c.index-entries-position.result c.loop-position-test.true c.index-entries-position.is
-            (λ same. kept_none g.K.Captures.keeps (map piece_value c.index-entries-position.result.pattern.pieces.items) c.args.text.now
-            (subst (IsKeptResult g.K.Captures.keeps (map piece_value c.index-entries-position.result.pattern.pieces.items) c.args.text.now) w.in-None.is
-            (subst (λ ps. IsKeptResult g.K.Captures.keeps (map piece_value ps) c.args.text.now w.in_ok-kept.field-0) w.deref.ensures.value w.in_ok-kept.ensures.found))) c.loop-position.invariant.0,
-        subst (λ (cells : Cells). cells.filled + cells_of_type (map entry_value (drop (c.loop-position.position + 1) c.args.indexed.now.entries.now)) c.args.step_type c.args.text.now ≤ c.args.cells.now.filled + cells_of_type (map entry_value c.args.indexed.now.entries.now) c.args.step_type c.args.text.now) (sym w.cells-is)
-            (asked c.args.indexed.now.entries.now c.loop-position.position c.index-entries-position.result c.args.step_type c.args.text.now w.deref.result.now c.args.cells.now.filled c.loop-position.cells.filled w.match_from_left.new.cells.filled c.loop-position-test.true c.index-entries-position.is w.if-is_same.ensures w.deref.ensures.value w.match_from_left.ensures.most c.loop-position.invariant.1),
-        subst (λ (cells : Cells). c.args.cells.now.filled ≤ cells.filled) (sym w.cells-is) (omega (arith, c.loop-position.invariant.2, w.match_from_left.ensures.least)),
+    let more = none_more entries c.args.step_type c.args.text.now c.loop-position.position c.index-entries-position.result c.loop-position-test.true c.index-entries-position.is in
+    let cells = passed_over entries c.loop-position.position c.index-entries-position.result c.args.step_type c.args.text.now c.args.cells.now.filled c.loop-position.cells.filled c.loop-position-test.true c.index-entries-position.is c.loop-position.invariant.1 in
+    let Left : Cells → Type 0 = λ cells. cells.filled + cells_of_type (map entry_value (drop position entries)) c.args.step_type c.args.text.now ≤ c.args.cells.now.filled + cells_of_type (map entry_value entries) c.args.step_type c.args.text.now in
+    let here : NoneBefore position (map entry_value entries) c.args.step_type c.args.text.now × Left c.else-is_same.cells × (c.args.cells.now.filled ≤ c.else-is_same.cells.filled) = elim c.else-is_same.branch [
+      | else-is_same-via-then-is_same+then-can_match+in_ok-match_fitting+else-branch w ↦ (
+        more (λ same. kept_none g.K.Captures.keeps (map piece_value c.index-entries-position.result.pattern.pieces.items) c.args.text.now
+            (subst (λ found. IsKeptResult g.K.Captures.keeps (map piece_value c.index-entries-position.result.pattern.pieces.items) c.args.text.now (kept_if found w.match_fitting.new.kept)) w.if-branch.false
+            (subst (λ ps. IsKeptResult g.K.Captures.keeps (map piece_value ps) c.args.text.now (kept_if w.in_ok-match_fitting.field-0 w.match_fitting.new.kept)) w.deref.ensures.value w.in_ok-match_fitting.ensures.found))) c.loop-position.invariant.0,
+        subst Left (sym w.cells-is)
+            (asked entries c.loop-position.position c.index-entries-position.result c.args.step_type c.args.text.now w.deref.result.now c.args.cells.now.filled c.loop-position.cells.filled w.match_fitting.new.cells.filled c.loop-position-test.true c.index-entries-position.is w.if-is_same.ensures w.deref.ensures.value w.match_fitting.ensures.most c.loop-position.invariant.1),
+        subst (λ (cells : Cells). c.args.cells.now.filled ≤ cells.filled) (sym w.cells-is) (omega (arith, c.loop-position.invariant.2, w.match_fitting.ensures.least)),
       )
-      | else-is_same w ↦ (
-        elim w.else-is_same.branch [
-          | else-is_same-via-then-is_same+else-can_match v ↦
-              none_more c.args.indexed.now.entries.now c.args.step_type c.args.text.now c.loop-position.position c.index-entries-position.result c.loop-position-test.true c.index-entries-position.is
-              (λ same. v.if-can_match.ensures.refused refl) c.loop-position.invariant.0
-          | else-is_same-via-else-is_same v ↦
-              none_more c.args.indexed.now.entries.now c.args.step_type c.args.text.now c.loop-position.position c.index-entries-position.result c.loop-position-test.true c.index-entries-position.is
-              (λ same. absurd (v.if-is_same.ensures same)) c.loop-position.invariant.0
-        ],
-        subst (λ (cells : Cells). cells.filled + cells_of_type (map entry_value (drop (c.loop-position.position + 1) c.args.indexed.now.entries.now)) c.args.step_type c.args.text.now ≤ c.args.cells.now.filled + cells_of_type (map entry_value c.args.indexed.now.entries.now) c.args.step_type c.args.text.now) (sym w.cells-is)
-            (passed_over c.args.indexed.now.entries.now c.loop-position.position c.index-entries-position.result c.args.step_type c.args.text.now c.args.cells.now.filled c.loop-position.cells.filled c.loop-position-test.true c.index-entries-position.is c.loop-position.invariant.1),
-        subst (λ (cells : Cells). c.args.cells.now.filled ≤ cells.filled) (sym w.cells-is) c.loop-position.invariant.2,
-      )
+      | else-is_same-via-then-is_same+else-can_match w ↦ (more (λ same. w.if-can_match.ensures.refused refl) c.loop-position.invariant.0, subst Left (sym w.cells-is) cells, subst (λ (cells : Cells). c.args.cells.now.filled ≤ cells.filled) (sym w.cells-is) c.loop-position.invariant.2)
+      | else-is_same-via-else-is_same w ↦ (more (λ same. absurd (w.if-is_same.ensures same)) c.loop-position.invariant.0, subst Left (sym w.cells-is) cells, subst (λ (cells : Cells). c.args.cells.now.filled ≤ cells.filled) (sym w.cells-is) c.loop-position.invariant.2)
     ] in
     let later : position ≤ next = c.next-position-in-loop-position.ensures.low (omega (arith, c.loop-position-test.true)) in (
       none_skipped entries c.args.step_type c.args.text.now position next here.0 c.next-position-in-loop-position.ensures,
-      cells_skipped entries position next c.args.step_type c.args.text.now c.args.cells.now.filled c.if-is_same.cells.filled later here.1,
+      cells_skipped entries position next c.args.step_type c.args.text.now c.args.cells.now.filled c.else-is_same.cells.filled later here.1,
       here.2,
     )

@@ -1,12 +1,11 @@
-use Rattle.std.proofs.Common.{List, Option, refl, map, subst}
+use Rattle.std.proofs.Common.{ℕ, List, Option, refl, map, subst}
 use Rattle.gk_gherkin.specs.Lines.{borrowed_value}
-use Rattle.gk_steps.specs.declared.finding.Hit.{Hit}
 use Rattle.gk_steps.specs.declared.captures.NoCaptures.{NoCaptures}
 use Rattle.gk_steps.specs.declared.pattern.Piece.{Piece}
 use Rattle.gk_steps.specs.Pattern.{piece_value, pattern_value}
 use Rattle.gk_steps.specs.Finding.{entry_value}
 use Rattle.gk_steps.specs.LibraryLine.{FitsAction}
-use Rattle.gk_steps.specs.Captures.{IsHit}
+use Rattle.gk_steps.specs.Captures.{IsHit, hit_of}
 use Rattle.gk_steps.proofs.CaptureLemmas.{hit_some, hit_none}
 use Rattle.gk_steps.proofs.LibraryLineLemmas.{ambiguous_with, entry_with, memory_fault, pattern_needs}
 use Rattle.gk_steps.proofs.library_line.entry_from.Goals as goal
@@ -14,7 +13,7 @@ use Rattle.gk_steps.proofs.library_line.entry_from.Goals as goal
 pub returns-in-Some-clause-fault : goal.returns-in-Some-clause-fault
 returns-in-Some-clause-fault c =
     let found = c.in_ok-find_of.ensures.found in
-    let hit = hit_some {K = NoCaptures} (λ _ _ _. Unit {0}) (map entry_value c.args.earlier.now.entries.now) c.in-Some.field-0 found.0 (subst (λ (hit : Option (Hit NoCaptures)). IsHit (λ _ _ _. Unit {0}) (map entry_value c.args.earlier.now.entries.now) hit found.0) c.in-Some.is found.1) in (
+    let hit = hit_some {K = NoCaptures} (λ _ _ _. Unit {0}) (map entry_value c.args.earlier.now.entries.now) (record { entry = c.in-Some.field-0; kept = c.find_of.new.kept }) found.0 (subst (λ (entry : Option ℕ). IsHit (λ _ _ _. Unit {0}) (map entry_value c.args.earlier.now.entries.now) (hit_of c.find_of.new.kept entry) found.0) c.in-Some.is found.1) in (
       refl,
       ambiguous_with (map entry_value c.args.earlier.now.entries.now) (borrowed_value c.args.line.now) c.args.said.now.step_type c.args.said.now.pattern.now c.args.said.now.action.now (pattern_value c.in-Ok.pattern) c.in-Ok-action_at.action
           found.0 hit.0 hit.1 c.requires.said c.in-Ok.ensures.pattern
@@ -25,7 +24,7 @@ pub returns-in-None-clause-entry : goal.returns-in-None-clause-entry
 returns-in-None-clause-entry c =
     let found = c.in_ok-find_of.ensures.found in
     entry_with (map entry_value c.args.earlier.now.entries.now) (borrowed_value c.args.line.now) c.args.said.now.step_type c.args.said.now.pattern.now c.args.said.now.action.now (pattern_value c.in-Ok.pattern) c.in-Ok-action_at.action
-    found.0 (hit_none {K = NoCaptures} (λ _ _ _. Unit {0}) (map entry_value c.args.earlier.now.entries.now) found.0 (subst (λ (hit : Option (Hit NoCaptures)). IsHit (λ _ _ _. Unit {0}) (map entry_value c.args.earlier.now.entries.now) hit found.0) c.in-None.is found.1)) c.requires.said c.in-Ok.ensures.pattern
+    found.0 (hit_none {K = NoCaptures} (λ _ _ _. Unit {0}) (map entry_value c.args.earlier.now.entries.now) found.0 (subst (λ (entry : Option ℕ). IsHit (λ _ _ _. Unit {0}) (map entry_value c.args.earlier.now.entries.now) (hit_of c.find_of.new.kept entry) found.0) c.in-None.is found.1)) c.requires.said c.in-Ok.ensures.pattern
     (subst (λ (q : List Piece). FitsAction c.args.said.now.action.now (map piece_value q) c.in-Ok-action_at.action) c.deref.ensures.value c.in-Ok-action_at.ensures.action) found.2
 
 pub returns-in_err-find_of-clause-fault : goal.returns-in_err-find_of-clause-fault

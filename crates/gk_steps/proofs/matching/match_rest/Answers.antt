@@ -11,22 +11,22 @@ returns-in_err-later-clause-most g c = rest_most c.args.left.now c.args.rest.now
 pub returns-in_err-join-in-Some-clause-most : goal.returns-in_err-join-in-Some-clause-most
 returns-in_err-join-in-Some-clause-most g c = rest_most c.args.left.now c.args.rest.now c.in_ok-boundaries.boundaries.items c.deref.result.now c.args.cells.now.filled c.match_pieces.new.cells.filled c.utf8.rest c.in_ok-boundaries.ensures c.deref.ensures.value c.match_pieces.ensures.most
 
-pub returns-in_ok-join-in-Some-clause-most : goal.returns-in_ok-join-in-Some-clause-most
-returns-in_ok-join-in-Some-clause-most g c = rest_most c.args.left.now c.args.rest.now c.in_ok-boundaries.boundaries.items c.deref.result.now c.args.cells.now.filled c.match_pieces.new.cells.filled c.utf8.rest c.in_ok-boundaries.ensures c.deref.ensures.value c.match_pieces.ensures.most
+pub returns-in-Some-clause-most : goal.returns-in-Some-clause-most
+returns-in-Some-clause-most g c = rest_most c.args.left.now c.args.rest.now c.in_ok-boundaries.boundaries.items c.deref.result.now c.args.cells.now.filled c.match_pieces.new.cells.filled c.utf8.rest c.in_ok-boundaries.ensures c.deref.ensures.value c.match_pieces.ensures.most
 
-pub returns-in-None-clause-most : goal.returns-in-None-clause-most
-returns-in-None-clause-most g c = rest_most c.args.left.now c.args.rest.now c.in_ok-boundaries.boundaries.items c.deref.result.now c.args.cells.now.filled c.match_pieces.new.cells.filled c.utf8.rest c.in_ok-boundaries.ensures c.deref.ensures.value c.match_pieces.ensures.most
+pub returns-clause-most : goal.returns-clause-most
+returns-clause-most g c = rest_most c.args.left.now c.args.rest.now c.in_ok-boundaries.boundaries.items c.deref.result.now c.args.cells.now.filled c.match_pieces.new.cells.filled c.utf8.rest c.in_ok-boundaries.ensures c.deref.ensures.value c.match_pieces.ensures.most
 
-pub returns-in_ok-join-in-Some-clause-found : goal.returns-in_ok-join-in-Some-clause-found
-returns-in_ok-join-in-Some-clause-found g c = λ done before is. rest_some g.K.Captures.keeps done before (map piece_value c.args.left.now) c.args.rest.now c.in-Some.later c.join.new.self (λ after. c.in_ok-join-in-Some.ensures done (map piece_value c.args.left.now) before after is)
+pub returns-in-Some-clause-found : goal.returns-in-Some-clause-found
+returns-in-Some-clause-found g c = λ done before is. rest_some g.K.Captures.keeps done before (map piece_value c.args.left.now) c.args.rest.now c.in-Some.later c.join.new.self (λ after. c.in_ok-join-in-Some.ensures done (map piece_value c.args.left.now) before after is)
     (subst (IsKeptResult g.K.Captures.keeps (map piece_value c.args.left.now) c.args.rest.now) c.in-Some.is c.in_ok-later.ensures.found)
 
-pub returns-in-None-clause-found : goal.returns-in-None-clause-found
-returns-in-None-clause-found g c = λ done before is. rest_none g.K.Captures.keeps done before (map piece_value c.args.left.now) c.args.rest.now
+pub returns-clause-found : goal.returns-clause-found
+returns-clause-found g c = λ done before is. rest_none g.K.Captures.keeps done before (map piece_value c.args.left.now) c.args.rest.now
     (subst (IsKeptResult g.K.Captures.keeps (map piece_value c.args.left.now) c.args.rest.now) c.in-None.is c.in_ok-later.ensures.found)
 
-pub returns-in_ok-join-in-Some-clause-filled : goal.returns-in_ok-join-in-Some-clause-filled
-returns-in_ok-join-in-Some-clause-filled g c = rest_filled c.args.left.now c.args.rest.now c.in_ok-boundaries.boundaries.items c.deref.result.now c.args.cells.now.filled c.match_pieces.new.cells.filled c.utf8.rest c.in_ok-boundaries.ensures c.deref.ensures.value c.in_ok-later.ensures.filled
+pub returns-in-Some-clause-filled : goal.returns-in-Some-clause-filled
+returns-in-Some-clause-filled g c = rest_filled c.args.left.now c.args.rest.now c.in_ok-boundaries.boundaries.items c.deref.result.now c.args.cells.now.filled c.match_pieces.new.cells.filled c.utf8.rest c.in_ok-boundaries.ensures c.deref.ensures.value c.in_ok-later.ensures.filled
 
-pub returns-in-None-clause-filled : goal.returns-in-None-clause-filled
-returns-in-None-clause-filled g c = rest_filled c.args.left.now c.args.rest.now c.in_ok-boundaries.boundaries.items c.deref.result.now c.args.cells.now.filled c.match_pieces.new.cells.filled c.utf8.rest c.in_ok-boundaries.ensures c.deref.ensures.value c.in_ok-later.ensures.filled
+pub returns-clause-filled : goal.returns-clause-filled
+returns-clause-filled g c = rest_filled c.args.left.now c.args.rest.now c.in_ok-boundaries.boundaries.items c.deref.result.now c.args.cells.now.filled c.match_pieces.new.cells.filled c.utf8.rest c.in_ok-boundaries.ensures c.deref.ensures.value c.in_ok-later.ensures.filled

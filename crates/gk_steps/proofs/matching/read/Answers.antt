@@ -11,7 +11,7 @@ use Rattle.gk_steps.proofs.CaptureLemmas.{done_more, done_all}
 use Rattle.gk_steps.proofs.matching.read.Goals as goal
 
 pub loop-taken-init : goal.loop-taken-init
-loop-taken-init g c = ([], ([], refl, c.empty-kept.ensures), read_start (map piece_value c.args.pieces.now) c.args.text.now c.args.boundaries.now c.utf8.text c.requires.boundaries c.requires.matched)
+loop-taken-init g c = ([], ([], refl, c.empty-kept.ensures.none), read_start (map piece_value c.args.pieces.now) c.args.text.now c.args.boundaries.now c.utf8.text c.requires.boundaries c.requires.matched)
 
 pub unwrap-next-requires : goal.unwrap-next-requires
 unwrap-next-requires g c =
