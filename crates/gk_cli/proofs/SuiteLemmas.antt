@@ -59,8 +59,7 @@ pub judged_by : FinishedRunsAreJudged → (run : Run) (old started without_first
     IsStarted run old started suite → IsKept suite left → IsSame started without_first → AreFeatures run (state_of started.now) (opens_features suite) features rows → IsFinished run left without_first around →
     Judged run old.now features (record { features = rows; around = around })
 judged_by law run old started without_first suite left around features rows start kept same are finish =
-    let end = finish (state_of old.now) start.opened.first (begun_still run old started without_first suite left start kept same) in
-    law run old started suite features rows around start are end.0 end.1
+    law run old started suite features rows around start are finish.0 (finish.1.whole (state_of old.now) start.opened.first (begun_still run old started without_first suite left start kept same))
 
 -- A feature's status is its verdict, by how its hooks and cleanups and those of its rules ended and by its cases.
 abbrev pub HasVerdict : FeatureRow → Type 0

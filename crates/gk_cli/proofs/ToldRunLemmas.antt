@@ -237,9 +237,9 @@ pub run_told : {S : Type 0} (hears : S → Event → S → Type 0) (tells : Run 
     TellsFeatures (tells run (state_of started.now)) (stays run) (opens_features suite) features rows parts begun told → IsKept suite left → IsSame started later → IsFinishTold hears run left later around told last →
     IsRunTold hears tells run old.now start.opened.first features rows around parts first told last
 run_told hears tells law run old started later suite left first begun told last features rows around parts start opening are told_so kept same finish = record {
-  judged = judged_by law run old started later suite left around features rows start kept same are (λ outside events begins. let end = finish outside events begins in (end.0, end.2));
+  judged = judged_by law run old started later suite left around features rows start kept same are (finish.0, finish.2);
   begins = first_told hears tells run old started suite first begun features rows parts told start opening told_so;
-  finish = finish (state_of old.now) start.opened.first (begun_still run old started later suite left start kept same);
+  finish = (finish.0, finish.1, finish.2.whole (state_of old.now) start.opened.first (begun_still run old started later suite left start kept same));
 }
 
 -- All of a run was told and written.

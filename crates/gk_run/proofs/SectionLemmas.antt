@@ -1,6 +1,6 @@
 -- What the parts of a section come to together: there is a cut that gives all of it.
 use Rattle.std.specs.List.{FoldsTo}
-use Rattle.std.proofs.Common.{Bool, List, [], ap, cond, false, length, refl, subst, sym, true, ℕ, ◌++◌, ◌∙◌, ◌≡◌, true≢false}
+use Rattle.std.proofs.Common.{Bool, List, [], ap, cond, false, length, refl, subst, sym, true, ℕ, ◌++◌, ◌∙◌, ◌≡◌, true≢false, append-nil}
 use Rattle.gk_select.specs.Case.{CaseValue}
 use Rattle.gk_world.specs.Sandbox.{SandboxValue}
 use Rattle.gk_world.specs.State.{State, state_of}
@@ -14,7 +14,7 @@ use Rattle.gk_run.specs.Acting.{CleanupValue}
 use Rattle.gk_run.specs.SectionHooks.{cleaned, after_lists, before_events, entered, walk_each}
 use Rattle.gk_run.specs.Ending.{around_status, has_passed, is_memory_ending, verdict_status, worse}
 use Rattle.gk_run.specs.Events.{Event, IsCutOff, SoFar, SectionNow, cut_at, ended_in, event_marks, left_by, outcomes_of, section_now}
-use Rattle.gk_run.specs.OpenSection.{EndsAround, IsBegun, IsSectionEnd, section_events, section_state, Run}
+use Rattle.gk_run.specs.OpenSection.{EndsAround, IsBegun, IsSectionEnd, closing_events, section_events, section_state, Run}
 use Rattle.gk_run.specs.Results.{CaseRow, StepRow}
 use Rattle.gk_run.specs.Running.{AreEventsTold, alone, row_of_case, verdict_of}
 use Rattle.gk_run.specs.Section.{Cut, Events, around_of, before_passed, happened, in_after, in_before, in_cleanups, in_order, in_steps, has_event, nowhere}
@@ -22,7 +22,7 @@ use Rattle.gk_run.specs.Walk.{rows_of_steps, steps_from}
 use Rattle.gk_run.specs.PrivateContracts.{Happens, IsClosing}
 use Rattle.gk_run.proofs.EndingLemmas.{passed_unrefused, worse_assoc}
 use Rattle.gk_run.proofs.EventLemmas.{cut_there, ended_both, heard_both, place_there}
-use Rattle.gk_run.proofs.GoesLemmas.{all_told, stays_refused}
+use Rattle.gk_run.proofs.GoesLemmas.{all_told, begin, chain, stays_refused}
 use Rattle.gk_run.proofs.WalkLemmas.{at}
 
 -- ---- four parts and their cut
@@ -154,9 +154,10 @@ no_steps : (b : Bool) → SoFar b b [] [] []
 no_steps true = refl
 no_steps false = refl
 
-pub section_ends : {S : Type 0} (hears : S → Event → S → Type 0) (run : Run) (level : Level) (tags : List (List ℕ)) (b : Ending) (now : SectionNow) (l : Ending) (reported : List Outcome) (first last : S) →
-    IsClosing hears run.library level (after_lists run.hooks level tags) b now l reported first last → EndsAround hears run level tags b now (around_status (worse b l)) first last
-section_ends hears run level tags b now l reported first last closing outside xs begins =
+section_end : {S : Type 0} (hears : S → Event → S → Type 0) (run : Run) (level : Level) (tags : List (List ℕ)) (b : Ending) (now : SectionNow) (l : Ending) (reported : List Outcome) (first last : S) →
+    (closing : IsClosing hears run.library level (after_lists run.hooks level tags) b now l reported first last) → (outside : State) (xs : List Event) → IsBegun run level tags outside xs b now →
+    IsSectionEnd run level tags outside (around_status (worse b l)) xs (closing.after.told ++ closing.cleanups.told)
+section_end hears run level tags b now l reported first last closing outside xs begins =
     let es = section_events run level tags outside in
     let lists = after_lists run.hooks level tags in
     let after = closing.after in
@@ -175,10 +176,29 @@ section_ends hears run level tags b now l reported first last closing outside xs
     let told = parts xs [] after.told cleanups.told in
     let cut : IsCut es told = parts_cut es xs [] after.told cleanups.told mb mb ma (is_memory_ending closing.end) (λ h. h) k2 k3 begins.so_far (no_steps mb) after_is cleanups_are in
     let tail = after.told ++ cleanups.told in
-    let around : worse b l ≡ ended_in (xs ++ tail) = ap (λ x. worse x l) begins.ends ∙ ap (worse (ended_in xs)) closing.ending ∙ sym (ended_both xs tail) in (
-      tail,
-      heard_both hears first after.told closing.here cleanups.told last after.heard cleanups.heard,
-      record { cut = cut.0; hooks = ap around_status around ∙ ap around_of cut.1; opening = ap (λ (x : Events). x.before) cut.1; closing = ap (λ (x : Events). x.after ++ x.cleanups) cut.1 },
+    let around : worse b l ≡ ended_in (xs ++ tail) = ap (λ x. worse x l) begins.ends ∙ ap (worse (ended_in xs)) closing.ending ∙ sym (ended_both xs tail) in
+    record { cut = cut.0; hooks = ap around_status around ∙ ap around_of cut.1; opening = ap (λ (x : Events). x.before) cut.1; closing = ap (λ (x : Events). x.after ++ x.cleanups) cut.1 }
+
+pub section_ends : {S : Type 0} (hears : S → Event → S → Type 0) (run : Run) (level : Level) (tags : List (List ℕ)) (b : Ending) (now : SectionNow) (l : Ending) (reported : List Outcome) (first last : S) →
+    IsClosing hears run.library level (after_lists run.hooks level tags) b now l reported first last → EndsAround hears run level tags b now (around_status (worse b l)) first last
+section_ends hears run level tags b now l reported first last closing =
+    let all = closing_events run level tags now in
+    let lists = walk_each run.library level now (after_lists run.hooks level tags) in
+    let after = closing.after in
+    let ma = is_memory_ending closing.between in
+    let mid : ma ≡ false → closing.mid ≡ left_by now lists = λ n.
+    let unrefused = earlier (is_memory_ending b) ma (stays_refused b (ended_in after.told) closing.between after.ends) n in
+    left_whole ma lists after.told now closing.mid n (subst (λ x. SoFar x ma lists [] after.told) unrefused after.so_far) after.leaves in
+    let rest : List Event = cleaned run.library level (left_by now lists) in
+    let goes : Happens hears b all now closing.now closing.end first last =
+    chain [] (chain rest (begin hears b all now first) (λ _. refl) after) (λ n. ap (cleaned run.library level) (sym (mid n)) ∙ sym (append-nil (cleaned run.library level closing.mid))) closing.cleanups in (
+      after.told ++ closing.cleanups.told,
+      goes.heard,
+      record {
+        so_far = subst (λ e. SoFar (is_memory_ending b) (is_memory_ending e) all [] (after.told ++ closing.cleanups.told)) goes.ends goes.so_far;
+        hooks = ap (λ e. around_status (worse b e)) closing.ending;
+        whole = section_end hears run level tags b now l reported first last closing;
+      },
     )
 
 -- a section whose before list passed whole has its state

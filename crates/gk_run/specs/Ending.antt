@@ -69,9 +69,7 @@ abbrev pub around_status : Ending → Status
 around_status endings.Skipped = statuses.Passed
 around_status ended = verdict_status ended
 
--- Proof machinery, from here on: how what comes one after another ends.
-
--- Memory was refused.
+-- Whether memory was refused.
 abbrev pub is_memory_ending : Ending → Bool
 is_memory_ending endings.Memory = true
 is_memory_ending _ = false

@@ -10,7 +10,7 @@ use Rattle.gk_run.specs.Acting.{CleanupValue}
 use Rattle.gk_run.specs.Results.{FeatureRow}
 use Rattle.gk_run.specs.Ending.{has_passed}
 use Rattle.gk_run.specs.Events.{Event, section_now, result_of}
-use Rattle.gk_run.specs.OpenSection.{IsBegun, IsEndTold, IsOpened, IsSectionEnd, Run}
+use Rattle.gk_run.specs.OpenSection.{EndsAround, IsEndedFrom, IsOpened, IsSectionEnd, Run}
 use Rattle.gk_run.specs.Chosen.{ChosenValue}
 use Rattle.gk_run.specs.Running.{is_failed_or_memory, stays_open_by}
 use Rattle.gk_run.specs.Features.{FeatureCuts, IsFeatureResult, features_of}
@@ -50,15 +50,13 @@ pub record IsNextRun (run : Run) (now : State) (f : ChosenValue) (row : FeatureR
   pub failed : new.has_failed ≡ (old.has_failed || is_failed_or_memory row.status)
   pub opens : opens_features new ≡ (opens_features old && stays_open_by old.stop row.status)
 
--- A run that was begun was finished, and its hooks and cleanups ended like this.
+-- A run that was begun was finished from the state that the sandbox has now, and its hooks and cleanups ended like this.
 abbrev pub IsFinished : Run → SuiteValue → SandboxValue → Status → Type 0
-IsFinished run suite now around =
-    (outside : State) (first : List Event) → IsBegun run levels.Run [] outside first suite.before (section_now now suite.cleanups) → (last : List Event) × IsSectionEnd run levels.Run [] outside around first last
+IsFinished run suite now around = (last : List Event) × IsEndedFrom run levels.Run [] suite.before (section_now now suite.cleanups) around last
 
--- A run was finished like this, and an observer was told its end.
+-- A run was finished like this, and an observer was told the events that happened.
 abbrev pub IsFinishTold : {S : Type 0} → (S → Event → S → Type 0) → Run → SuiteValue → SandboxValue → Status → S → S → Type 0
-IsFinishTold hears run suite now around begin end =
-    (outside : State) (first : List Event) → IsBegun run levels.Run [] outside first suite.before (section_now now suite.cleanups) → IsEndTold hears run levels.Run [] outside around first begin end
+IsFinishTold hears run suite now around begin end = EndsAround hears run levels.Run [] suite.before (section_now now suite.cleanups) around begin end
 
 -- The results of features are those of some cuts, from the run's state if they are begun.
 abbrev pub AreFeatures : Run → State → Bool → List ChosenValue → List FeatureRow → Type 0

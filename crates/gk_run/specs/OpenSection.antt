@@ -13,7 +13,7 @@ use Rattle.gk_run.specs.declared.results.Status.{Status}
 use Rattle.gk_run.specs.declared.section.Level.{Level}
 use Rattle.gk_run.specs.Acting.{CleanupValue}
 use Rattle.gk_run.specs.SectionHooks.{cleaned, after_lists, before_events, entered, walk_each}
-use Rattle.gk_run.specs.Ending.{is_memory_ending}
+use Rattle.gk_run.specs.Ending.{around_status, is_memory_ending, worse}
 use Rattle.gk_run.specs.Events.{Event, SoFar, SectionNow, ended_in, left_by, section_now, Ran, happens}
 use Rattle.gk_run.specs.Section.{Events, Cut, happened, around_of, before_passed}
 
@@ -98,13 +98,22 @@ pub record IsSectionEnd (run : Run) (level : Level) (tags : List (List ℕ)) (ou
 abbrev pub IsEndTold : {S : Type 0} → (S → Event → S → Type 0) → Run → Level → List (List ℕ) → State → Status → List Event → S → S → Type 0
 IsEndTold hears run level tags outside around first begin end = (last : List Event) × FoldsTo hears begin last end × IsSectionEnd run level tags outside around first last
 
--- Proof machinery, from here on: what the code's calls do.
+-- The events that close a section from this state and with these cleanups: those of its after lists, and then those of its cleanups. (behave's documentation: environment file functions, cleanups)
+abbrev pub closing_events : Run → Level → List (List ℕ) → SectionNow → List Event
+closing_events run level tags now =
+    let after = walk_each run.library level now (after_lists run.hooks level tags) in
+    after ++ cleaned run.library level (left_by now after)
 
--- The value of the code's `Run`.
+-- A section whose before list ended with `before` was ended from `now`. Its closing events happened: all, or those up to the one in which memory was refused; none, if it was refused before. The status is that of the worst ending among the before list and these events. If the section was begun from a state outside, this is its end.
+pub record IsEndedFrom (run : Run) (level : Level) (tags : List (List ℕ)) (before : Ending) (now : SectionNow) (around : Status) (last : List Event) : Type 0 where
+  pub so_far : SoFar (is_memory_ending before) (is_memory_ending (worse before (ended_in last))) (closing_events run level tags now) [] last
+  pub hooks : around ≡ around_status (worse before (ended_in last))
+  pub whole : (outside : State) (first : List Event) → IsBegun run level tags outside first before now → IsSectionEnd run level tags outside around first last
+
+-- A section was ended like this, and an observer was told the events that happened.
+abbrev pub EndsAround : {S : Type 0} → (S → Event → S → Type 0) → Run → Level → List (List ℕ) → Ending → SectionNow → Status → S → S → Type 0
+EndsAround hears run level tags before now around begin end = (last : List Event) × FoldsTo hears begin last end × IsEndedFrom run level tags before now around last
+
+-- Proof machinery: the value of the code's `Run`.
 abbrev pub run_value : shared.Run → Run
 run_value r = run_of r.library.now r.hooks.now.file.now r.stop
-
--- The end of a section was told. Its before list had ended with `ended`, and `now` is its state and cleanups.
-abbrev pub EndsAround : {S : Type 0} → (S → Event → S → Type 0) → Run → Level → List (List ℕ) → Ending → SectionNow → Status → S → S → Type 0
-EndsAround hears run level tags ended now around begin end =
-    (outside : State) (first : List Event) → IsBegun run level tags outside first ended now → IsEndTold hears run level tags outside around first begin end

@@ -36,15 +36,16 @@ returns-in-Ok-clause-end g c = λ there open_at.
     let before = opened.before in
     let begins : IsBegun run levels.Feature tags there first before (section_now now opened.cleanups) = subst (λ (x : State). IsBegun run levels.Feature tags x first before (section_now now opened.cleanups)) (open_at c.if-not-is_begun.false) opens.0.begins in
     let known = c.in-Ok.ensures.inside (section_state run levels.Feature tags there) (λ o. passed_state run levels.Feature tags there first before (section_now now opened.cleanups) begins (sym c.has_passed.ensures ∙ o)) in
-    let end = c.end_around.ensures.around there first (begun_still run levels.Feature tags there first before opened.cleanups now c.run_inside-2.new.sandbox c.in-Ok.ensures.same.contents begins) in
-    let passes = c.has_passed.ensures ∙ ready run levels.Feature tags there around first end.0 before begins.ends end.2 in
+    let ended = c.end_around.ensures.around in
+    let end = ended.2.whole there first (begun_still run levels.Feature tags there first before opened.cleanups now c.run_inside-2.new.sandbox c.in-Ok.ensures.same.contents begins) in
+    let passes = c.has_passed.ensures ∙ ready run levels.Feature tags there around first ended.0 before begins.ends end in
     let inside : State → Bool → Ran Inside = λ section is_ready. inside_by run section is_ready known.0 known.1 own groups in
     let end_inside = inside_value c.in-Ok.inside in (
-      end.2.cut,
+      end.cut,
       known.0,
       known.1,
-      subst (λ (b : Bool). IsRan (tells hears ends) (section_of run levels.Feature tags there b end.2.cut inside) (record { around = around; inside = end_inside }) c.args.observer.now c.end_around.new.observer) (sym c.if-not-is_begun.false)
-          (section_ran hears ends run levels.Feature tags there c.has_passed.result around first end.0 end_inside inside c.args.observer.now c.open_section-opened.new.observer c.run_inside-2.new.observer c.end_around.new.observer end.2 passes opens.1 known.2 end.1),
+      subst (λ (b : Bool). IsRan (tells hears ends) (section_of run levels.Feature tags there b end.cut inside) (record { around = around; inside = end_inside }) c.args.observer.now c.end_around.new.observer) (sym c.if-not-is_begun.false)
+          (section_ran hears ends run levels.Feature tags there c.has_passed.result around first ended.0 end_inside inside c.args.observer.now c.open_section-opened.new.observer c.run_inside-2.new.observer c.end_around.new.observer end passes opens.1 known.2 ended.1),
     )
 
 pub returns-in_err-inside-clause-stopped : goal.returns-in_err-inside-clause-stopped

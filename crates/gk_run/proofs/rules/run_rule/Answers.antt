@@ -49,14 +49,15 @@ returns-in-Ok-clause-rule g c =
     let around = c.end_around-around.result in
     let before = opened.before in
     let known = ran.are (section_state run levels.Rule tags outside) (λ o. passed_state run levels.Rule tags outside first before (section_now now opened.cleanups) begins (sym c.has_passed.ensures ∙ o)) in
-    let end = c.end_around-around.ensures.around outside first (begun_still run levels.Rule tags outside first before opened.cleanups now c.run_cases-2.new.sandbox c.in-Ok.ensures.same.contents begins) in
-    let passes = c.has_passed.ensures ∙ ready run levels.Rule tags outside around first end.0 before begins.ends end.2 in
+    let ended = c.end_around-around.ensures.around in
+    let end = ended.2.whole outside first (begun_still run levels.Rule tags outside first before opened.cleanups now c.run_cases-2.new.sandbox c.in-Ok.ensures.same.contents begins) in
+    let passes = c.has_passed.ensures ∙ ready run levels.Rule tags outside around first ended.0 before begins.ends end in
     let inside : State → Bool → Ran (List CaseRow) = λ section is_ready. cases_of run section is_ready known.0 members in
-    let is = section_ran hears ends run levels.Rule tags outside c.has_passed.result around first end.0 ran.rows inside c.args.observer.now c.open_section-opened.new.observer c.run_cases-2.new.observer c.end_around-around.new.observer end.2 passes opens.1 known.1 end.1 in
+    let is = section_ran hears ends run levels.Rule tags outside c.has_passed.result around first ended.0 ran.rows inside c.args.observer.now c.open_section-opened.new.observer c.run_cases-2.new.observer c.end_around-around.new.observer end passes opens.1 known.1 ended.1 in
     record {
       rows = ran.rows;
       told = ran.told;
-      is = rule_begun (tells hears ends) run outside c.args.is_open c.both.result tags group (record { around = around; inside = ran.rows }) c.args.observer.now c.end_around-around.new.observer (c.both.ensures ∙ ap (λ (b : Bool). c.args.is_open && b) c.has_selected.ensures) c.if-not-both.false (ap texts c.as_slice.ensures.value) (end.2.cut, known.0, is);
+      is = rule_begun (tells hears ends) run outside c.args.is_open c.both.result tags group (record { around = around; inside = ran.rows }) c.args.observer.now c.end_around-around.new.observer (c.both.ensures ∙ ap (λ (b : Bool). c.args.is_open && b) c.has_selected.ensures) c.if-not-both.false (ap texts c.as_slice.ensures.value) (end.cut, known.0, is);
       stay = c.both-in-Ok.ensures ∙ ap (λ (x : Bool). x && c.in-Ok.all_stay) c.stays_open.ensures ∙ ap (λ (x : Bool). stays_open run around && x) ran.stay;
       left = ran.left;
     }
