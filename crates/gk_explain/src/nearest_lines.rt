@@ -1,5 +1,5 @@
 //! A cache of the lines that name the entries that may be meant.
-ghost use Rattle.std.specs.Prelude.{◌≡◌, IfSome, string_bytes};
+ghost use Rattle.std.specs.Prelude.{◌≡◌, IfOk, IfSome, string_bytes};
 ghost use Rattle.gk_steps.specs.Finding.{library_value};
 ghost use Rattle.gk_report.specs.ReportTexts.{Pushes};
 ghost use Rattle.gk_explain.specs.Nearest.{nearest_told};
@@ -15,19 +15,24 @@ use std::marker::Model;
 /// text that occurs again, such as a step of a Background in each scenario, isn't compared with all entries again.
 #[derive(Debug, Drop)]
 pub struct NearestLines<'a> {
-    hints: EntryHints<'a>,
+    library: &'a Library,
+    // Made for the first text.
+    hints: Option<EntryHints<'a>>,
     lines: HashMap<String, String>,
 }
 
 impl<'a> Model for NearestLines<'a> {
-    ghost use Rattle.gk_steps.specs.Finding.{LibraryValue};
+    ghost use Rattle.std.specs.Prelude.{◌≡◌, IfSome};
+    ghost use Rattle.gk_steps.specs.Finding.{LibraryValue, library_value};
     ghost use Rattle.gk_explain.specs.NearestLines.{AreNearest};
 
     ghost Value = { LibraryValue };
 
-    ghost view = { λ nearest. nearest.hints };
+    ghost view = { λ nearest. library_value nearest.library.now };
 
-    ghost invariant = { λ nearest. AreNearest nearest.hints nearest.lines };
+    ghost invariant = { λ nearest. let library = library_value nearest.library.now in
+        AreNearest library nearest.lines
+        × IfSome nearest.hints (λ hints. hints ≡ library) };
 }
 
 impl<'a> NearestLines<'a> {
@@ -36,7 +41,8 @@ impl<'a> NearestLines<'a> {
         ensures { result ≡ library_value library.entry.now }
     {
         NearestLines {
-            hints: EntryHints::new(library),
+            library,
+            hints: None,
             lines: HashMap::new(alloc),
         }
     }
@@ -45,7 +51,7 @@ impl<'a> NearestLines<'a> {
     pub fn library(&self) -> &'a Library
         ensures { library_value result.now ≡ self.now }
     {
-        self.hints.library()
+        self.library
     }
 
     // Returns the line kept for a text, if any.
@@ -68,6 +74,17 @@ impl<'a> NearestLines<'a> {
         Ok(())
     }
 
+    // Takes out the hints, or makes them.
+    fn take_hints(&mut self, alloc: Global) -> Result<EntryHints<'a>, AllocError>
+        ensures hints { IfOk result (λ hints. hints ≡ self.old) }
+        ensures kept { self.new ≡ self.old }
+    {
+        match self.hints.take() {
+            Some(hints) => Ok(hints),
+            None => EntryHints::new(alloc, self.library),
+        }
+    }
+
     // Compares a text with the entries, and appends the line that names the entry that it may mean.
     fn push_compared(
         &mut self,
@@ -78,13 +95,14 @@ impl<'a> NearestLines<'a> {
         ensures pushed { Pushes out.old (nearest_told self.old text.now) result out.new }
         ensures kept { self.new ≡ self.old }
     {
-        let hint = self.hints.hint(alloc, text)?;
-        push_hint(out, self.hints.library(), hint)
+        let hints = self.take_hints(alloc)?;
+        let hint = hints.hint(alloc, text)?;
+        self.hints = Some(hints);
+        push_hint(out, self.library, hint)
     }
 
-    /// Appends the line that names the entry that a text may mean, as
-    /// `gk_lint::entry_hint` finds it. An error comes only if a growth was refused; a part of the line may have been
-    /// appended then.
+    /// Appends the line that names the entry that a text may mean, as `gk_lint::EntryHints` finds it. An error comes only
+    /// if a growth was refused; a part of the line may have been appended then.
     pub fn push(&mut self, alloc: Global, out: &mut String, text: &str) -> Result<(), AllocError>
         ensures pushed { Pushes out.old (nearest_told self.old text.now) result out.new }
         ensures kept { self.new ≡ self.old }

@@ -8,7 +8,7 @@ use Rattle.gk_explain.specs.Shown.{shown}
 use Rattle.gk_gherkin.specs.declared.feature.Scenario.{Scenario}
 use Rattle.gk_gherkin.specs.Feature.{ScenarioValue, FeatureValue, scenario_value}
 use Rattle.gk_gherkin.specs.Text.{trim}
-use Rattle.gk_steps.specs.Finding.{EntryValue, LibraryValue, library_value}
+use Rattle.gk_steps.specs.Finding.{EntryValue, LibraryValue}
 use Rattle.gk_lint.specs.declared.findings.Finding.{Finding}
 use Rattle.gk_lint.specs.declared.findings.FindingKind.{FindingKind}
 use Rattle.gk_lint.specs.declared.findings.FindingKind.TheVariants.{NoColumn, UndefinedStep, CleanupWithoutStep}
@@ -34,7 +34,7 @@ pub record NotedLibraryValue : Type 0 where
 
 -- The value of a `NotedLibrary`.
 abbrev pub noted_library_value : NotedLibrary → NotedLibraryValue
-noted_library_value l = record { entries = library_value l.library.now; steps = l.steps; name = l.name.now; lines = l.lines.items }
+noted_library_value l = record { entries = l.hints; steps = l.steps; name = l.name.now; lines = l.lines.items }
 
 -- A file as notes below its findings quote it: its name, its lines, and its scenarios.
 pub record NotedFileValue : Type 0 where

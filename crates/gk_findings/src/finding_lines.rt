@@ -9,14 +9,14 @@ use crate::fault_notes::{push_note, push_shown_note};
 use gk_explain::{push_entry, push_place, push_shown, type_word};
 use gk_gherkin::Scenario;
 use gk_gherkin::text::trim;
-use gk_lint::{EntryHint, Finding, FindingKind, column_at};
-use gk_steps::{Entry, Library};
+use gk_lint::{EntryHint, EntryHints, Finding, FindingKind, column_at};
+use gk_steps::Entry;
 use std::alloc::{AllocError, Global};
 
 /// A library as notes name it.
 #[derive(Drop)]
 pub struct NotedLibrary<'a> {
-    pub library: &'a Library,
+    pub hints: EntryHints<'a>,
     /// Whether steps are looked up in it.
     pub steps: bool,
     /// The name of its file.
@@ -213,10 +213,10 @@ fn push_hint_note(
     match hint {
         EntryHint::Unlike => Ok(()),
         EntryHint::Nearest(position) => {
-            push_nearest_note(out, alloc, library.library.entries.get(position))
+            push_nearest_note(out, alloc, library.hints.library().entries.get(position))
         }
         EntryHint::OtherType(position) => {
-            let entry = library.library.entries.get(position);
+            let entry = library.hints.library().entries.get(position);
             let line = library.lines.get(position).copied();
             push_other_type_if(out, alloc, after, library.name, entry, line)
         }

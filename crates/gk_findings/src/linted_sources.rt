@@ -67,7 +67,7 @@ fn step_findings(
     match feature {
         Some(feature) => {
             if library.steps {
-                lint_steps(alloc, library.library, feature)
+                lint_steps(alloc, &library.hints, feature)
             } else {
                 Ok(no_steps(alloc))
             }

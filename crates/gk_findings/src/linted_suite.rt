@@ -22,8 +22,8 @@ use crate::finding_lines::{
 use crate::linted_sources::{LintSoFar, known_text, lint_sources, no_steps, with_findings};
 use gk_gherkin::{Feature, HookFile};
 use gk_lint::{
-    StepFindings, entry_lines, lines_without_scenario, lint_hook_tags, lint_hooks, lint_library,
-    tags_that_stand_nowhere,
+    EntryHints, StepFindings, entry_lines, lines_without_scenario, lint_hook_tags, lint_hooks,
+    lint_library, tags_that_stand_nowhere,
 };
 use gk_request::{FeatureSource, Options, ReadBefore, RunFault, SuiteFiles, bytes_of, read_before};
 use gk_steps::Library;
@@ -41,18 +41,19 @@ fn noted_library<'a, S: FeatureSource>(
         noted_library_value noted ≡ spec.noted_library steps (of_files.name_of f)
         (of_files.bytes_of f) (library_value library.now)) }
 {
+    let hints = EntryHints::new(alloc, library)?;
     match file {
         Some(source) => {
             let text = known_text(source.bytes());
             Ok(NotedLibrary {
-                library,
+                hints,
                 steps,
                 name: source.name(),
                 lines: entry_lines(alloc, text)?,
             })
         }
         None => Ok(NotedLibrary {
-            library,
+            hints,
             steps,
             name: "",
             lines: Vec::new(alloc),
@@ -138,15 +139,13 @@ fn findings_of_hook_steps(
     library: &NotedLibrary<'_>,
     hooks: &HookFile,
 ) -> Result<StepFindings, AllocError>
-    ensures found { IfOk result (λ r. AreInOrder (found_in
-        (library_value library.now.library.now)
+    ensures found { IfOk result (λ r. AreInOrder (found_in library.now.hints
         (looked_up library.now.steps (of_hooks (hooks_value hooks.now)))) r.findings.items) }
-    ensures used { IfOk result (λ r. r.used.items ≡ used_in
-        (library_value library.now.library.now)
+    ensures used { IfOk result (λ r. r.used.items ≡ used_in library.now.hints
         (looked_up library.now.steps (of_hooks (hooks_value hooks.now)))) }
 {
     if library.steps {
-        lint_hooks(alloc, library.library, hooks)
+        lint_hooks(alloc, &library.hints, hooks)
     } else {
         Ok(no_steps(alloc))
     }
@@ -162,10 +161,9 @@ fn findings_of_hooks(
 ) -> Result<StepFindings, AllocError>
     ensures found { IfOk result (λ r. AreInOrder
         (hooks_of_no_tag (map feature_value features.now) (hooks_value hooks.now)
-        ++ found_in (library_value library.now.library.now)
+        ++ found_in library.now.hints
         (looked_up library.now.steps (of_hooks (hooks_value hooks.now)))) r.findings.items) }
-    ensures used { IfOk result (λ r. r.used.items ≡ used_in
-        (library_value library.now.library.now)
+    ensures used { IfOk result (λ r. r.used.items ≡ used_in library.now.hints
         (looked_up library.now.steps (of_hooks (hooks_value hooks.now)))) }
 {
     let idle = lint_hook_tags(alloc, hooks, features)?;

@@ -3,7 +3,6 @@ pub mod AsciiLetters
 pub mod CommonLetters
 pub mod ExchangedLetters
 pub mod OneLetterOff
-pub mod NearWords
 pub mod NearLengths
 pub mod UnlikeBeginnings
 pub mod LineOrder

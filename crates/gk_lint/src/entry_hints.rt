@@ -1,8 +1,7 @@
 //! Hints for the undefined steps of a library.
-ghost use Rattle.std.specs.Prelude.{◌≡◌, map, IfOk};
+ghost use Rattle.std.specs.Prelude.{◌≡◌, IfOk};
 ghost use Rattle.gk_steps.specs.Finding.{library_value, found_value};
 ghost use Rattle.gk_lint.specs.NearestEntry as spec;
-ghost use Rattle.gk_lint.specs.EntryHints.{compared_words};
 
 use crate::nearest_entry::{EntryHint, compared_words, nearest};
 use gk_gherkin::StepType;
@@ -10,25 +9,25 @@ use gk_steps::{Found, Library};
 use std::alloc::{AllocError, Global};
 use std::marker::Model;
 
-/// A library and, once a text was compared with its entries, the words of their patterns.
+/// A library and the words of the patterns of its first 1,000 entries.
 #[derive(Debug, Drop)]
 pub struct EntryHints<'a> {
     library: &'a Library,
-    patterns: Option<Vec<Vec<&'a str>>>,
+    patterns: Vec<Vec<&'a str>>,
 }
 
 impl<'a> Model for EntryHints<'a> {
-    ghost use Rattle.std.specs.Prelude.{◌≡◌, map, IfSome};
+    ghost use Rattle.std.specs.Prelude.{◌≡◌, map};
     ghost use Rattle.gk_steps.specs.Finding.{LibraryValue, library_value};
-    ghost use Rattle.gk_lint.specs.EntryHints.{compared_words};
+    ghost use Rattle.gk_lint.specs.NearestEntry.{compared_words};
 
     ghost Value = { LibraryValue };
 
     ghost view = { λ hints. library_value hints.library.now };
 
-    ghost invariant = { λ hints. IfSome hints.patterns (λ patterns.
-        map (λ pattern. map (λ word. word.now) pattern.items) patterns.items
-        ≡ compared_words (library_value hints.library.now)) };
+    ghost invariant = { λ hints.
+        map (λ pattern. map (λ word. word.now) pattern.items) hints.patterns.items
+        ≡ compared_words (library_value hints.library.now) };
 }
 
 fn hint_of(found: Found) -> EntryHint
@@ -38,14 +37,14 @@ fn hint_of(found: Found) -> EntryHint
 }
 
 impl<'a> EntryHints<'a> {
-    /// Returns a value for this library that was asked for no text. Doesn't allocate.
-    pub fn new(library: &'a Library) -> EntryHints<'a>
-        ensures { result ≡ library_value library.entry.now }
+    /// Splits the patterns of a library into words. An error comes only if a growth was refused.
+    pub fn new(alloc: Global, library: &'a Library) -> Result<EntryHints<'a>, AllocError>
+        ensures { IfOk result (λ hints. hints ≡ library_value library.entry.now) }
     {
-        EntryHints {
+        Ok(EntryHints {
             library,
-            patterns: None,
-        }
+            patterns: compared_words(alloc, library)?,
+        })
     }
 
     /// Returns the library. Doesn't allocate.
@@ -55,56 +54,21 @@ impl<'a> EntryHints<'a> {
         self.library
     }
 
-    // Takes out the words of the patterns, or splits the patterns.
-    fn take_patterns(&mut self, alloc: Global) -> Result<Vec<Vec<&'a str>>, AllocError>
-        ensures patterns { IfOk result (λ patterns.
-            map (λ pattern. map (λ word. word.now) pattern.items) patterns.items
-            ≡ compared_words self.old) }
-        ensures kept { self.new ≡ self.old }
+    /// Returns the entry that the author of an undefined step with this text may have meant: the one that it finds as a
+    /// step of another type, and otherwise the nearest of the first 1,000. Entries are compared by their words, outside of
+    /// fields. Case, articles and one wrong letter in a word don't count. An error comes only if a growth was refused.
+    pub fn hint(&self, alloc: Global, text: &str) -> Result<EntryHint, AllocError>
+        ensures { IfOk result (λ hint. hint ≡ spec.entry_hint self.now text.now) }
     {
-        match self.patterns.take() {
-            Some(patterns) => Ok(patterns),
-            None => compared_words(alloc, self.library),
-        }
-    }
-
-    // Returns the entry nearest to a text.
-    fn nearest(&mut self, alloc: Global, text: &str) -> Result<EntryHint, AllocError>
-        ensures hint { IfOk result (λ hint. hint ≡ spec.nearest self.old text.now) }
-        ensures kept { self.new ≡ self.old }
-    {
-        let patterns = self.take_patterns(alloc)?;
-        let hint = nearest(alloc, &patterns, text)?;
-        self.patterns = Some(patterns);
-        Ok(hint)
-    }
-
-    /// Returns the entry that the author of an undefined step with this text may have meant, as `entry_hint` does. The
-    /// patterns are split into words at the first text that needs it. An error comes only if a growth was refused.
-    pub fn hint(&mut self, alloc: Global, text: &str) -> Result<EntryHint, AllocError>
-        ensures hint { IfOk result (λ hint. hint ≡ spec.entry_hint self.old text.now) }
-        ensures kept { self.new ≡ self.old }
-    {
-        let library = self.library;
-        if let Some(found) = library.find(alloc, StepType::Given, text)? {
+        if let Some(found) = self.library.find(alloc, StepType::Given, text)? {
             return Ok(hint_of(found));
         }
-        if let Some(found) = library.find(alloc, StepType::When, text)? {
+        if let Some(found) = self.library.find(alloc, StepType::When, text)? {
             return Ok(hint_of(found));
         }
-        if let Some(found) = library.find(alloc, StepType::Then, text)? {
+        if let Some(found) = self.library.find(alloc, StepType::Then, text)? {
             return Ok(hint_of(found));
         }
-        self.nearest(alloc, text)
+        nearest(alloc, &self.patterns, text)
     }
-}
-
-/// Returns the entry that the author of an undefined step with this text may have meant: the one that it finds as a step
-/// of another type, and otherwise the nearest of the first 1,000. Entries are compared by their words, outside of fields.
-/// Case, articles and one wrong letter in a word don't count. An error comes only if a growth was refused.
-pub fn entry_hint(alloc: Global, library: &Library, text: &str) -> Result<EntryHint, AllocError>
-    ensures { IfOk result (λ hint. hint ≡ spec.entry_hint (library_value library.now) text.now) }
-{
-    let mut hints = EntryHints::new(library);
-    hints.hint(alloc, text)
 }

@@ -29,7 +29,7 @@ mod text_sets;
 mod unexpected_lines;
 mod written_steps;
 
-pub use entry_hints::{EntryHints, entry_hint};
+pub use entry_hints::EntryHints;
 pub use feature_file::{lint_feature, lint_feature_file};
 pub use findings::{Finding, FindingKind, in_order};
 pub use laws::{exchanged_is_within_exchange, one_off_is_within_one, what_is_run_is_looked_up};

@@ -4,11 +4,11 @@ ghost use Rattle.std.specs.Option.{option_or};
 ghost use Rattle.gk_gherkin.specs.Feature.{step_value, block_value};
 ghost use Rattle.gk_steps.specs.Finding.{library_value, found_value, found_any, action_of};
 ghost use Rattle.gk_lint.specs.NearestEntry as nearest;
-ghost use Rattle.gk_lint.specs.StepHints as hints;
+ghost use Rattle.gk_lint.specs.StepHints.{hint_unless_found, registered_hint, step_hint, cleanup_hint};
 ghost use Rattle.gk_lint.specs.Lookups as spec;
 
 use crate::blocks::{add_block_faults, add_if};
-use crate::entry_hints::entry_hint;
+use crate::entry_hints::EntryHints;
 use crate::nearest_entry::EntryHint;
 use crate::step_faults::StepFault;
 use crate::step_sites::{StepSite, may_stand};
@@ -59,14 +59,14 @@ fn add_site_faults(
 fn set_hint(
     hint: &mut Option<EntryHint>,
     alloc: Global,
-    library: &Library,
+    hints: &EntryHints<'_>,
     text: &str,
 ) -> Result<(), AllocError>
     ensures { OnOk result (hint.new
-        ≡ option_or hint.old (Some (nearest.entry_hint (library_value library.now) text.now))) }
+        ≡ option_or hint.old (Some (nearest.entry_hint hints.now text.now))) }
 {
     if hint.is_none() {
-        *hint = Some(entry_hint(alloc, library, text)?);
+        *hint = Some(hints.hint(alloc, text)?);
     }
     Ok(())
 }
@@ -92,20 +92,20 @@ impl Lookups {
     fn add_cleanup(
         &mut self,
         alloc: Global,
-        library: &Library,
+        hints: &EntryHints<'_>,
         text: &str,
         block: &Block,
     ) -> Result<(), AllocError>
-        ensures faults { let l = library_value library.now in
-            OnOk result (self.new.faults.items ≡ self.old.faults.items
-            ++ spec.cleanup_faults l (found_any l text.now) (block_value block.now)) }
+        ensures faults { OnOk result (self.new.faults.items ≡ self.old.faults.items
+            ++ spec.cleanup_faults hints.now (found_any hints.now text.now)
+            (block_value block.now)) }
         ensures used { OnOk result (self.new.used.items ≡ self.old.used.items
-            ++ spec.position_of (found_any (library_value library.now) text.now)) }
+            ++ spec.position_of (found_any hints.now text.now)) }
         ensures undefined { self.new.undefined ≡ self.old.undefined }
-        ensures cleanup { let l = library_value library.now in
-            OnOk result (self.new.cleanup ≡ option_or self.old.cleanup
-            (hints.hint_unless_found l text.now (found_any l text.now))) }
+        ensures cleanup { OnOk result (self.new.cleanup ≡ option_or self.old.cleanup
+            (hint_unless_found hints.now text.now (found_any hints.now text.now))) }
     {
+        let library = hints.library();
         match library.find_any(alloc, text)? {
             Some(found) => {
                 self.used.push(found.entry)?;
@@ -114,7 +114,7 @@ impl Lookups {
                 let has_text = has_text(library, &found);
                 add_block_faults(&mut self.faults, action.row().takes, has_text, block)
             }
-            None => set_hint(&mut self.cleanup, alloc, library, text),
+            None => set_hint(&mut self.cleanup, alloc, hints, text),
         }
     }
 
@@ -123,25 +123,26 @@ impl Lookups {
     fn add_found(
         &mut self,
         alloc: Global,
-        library: &Library,
+        hints: &EntryHints<'_>,
         found: &Found,
         block: &Block,
     ) -> Result<(), AllocError>
-        ensures faults { let l = library_value library.now in let f = found_value found.now in
+        ensures faults { let f = found_value found.now in
             OnOk result (self.new.faults.items ≡ self.old.faults.items
-            ++ spec.action_faults (action_of l f) l f (block_value block.now)) }
-        ensures used { let l = library_value library.now in let f = found_value found.now in
+            ++ spec.action_faults (action_of hints.now f) hints.now f (block_value block.now)) }
+        ensures used { let f = found_value found.now in
             OnOk result (self.new.used.items
-            ≡ self.old.used.items ++ spec.cleanup_positions (action_of l f) l f) }
+            ≡ self.old.used.items ++ spec.cleanup_positions (action_of hints.now f) hints.now f) }
         ensures undefined { self.new.undefined ≡ self.old.undefined }
-        ensures cleanup { let l = library_value library.now in let f = found_value found.now in
+        ensures cleanup { let f = found_value found.now in
             OnOk result (self.new.cleanup
-            ≡ option_or self.old.cleanup (hints.registered_hint (action_of l f) l f)) }
+            ≡ option_or self.old.cleanup (registered_hint (action_of hints.now f) hints.now f)) }
     {
+        let library = hints.library();
         let action = library.action(found);
         match action {
             Action::AtCleanup => {
-                self.add_cleanup(alloc, library, cleanup_text(library, found), block)
+                self.add_cleanup(alloc, hints, cleanup_text(library, found), block)
             }
             _ => {
                 let has_text = has_text(library, found);
@@ -156,26 +157,27 @@ impl Lookups {
     pub fn add(
         &mut self,
         alloc: Global,
-        library: &Library,
+        hints: &EntryHints<'_>,
         site: StepSite,
         step: &Step,
     ) -> Result<(), AllocError>
         ensures faults { OnOk result (self.new.faults.items ≡ self.old.faults.items
-            ++ spec.faults_of (library_value library.now) site (step_value step.now)) }
+            ++ spec.faults_of hints.now site (step_value step.now)) }
         ensures used { OnOk result (self.new.used.items ≡ self.old.used.items
-            ++ spec.positions_of (library_value library.now) (step_value step.now)) }
+            ++ spec.positions_of hints.now (step_value step.now)) }
         ensures undefined { OnOk result (self.new.undefined ≡ option_or self.old.undefined
-            (hints.step_hint (library_value library.now) (step_value step.now))) }
+            (step_hint hints.now (step_value step.now))) }
         ensures cleanup { OnOk result (self.new.cleanup ≡ option_or self.old.cleanup
-            (hints.cleanup_hint (library_value library.now) (step_value step.now))) }
+            (cleanup_hint hints.now (step_value step.now))) }
     {
+        let library = hints.library();
         match library.find(alloc, step.step_type, step.text.as_str())? {
             Some(found) => {
                 self.used.push(found.entry)?;
                 add_site_faults(&mut self.faults, library.action(&found), site)?;
-                self.add_found(alloc, library, &found, &step.block)
+                self.add_found(alloc, hints, &found, &step.block)
             }
-            None => set_hint(&mut self.undefined, alloc, library, step.text.as_str()),
+            None => set_hint(&mut self.undefined, alloc, hints, step.text.as_str()),
         }
     }
 }

@@ -9,7 +9,6 @@ ghost use Rattle.gk_select.specs.Copies.{filled_by};
 ghost use Rattle.gk_select.specs.Filling.{filled_step};
 ghost use Rattle.gk_select.specs.Outline.{AllFit};
 ghost use Rattle.gk_select.specs.Expansion.{RowsFit, IsExpandable};
-ghost use Rattle.gk_steps.specs.Finding.{library_value};
 ghost use Rattle.gk_lint.specs.Findings.{AreInOrder, hinted, named_once};
 ghost use Rattle.gk_lint.specs.StepFaults.{step_faults};
 ghost use Rattle.gk_lint.specs.StepHints.{step_hint, cleanup_hint};
@@ -19,6 +18,7 @@ ghost use Rattle.gk_lint.specs.declared.step_sites.StepSite.TheVariants as sites
 ghost use Rattle.gk_lint.specs.WrittenSteps as spec;
 ghost use Rattle.gk_lint.specs.WrittenSteps.{AreLookedUp, found_in, used_in};
 
+use crate::entry_hints::EntryHints;
 use crate::findings::{Finding, FindingKind, add_once, in_order};
 use crate::lookups::Lookups;
 use crate::nearest_entry::EntryHint;
@@ -26,7 +26,6 @@ use crate::step_faults::STEP_FAULTS;
 use crate::step_sites::{StepSite, site_of_hook};
 use gk_gherkin::{Background, Examples, Feature, Hook, HookFile, Rule, Scenario, Step};
 use gk_select::{fill_step, is_outline};
-use gk_steps::Library;
 use std::alloc::{AllocError, Global};
 
 /// The findings of steps, and the position in the library of each entry that a step or its cleanup finds. A position is
@@ -41,44 +40,43 @@ pub struct StepFindings {
 fn look_up_row(
     lookups: &mut Lookups,
     alloc: Global,
-    library: &Library,
+    hints: &EntryHints<'_>,
     step: &Step,
     header: &[String],
     cells: &[String],
 ) -> Result<(), AllocError>
     requires { length cells.now ≡ length header.now }
     ensures faults { OnOk result (lookups.new.faults.items ≡ lookups.old.faults.items
-        ++ faults_of (library_value library.now) sites.Scenario
+        ++ faults_of hints.now sites.Scenario
         (filled_step (filled_by header.now cells.now) (step_value step.now))) }
     ensures used { OnOk result (lookups.new.used.items ≡ lookups.old.used.items
-        ++ positions_of (library_value library.now)
+        ++ positions_of hints.now
         (filled_step (filled_by header.now cells.now) (step_value step.now))) }
     ensures undefined { OnOk result (lookups.new.undefined ≡ option_or lookups.old.undefined
-        (step_hint (library_value library.now)
+        (step_hint hints.now
         (filled_step (filled_by header.now cells.now) (step_value step.now)))) }
     ensures cleanup { OnOk result (lookups.new.cleanup ≡ option_or lookups.old.cleanup
-        (cleanup_hint (library_value library.now)
+        (cleanup_hint hints.now
         (filled_step (filled_by header.now cells.now) (step_value step.now)))) }
 {
     let filled = fill_step(alloc, step, header, cells)?;
-    lookups.add(alloc, library, StepSite::Scenario, &filled)
+    lookups.add(alloc, hints, StepSite::Scenario, &filled)
 }
 
 // Looks up a step filled from each row of Examples.
 fn look_up_rows(
     lookups: &mut Lookups,
     alloc: Global,
-    library: &Library,
+    hints: &EntryHints<'_>,
     step: &Step,
     part: &Examples,
 ) -> Result<(), AllocError>
     requires { AllFit (examples_value part.now) }
-    ensures { let e = examples_value part.now in OnOk result (AreLookedUp
-        (library_value library.now) sites.Scenario
+    ensures { let e = examples_value part.now in OnOk result (AreLookedUp hints.now sites.Scenario
         (spec.in_rows (step_value step.now) e.header e.rows) lookups.old lookups.new) }
 {
     for row in &part.rows {
-        look_up_row(lookups, alloc, library, step, &part.header, &row.cells)?;
+        look_up_row(lookups, alloc, hints, step, &part.header, &row.cells)?;
     }
     Ok(())
 }
@@ -87,17 +85,17 @@ fn look_up_rows(
 fn look_up_examples(
     lookups: &mut Lookups,
     alloc: Global,
-    library: &Library,
+    hints: &EntryHints<'_>,
     step: &Step,
     parts: &[Examples],
 ) -> Result<(), AllocError>
     requires { AllByRecursion AllFit (map examples_value parts.now) }
-    ensures { OnOk result (AreLookedUp (library_value library.now) sites.Scenario
+    ensures { OnOk result (AreLookedUp hints.now sites.Scenario
         (spec.in_examples (step_value step.now) (map examples_value parts.now))
         lookups.old lookups.new) }
 {
     for part in parts {
-        look_up_rows(lookups, alloc, library, step, part)?;
+        look_up_rows(lookups, alloc, hints, step, part)?;
     }
     Ok(())
 }
@@ -107,19 +105,19 @@ fn look_up_examples(
 fn look_up_runs(
     lookups: &mut Lookups,
     alloc: Global,
-    library: &Library,
+    hints: &EntryHints<'_>,
     scenario: &Scenario,
     step: &Step,
 ) -> Result<(), AllocError>
     requires { AllByRecursion AllFit (scenario_value scenario.now).examples }
-    ensures { OnOk result (AreLookedUp (library_value library.now) sites.Scenario
+    ensures { OnOk result (AreLookedUp hints.now sites.Scenario
         (spec.runs_in (scenario_value scenario.now) (step_value step.now))
         lookups.old lookups.new) }
 {
     if is_outline(scenario) {
-        look_up_examples(lookups, alloc, library, step, &scenario.examples)
+        look_up_examples(lookups, alloc, hints, step, &scenario.examples)
     } else {
-        lookups.add(alloc, library, StepSite::Scenario, step)
+        lookups.add(alloc, hints, StepSite::Scenario, step)
     }
 }
 
@@ -179,37 +177,37 @@ fn add_lookups(found: &mut StepFindings, line: u32, lookups: Lookups) -> Result<
 fn add_scenario_step(
     found: &mut StepFindings,
     alloc: Global,
-    library: &Library,
+    hints: &EntryHints<'_>,
     scenario: &Scenario,
     step: &Step,
 ) -> Result<(), AllocError>
     requires { AllByRecursion AllFit (scenario_value scenario.now).examples }
     ensures found { OnOk result (found.new.findings.items ≡ found.old.findings.items
-        ++ spec.at_step (library_value library.now)
+        ++ spec.at_step hints.now
         (spec.in_scenario (scenario_value scenario.now) (step_value step.now))) }
     ensures used { OnOk result (found.new.used.items ≡ found.old.used.items
-        ++ positions_in (library_value library.now)
+        ++ positions_in hints.now
         (spec.runs_in (scenario_value scenario.now) (step_value step.now))) }
 {
     let mut lookups = Lookups::new(alloc);
-    look_up_runs(&mut lookups, alloc, library, scenario, step)?;
+    look_up_runs(&mut lookups, alloc, hints, scenario, step)?;
     add_lookups(found, step.line, lookups)
 }
 
 fn add_scenario(
     found: &mut StepFindings,
     alloc: Global,
-    library: &Library,
+    hints: &EntryHints<'_>,
     scenario: &Scenario,
 ) -> Result<(), AllocError>
     requires { AllByRecursion AllFit (scenario_value scenario.now).examples }
     ensures found { OnOk result (found.new.findings.items ≡ found.old.findings.items
-        ++ found_in (library_value library.now) (spec.of_scenario (scenario_value scenario.now))) }
+        ++ found_in hints.now (spec.of_scenario (scenario_value scenario.now))) }
     ensures used { OnOk result (found.new.used.items ≡ found.old.used.items
-        ++ used_in (library_value library.now) (spec.of_scenario (scenario_value scenario.now))) }
+        ++ used_in hints.now (spec.of_scenario (scenario_value scenario.now))) }
 {
     for step in &scenario.steps {
-        add_scenario_step(found, alloc, library, scenario, step)?;
+        add_scenario_step(found, alloc, hints, scenario, step)?;
     }
     Ok(())
 }
@@ -217,19 +215,17 @@ fn add_scenario(
 fn add_scenarios(
     found: &mut StepFindings,
     alloc: Global,
-    library: &Library,
+    hints: &EntryHints<'_>,
     scenarios: &[Scenario],
 ) -> Result<(), AllocError>
     requires { RowsFit (map scenario_value scenarios.now) }
     ensures found { OnOk result (found.new.findings.items ≡ found.old.findings.items
-        ++ found_in (library_value library.now)
-        (spec.of_scenarios (map scenario_value scenarios.now))) }
+        ++ found_in hints.now (spec.of_scenarios (map scenario_value scenarios.now))) }
     ensures used { OnOk result (found.new.used.items ≡ found.old.used.items
-        ++ used_in (library_value library.now)
-        (spec.of_scenarios (map scenario_value scenarios.now))) }
+        ++ used_in hints.now (spec.of_scenarios (map scenario_value scenarios.now))) }
 {
     for scenario in scenarios {
-        add_scenario(found, alloc, library, scenario)?;
+        add_scenario(found, alloc, hints, scenario)?;
     }
     Ok(())
 }
@@ -239,38 +235,34 @@ fn add_scenarios(
 fn add_plain_step(
     found: &mut StepFindings,
     alloc: Global,
-    library: &Library,
+    hints: &EntryHints<'_>,
     site: StepSite,
     step: &Step,
 ) -> Result<(), AllocError>
     ensures found { OnOk result (found.new.findings.items ≡ found.old.findings.items
-        ++ spec.at_step (library_value library.now)
-        (spec.as_written site (step_value step.now))) }
+        ++ spec.at_step hints.now (spec.as_written site (step_value step.now))) }
     ensures used { OnOk result (found.new.used.items ≡ found.old.used.items
-        ++ positions_in (library_value library.now)
-        (spec.as_written site (step_value step.now)).runs) }
+        ++ positions_in hints.now (spec.as_written site (step_value step.now)).runs) }
 {
     let mut lookups = Lookups::new(alloc);
-    lookups.add(alloc, library, site, step)?;
+    lookups.add(alloc, hints, site, step)?;
     add_lookups(found, step.line, lookups)
 }
 
 fn add_plain_steps(
     found: &mut StepFindings,
     alloc: Global,
-    library: &Library,
+    hints: &EntryHints<'_>,
     site: StepSite,
     steps: &[Step],
 ) -> Result<(), AllocError>
     ensures found { OnOk result (found.new.findings.items ≡ found.old.findings.items
-        ++ found_in (library_value library.now)
-        (map (spec.as_written site) (map step_value steps.now))) }
+        ++ found_in hints.now (map (spec.as_written site) (map step_value steps.now))) }
     ensures used { OnOk result (found.new.used.items ≡ found.old.used.items
-        ++ used_in (library_value library.now)
-        (map (spec.as_written site) (map step_value steps.now))) }
+        ++ used_in hints.now (map (spec.as_written site) (map step_value steps.now))) }
 {
     for step in steps {
-        add_plain_step(found, alloc, library, site, step)?;
+        add_plain_step(found, alloc, hints, site, step)?;
     }
     Ok(())
 }
@@ -278,19 +270,17 @@ fn add_plain_steps(
 fn add_background(
     found: &mut StepFindings,
     alloc: Global,
-    library: &Library,
+    hints: &EntryHints<'_>,
     background: &Option<Background>,
 ) -> Result<(), AllocError>
     ensures found { OnOk result (found.new.findings.items ≡ found.old.findings.items
-        ++ found_in (library_value library.now)
-        (spec.of_background (option_map background_value background.now))) }
+        ++ found_in hints.now (spec.of_background (option_map background_value background.now))) }
     ensures used { OnOk result (found.new.used.items ≡ found.old.used.items
-        ++ used_in (library_value library.now)
-        (spec.of_background (option_map background_value background.now))) }
+        ++ used_in hints.now (spec.of_background (option_map background_value background.now))) }
 {
     match background {
         Some(background) => {
-            add_plain_steps(found, alloc, library, StepSite::Scenario, &background.steps)
+            add_plain_steps(found, alloc, hints, StepSite::Scenario, &background.steps)
         }
         None => Ok(()),
     }
@@ -299,33 +289,33 @@ fn add_background(
 fn add_rule(
     found: &mut StepFindings,
     alloc: Global,
-    library: &Library,
+    hints: &EntryHints<'_>,
     rule: &Rule,
 ) -> Result<(), AllocError>
     requires { RowsFit (rule_value rule.now).scenarios }
     ensures found { OnOk result (found.new.findings.items ≡ found.old.findings.items
-        ++ found_in (library_value library.now) (spec.of_rule (rule_value rule.now))) }
+        ++ found_in hints.now (spec.of_rule (rule_value rule.now))) }
     ensures used { OnOk result (found.new.used.items ≡ found.old.used.items
-        ++ used_in (library_value library.now) (spec.of_rule (rule_value rule.now))) }
+        ++ used_in hints.now (spec.of_rule (rule_value rule.now))) }
 {
-    add_background(found, alloc, library, &rule.background)?;
-    add_scenarios(found, alloc, library, &rule.scenarios)
+    add_background(found, alloc, hints, &rule.background)?;
+    add_scenarios(found, alloc, hints, &rule.scenarios)
 }
 
 fn add_rules(
     found: &mut StepFindings,
     alloc: Global,
-    library: &Library,
+    hints: &EntryHints<'_>,
     rules: &[Rule],
 ) -> Result<(), AllocError>
     requires { AllByRecursion (λ r. RowsFit r.scenarios) (map rule_value rules.now) }
     ensures found { OnOk result (found.new.findings.items ≡ found.old.findings.items
-        ++ found_in (library_value library.now) (spec.of_rules (map rule_value rules.now))) }
+        ++ found_in hints.now (spec.of_rules (map rule_value rules.now))) }
     ensures used { OnOk result (found.new.used.items ≡ found.old.used.items
-        ++ used_in (library_value library.now) (spec.of_rules (map rule_value rules.now))) }
+        ++ used_in hints.now (spec.of_rules (map rule_value rules.now))) }
 {
     for rule in rules {
-        add_rule(found, alloc, library, rule)?;
+        add_rule(found, alloc, hints, rule)?;
     }
     Ok(())
 }
@@ -333,47 +323,47 @@ fn add_rules(
 fn add_feature(
     found: &mut StepFindings,
     alloc: Global,
-    library: &Library,
+    hints: &EntryHints<'_>,
     feature: &Feature,
 ) -> Result<(), AllocError>
     requires { IsExpandable (feature_value feature.now) }
     ensures found { OnOk result (found.new.findings.items ≡ found.old.findings.items
-        ++ found_in (library_value library.now) (spec.of_feature (feature_value feature.now))) }
+        ++ found_in hints.now (spec.of_feature (feature_value feature.now))) }
     ensures used { OnOk result (found.new.used.items ≡ found.old.used.items
-        ++ used_in (library_value library.now) (spec.of_feature (feature_value feature.now))) }
+        ++ used_in hints.now (spec.of_feature (feature_value feature.now))) }
 {
-    add_background(found, alloc, library, &feature.background)?;
-    add_scenarios(found, alloc, library, &feature.scenarios)?;
-    add_rules(found, alloc, library, &feature.rules)
+    add_background(found, alloc, hints, &feature.background)?;
+    add_scenarios(found, alloc, hints, &feature.scenarios)?;
+    add_rules(found, alloc, hints, &feature.rules)
 }
 
 fn add_hook(
     found: &mut StepFindings,
     alloc: Global,
-    library: &Library,
+    hints: &EntryHints<'_>,
     hook: &Hook,
 ) -> Result<(), AllocError>
     ensures found { OnOk result (found.new.findings.items ≡ found.old.findings.items
-        ++ found_in (library_value library.now) (spec.of_hook (hook_value hook.now))) }
+        ++ found_in hints.now (spec.of_hook (hook_value hook.now))) }
     ensures used { OnOk result (found.new.used.items ≡ found.old.used.items
-        ++ used_in (library_value library.now) (spec.of_hook (hook_value hook.now))) }
+        ++ used_in hints.now (spec.of_hook (hook_value hook.now))) }
 {
-    add_plain_steps(found, alloc, library, site_of_hook(hook.kind), &hook.steps)
+    add_plain_steps(found, alloc, hints, site_of_hook(hook.kind), &hook.steps)
 }
 
 fn add_hooks(
     found: &mut StepFindings,
     alloc: Global,
-    library: &Library,
+    hints: &EntryHints<'_>,
     hooks: &[Hook],
 ) -> Result<(), AllocError>
     ensures found { OnOk result (found.new.findings.items ≡ found.old.findings.items
-        ++ found_in (library_value library.now) (spec.of_hooks (map hook_value hooks.now))) }
+        ++ found_in hints.now (spec.of_hooks (map hook_value hooks.now))) }
     ensures used { OnOk result (found.new.used.items ≡ found.old.used.items
-        ++ used_in (library_value library.now) (spec.of_hooks (map hook_value hooks.now))) }
+        ++ used_in hints.now (spec.of_hooks (map hook_value hooks.now))) }
 {
     for hook in hooks {
-        add_hook(found, alloc, library, hook)?;
+        add_hook(found, alloc, hints, hook)?;
     }
     Ok(())
 }
@@ -408,20 +398,20 @@ fn ordered(found: StepFindings) -> Result<StepFindings, AllocError>
 /// An error comes only if a growth was refused.
 pub fn lint_steps(
     alloc: Global,
-    library: &Library,
+    hints: &EntryHints<'_>,
     feature: &Feature,
 ) -> Result<StepFindings, AllocError>
     requires { IsExpandable (feature_value feature.now) }
     // Returns all findings, and no others.
     ensures found { IfOk result (λ r. AreInOrder
-        (found_in (library_value library.now) (spec.of_feature (feature_value feature.now)))
+        (found_in hints.now (spec.of_feature (feature_value feature.now)))
         r.findings.items) }
     // Returns the positions of all entries that the steps find.
     ensures used { IfOk result (λ r. r.used.items
-        ≡ used_in (library_value library.now) (spec.of_feature (feature_value feature.now))) }
+        ≡ used_in hints.now (spec.of_feature (feature_value feature.now))) }
 {
     let mut found = nothing_found(alloc);
-    add_feature(&mut found, alloc, library, feature)?;
+    add_feature(&mut found, alloc, hints, feature)?;
     ordered(found)
 }
 
@@ -429,18 +419,18 @@ pub fn lint_steps(
 /// comes only if a growth was refused.
 pub fn lint_hooks(
     alloc: Global,
-    library: &Library,
+    hints: &EntryHints<'_>,
     hooks: &HookFile,
 ) -> Result<StepFindings, AllocError>
     // Returns all findings, and no others.
     ensures found { IfOk result (λ r. AreInOrder
-        (found_in (library_value library.now) (spec.of_hooks (hooks_value hooks.now)))
+        (found_in hints.now (spec.of_hooks (hooks_value hooks.now)))
         r.findings.items) }
     // Returns the positions of all entries that the steps find.
     ensures used { IfOk result (λ r. r.used.items
-        ≡ used_in (library_value library.now) (spec.of_hooks (hooks_value hooks.now))) }
+        ≡ used_in hints.now (spec.of_hooks (hooks_value hooks.now))) }
 {
     let mut found = nothing_found(alloc);
-    add_hooks(&mut found, alloc, library, &hooks.hooks)?;
+    add_hooks(&mut found, alloc, hints, &hooks.hooks)?;
     ordered(found)
 }

@@ -2,7 +2,7 @@ use crate::run_tests::feature_of;
 use gk_gherkin::{Feature, Keyword, ReadFault, read_feature, read_hooks, text_of};
 use gk_lint::{
     Cause, EntryHint, EntryHints, Finding, FindingKind, LibraryCause, StepFault, StepFindings,
-    cause_at, column_at, entry_hint, entry_lines, in_order, library_cause, lines_without_scenario,
+    cause_at, column_at, entry_lines, in_order, library_cause, lines_without_scenario,
     lint_feature, lint_feature_file, lint_hook_tags, lint_hooks, lint_library, lint_steps,
     scenarios_of, tags_that_stand_nowhere,
 };
@@ -151,9 +151,8 @@ const HINTS: [(&str, EntryHint); 3] = [
 #[test]
 fn entries_are_meant(rt: HostRuntime) -> Result<(), LibraryFault> {
     let library = read_library(rt.alloc(), LIBRARY.as_bytes())?;
-    let mut hints = EntryHints::new(&library);
+    let hints = EntryHints::new(rt.alloc(), &library)?;
     for (text, wanted) in HINTS {
-        assert_eq!(rt; entry_hint(rt.alloc(), &library, text)?, wanted);
         assert_eq!(rt; hints.hint(rt.alloc(), text)?, wanted);
     }
     assert_eq!(rt; hints.library().entries.len(), 2);
@@ -239,14 +238,15 @@ fn shown_steps(alloc: Global, found: &StepFindings) -> Result<String, AllocError
 #[test]
 fn steps_are_linted(rt: HostRuntime) -> Result<(), Fail> {
     let library = read_library(rt.alloc(), WICK_STEPS.as_bytes())?;
+    let hints = EntryHints::new(rt.alloc(), &library)?;
     let feature = feature_of(rt.alloc(), WICK)?;
-    let found = lint_steps(rt.alloc(), &library, &feature)?;
+    let found = lint_steps(rt.alloc(), &hints, &feature)?;
     assert_eq!(rt;
         shown_steps(rt.alloc(), &found)?.as_str(),
         "3: step without the text that its action needs\n4: undefined step\n5: cleanup without step\n[0, 4]"
     );
     let hooks = read_hooks(rt.alloc(), WICK_HOOKS.as_bytes())?;
-    let found = lint_hooks(rt.alloc(), &library, &hooks)?;
+    let found = lint_hooks(rt.alloc(), &hints, &hooks)?;
     assert_eq!(rt;
         shown_steps(rt.alloc(), &found)?.as_str(),
         "5: action that isn't allowed here\n[1, 2]"

@@ -1,11 +1,10 @@
 use Rattle.std.proofs.Common.{◌≡◌, ◌++◌, map, drop}
 use Rattle.gk_gherkin.specs.Hooks.{hook_value}
-use Rattle.gk_steps.specs.Finding.{library_value}
 use Rattle.gk_lint.specs.WrittenSteps.{found_in, used_in, of_hooks}
 use Rattle.gk_lint.proofs.written_steps.add_hooks.Given as goal
 
 abbrev pub invariant-loop-hook : goal.invariant-loop-hook
 invariant-loop-hook l = record {
-  found : l.found.findings.items ++ found_in (library_value l.library) (of_hooks (map hook_value (drop l.hook-index l.hooks))) ≡ l.fn.found.findings.items ++ found_in (library_value l.library) (of_hooks (map hook_value l.hooks));
-  used : l.found.used.items ++ used_in (library_value l.library) (of_hooks (map hook_value (drop l.hook-index l.hooks))) ≡ l.fn.found.used.items ++ used_in (library_value l.library) (of_hooks (map hook_value l.hooks));
+  found : l.found.findings.items ++ found_in l.hints (of_hooks (map hook_value (drop l.hook-index l.hooks))) ≡ l.fn.found.findings.items ++ found_in l.hints (of_hooks (map hook_value l.hooks));
+  used : l.found.used.items ++ used_in l.hints (of_hooks (map hook_value (drop l.hook-index l.hooks))) ≡ l.fn.found.used.items ++ used_in l.hints (of_hooks (map hook_value l.hooks));
 }

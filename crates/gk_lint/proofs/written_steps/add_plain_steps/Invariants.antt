@@ -1,11 +1,10 @@
 use Rattle.std.proofs.Common.{◌≡◌, ◌++◌, map, drop}
 use Rattle.gk_gherkin.specs.Feature.{step_value}
-use Rattle.gk_steps.specs.Finding.{library_value}
 use Rattle.gk_lint.specs.WrittenSteps.{found_in, used_in, as_written}
 use Rattle.gk_lint.proofs.written_steps.add_plain_steps.Given as goal
 
 abbrev pub invariant-loop-step : goal.invariant-loop-step
 invariant-loop-step l = record {
-  found : l.found.findings.items ++ found_in (library_value l.library) (map (as_written l.site) (map step_value (drop l.step-index l.steps))) ≡ l.fn.found.findings.items ++ found_in (library_value l.library) (map (as_written l.site) (map step_value l.steps));
-  used : l.found.used.items ++ used_in (library_value l.library) (map (as_written l.site) (map step_value (drop l.step-index l.steps))) ≡ l.fn.found.used.items ++ used_in (library_value l.library) (map (as_written l.site) (map step_value l.steps));
+  found : l.found.findings.items ++ found_in l.hints (map (as_written l.site) (map step_value (drop l.step-index l.steps))) ≡ l.fn.found.findings.items ++ found_in l.hints (map (as_written l.site) (map step_value l.steps));
+  used : l.found.used.items ++ used_in l.hints (map (as_written l.site) (map step_value (drop l.step-index l.steps))) ≡ l.fn.found.used.items ++ used_in l.hints (map (as_written l.site) (map step_value l.steps));
 }

@@ -2,13 +2,12 @@ use Rattle.std.proofs.Common.{◌≡◌, ◌++◌, map, drop}
 use Rattle.std.specs.List.{AllByRecursion}
 use Rattle.gk_gherkin.specs.Feature.{RuleValue, rule_value}
 use Rattle.gk_select.specs.Expansion.{RowsFit}
-use Rattle.gk_steps.specs.Finding.{library_value}
 use Rattle.gk_lint.specs.WrittenSteps.{found_in, used_in, of_rules}
 use Rattle.gk_lint.proofs.written_steps.add_rules.Given as goal
 
 abbrev pub invariant-loop-rule : goal.invariant-loop-rule
 invariant-loop-rule l = record {
   fit : AllByRecursion (λ (r : RuleValue). RowsFit r.scenarios) (map rule_value (drop l.rule-index l.rules));
-  found : l.found.findings.items ++ found_in (library_value l.library) (of_rules (map rule_value (drop l.rule-index l.rules))) ≡ l.fn.found.findings.items ++ found_in (library_value l.library) (of_rules (map rule_value l.rules));
-  used : l.found.used.items ++ used_in (library_value l.library) (of_rules (map rule_value (drop l.rule-index l.rules))) ≡ l.fn.found.used.items ++ used_in (library_value l.library) (of_rules (map rule_value l.rules));
+  found : l.found.findings.items ++ found_in l.hints (of_rules (map rule_value (drop l.rule-index l.rules))) ≡ l.fn.found.findings.items ++ found_in l.hints (of_rules (map rule_value l.rules));
+  used : l.found.used.items ++ used_in l.hints (of_rules (map rule_value (drop l.rule-index l.rules))) ≡ l.fn.found.used.items ++ used_in l.hints (of_rules (map rule_value l.rules));
 }

@@ -1,11 +1,10 @@
 use Rattle.std.proofs.Common.{◌≡◌, ◌++◌, map, drop}
 use Rattle.gk_gherkin.specs.Feature.{step_value, scenario_value}
-use Rattle.gk_steps.specs.Finding.{library_value}
 use Rattle.gk_lint.specs.WrittenSteps.{found_in, used_in, in_scenario}
 use Rattle.gk_lint.proofs.written_steps.add_scenario.Given as goal
 
 abbrev pub invariant-loop-step : goal.invariant-loop-step
 invariant-loop-step l = record {
-  found : l.found.findings.items ++ found_in (library_value l.library) (map (in_scenario (scenario_value l.scenario)) (map step_value (drop l.step-index l.scenario.steps.items))) ≡ l.fn.found.findings.items ++ found_in (library_value l.library) (map (in_scenario (scenario_value l.scenario)) (map step_value l.scenario.steps.items));
-  used : l.found.used.items ++ used_in (library_value l.library) (map (in_scenario (scenario_value l.scenario)) (map step_value (drop l.step-index l.scenario.steps.items))) ≡ l.fn.found.used.items ++ used_in (library_value l.library) (map (in_scenario (scenario_value l.scenario)) (map step_value l.scenario.steps.items));
+  found : l.found.findings.items ++ found_in l.hints (map (in_scenario (scenario_value l.scenario)) (map step_value (drop l.step-index l.scenario.steps.items))) ≡ l.fn.found.findings.items ++ found_in l.hints (map (in_scenario (scenario_value l.scenario)) (map step_value l.scenario.steps.items));
+  used : l.found.used.items ++ used_in l.hints (map (in_scenario (scenario_value l.scenario)) (map step_value (drop l.step-index l.scenario.steps.items))) ≡ l.fn.found.used.items ++ used_in l.hints (map (in_scenario (scenario_value l.scenario)) (map step_value l.scenario.steps.items));
 }

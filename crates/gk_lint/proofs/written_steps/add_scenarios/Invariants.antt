@@ -1,13 +1,12 @@
 use Rattle.std.proofs.Common.{◌≡◌, ◌++◌, map, drop}
 use Rattle.gk_gherkin.specs.Feature.{scenario_value}
 use Rattle.gk_select.specs.Expansion.{RowsFit}
-use Rattle.gk_steps.specs.Finding.{library_value}
 use Rattle.gk_lint.specs.WrittenSteps.{found_in, used_in, of_scenarios}
 use Rattle.gk_lint.proofs.written_steps.add_scenarios.Given as goal
 
 abbrev pub invariant-loop-scenario : goal.invariant-loop-scenario
 invariant-loop-scenario l = record {
   fit : RowsFit (map scenario_value (drop l.scenario-index l.scenarios));
-  found : l.found.findings.items ++ found_in (library_value l.library) (of_scenarios (map scenario_value (drop l.scenario-index l.scenarios))) ≡ l.fn.found.findings.items ++ found_in (library_value l.library) (of_scenarios (map scenario_value l.scenarios));
-  used : l.found.used.items ++ used_in (library_value l.library) (of_scenarios (map scenario_value (drop l.scenario-index l.scenarios))) ≡ l.fn.found.used.items ++ used_in (library_value l.library) (of_scenarios (map scenario_value l.scenarios));
+  found : l.found.findings.items ++ found_in l.hints (of_scenarios (map scenario_value (drop l.scenario-index l.scenarios))) ≡ l.fn.found.findings.items ++ found_in l.hints (of_scenarios (map scenario_value l.scenarios));
+  used : l.found.used.items ++ used_in l.hints (of_scenarios (map scenario_value (drop l.scenario-index l.scenarios))) ≡ l.fn.found.used.items ++ used_in l.hints (of_scenarios (map scenario_value l.scenarios));
 }

@@ -3,7 +3,6 @@ use Rattle.std.proofs.Common.{◌≡◌, ◌+◌, ◌∷◌, drop, map, List, ap
 use Rattle.std.proofs.lemmas.Grind.{common_steps}
 use Rattle.gk_gherkin.specs.declared.feature.Examples.{Examples}
 use Rattle.gk_gherkin.specs.Feature.{step_value, examples_value}
-use Rattle.gk_steps.specs.Finding.{library_value}
 use Rattle.gk_lint.specs.StepHints.{step_hint, cleanup_hint}
 use Rattle.gk_lint.specs.WrittenSteps.{in_rows, in_examples}
 use Rattle.gk_lint.proofs.FirstHints.{next_hints}
@@ -22,6 +21,6 @@ loop-part-preserved c =
       fit = grind (arith, common_steps);
       found = grind (arith, common_steps);
       used = grind (arith, common_steps);
-      undefined = next_hints (step_hint (library_value c.args.library.now)) _ _ _ _ these later steps c.in_ok-look_up_rows.ensures.undefined c.loop-part.invariant.undefined;
-      cleanup = next_hints (cleanup_hint (library_value c.args.library.now)) _ _ _ _ these later steps c.in_ok-look_up_rows.ensures.cleanup c.loop-part.invariant.cleanup;
+      undefined = next_hints (step_hint c.args.hints.now) _ _ _ _ these later steps c.in_ok-look_up_rows.ensures.undefined c.loop-part.invariant.undefined;
+      cleanup = next_hints (cleanup_hint c.args.hints.now) _ _ _ _ these later steps c.in_ok-look_up_rows.ensures.cleanup c.loop-part.invariant.cleanup;
     }

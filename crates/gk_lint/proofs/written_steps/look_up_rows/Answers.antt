@@ -3,10 +3,11 @@ use Rattle.std.proofs.Common.{◌≡◌, ◌+◌, ◌∷◌, drop, map, List, ap
 use Rattle.std.proofs.lemmas.Grind.{common_steps}
 use Rattle.gk_gherkin.specs.declared.feature.Row.{Row}
 use Rattle.gk_gherkin.specs.Feature.{step_value, row_value, examples_value}
-use Rattle.gk_steps.specs.Finding.{library_value}
+use Rattle.gk_lint.specs.declared.step_sites.StepSite.TheVariants.{Scenario}
+use Rattle.gk_lint.specs.Lookups.{faults_of, positions_of}
 use Rattle.gk_lint.specs.StepHints.{step_hint, cleanup_hint}
 use Rattle.gk_lint.specs.WrittenSteps.{in_rows}
-use Rattle.gk_lint.proofs.FirstHints.{next_hint}
+use Rattle.gk_lint.proofs.FirstHints.{next_hint, next_results}
 use Rattle.gk_lint.proofs.written_steps.look_up_rows.Goals as goal
 
 pub loop-row-preserved : goal.loop-row-preserved
@@ -17,8 +18,8 @@ loop-row-preserved c =
     let steps = ap (λ (rs : List Row). in_rows (step_value c.args.step.now) (examples_value c.args.part.now).header (map row_value rs)) split in
     record {
       fit = grind (arith, common_steps);
-      found = grind (arith, common_steps);
-      used = grind (arith, common_steps);
-      undefined = next_hint (step_hint (library_value c.args.library.now)) _ _ _ _ _ _ steps (grind (arith, common_steps)) c.loop-row.invariant.undefined;
-      cleanup = next_hint (cleanup_hint (library_value c.args.library.now)) _ _ _ _ _ _ steps (grind (arith, common_steps)) c.loop-row.invariant.cleanup;
+      found = next_results (faults_of c.args.hints.now Scenario) _ _ _ _ _ _ steps (grind (arith, common_steps)) c.loop-row.invariant.found;
+      used = next_results (positions_of c.args.hints.now) _ _ _ _ _ _ steps (grind (arith, common_steps)) c.loop-row.invariant.used;
+      undefined = next_hint (step_hint c.args.hints.now) _ _ _ _ _ _ steps (grind (arith, common_steps)) c.loop-row.invariant.undefined;
+      cleanup = next_hint (cleanup_hint c.args.hints.now) _ _ _ _ _ _ steps (grind (arith, common_steps)) c.loop-row.invariant.cleanup;
     }
