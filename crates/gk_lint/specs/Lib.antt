@@ -22,5 +22,3 @@ pub mod LibraryUse
 pub mod TagUse
 pub mod NamedTags
 pub mod ScenarioLines
-
--- Proof machinery: the words of the patterns of a library.
