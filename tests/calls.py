@@ -23,8 +23,6 @@ CALLERS["gk_program"] = ["gherkin_run", "gk_c"]
 TRAITS = {"Reversible"}
 # Methods of the standard library, too.
 COMMON = {"get", "len", "new", "next"}
-# Functions that only their own crate can call, as it doesn't export a type that they take.
-INNER = {"gk_select: TagRule::of_words"}
 Function = collections.namedtuple("Function", "crate type name")
 
 FUNCTION = re.compile(r"pub fn (\w+)(?:<[^(]*>)?\(([^)]*)\)(\s*->)?")
@@ -88,8 +86,7 @@ def name_of(function):
 
 def troubles():
     for function, files in calls():
-        if name_of(function) not in INNER:
-            yield "" if files else f"{name_of(function)}: no test calls it"
+        yield "" if files else f"{name_of(function)}: no test calls it"
 
 
 if __name__ == "__main__":

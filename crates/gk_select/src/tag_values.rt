@@ -113,7 +113,7 @@ impl TagRule {
     ghost use Rattle.gk_select.specs.TagRules.{tag_rule_value};
 
     /// Returns the rule that these words spell.
-    pub fn of_words(words: Vec<Word>) -> TagRule
+    pub(crate) fn of_words(words: Vec<Word>) -> TagRule
         requires { SpeltBy (map word_value words.items) }
         ensures { (e : Expression) → spelling e ≡ map word_value words.items →
             tag_rule_value result ≡ e }
