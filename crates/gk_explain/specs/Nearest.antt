@@ -4,7 +4,7 @@ use Rattle.gk_gherkin.specs.declared.feature.StepType.{StepType}
 use Rattle.gk_gherkin.specs.declared.feature.StepType.TheVariants as types
 use Rattle.gk_lint.specs.declared.nearest_entry.EntryHint.{EntryHint}
 use Rattle.gk_lint.specs.declared.nearest_entry.EntryHint.TheVariants.{Unlike, OtherType, Nearest}
-use Rattle.gk_lint.specs.NearestEntry.{entry_hint}
+use Rattle.gk_lint.specs.EntryHints.{entry_hint}
 use Rattle.gk_steps.specs.declared.pattern.FieldKind.{FieldKind}
 use Rattle.gk_steps.specs.declared.pattern.FieldKind.TheVariants.{Plain, Decimal}
 use Rattle.gk_steps.specs.Pattern.{PieceValue, Literal, FieldPiece}

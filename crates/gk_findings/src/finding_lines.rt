@@ -16,6 +16,7 @@ use std::alloc::{AllocError, Global};
 /// A library as notes name it.
 #[derive(Drop)]
 pub struct NotedLibrary<'a> {
+    /// The library, with the words of its patterns.
     pub hints: EntryHints<'a>,
     /// Whether steps are looked up in it.
     pub steps: bool,

@@ -87,32 +87,8 @@ fn noted_hooks<S: FeatureSource>(
     }
 }
 
-// Pushes the lines of a library file, if there is one, given the places of its entries that are used.
-fn push_file_lines<S: FeatureSource>(
-    out: &mut String,
-    alloc: Global,
-    library: &NotedLibrary<'_>,
-    file: &Option<S>,
-    used: &[usize],
-) -> Result<(), AllocError>
-    requires texts { AreTexts (of_files.bytes_of (option_map S.value file.now)) }
-    requires entries { library.now.lines.items ≡ spec.lines_of_library
-        (of_files.bytes_of (option_map S.value file.now)) }
-    ensures { Pushes out.old (spec.library_lines true library.now.name.now
-        (of_files.bytes_of (option_map S.value file.now)) used.now) result out.new }
-{
-    match file {
-        Some(source) => {
-            let text = known_text(source.bytes());
-            let findings = lint_library(alloc, text, used)?;
-            push_findings(out, alloc, library.name, &findings)?;
-            push_count_line(out, library.name, findings.len(), library.lines.len())
-        }
-        None => Ok(()),
-    }
-}
-
-// Pushes the lines of a library file, if there is one and steps are looked up in it.
+// Pushes the lines of a library file, if there is one and steps are looked up in it, given the places of its entries that
+// are used.
 fn push_library_lines<S: FeatureSource>(
     out: &mut String,
     alloc: Global,
@@ -126,10 +102,17 @@ fn push_library_lines<S: FeatureSource>(
     ensures { Pushes out.old (spec.library_lines library.now.steps library.now.name.now
         (of_files.bytes_of (option_map S.value file.now)) used.now) result out.new }
 {
-    if library.steps {
-        push_file_lines(out, alloc, library, file, used)
-    } else {
-        Ok(())
+    if !library.steps {
+        return Ok(());
+    }
+    match file {
+        Some(source) => {
+            let text = known_text(source.bytes());
+            let findings = lint_library(alloc, text, used)?;
+            push_findings(out, alloc, library.name, &findings)?;
+            push_count_line(out, library.name, findings.len(), library.lines.len())
+        }
+        None => Ok(()),
     }
 }
 

@@ -2,6 +2,7 @@
 pub mod Likeness
 pub mod StepFaults
 pub mod NearestEntry
+pub mod EntryHints
 pub mod Findings
 pub mod LineContext
 pub mod Misspelt

@@ -7,7 +7,7 @@ use Rattle.gk_steps.specs.declared.action.Action.TheVariants as actions
 use Rattle.gk_steps.specs.Finding.{LibraryValue, FoundValue, found, found_any, action_of}
 use Rattle.gk_lint.specs.declared.nearest_entry.EntryHint.{EntryHint}
 use Rattle.gk_lint.specs.Lookups.{cleanup_text}
-use Rattle.gk_lint.specs.NearestEntry.{entry_hint}
+use Rattle.gk_lint.specs.EntryHints.{entry_hint}
 
 -- The hint for a text, if it finds no entry.
 abbrev pub hint_unless_found : LibraryValue → List ℕ → Option FoundValue → Option EntryHint

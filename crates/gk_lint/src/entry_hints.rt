@@ -1,7 +1,7 @@
 //! Hints for the undefined steps of a library.
 ghost use Rattle.std.specs.Prelude.{◌≡◌, IfOk};
 ghost use Rattle.gk_steps.specs.Finding.{library_value, found_value};
-ghost use Rattle.gk_lint.specs.NearestEntry as spec;
+ghost use Rattle.gk_lint.specs.EntryHints as spec;
 
 use crate::nearest_entry::{EntryHint, compared_words, nearest};
 use gk_gherkin::StepType;
@@ -37,7 +37,7 @@ fn hint_of(found: Found) -> EntryHint
 }
 
 impl<'a> EntryHints<'a> {
-    /// Splits the patterns of a library into words. An error comes only if a growth was refused.
+    /// Splits the patterns of a library's first 1,000 entries into words. An error comes only if a growth was refused.
     pub fn new(alloc: Global, library: &'a Library) -> Result<EntryHints<'a>, AllocError>
         ensures { IfOk result (λ hints. hints ≡ library_value library.entry.now) }
     {

@@ -3,7 +3,7 @@ ghost use Rattle.std.specs.Prelude.{◌≡◌, [], ◌++◌, Some, None, OnOk};
 ghost use Rattle.std.specs.Option.{option_or};
 ghost use Rattle.gk_gherkin.specs.Feature.{step_value, block_value};
 ghost use Rattle.gk_steps.specs.Finding.{library_value, found_value, found_any, action_of};
-ghost use Rattle.gk_lint.specs.NearestEntry as nearest;
+ghost use Rattle.gk_lint.specs.EntryHints.{entry_hint};
 ghost use Rattle.gk_lint.specs.StepHints.{hint_unless_found, registered_hint, step_hint, cleanup_hint};
 ghost use Rattle.gk_lint.specs.Lookups as spec;
 
@@ -63,7 +63,7 @@ fn set_hint(
     text: &str,
 ) -> Result<(), AllocError>
     ensures { OnOk result (hint.new
-        ≡ option_or hint.old (Some (nearest.entry_hint hints.now text.now))) }
+        ≡ option_or hint.old (Some (entry_hint hints.now text.now))) }
 {
     if hint.is_none() {
         *hint = Some(hints.hint(alloc, text)?);
