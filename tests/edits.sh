@@ -23,7 +23,7 @@ home=$(dirname -- "$(dirname -- "$(readlink -f -- "$0")")")
 notes=$home/tests/edits/refused
 numbers=$home/tests/edits/numbers
 # The crates that have no edits.
-tests='gk_refusals gk_tests gk_cli_tests'
+tests='gk_refusals gk_examples gk_tests gk_cli_tests'
 
 # The crates of crates.txt that have edits.
 crates=$(sed 's/#.*//; s/[ :].*//' "$home/crates.txt" | grep -vxF "$(printf '%s\n' '' $tests)")

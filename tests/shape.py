@@ -19,7 +19,7 @@ SHARED = 10  # lines that two places may not share
 # Modules that have no specification by their kind. What laws say is in the specifications of their subjects.
 ROOTS = ("lib", "main", "laws")
 BEGINS_LEFT_OUT = re.compile(r"(pub )?(ghost )?use\b|(pub )?(const|static) \w+: \[.*\] = \[$")
-WORKED_EXAMPLES = re.compile(r"(Worked.*|.*Examples)\.antt")
+WORKED_EXAMPLES = re.compile(r"crates/gk_examples/.*")
 # Words that a line's shape keeps.
 KEYWORDS = frozenset("""
     fn pub let match if else for while return in ensures requires where abbrev record data
@@ -153,7 +153,7 @@ def sharing_pairs(files):
 
 def repeated_places():
     """Pairs of places that share SHARED or more lines of one shape, each counted once, whole."""
-    shapes = {path: list(shapes_of(path)) for path in SOURCES if not WORKED_EXAMPLES.fullmatch(os.path.basename(path))}
+    shapes = {path: list(shapes_of(path)) for path in SOURCES if not WORKED_EXAMPLES.fullmatch(path)}
     pairs = sharing_pairs(shapes)
     for one, at, other, place in sorted(pairs):
         if (one, at - 1, other, place - 1) in pairs:

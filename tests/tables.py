@@ -32,9 +32,9 @@ CHANGES = (
     (written.OPTION_TABLE, "leave later scenarios untested", "leave others", "leave others", 5),
     (written.FORMAT_TABLE, '"progress"', '"dots"', "dots", 7),
     (written.DEFAULT_FILE, "step it fails =>", "step it cracks =>", "it cracks", 4),
-    (written.ACTION_TABLE, '["name", "n"]', '["name", "n", "by"]', "{by}", 1),
+    (written.ACTION_TABLE, '["name", "n"]', '["name", "n", "amount"]', "{amount}", 1),
     (written.DEFINITIONS, ", `Summary`", "", "`Summary`", 1),
-    (written.VERSION_FILE, "\n", "-changed\n", "-changed", 3),
+    (written.VERSION_FILE, "\n", "-changed\n", "-changed", 8),
 )
 
 

@@ -53,11 +53,10 @@ class Dist(Checks):
             self.compare_built(name, made)
 
     def test_version(self):
-        """The program, the header and the changelog have the version, or say that nothing was released."""
+        """The program, the header and the changelog have the version."""
         found = (said(self.program, "--version").decode(), driver.text("bindings/c/gherkin_run.h"), driver.text("CHANGELOG.md").lower())
         shown = [it.split(before)[1].split()[0] for it, before in zip(found, ("gherkin_run ", "_VERSION ", "\n## "))]
-        version = "unreleased" if VERSION == "0" else VERSION
-        self.same("the versions of the program, the header and the changelog", shown, [version, f'"{version}"', version])
+        self.same("the versions of the program, the header and the changelog", shown, [VERSION, f'"{VERSION}"', VERSION])
 
 
 @pages.tests("debian.md")

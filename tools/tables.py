@@ -532,12 +532,15 @@ PARTS = {
     "tests/runs/first_fault.md": {"unknown format": lambda: refused_format("--format xml no.feature", "xml")},
     "tests/runs/README.md": {"pages": stored_pages},
 }
-# Before the first release the version is 0, which the program and its header call unreleased.
 VERSION_FILE = "packaging/version"
 # The version in each file that repeats it.
-HEADER = "bindings/c/gherkin_run.h"
 VERSIONS = {
-    HEADER: r'(?m)(?<=^#define GHERKIN_RUN_VERSION ").*(?="$)',
+    "crates/gk_cli/src/arguments.rt": r'(?m)(?<=^const VERSION: &str = ").*(?=";$)',
+    "crates/gk_c/src/lib.rt": r'(?m)(?<=^    put_out\(b").*(?=", room\)$)',
+    "crates/gk_c/specs/Answer.antt": r'(?m)(?<=^version = codes ").*(?="$)',
+    "tests/edits/gk_c/version_of_another_kind.edit": r'(?m)(?<=^old:     put_out\(b").*(?=", room\)$)',
+    "tests/runs/arguments.md": r"(?m)(?<=^gherkin_run )\S+$",
+    "bindings/c/gherkin_run.h": r'(?m)(?<=^#define GHERKIN_RUN_VERSION ").*(?="$)',
     "bindings/python/gherkin_run/__init__.py": r'(?m)(?<=^__version__ = ").*(?="$)',
     "packaging/gherkin_run.pc": r"(?m)(?<=^Version: ).*$",
 }
@@ -551,19 +554,19 @@ def renewed(path):
     return MARKED.sub(lambda found: found[1] + "".join(f"{it}\n" for it in parts[found[2]]()) + found[4], text)
 
 
-def with_version(path):
-    """The text of a file with the version of VERSION_FILE."""
-    version = read(VERSION_FILE).strip()
-    shown = "unreleased" if (path, version) == (HEADER, "0") else version
-    text, count = re.subn(VERSIONS[path], shown, read(path))
-    if count != 1:
-        raise ValueError(f"{path} has {count} versions")
+def with_version(path, text):
+    """The text of a file, with the version of VERSION_FILE."""
+    text, count = re.subn(VERSIONS[path], read(VERSION_FILE).strip(), text)
+    if count == 0:
+        raise ValueError(f"{path} has no version")
     return text
 
 
 def texts():
     """The text that each written file should have."""
-    return {**{path: renewed(path) for path in PARTS}, **{path: with_version(path) for path in VERSIONS},
+    parts = {path: renewed(path) for path in PARTS}
+    versions = {path: with_version(path, parts.get(path) or read(path)) for path in VERSIONS}
+    return {**parts, **versions,
             NUMBERS: "".join(f"{it}\n" for it in numbers_of_edits()), "examples/default.steps": default_text()}
 
 

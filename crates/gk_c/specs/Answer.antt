@@ -11,4 +11,4 @@ IsPut text old new count = (new ≡ put_over text old) × (count ≡ length text
 
 -- The version of the library.
 abbrev pub version : List ℕ
-version = codes "unreleased"
+version = codes "1.0.0"

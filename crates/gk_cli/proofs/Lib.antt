@@ -1,10 +1,7 @@
 pub mod ArgumentsLemmas
-pub mod WorkedArguments
 pub mod GrowingReportLemmas
 pub mod SuiteLemmas
 pub mod ToldRunLemmas
 pub mod ExplainedSuiteLemmas
 pub mod ModesLemmas
 pub mod RowOrderLaw
-pub mod WorkedRun
-pub mod WorkedRefusedMemory

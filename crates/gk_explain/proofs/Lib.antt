@@ -6,4 +6,3 @@ pub mod ExplanationLemmas
 pub mod RegistrationLemmas
 pub mod NearestLinesLemmas
 pub mod ExplainerLemmas
-pub mod WorkedExplanations

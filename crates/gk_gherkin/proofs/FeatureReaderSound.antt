@@ -1,23 +1,23 @@
 -- What a reader of a feature file means, and that each line keeps it: what is read has that reading.
-use Rattle.std.proofs.Common.{◌≡◌, ℕ, suc, Bool, true, false, cond, ◌==◌, List, [], ◌∷◌, length, Option, Some, None, Result, Ok, Err, refl, sym, subst, ap, ◌∙◌, arith}
+use Rattle.std.proofs.Common.{◌≡◌, ℕ, suc, Bool, true, false, ◌==◌, List, [], ◌∷◌, Option, Some, None, Result, Ok, Err, refl, sym, subst, arith}
+use Rattle.std.proofs.lemmas.Grind.{common_steps}
 use Rattle.std.proofs.lemmas.Bool.Decides.{nat_tests}
-use Rattle.std.specs.Prelude.{codes, option_and_then, drop}
+use Rattle.std.specs.Prelude.{codes, option_and_then}
 use Rattle.std.specs.Str.{bytes_eq}
 use Rattle.std.proofs.lemmas.Slice.Eq.{bytes_eq-Decides}
 use Rattle.gk_gherkin.specs.declared.class.Class.TheVariants.{Blank, Comment, ExamplesHeading, FeatureHeading, RuleHeading, ScenarioHeading, TagLine}
-use Rattle.gk_gherkin.specs.declared.read_fault.ReadFault.TheVariants.{Language}
 use Rattle.gk_gherkin.specs.declared.class.Class.{Class}
 use Rattle.gk_gherkin.specs.declared.read_fault.ReadFault.{ReadFault}
 use Rattle.gk_gherkin.specs.FeatureReader.{Above, FeatureReader, InFeature, OfFeature, OfRule, OpenFeature, Tagged, Top, Untagged, by_language, examples_after, feature_in, feature_of, feature_readers, on, on_comment, on_heading, on_line, rule_of, tag_line, without_tags}
 use Rattle.gk_gherkin.specs.Reading.{Outside, InText, State, finish, reading, run}
-use Rattle.gk_gherkin.specs.OpenParts.{InBody, InExamples, HeadValue, InDescription, Open, OutlineValue, ChildrenValue, on_open, outline_of, children_of}
-use Rattle.gk_gherkin.specs.Text.{begins, trim, trim_front}
+use Rattle.gk_gherkin.specs.OpenParts.{InBody, InExamples, HeadValue, InDescription, Open, OutlineValue, ChildrenValue, outline_of, children_of}
+use Rattle.gk_gherkin.specs.Text.{begins, trim}
 use Rattle.gk_gherkin.specs.Lines.{LineValue, Lines}
-use Rattle.gk_gherkin.specs.Class.{class, class_of, class_of_words}
+use Rattle.gk_gherkin.specs.Class.{class, class_of}
 use Rattle.gk_gherkin.specs.Tags.{tags_of}
 use Rattle.gk_gherkin.specs.Language.{IsEnglishOrNone, language_of, language_word, rest_after}
 use Rattle.gk_gherkin.specs.Feature.{FeatureValue, rule_container}
-use Rattle.gk_gherkin.specs.Grammar.{AreTags, Describes, IsContainer, IsDocString, IsFeature, IsIgnored, IsIgnoredAbove, IsIgnoredClass, IsRule, MayDescribeScenario, Reads, Skips, described, none, skip_none, untagged}
+use Rattle.gk_gherkin.specs.Grammar.{AreTags, Describes, IsContainer, IsDocString, IsFeature, IsIgnored, IsIgnoredAbove, IsIgnoredClass, MayDescribeScenario, Reads, Skips, described, none, skip_none, untagged}
 use Rattle.gk_gherkin.proofs.ReadingRuns.{bind_is, bind_ok, no_ok, ok_same}
 use Rattle.gk_gherkin.proofs.ReadingSound.{Built, built_run}
 use Rattle.gk_gherkin.proofs.OpenPartsSound.{AreTags-push, HeadBuilt, Many-push, OpenBuilt, SectionBuilt, Skips-more, closed, cond_ok, head_line, on_open-built, outline_built, text_under}
@@ -41,10 +41,7 @@ closed_container head children ls mid rest h s = record { line = h.line; after_h
 pub closed_top : (top : Top) (children : ChildrenValue) (whole mid rest : Lines) → TopBuilt top whole mid → SectionBuilt children mid rest → IsFeature whole (feature_of top children) rest
 closed_top (OfFeature head) children whole mid rest h s =
     record { after_scenarios = rest; container = closed_container head children whole mid rest h s; rules = none }
-closed_top (OfRule f head) children whole mid rest t s =
-    let i = t.1 in
-    let made : IsRule t.0 (rule_of head children) rest = closed_container head children t.0 mid rest t.2 s in
-    record { after_scenarios = i.after_scenarios; container = i.container; rules = Many-push i.rules made }
+closed_top (OfRule f head) children whole mid rest t s = grind (arith, common_steps, closed_container, Many-push)
 
 -- a heading after tags
 examples_ok : (part : Open) (r : Option OutlineValue) (top : Top) (tags : List (List ℕ)) (whole mid a b rest : Lines) (l : LineValue) (t : OpenFeature) → outline_of part ≡ r → class l ≡ ExamplesHeading → TopBuilt top whole mid → OpenBuilt part mid a → AreTags IsIgnored a tags b → Skips IsIgnored b (l ∷ rest) → examples_after r top tags l ≡ Ok t → FeatureBuilt t whole rest
@@ -68,9 +65,7 @@ on_heading-built (InFeature top part) tags whole a b rest l _ t c p ts n e = no_
 on_line-built : (reader : OpenFeature) (whole mid rest : Lines) (l : LineValue) (c : Class) (t : OpenFeature) → class l ≡ c → FeatureBuilt reader whole mid → Skips (IgnoredAt reader) mid (l ∷ rest) → on_line reader l c ≡ Ok t → FeatureBuilt t whole rest
 unfolding on_line
 on_line-built Above whole mid rest l k t c p n e = no_ok e
-on_line-built (InFeature top part) whole mid rest l k t c p n e =
-    let r = bind_is (on_open part l k) (InFeature top) t e in
-    subst (λ t. FeatureBuilt t whole rest) r.2 (p.0, p.1, on_open-built part p.0 mid rest l k r.0 c p.2 n r.1)
+on_line-built (InFeature top part) whole mid rest l k t c p n e = grind (arith, common_steps, bind_is, on_open-built)
 
 -- blank lines name no language
 abbrev language_in : List ℕ → Option (List ℕ)
@@ -82,13 +77,8 @@ not_empty n = grind (arith, nat_tests)
 no_hash : (text : List ℕ) (c : Bool) → begins text (codes "#") ≡ c → class_of text ≡ Blank → IsEnglishOrNone (language_in text)
 unfolding class_of
 no_hash [] c e k = tt
-no_hash (b ∷ bs) true e k =
-    let rest : Class = cond (begins (b ∷ bs) (codes "#")) Comment (cond (begins (b ∷ bs) (codes "@")) TagLine (class_of_words (b ∷ bs))) in
-    let made : class_of (b ∷ bs) ≡ Comment = ap (λ (c : Bool). cond c Blank rest) (not_empty (length bs)) ∙ ap (λ (c : Bool). cond c Comment (cond (begins (b ∷ bs) (codes "@")) TagLine (class_of_words (b ∷ bs)))) e in
-    let no : ⊥ = cc in absurd no
-no_hash (b ∷ bs) false e k =
-    let none : rest_after (codes "#") (b ∷ bs) ≡ None = ap (λ (c : Bool). let o : Option (List ℕ) = cond c (Some (trim_front (drop 1 (b ∷ bs)))) None in o) e in
-    subst IsEnglishOrNone (sym (ap (λ (o : Option (List ℕ)). option_and_then language_word (option_and_then (rest_after (codes ":")) (option_and_then (rest_after (codes "language")) o))) none)) tt
+no_hash (b ∷ bs) true e k = grind (arith, common_steps)
+no_hash (b ∷ bs) false e k = grind (arith, common_steps)
 
 blank_english : (l : LineValue) → class l ≡ Blank → IsEnglishOrNone (language_of l)
 unfolding class language_of
@@ -103,9 +93,7 @@ bytes_same a b h = (bytes_eq-Decides a b).0 h
 
 language_by : (r : Option (List ℕ)) (s t : FeatureReader) (l : LineValue) → by_language r s l ≡ Ok t → IsEnglishOrNone r × (s ≡ t)
 language_by None s t l e = (tt, ok_same e)
-language_by (Some word) s t l e =
-    let r = cond_ok (bytes_eq word (codes "en")) s t (Language l.line) e in
-    (bytes_same word (codes "en") r.0, r.1)
+language_by (Some word) s t l e = grind (arith, common_steps, cond_ok, bytes_same)
 
 pub comment_ok : (feature : OpenFeature) (s t : FeatureReader) (l : LineValue) → class l ≡ Comment → on_comment feature s l ≡ Ok t → IgnoredAt feature l × (s ≡ t)
 comment_ok Above s t l c e = let r = language_by (language_of l) s t l e in ((subst IsIgnoredClass (sym c) tt, r.0), r.1)

@@ -1,11 +1,10 @@
 -- Where a run over the lines of a feature file stops, and what the fault there says.
-use Rattle.std.proofs.Common.{◌≡◌, ℕ, true, false, List, [], ◌∷◌, ◌++◌, length, Option, Some, None, Result, Ok, Err, refl, sym, subst, ap, ◌∙◌, append_assoc, inl, inr, ◌≢◌, ◌⊎◌, IfOk, IfErr}
+use Rattle.std.proofs.Common.{◌≡◌, ℕ, true, List, [], ◌∷◌, ◌++◌, length, Option, Some, None, Result, Ok, Err, refl, sym, subst, ap, ◌∙◌, append_assoc, inl, inr, ◌≢◌, ◌⊎◌, IfOk, IfErr, arith}
+use Rattle.std.proofs.lemmas.Grind.{common_steps}
 use Rattle.std.specs.List.{AllByRecursion}
 use Rattle.std.specs.Prelude.{codes, option_map}
-use Rattle.std.specs.Str.{bytes_eq}
-use Rattle.std.proofs.lemmas.Slice.Eq.{bytes_eq-Decides}
 use Rattle.gk_gherkin.specs.declared.class.Class.TheVariants.{BackgroundHeading, Blank, Comment, ExamplesHeading, FeatureHeading, FenceLine, Other, RowLine, RuleHeading, ScenarioHeading, StepLine, TagLine}
-use Rattle.gk_gherkin.specs.declared.read_fault.ReadFault.TheVariants.{BadTag, Language, Memory, TagsAtEnd, UnclosedText, Unexpected}
+use Rattle.gk_gherkin.specs.declared.read_fault.ReadFault.TheVariants.{BadTag, Memory, TagsAtEnd, UnclosedText, Unexpected}
 use Rattle.gk_gherkin.specs.declared.class.Class.{Class}
 use Rattle.gk_gherkin.specs.declared.class.Fence.{Fence}
 use Rattle.gk_gherkin.specs.declared.read_fault.ReadFault.{ReadFault}
@@ -19,7 +18,7 @@ use Rattle.gk_gherkin.specs.Rows.{cells_of}
 use Rattle.gk_gherkin.specs.Language.{language_of}
 use Rattle.gk_gherkin.specs.Feature.{FeatureValue, RowValue, feature_value}
 use Rattle.gk_gherkin.specs.Grammar.{AreTags, Describes, IsIgnored, IsIgnoredAbove, IsIgnoredClass, IsReadable, MayDescribeScenario, Reads, Skips, skip, skip_none, tagged, untagged}
-use Rattle.gk_gherkin.specs.ReadFault.{AnswersOrLacksMemory, BeginsNone, EndsInTags, FaultSays, FeatureFault, IsBadTag, IsLineFault, LineSays, NeedsMemory, NoneLikeIt, TakesTags, line_of_fault}
+use Rattle.gk_gherkin.specs.ReadFault.{AnswersOrLacksMemory, BeginsNone, FaultSays, FeatureFault, IsBadTag, IsLineFault, LineSays, NeedsMemory, NoneLikeIt, TakesTags, line_of_fault}
 use Rattle.gk_gherkin.specs.Results.{◌>>=◌}
 use Rattle.gk_gherkin.proofs.ReadingRuns.{Halts, bind_err, err_same, halts, no_err, no_ok, ok_same, one_more_line}
 use Rattle.gk_gherkin.proofs.ReadingStates.{never, no_fence, refused_at, step_plain, step_refused}
@@ -28,7 +27,7 @@ use Rattle.gk_gherkin.proofs.ReadingWhole.{only_memory, said}
 use Rattle.gk_gherkin.proofs.OpenPartsSound.{BodyBuilt, GridBuilt, OpenBuilt}
 use Rattle.gk_gherkin.proofs.FeatureReaderSound.{FeatureBuilt, blank_at, comment_ok, reached_built, sound}
 use Rattle.gk_gherkin.proofs.FeatureReaderComplete.{complete, runs}
-use Rattle.gk_gherkin.proofs.RowStops.{Refuses, RowStop, Stopped, first_of, first_row, line_of, other_width, row_says, row_stops, row_takes, stepped_stops, stopped_then}
+use Rattle.gk_gherkin.proofs.RowStops.{Refuses, RowStop, Stopped, first_of, first_row, line_of, row_says, row_stops, row_takes, stepped_stops, stopped_then}
 use Rattle.gk_gherkin.proofs.FirstTags.{good_tags}
 use Rattle.gk_gherkin.specs.declared.feature.Feature.{Feature}
 
@@ -236,23 +235,14 @@ tags_above untagged a = a
 tags_above (tagged first behind) a = next_above first.line first.is first.next refl (tags_above behind a)
 
 at_above : (before : Lines) (feature : OpenFeature) → feature ≡ Above → run feature_readers (Outside feature_readers.first) before ≡ Ok (Outside (Untagged feature)) → NoFeature before
-at_above before feature e r =
-    let b = reached_built before (Outside (Untagged Above)) (r ∙ ap (λ (p : OpenFeature). let r : Result (State FeatureReader) ReadFault = Ok (Outside (Untagged p)) in r) e) in
-    subst NoFeature (sym b.1) (skips_above b.2 tt)
+at_above before feature e r = grind (arith, common_steps, reached_built, skips_above)
 
 tagged_above : (before : Lines) (feature : OpenFeature) (tags : List (List ℕ)) (n : ℕ) → feature ≡ Above → run feature_readers (Outside feature_readers.first) before ≡ Ok (Outside (Tagged feature tags n)) → NoFeature before
-tagged_above before feature tags n e r =
-    let b = reached_built before (Outside (Tagged Above tags n)) (r ∙ ap (λ (p : OpenFeature). let r : Result (State FeatureReader) ReadFault = Ok (Outside (Tagged p tags n)) in r) e) in
-    subst NoFeature (sym b.2) (tags_above b.3 (skips_above b.4 tt))
-
-bytes_differ : (a b : List ℕ) → bytes_eq a b ≡ false → a ≢ b
-bytes_differ a b h e = let t : bytes_eq a b ≡ true = (bytes_eq-Decides a b).1 e in let no : ⊥ = cc in no
+tagged_above before feature tags n e r = grind (arith, common_steps, reached_built, tags_above, skips_above)
 
 language_says : (before : Lines) (r : Option (List ℕ)) (s : FeatureReader) (l : LineValue) (e : ReadFault) → NoFeature before → class l ≡ Comment → language_of l ≡ r → by_language r s l ≡ Err e → Says e before l
 language_says before None s l e a is w h = no_err h
-language_says before (Some word) s l e a is w h =
-    let k = other_width (bytes_eq word (codes "en")) s e (Language l.line) h in
-    subst (λ e. Says e before l) k.1 (refl, record { is = is; above = a; names = (word, w, bytes_differ word (codes "en") k.0) })
+language_says before (Some word) s l e a is w h = grind (arith, common_steps)
 
 comment_says : (before : Lines) (s : FeatureReader) (feature : OpenFeature) (l : LineValue) (e : ReadFault) → (feature ≡ Above → NoFeature before) → class l ≡ Comment → on_comment feature s l ≡ Err e → Says e before l
 comment_says before s Above l e a is h = language_says before (language_of l) s l e (a refl) is refl h
@@ -357,11 +347,7 @@ tagged_or_not e = cc
 end_fault : (ls : Lines) (s : State FeatureReader) (e : ReadFault) → run feature_readers (Outside feature_readers.first) ls ≡ Ok s → finish feature_readers s ≡ Err e → FeatureFault e ls
 unfolding finish
 end_fault ls (Outside (Untagged feature)) e r h = no_err h
-end_fault ls (Outside (Tagged feature tags n)) e r h =
-    let b = remembers ls (Outside (Tagged feature tags n)) r in
-    let ends : EndsInTags ls n = record { before = b.before; line = b.line; ignored = b.ignored; whole = b.whole; number = b.number; is = b.is; skipped = b.skipped; unread = λ readable. tagged_or_not (sym (runs ls readable.0 readable.1).1 ∙ r); fits = (heading_for feature, heading_takes_tags feature, readable_after_tags ls feature tags n r) } in
-    let same : TagsAtEnd n ≡ e = err_same h in
-    subst (λ e. FeatureFault e ls) same ends
+end_fault ls (Outside (Tagged feature tags n)) e r h = grind (arith, common_steps, remembers, tagged_or_not, runs, fits, heading_takes_tags, readable_after_tags, err_same)
 end_fault ls (InText reader text) e r h =
     let ends = ends_in_text feature_readers IsReadable class feature_runs before_text behind_text ls reader text r (remembers ls (InText reader text) r) in
     let same : UnclosedText text.line ≡ e = err_same h in

@@ -1,5 +1,6 @@
 -- The text of a content line, from one escaped fence to the next.
 use Rattle.std.proofs.Common.{◌≡◌, ◌≢◌, ℕ, suc, ◌+◌, ◌<◌, ◌≤◌, Bool, false, cond, List, [], ◌∷◌, ◌++◌, length, drop, take, get_or, Option, Some, None, Bor, refl, sym, ap, ◌∙◌, subst, arith}
+use Rattle.std.proofs.lemmas.Grind.{common_steps}
 use Rattle.std.specs.Prelude.{MatchOption}
 use Rattle.std.proofs.lemmas.Bool.Decides.{nat_tests}
 use Rattle.std.proofs.lemmas.List.{append-nil}
@@ -27,10 +28,7 @@ lacks : (fence : Fence) (text : List ℕ) (i : ℕ) → ((rest : List ℕ) → d
 lacks fence text i h = sym (starts_text false (escaped_fence fence) (drop i text) h)
 
 pub at_fence : (fence : Fence) (text xs after : List ℕ) → text ≡ xs ++ (escaped_fence fence ++ after) → ((i : ℕ) → i < length xs → (rest : List ℕ) → drop i text ≢ escaped_fence fence ++ rest) → fences_read fence 0 text ≡ xs ++ (fence_text fence ++ fences_read fence 0 after)
-at_fence fence text xs after e h =
-    ap (fences_read fence 0) e
-    ∙ before_fence fence xs (escaped_fence fence ++ after) (λ i below. ap (λ (t : List ℕ). begins (drop i t) (escaped_fence fence)) (sym e) ∙ lacks fence text i (h i below))
-    ∙ ap (λ (t : List ℕ). xs ++ t) (escaped_here fence after)
+at_fence fence text xs after e h = grind (arith, common_steps, before_fence, lacks, escaped_here)
 
 pub no_fence : (fence : Fence) (text : List ℕ) → ((i : ℕ) → i ≤ length text → (rest : List ℕ) → drop i text ≢ escaped_fence fence ++ rest) → fences_read fence 0 text ≡ text
 no_fence fence text h =

@@ -1,11 +1,11 @@
 -- The first line of a text, and the lines after it.
-use Rattle.std.proofs.Common.{◌≡◌, ℕ, ◌+◌, ◌<◌, ◌≤◌, ◌==◌, Bool, if◌then◌else◌, false, refl, List, [], ◌∷◌, length, take, drop, get_or, None, Some, ap, sym, subst, ◌∙◌, arith}
+use Rattle.std.proofs.Common.{◌≡◌, ℕ, ◌+◌, ◌<◌, false, refl, List, [], ◌∷◌, length, take, drop, get_or, None, Some, ap, ◌∙◌, arith, rules}
+use Rattle.std.proofs.lemmas.Grind.{common_steps}
 use Rattle.std.proofs.lemmas.Bool.{false_from_ne_true}
 use Rattle.std.proofs.lemmas.Bool.Decides.{nat_tests}
 use Rattle.std.proofs.lemmas.List.Elements.{All-from_get_or}
 use Rattle.std.proofs.lemmas.List.Sums.{position_or_len_is}
 use Rattle.std.proofs.lemmas.List.Splits.{slice_split_first, slice_split_none, length-slice_split}
-use Rattle.std.specs.List.{position_or_len, before_first, after_first, slice_split}
 use Rattle.std.specs.Str.Lines.{lines, lines_of_parts, strip_carriage_return}
 use Rattle.memchr.specs.Find.{IsFirstByte, is_byte}
 
@@ -16,21 +16,13 @@ before_parts part (next ∷ parts) some = refl
 
 -- A last part is a line unless it is empty.
 last_part : (part : List ℕ) → 0 < length part → lines_of_parts (part ∷ []) ≡ part ∷ []
-last_part part some =
-    let empty : (length part == 0) ≡ false = grind (arith, nat_tests) in
-    ap (λ (b : Bool). if b then [] else part ∷ []) empty
+last_part part some = grind (arith, common_steps)
 
 pub end_in : (text : List ℕ) (end : ℕ) → IsFirstByte (is_byte 10) text (Some end) → (end < length text) × (get_or text end 0 ≡ 10)
 end_in text end first = (first.0.high, grind (arith, nat_tests, first.1))
 
 pub up_to_end : (text : List ℕ) (end : ℕ) → IsFirstByte (is_byte 10) text (Some end) → lines text ≡ strip_carriage_return (take end text) ∷ lines (drop (end + 1) text)
-up_to_end text end first =
-    let at : position_or_len (is_byte 10) text ≡ end =
-    position_or_len_is (is_byte 10) text end 0 (omega (arith, first.0.high)) (λ k below. false_from_ne_true _ (first.0.before k (omega arith) below)) (λ _. first.1) in
-    let parts = slice_split_first (is_byte 10) text 0 (subst (λ (n : ℕ). n < length text) (sym at) first.0.high) in
-    ap lines_of_parts parts
-    ∙ before_parts (before_first (is_byte 10) text) (slice_split (is_byte 10) (after_first (is_byte 10) text)) (omega (arith, length-slice_split (is_byte 10) (after_first (is_byte 10) text)))
-    ∙ ap (λ (n : ℕ). strip_carriage_return (take n text) ∷ lines (drop (n + 1) text)) at
+up_to_end text end first = search (rules, position_or_len_is, false_from_ne_true, slice_split_first, before_parts, length-slice_split)
 
 pub without_end : (text : List ℕ) → 0 < length text → IsFirstByte (is_byte 10) text None → lines text ≡ text ∷ []
 without_end [] some none = absurd (omega arith)

@@ -1,22 +1,19 @@
 -- A heading that none of some hooks has: that of a longer tag.
-use Rattle.std.proofs.Common.{◌≡◌, ◌≢◌, ℕ, zero, suc, ◌+◌, ◌-◌, ◌<◌, Bool, true, false, not, cond, ◌&&◌, ◌||◌, nat_eq, List, [], ◌∷◌, ◌++◌, length, take, drop, get_or, Option, Some, None, refl, ap, sym, ◌∙◌, arith, length-append}
-use Rattle.std.specs.Prelude.{codes, option_map}
-use Rattle.std.proofs.lemmas.List.{take_all}
-use Rattle.std.proofs.lemmas.List.Sums.{suffix_len-take_no}
+use Rattle.std.proofs.Common.{◌≡◌, ℕ, zero, suc, ◌+◌, ◌-◌, ◌<◌, Bool, true, false, not, cond, ◌&&◌, ◌||◌, nat_eq, List, [], ◌∷◌, ◌++◌, length, take, drop, get_or, Option, Some, None, refl, ap, ◌∙◌, arith, length-append}
+use Rattle.std.proofs.lemmas.Grind.{common_steps}
+use Rattle.std.specs.Prelude.{codes}
 use Rattle.std.proofs.lemmas.Bool.Decides.{nat_tests}
-use Rattle.std.specs.List.{ends_with, before_last, suffix_len, list_all}
+use Rattle.std.specs.List.{ends_with, before_last, list_all}
 use Rattle.std.specs.Cmp.Lexicographic.{pointwise}
-use Rattle.gk_gherkin.specs.declared.hooks.HookKind.TheVariants.{BeforeTag, AfterTag}
+use Rattle.gk_gherkin.specs.declared.hooks.HookKind.TheVariants.{BeforeTag}
 use Rattle.gk_gherkin.specs.declared.hook_headings.HooksClass.{HooksClass}
 use Rattle.gk_gherkin.specs.declared.hook_headings.HooksClass.TheVariants.{HookLine, Plain}
 use Rattle.gk_gherkin.specs.Lines.{LineValue}
-use Rattle.gk_gherkin.specs.Text.{is_blank, trim, trim_front, trim_back}
+use Rattle.gk_gherkin.specs.Text.{is_blank, trim, trim_front, trim_back, begins}
 use Rattle.gk_gherkin.specs.Class.{class, is_colon}
-use Rattle.gk_gherkin.specs.Text.{begins}
 use Rattle.gk_gherkin.specs.Tags.{is_tag}
 use Rattle.gk_gherkin.specs.Hooks.{HookValue}
-use Rattle.gk_gherkin.specs.HookHeadings.{hooks_class, HookHeadingValue, hook_heading, plain_heading, tag_alone, tag_between, tag_heading, or_else}
-use Rattle.gk_gherkin.specs.HooksGrammar.{heading_of}
+use Rattle.gk_gherkin.specs.HookHeadings.{hooks_class, HookHeadingValue, hook_heading, plain_heading, tag_alone, tag_between}
 use Rattle.gk_gherkin.proofs.HookHeadingTexts.{but_last}
 use Rattle.gk_gherkin.proofs.HookHeadingsDecided.{IsFresh}
 use Rattle.gk_gherkin.proofs.RowStops.{line_of}
@@ -48,13 +45,7 @@ some_bytes : (prefix : List ℕ) (b : ℕ) → 0 < length (prefix ++ b ∷ [])
 some_bytes prefix b = omega (arith, long prefix b)
 
 no_blank_end : (prefix : List ℕ) (b : ℕ) → is_blank b ≡ false → trim_back (prefix ++ b ∷ []) ≡ prefix ++ b ∷ []
-no_blank_end prefix b k =
-    let text = prefix ++ b ∷ [] in
-    let whole : take (length text) text ≡ text = take_all (length text) text (omega arith) in
-    let none : suffix_len is_blank (take (length text) text) ≡ 0 = suffix_len-take_no is_blank text (length text) 0 (some_bytes prefix b) (omega arith) (ap is_blank (last_byte prefix b) ∙ k) in
-    let zero : suffix_len is_blank text ≡ 0 = sym (ap (suffix_len is_blank) whole) ∙ none in
-    let same : length text - suffix_len is_blank text ≡ length text = omega (arith, zero) in
-    ap (λ (n : ℕ). take n text) same ∙ whole
+no_blank_end prefix b k = grind (arith, common_steps)
 
 ends_so : (prefix : List ℕ) → ends_with nat_eq (prefix ++ 58 ∷ []) (58 ∷ []) ≡ true
 ends_so prefix = ap (λ (n : ℕ). pointwise nat_eq (58 ∷ []) (drop n (prefix ++ 58 ∷ []))) (one_less prefix 58) ∙ ap (pointwise nat_eq (58 ∷ [])) (rest_at prefix 58)
@@ -95,9 +86,7 @@ and_true false b e f = e
 
 tag_stands : (n : ℕ) → tag_alone (tag_of n) ≡ Some (tag_of n)
 unfolding tag_of
-tag_stands n =
-    ap (λ (b : Bool). let r : Option (List ℕ) = cond b (Some (64 ∷ 97 ∷ letters n)) None in r)
-    (and_true (is_tag (64 ∷ 97 ∷ letters n)) (list_all (λ b. not (is_blank b)) (64 ∷ 97 ∷ letters n)) (two_bytes n) (no_blanks n))
+tag_stands n = grind (arith, common_steps, letters, and_true, no_blanks)
 
 -- the heading with such a tag
 heading_prefix : ℕ → List ℕ
@@ -135,10 +124,7 @@ no_plain n = refl
 
 pub fresh_heading : (n : ℕ) → hook_heading (fresh_line n) ≡ Some (heading_with n)
 unfolding hook_heading fresh_line
-fresh_heading n =
-    ap (λ (t : List ℕ). or_else (plain_heading t) (or_else (tag_heading (codes "before_tag") BeforeTag t) (tag_heading (codes "after_tag") AfterTag t))) (trimmed n)
-    ∙ ap (λ (h : Option HookHeadingValue). or_else h (or_else (tag_heading (codes "before_tag") BeforeTag (heading_text n)) (tag_heading (codes "after_tag") AfterTag (heading_text n)))) (no_plain n)
-    ∙ ap (λ (t : Option (List ℕ)). let h : Option HookHeadingValue = option_map (λ tag. record { kind = BeforeTag; tag = Some tag }) t in or_else h (tag_heading (codes "after_tag") AfterTag (heading_text n))) (tag_found n)
+fresh_heading n = grind (arith, common_steps, trimmed, heading_text, no_plain, tag_found)
 
 -- a tag longer than all tags of some hooks together
 abbrev tag_size : Option (List ℕ) → ℕ
@@ -152,9 +138,7 @@ size_of (hook ∷ hooks) = tag_size hook.tag + size_of hooks
 fresh_by : (heading : HookHeadingValue) (hooks : List HookValue) → size_of hooks < tag_size heading.tag → IsFresh heading hooks
 unfolding size_of
 fresh_by heading [] h = tt
-fresh_by heading (hook ∷ hooks) h =
-    let differs : heading ≢ heading_of hook = λ e. let same : tag_size heading.tag ≡ tag_size hook.tag = ap (λ (h : HookHeadingValue). tag_size h.tag) e in absurd (omega (arith, h, same)) in
-    (differs, fresh_by heading hooks (omega (arith, h)))
+fresh_by heading (hook ∷ hooks) h = grind (arith, common_steps, fresh_by heading hooks (omega (arith, h)))
 
 pub is_fresh : (hooks : List HookValue) → IsFresh (heading_with (size_of hooks)) hooks
 is_fresh hooks = fresh_by (heading_with (size_of hooks)) hooks (size_of_tag (size_of hooks))

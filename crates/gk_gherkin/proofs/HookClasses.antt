@@ -7,9 +7,8 @@ use Rattle.gk_gherkin.specs.declared.class.Class.TheVariants.{Blank, FenceLine, 
 use Rattle.gk_gherkin.specs.declared.hook_headings.HooksClass.{HooksClass}
 use Rattle.gk_gherkin.specs.declared.hook_headings.HooksClass.TheVariants.{HookLine, Plain}
 use Rattle.gk_gherkin.specs.Lines.{LineValue}
-use Rattle.gk_gherkin.specs.Text.{trim}
+use Rattle.gk_gherkin.specs.Text.{trim, begins}
 use Rattle.gk_gherkin.specs.Class.{class, class_of, class_of_words}
-use Rattle.gk_gherkin.specs.Text.{begins}
 use Rattle.gk_gherkin.specs.HookHeadings.{hooks_class}
 use Rattle.gk_gherkin.specs.Reading.{opening}
 use Rattle.gk_gherkin.proofs.ReadingStates.{no_fence}

@@ -1,5 +1,5 @@
 -- What the test of two headings says.
-use Rattle.std.proofs.Common.{◌≡◌, ◌≢◌, ℕ, zero, suc, Bool, true, false, ◌==◌, ◌&&◌, ◌||◌, List, [], ◌∷◌, ◌++◌, Option, Some, None, refl, ap, sym, ◌∙◌, arith}
+use Rattle.std.proofs.Common.{◌≡◌, ◌≢◌, ℕ, zero, suc, Bool, true, false, ◌==◌, ◌&&◌, ◌||◌, List, [], ◌∷◌, ◌++◌, Option, Some, None, refl, ap, sym, ◌∙◌, arith, rules}
 use Rattle.std.proofs.lemmas.Bool.Decides.{nat_tests}
 use Rattle.std.proofs.lemmas.Slice.Eq.{bytes_eq-Decides}
 use Rattle.std.specs.List.{AllByRecursion}
@@ -75,10 +75,7 @@ abbrev pub is_same_heading : HookHeadingValue → HookHeadingValue → Bool
 is_same_heading a b = is_same_kind a.kind b.kind && is_same_tag a.tag b.tag
 
 pub heading_so : (a b : HookHeadingValue) → is_same_heading a b ≡ true → a ≡ b
-heading_so a b h =
-    let k = both (is_same_kind a.kind b.kind) (is_same_tag a.tag b.tag) h in
-    ap (λ (kind : HookKind). let made : HookHeadingValue = record { kind = kind; tag = a.tag } in made) (kind_so a.kind b.kind k.0)
-    ∙ ap (λ (tag : Option (List ℕ)). let made : HookHeadingValue = record { kind = b.kind; tag = tag } in made) (tag_so a.tag b.tag k.1)
+heading_so a b h = search (rules, both, kind_so, tag_so)
 
 heading_itself : (a : HookHeadingValue) → is_same_heading a a ≡ true
 heading_itself a = and_true (is_same_kind a.kind a.kind) (is_same_tag a.tag a.tag) (same_eqb (number_of_kind a.kind)) (tag_itself a.tag)
@@ -106,8 +103,7 @@ none_same a b false e n = refl
 
 pub fresh_stands : (heading : HookHeadingValue) (hooks : List HookValue) → IsFresh heading hooks → has_heading heading hooks ≡ false
 fresh_stands heading [] f = refl
-fresh_stands heading (hook ∷ hooks) f =
-    ap (λ (b : Bool). b || has_heading heading hooks) (none_same (heading_of hook) heading (is_same_heading (heading_of hook) heading) refl f.0) ∙ fresh_stands heading hooks f.1
+fresh_stands heading (hook ∷ hooks) f = search (rules, none_same, fresh_stands heading hooks f.1)
 
 differ_push : (heading : HookHeadingValue) (hooks : List HookValue) (hook : HookValue) → AllByRecursion (λ other. heading_of other ≢ heading) hooks → heading_of hook ≢ heading → AllByRecursion (λ other. heading_of other ≢ heading) (hooks ++ hook ∷ [])
 differ_push heading [] hook a n = (n, tt)

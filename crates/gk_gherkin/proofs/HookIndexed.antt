@@ -1,11 +1,11 @@
 -- What an index of hooks finds.
-use Rattle.std.specs.Prelude.{◌&&◌, ◌||◌, ◌==◌, is_some, Bool, true, false, cond, find, slice_get, option_copied, option_map, bytes_eq, Result, Ok, Err, OnOk, IfErr, IfSome, ltb}
+use Rattle.std.specs.Prelude.{◌&&◌, ◌||◌, ◌==◌, is_some, Bool, true, false, cond, find, slice_get, option_copied, option_map, bytes_eq, Result, Ok, Err, OnOk, IfSome, ltb}
 use Rattle.std.specs.List.{list_any}
 use Rattle.std.specs.String.{string_bytes}
 use Rattle.std.proofs.Common.{◌≡◌, ◌≢◌, ℕ, zero, suc, ◌+◌, ◌≤◌, ◌<◌, inl, inr, ◌⊎◌, List, [], ◌∷◌, ◌++◌, length, map, get_or, Option, Some, None, Bor, refl, sym, ap, subst, ◌∙◌, arith}
+use Rattle.std.proofs.lemmas.Grind.{common_steps}
 use Rattle.std.proofs.lemmas.Bool.{cases_lt, eqb-true, eq-eqb, lt-ltb, ltb-true}
 use Rattle.std.proofs.lemmas.Option.{slice_get_past, slice_get_within}
-use Rattle.std.proofs.lemmas.Bool.Decides.{nat_tests}
 use Rattle.std.proofs.lemmas.Slice.Eq.{bytes_eq-Decides}
 use Rattle.gk_gherkin.specs.declared.hooks.Hook.{Hook}
 use Rattle.gk_gherkin.specs.declared.hooks.HookKind.{HookKind}
@@ -44,20 +44,11 @@ among_at n (k ∷ ns) h = among_next n k ns (n == k) refl h (among_at n ns)
 
 -- a position that was added under a tag
 pub added_there : (t tag : List ℕ) (position : ℕ) (before after : List ℕ) → after ≡ cond (bytes_eq t tag) (before ++ position ∷ []) before → tag ≡ t → is_among position after ≡ true
-added_there t tag position before after e same =
-    ap (λ ns. is_among position ns) (e ∙ ap (λ (b : Bool). cond b (before ++ position ∷ []) before) ((bytes_eq-Decides t tag).1 (sym same))) ∙ among_last position before
+added_there t tag position before after e same = grind (arith, common_steps, bytes_eq-Decides, among_last)
 
 pub on_ok : {X E P Q : Type 0} (r : Result X E) → (P → Q) → OnOk r P → OnOk r Q
 on_ok (Ok x) f h = f h
 on_ok (Err e) f h = h
-
-pub any_err : {X E P : Type 0} (r : Result X E) → P → IfErr r (λ e. P)
-any_err (Ok x) p = tt
-any_err (Err e) p = p
-
-pub has_some : (hooks : List Hook) (k : ℕ) → k < length hooks → hooks ≢ []
-has_some [] k within e = absurd (omega (arith, within))
-has_some (hook ∷ hooks) k within e = let no : ⊥ = cc in no
 
 -- hooks that are listed
 pub listed_kept : (old new : HookIndex) (hooks : List Hook) → ((t : Option (List ℕ)) (n : ℕ) → is_among n (positions_of old t) ≡ true → is_among n (positions_of new t) ≡ true) → AreListed old hooks → AreListed new hooks
@@ -75,19 +66,9 @@ listed_push old new hooks hook kept added listed position other at =
     last_or_before hooks hook other position (λ i h. is_among i (positions_of new (option_map string_bytes h.tag)) ≡ true) (listed_kept old new hooks kept listed) added at
 
 -- the next hook is listed, and nothing else
-next_by : (b : Bool) (position k : ℕ) (hooks : List Hook) (hook other : Hook) (P : ℕ → Hook → Type 0) → (position == k) ≡ b → position < k + 1 → slice_get hooks k ≡ Some hook → slice_get hooks position ≡ Some other → P k hook → (position < k → P position other) → P position other
-next_by true position k hooks hook other P e within at other_at here before =
-    let same = eqb-true position k e in
-    let there : slice_get hooks k ≡ Some other = subst (λ i. slice_get hooks i ≡ Some other) same other_at in
-    let hook_is : hook ≡ other = cc in
-    subst (λ i. P i other) (sym same) (subst (P k) hook_is here)
-next_by false position k hooks hook other P e within at other_at here before = before (grind (arith, nat_tests))
-
 pub listed_next : (old new : HookIndex) (hooks : List Hook) (k : ℕ) (hook : Hook) → slice_get hooks k ≡ Some hook → ((t : Option (List ℕ)) (n : ℕ) → is_among n (positions_of old t) ≡ true → is_among n (positions_of new t) ≡ true)
     → is_among k (positions_of new (option_map string_bytes hook.tag)) ≡ true → AreListedTo old hooks k → AreListedTo new hooks (k + 1)
-listed_next old new hooks k hook at kept added before position other within other_at =
-    next_by (position == k) position k hooks hook other (λ i h. is_among i (positions_of new (option_map string_bytes h.tag)) ≡ true) refl within at other_at added
-    (λ earlier. kept (option_map string_bytes other.tag) position (before position other earlier other_at))
+listed_next old new hooks k hook at kept added before position other within other_at = grind (arith, common_steps)
 
 same_tag : (a b : Option (List ℕ)) → is_same_tag a b ≡ true → a ≡ b
 same_tag None None e = refl
@@ -188,36 +169,13 @@ get_number (n ∷ ns) (suc k) l = get_number ns k (omega arith)
 same_position : (a b : ℕ) → ◌≡◌ {A = Option ℕ} (Some a) (Some b) → a ≡ b
 same_position a b e = cc
 
-same_hook : (a b : Hook) → ◌≡◌ {A = Option Hook} (Some a) (Some b) → a ≡ b
-same_hook a b e = cc
-
 pub first_taken : (test : Hook → Bool) (hooks : List Hook) (positions : List ℕ) (k first position : ℕ) (hook : Hook) → slice_get positions k ≡ Some position → slice_get hooks position ≡ Some hook → test hook ≡ true
     → position < first → IsFirst test hooks positions k first → IsFirst test hooks positions (k + 1) position
-first_taken test hooks positions k first position hook here at passes less before = record {
-  within = omega (arith, less, before.within);
-  passes = λ other e. subst (λ h. test h ≡ true) (same_hook hook other (sym at ∙ e)) passes;
-  least = λ j p other l e found good. elim (cases_lt j k) [
-    | inl lt ↦ let low = before.least j p other lt e found good in omega (arith, less, low)
-    | inr ge ↦ let end : j ≡ k = omega (arith, l, ge) in
-        let same : position ≡ p = same_position position p (sym here ∙ subst (λ i. slice_get positions i ≡ Some p) end e) in omega (arith, same)
-  ];
-}
+first_taken test hooks positions k first position hook here at passes less before = grind (arith, common_steps)
 
 pub first_passed : (test : Hook → Bool) (hooks : List Hook) (positions : List ℕ) (k first position : ℕ) → slice_get positions k ≡ Some position
     → ((hook : Hook) → position < first → slice_get hooks position ≡ Some hook → test hook ≡ true → ⊥) → IsFirst test hooks positions k first → IsFirst test hooks positions (k + 1) first
-first_passed test hooks positions k first position here never before = record {
-  within = before.within;
-  passes = before.passes;
-  least = λ j p other l e found good. elim (cases_lt j k) [
-    | inl lt ↦ before.least j p other lt e found good
-    | inr ge ↦ let end : j ≡ k = omega (arith, l, ge) in
-        let same : p ≡ position = same_position p position (sym (subst (λ i. slice_get positions i ≡ Some p) end e) ∙ here) in
-        elim (cases_lt position first) [
-          | inl less ↦ absurd (never other less (subst (λ i. slice_get hooks i ≡ Some other) same found) good)
-          | inr more ↦ omega (arith, same, more)
-        ]
-  ];
-}
+first_passed test hooks positions k first position here never before = grind (arith, common_steps)
 
 pub got_at : {X : Type 0} (xs : List X) (i : ℕ) (x : X) → i < length xs → x ≡ get_or xs i x → slice_get xs i ≡ Some x
 got_at [] i x l e = let never : ⊥ = omega arith in absurd never
@@ -225,9 +183,7 @@ got_at (y ∷ ys) zero x l e = ap Some (sym e)
 got_at (y ∷ ys) (suc i) x l e = got_at ys i x (omega arith) e
 
 pub never_both : (test : Hook → Bool) (hooks : List Hook) (position : ℕ) (a b : Hook) → slice_get hooks position ≡ Some a → test a ≡ false → slice_get hooks position ≡ Some b → test b ≡ true → ⊥
-never_both test hooks position a b here bad there good =
-    let no : test b ≡ false = subst (λ h. test h ≡ false) (same_hook a b (sym here ∙ there)) bad in
-    let never : true ≡ false = sym good ∙ no in cc
+never_both test hooks position a b here bad there good = grind (arith, common_steps)
 
 -- one of some passes where one is found
 found_next : {X : Type 0} (x : X) (o : Option X) (b c : Bool) → c ≡ is_some o → (b || c) ≡ is_some (cond b (Some x) o)

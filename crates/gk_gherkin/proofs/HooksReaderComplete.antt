@@ -1,15 +1,16 @@
 -- What has a reading as hooks is read so, and so no lines have two.
-use Rattle.std.proofs.Common.{◌≡◌, ℕ, Bool, false, List, [], ◌∷◌, Option, Some, Result, Ok, refl, sym, subst, ◌++◌, ap, ◌∙◌, append_assoc}
+use Rattle.std.proofs.Common.{◌≡◌, false, List, [], ◌∷◌, Some, Result, Ok, refl, sym, subst, ◌++◌, ap, ◌∙◌, append_assoc, arith}
+use Rattle.std.proofs.lemmas.Grind.{common_steps}
 use Rattle.std.proofs.lemmas.List.{append-nil}
 use Rattle.gk_gherkin.specs.declared.hook_headings.HooksClass.TheVariants.{HookLine}
 use Rattle.gk_gherkin.specs.declared.class.Class.TheVariants.{Blank, Comment, RowLine, StepLine}
 use Rattle.gk_gherkin.specs.declared.class.Class.{Class}
 use Rattle.gk_gherkin.specs.declared.read_fault.ReadFault.{ReadFault}
-use Rattle.gk_gherkin.specs.HooksReader.{HooksReader, InHook, NoHook, OpenedValue, hook_begun, hook_after, hook_of, hooks_of, hooks_readers, on, on_hook, on_hook_body, on_plain_line, has_heading, takes_text}
+use Rattle.gk_gherkin.specs.HooksReader.{HooksReader, InHook, NoHook, OpenedValue, hook_of, hooks_of, hooks_readers, on, on_hook, on_hook_body, on_plain_line, has_heading, takes_text}
 use Rattle.gk_gherkin.specs.Reading.{Outside, State, finish, reading, run, step}
 use Rattle.gk_gherkin.specs.OpenParts.{Body, NoSteps, Steps, on_body, steps_of}
 use Rattle.gk_gherkin.specs.Hooks.{HookValue}
-use Rattle.gk_gherkin.specs.HookHeadings.{HookHeadingValue, hook_heading, hooks_class}
+use Rattle.gk_gherkin.specs.HookHeadings.{hook_heading, hooks_class}
 use Rattle.gk_gherkin.specs.HooksGrammar.{AreDistinct, HaveOneHooksReading, IsHook, ReadsHooks, heading_of}
 use Rattle.gk_gherkin.specs.Lines.{LineValue, Lines}
 use Rattle.gk_gherkin.specs.Class.{class}
@@ -71,11 +72,7 @@ hook_line reader next l is e = step_plain hooks_readers reader next l (hook_open
 heading_step : (reader : HooksReader) (hook : HookValue) (l : LineValue) → hooks_class l ≡ HookLine → hook_heading l ≡ Some (heading_of hook) → hook.line ≡ l.line → has_heading (heading_of hook) (hooks_of reader) ≡ false
     → step hooks_readers (Outside reader) l ≡ Ok (Outside (InHook (record { before = hooks_of reader; kind = hook.kind; tag = hook.tag; line = hook.line }) NoSteps))
 unfolding on_hook
-heading_step reader hook l is w n f =
-    hook_line reader (InHook (record { before = hooks_of reader; kind = hook.kind; tag = hook.tag; line = hook.line }) NoSteps) l is
-    (ap (λ (r : Option HookHeadingValue). hook_after r (hooks_of reader) l) w
-    ∙ ap (λ (b : Bool). hook_begun b (hooks_of reader) (heading_of hook) l) f
-    ∙ ap (λ (n : ℕ). let r : Result HooksReader ReadFault = Ok (InHook (record { before = hooks_of reader; kind = hook.kind; tag = hook.tag; line = n }) NoSteps) in r) (sym n))
+heading_step reader hook l is w n f = grind (arith, common_steps, hook_line)
 
 run_hook : {ls rest : Lines} (reader : HooksReader) (hook : HookValue) → IsHook ls hook rest → has_heading (heading_of hook) (hooks_of reader) ≡ false
     → (next : HooksReader) × (run hooks_readers (Outside reader) ls ≡ run hooks_readers (Outside next) rest) × (hooks_of next ≡ hooks_of reader ++ hook ∷ [])

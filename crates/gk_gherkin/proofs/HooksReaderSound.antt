@@ -1,18 +1,19 @@
 -- What a reader of a hooks file means, and that each line keeps it: what is read has that reading.
-use Rattle.std.proofs.Common.{◌≡◌, ℕ, Bool, true, false, List, [], ◌∷◌, Option, Some, None, Ok, refl, sym, subst}
+use Rattle.std.proofs.Common.{◌≡◌, ℕ, Bool, true, false, List, [], ◌∷◌, Option, Some, None, Ok, refl, sym, subst, arith}
+use Rattle.std.proofs.lemmas.Grind.{common_steps}
 use Rattle.gk_gherkin.specs.declared.hook_headings.HooksClass.TheVariants.{HookLine, Plain}
 use Rattle.gk_gherkin.specs.declared.class.Class.TheVariants.{Blank, Comment, StepLine}
 use Rattle.gk_gherkin.specs.declared.class.Class.{Class}
 use Rattle.gk_gherkin.specs.declared.hook_headings.HooksClass.{HooksClass}
-use Rattle.gk_gherkin.specs.HooksReader.{HooksReader, InHook, NoHook, OpenedValue, hook_begun, hook_after, hook_of, hooks_of, hooks_readers, on, on_hook, on_hook_body, on_plain_line, opened_from, has_heading}
+use Rattle.gk_gherkin.specs.HooksReader.{HooksReader, InHook, NoHook, OpenedValue, hook_begun, hook_after, hooks_of, hooks_readers, on, on_hook, on_hook_body, on_plain_line, has_heading}
 use Rattle.gk_gherkin.specs.Reading.{Outside, InText, State, finish, opened, reading, run}
-use Rattle.gk_gherkin.specs.OpenParts.{Body, NoSteps, Steps, steps_of}
+use Rattle.gk_gherkin.specs.OpenParts.{Body, NoSteps, Steps}
 use Rattle.gk_gherkin.specs.Hooks.{HookValue}
 use Rattle.gk_gherkin.specs.HookHeadings.{HookHeadingValue, hook_heading, hooks_class}
 use Rattle.gk_gherkin.specs.HooksGrammar.{AreDistinct, IsHook, ReadsHooks}
 use Rattle.gk_gherkin.specs.Lines.{LineValue, Lines}
 use Rattle.gk_gherkin.specs.Class.{class}
-use Rattle.gk_gherkin.specs.Grammar.{AreSteps, IsDocString, IsIgnored, IsIgnoredClass, Many, Next, Skips, none, skip_none}
+use Rattle.gk_gherkin.specs.Grammar.{IsDocString, IsIgnored, IsIgnoredClass, Many, Next, Skips, none, skip_none}
 use Rattle.gk_gherkin.proofs.ReadingRuns.{bind_is, bind_ok, no_ok, ok_same}
 use Rattle.gk_gherkin.proofs.ReadingSound.{Built, built_run}
 use Rattle.gk_gherkin.proofs.OpenPartsSound.{Many-push, Skips-more, StepsBuilt, closed_steps, first_step-built, stepped-built, text_under}
@@ -45,19 +46,12 @@ ReaderBuilt (InHook opened body) whole rest = (mid : Lines) × OpenedBuilt opene
 -- closing what is open
 pub closed_hooks : (reader : HooksReader) (whole rest : Lines) → ReaderBuilt reader whole rest → Many IsHook whole (hooks_of reader) rest × AreDistinct (hooks_of reader)
 closed_hooks NoHook whole rest p = (subst (λ rest. Many IsHook whole [] rest) p none, tt)
-closed_hooks (InHook opened body) whole rest p =
-    let o = p.1 in
-    let s = closed_steps Same body p.0 rest p.2 in
-    let steps : AreSteps p.0 (steps_of body) rest = subst (λ (ls : Lines). AreSteps ls (steps_of body) rest) (sym s.1) s.2 in
-    let made : IsHook o.mid (hook_of opened (steps_of body)) rest = record { line = o.line; after_heading = p.0; next = o.next; is = o.is; heading = o.heading; number = o.number; steps = steps } in
-    (Many-push o.hooks made, distinct_push opened.before (hook_of opened (steps_of body)) o.distinct o.fresh)
+closed_hooks (InHook opened body) whole rest p = grind (arith, common_steps, closed_steps, Many-push, distinct_push)
 
 -- a heading
 hook_begun-built : (b : Bool) (hooks : List HookValue) (heading : HookHeadingValue) (whole mid rest : Lines) (l : LineValue) (t : HooksReader) → has_heading heading hooks ≡ b → hooks_class l ≡ HookLine → hook_heading l ≡ Some heading → Many IsHook whole hooks mid → AreDistinct hooks → Next IsIgnored mid l rest → hook_begun b hooks heading l ≡ Ok t → ReaderBuilt t whole rest
 hook_begun-built true hooks heading whole mid rest l t s c w many d n e = no_ok e
-hook_begun-built false hooks heading whole mid rest l t s c w many d n e =
-    let made : OpenedBuilt (opened_from hooks heading l) whole rest = record { mid = mid; hooks = many; line = l; next = n; is = c; heading = w; number = refl; distinct = d; fresh = fresh_so heading hooks s } in
-    subst (λ t. ReaderBuilt t whole rest) (ok_same e) (rest, made, refl)
+hook_begun-built false hooks heading whole mid rest l t s c w many d n e = grind (arith, common_steps, fresh_so, ok_same)
 
 heading-built : (r : Option HookHeadingValue) (hooks : List HookValue) (whole mid rest : Lines) (l : LineValue) (t : HooksReader) → hook_heading l ≡ r → hooks_class l ≡ HookLine → Many IsHook whole hooks mid → AreDistinct hooks → Next IsIgnored mid l rest → hook_after r hooks l ≡ Ok t → ReaderBuilt t whole rest
 heading-built None hooks whole mid rest l t w c many d n e = no_ok e
@@ -65,9 +59,7 @@ heading-built (Some heading) hooks whole mid rest l t w c many d n e = hook_begu
 
 on_hook-built : (reader : HooksReader) (whole mid rest : Lines) (l : LineValue) (t : HooksReader) → hooks_class l ≡ HookLine → ReaderBuilt reader whole mid → Next IsIgnored mid l rest → on_hook reader l ≡ Ok t → ReaderBuilt t whole rest
 unfolding on_hook
-on_hook-built reader whole mid rest l t c p n e =
-    let k = closed_hooks reader whole mid p in
-    heading-built (hook_heading l) (hooks_of reader) whole mid rest l t refl c k.0 k.1 n e
+on_hook-built reader whole mid rest l t c p n e = grind (arith, common_steps, closed_hooks, heading-built)
 
 -- a line that is no hook line
 on_hook_body-built : (body : Body) (ls mid rest : Lines) (l : LineValue) (c : Class) (t : Body) → class l ≡ c → StepsBuilt Same body ls mid → Next IsIgnored mid l rest → on_hook_body body l c ≡ Ok t → StepsBuilt Same t ls rest
@@ -79,9 +71,7 @@ on_hook_body-built (Steps steps st) ls mid rest l k t c b n e = stepped-built Sa
 on_plain_line-built : (reader : HooksReader) (whole mid rest : Lines) (l : LineValue) (c : Class) (t : HooksReader) → class l ≡ c → ReaderBuilt reader whole mid → Next IsIgnored mid l rest → on_plain_line reader l c ≡ Ok t → ReaderBuilt t whole rest
 unfolding on_plain_line
 on_plain_line-built NoHook whole mid rest l k t c p n e = no_ok e
-on_plain_line-built (InHook opened body) whole mid rest l k t c p n e =
-    let r = bind_is (on_hook_body body l k) (InHook opened) t e in
-    subst (λ t. ReaderBuilt t whole rest) r.2 (p.0, p.1, on_hook_body-built body p.0 mid rest l k r.0 c p.2 n r.1)
+on_plain_line-built (InHook opened body) whole mid rest l k t c p n e = grind (arith, common_steps, bind_is, on_hook_body-built)
 
 ignored : (l : LineValue) (c : Class) → IsIgnoredClass c → hooks_class l ≡ Plain c → IsIgnored l
 ignored l c i e = subst IsIgnoredClass (sym (plain_class l c e)) i

@@ -1,5 +1,6 @@
 -- Where a run over the lines of a hooks file stops, and what the fault there says.
-use Rattle.std.proofs.Common.{◌≡◌, ℕ, Bool, true, false, List, [], ◌∷◌, Option, Some, None, Result, Ok, Err, refl, sym, subst, ◌++◌, ap, ◌∙◌, ◌⊎◌, inl, inr, ◌||◌, ◌≢◌, IfOk, IfErr}
+use Rattle.std.proofs.Common.{◌≡◌, ℕ, Bool, true, false, List, [], ◌∷◌, Option, Some, None, Result, Ok, Err, refl, sym, subst, ◌++◌, ap, ◌∙◌, ◌⊎◌, inl, inr, ◌||◌, ◌≢◌, IfOk, IfErr, arith}
+use Rattle.std.proofs.lemmas.Grind.{common_steps}
 use Rattle.std.proofs.lemmas.List.{append-nil}
 use Rattle.gk_gherkin.specs.declared.hook_headings.HooksClass.TheVariants.{HookLine, Plain}
 use Rattle.gk_gherkin.specs.declared.hooks.HookKind.TheVariants.{BeforeTag}
@@ -18,7 +19,7 @@ use Rattle.gk_gherkin.specs.Lines.{IsText, LineValue, Lines, lines_of}
 use Rattle.gk_gherkin.specs.Class.{class}
 use Rattle.gk_gherkin.specs.Rows.{cells_of}
 use Rattle.gk_gherkin.specs.Grammar.{IsIgnored, IsIgnoredClass, skip, skip_none}
-use Rattle.gk_gherkin.specs.ReadFault.{AnswersOrLacksMemory, BeginsNone, BeginsSome, FaultSays, HooksFault, HooksLineSays, HooksNeedMemory, IsBadHook, IsHooksLineFault, NoneLikeIt, SomeLikeIt, StoodBefore, line_of_fault}
+use Rattle.gk_gherkin.specs.ReadFault.{AnswersOrLacksMemory, BeginsNone, BeginsSome, FaultSays, HooksFault, HooksLineSays, HooksNeedMemory, IsHooksLineFault, NoneLikeIt, SomeLikeIt, StoodBefore, line_of_fault}
 use Rattle.gk_gherkin.specs.Results.{◌>>=◌}
 use Rattle.gk_gherkin.proofs.ReadingRuns.{Halts, bind_err, err_same, halts, no_err, no_ok, ok_same, one_more_line}
 use Rattle.gk_gherkin.proofs.ReadingStates.{never, no_fence, refused_at, step_plain, step_refused}
@@ -132,9 +133,7 @@ stood before reader l heading r w s =
     record { hooks = hooks_of reader; reading = reads_at before reader r; earlier = k.earlier; hook = k.hook; later = k.later; whole = k.whole; same = w ∙ ap Some k.same }
 
 named_bad : (before : Lines) (reader : HooksReader) (l : LineValue) (e : ReadFault) → run hooks_readers (Outside NoHook) before ≡ Ok (Outside reader) → hooks_class l ≡ HookLine → BadHook l.line ≡ e → (hook_heading l ≡ None) ⊎ StoodBefore before l → Says e before l
-named_bad before reader l e r is named bad =
-    let fault : IsBadHook before l = record { is = is; fits = may_stand before reader l r is; bad = bad } in
-    subst (λ e. Says e before l) named (refl, fault)
+named_bad before reader l e r is named bad = grind (arith, common_steps, fits, may_stand)
 
 hook_begun_says : (b : Bool) (before : Lines) (reader : HooksReader) (l : LineValue) (heading : HookHeadingValue) (e : ReadFault) → run hooks_readers (Outside NoHook) before ≡ Ok (Outside reader) → hooks_class l ≡ HookLine → hook_heading l ≡ Some heading → has_heading heading (hooks_of reader) ≡ b → hook_begun b (hooks_of reader) heading l ≡ Err e → Says e before l
 hook_begun_says true before reader l heading e r is w s h = named_bad before reader l e r is (err_same h) (inr (stood before reader l heading r w s))

@@ -35,7 +35,3 @@ pub mod OneFault
 pub mod OneFeatureFault
 pub mod OneHooksFault
 pub mod OneFaultOfBytes
-pub mod WorkedLines
-pub mod WorkedFiles
-pub mod WorkedHookHeadings
-pub mod WorkedHooks

@@ -1,5 +1,6 @@
 -- Where blanks end, a text may be cut.
-use Rattle.std.proofs.Common.{◌≡◌, ℕ, zero, suc, ◌+◌, ◌<◌, ◌≤◌, true, List, length, get_or, subst, sym, arith}
+use Rattle.std.proofs.Common.{◌≡◌, ℕ, zero, suc, ◌+◌, ◌<◌, ◌≤◌, true, List, length, get_or, subst, arith}
+use Rattle.std.proofs.lemmas.Grind.{common_steps}
 use Rattle.std.proofs.lemmas.Bool.Decides.{nat_tests}
 use Rattle.std.proofs.lemmas.List.Sums.{prefix_len_passes, prefix_len-le-length, passes_at_first}
 use Rattle.std.proofs.lemmas.Str.{IsCharBoundary-start, IsCharBoundary-after_ascii, IsCharBoundary-before_ascii}
@@ -19,14 +20,10 @@ boundary_at bs (suc k) u le =
     subst (IsCharBoundary bs) e (IsCharBoundary-after_ascii bs k u within at)
 
 pub before_first_blank : (bs : List ℕ) (n : ℕ) → n ≡ position_or_len is_blank bs → n < length bs → IsCharBoundary bs n
-before_first_blank bs n e h =
-    let at : get_or bs n 0 < 128 = subst (λ n. get_or bs n 0 < 128) (sym e) (blank_ascii (get_or bs (position_or_len is_blank bs) 0) (passes_at_first is_blank bs 0 (omega arith))) in
-    IsCharBoundary-before_ascii bs n h at
+before_first_blank bs n e h = grind (arith, common_steps, blank_ascii, passes_at_first, IsCharBoundary-before_ascii)
 
 pub after_first_blank : (bs : List ℕ) (n : ℕ) → IsUtf8 bs → n ≡ position_or_len is_blank bs → n < length bs → IsCharBoundary bs (n + 1)
-after_first_blank bs n u e h =
-    let at : get_or bs n 0 < 128 = subst (λ n. get_or bs n 0 < 128) (sym e) (blank_ascii (get_or bs (position_or_len is_blank bs) 0) (passes_at_first is_blank bs 0 (omega arith))) in
-    IsCharBoundary-after_ascii bs n u h at
+after_first_blank bs n u e h = grind (arith, common_steps, blank_ascii, passes_at_first, IsCharBoundary-after_ascii)
 
 pub after_bar : (bs : List ℕ) (n : ℕ) → IsUtf8 bs → n < length bs → get_or bs n 0 ≡ 124 → IsCharBoundary bs (n + 1)
 after_bar bs n u h e = IsCharBoundary-after_ascii bs n u h (omega arith)

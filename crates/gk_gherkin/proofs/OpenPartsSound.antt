@@ -1,5 +1,6 @@
 -- What the open parts of a file stand for, and that each line keeps it.
-use Rattle.std.proofs.Common.{◌≡◌, ℕ, Bool, true, false, cond, ◌==◌, List, [], ◌∷◌, ◌++◌, length, map, Option, Some, None, Result, Ok, Err, refl, sym, subst, ap, ◌∙◌, append_assoc, arith, inl, inr}
+use Rattle.std.proofs.Common.{◌≡◌, ℕ, Bool, true, false, cond, ◌==◌, List, [], ◌∷◌, ◌++◌, length, map, Option, Some, None, Result, Ok, Err, refl, sym, subst, ap, ◌∙◌, append_assoc, arith, inl, inr, rules}
+use Rattle.std.proofs.lemmas.Grind.{common_steps}
 use Rattle.std.proofs.lemmas.List.{append-nil, map_push}
 use Rattle.std.proofs.lemmas.Bool.Decides.{nat_tests}
 use Rattle.gk_gherkin.specs.declared.class.Class.TheVariants.{BackgroundHeading, ExamplesHeading, FenceLine, Other, RowLine, ScenarioHeading, StepLine}
@@ -36,10 +37,6 @@ AreTags-push {Ignored} {ls} {mid} {rest} {tags} {others} (tagged {some = some} {
     subst (λ (tags : List (List ℕ)). AreTags Ignored ls tags rest) (sym (append_assoc some between others)) (tagged first (AreTags-push behind line))
 
 -- a step more keeps the types
-last_type : StepType → List StepValue → StepType
-last_type before [] = before
-last_type before (step ∷ steps) = last_type step.step_type steps
-
 pub typed_push : (before : StepType) (steps : List StepValue) (st next : StepValue) → AreTypedAfter before (steps ++ st ∷ []) → next.step_type ≡ type_after st.step_type next.keyword → AreTypedAfter before ((steps ++ st ∷ []) ++ next ∷ [])
 typed_push before [] st next t e = (t.0, (e, tt))
 typed_push before (first ∷ steps) st next t e = (t.0, typed_push first.step_type steps st next t.1 e)
@@ -99,8 +96,7 @@ more_scenarios children s ls mid rest b i = record { after_description = b.after
 closed_owner : (owner : Owner) (steps : List StepValue) (ls mid behind rest : Lines) → OwnerBuilt owner ls mid → Describes MayDescribeScenario mid behind → AreSteps behind steps rest → SectionBuilt (owner_children owner steps) ls rest
 closed_owner (OfBackground n) steps ls mid behind rest o d s =
     record { after_description = o.0; after_background = rest; description = o.2; background = record { line = o.1; after_heading = mid; after_description = behind; heading = o.3; number = o.4; description = d; steps = s }; scenarios = none }
-closed_owner (OfScenario children keyword head) steps ls mid behind rest o d s =
-    more_scenarios children (scenario_of keyword head steps) ls o.0 rest o.1 (scenario_built children keyword head steps ls mid behind rest o d s)
+closed_owner (OfScenario children keyword head) steps ls mid behind rest o d s = search (rules, more_scenarios, scenario_built)
 
 closed_grid : (grid : Grid) (ls rest : Lines) → GridBuilt grid ls rest → (mid : Lines) × Describes MayDescribeExamples ls mid × HasTable mid (header_of grid) (rows_of grid) rest
 closed_grid NoRows ls rest b = (rest, b, inl (refl, refl, refl))
@@ -114,9 +110,7 @@ more_examples s head grid a b c rest i h g =
 
 pub closed : (part : Open) (ls rest : Lines) → OpenBuilt part ls rest → SectionBuilt (children_of part) ls rest
 closed InDescription ls rest b = record { after_description = rest; after_background = rest; description = b; background = refl; scenarios = none }
-closed (InBody owner body) ls rest b =
-    let s = closed_steps (Describes MayDescribeScenario) body b.0 rest b.2 in
-    closed_owner owner (steps_of body) ls b.0 s.0 rest b.1 s.1 s.2
+closed (InBody owner body) ls rest b = grind (arith, common_steps, closed_steps, closed_owner)
 closed (InExamples children scenario head grid) ls rest b = more_scenarios children (with_examples scenario (examples_of head grid)) ls b.0 rest b.3 (more_examples scenario head grid b.0 b.1 b.2 rest b.4 b.5 b.6)
 
 -- the scenario that examples may follow
@@ -156,9 +150,7 @@ row_by : (width : Option ℕ) (l : LineValue) (r : Option (List (List ℕ))) (ce
 row_by None l None cells e = no_ok e
 row_by None l (Some c) cells e = (ap Some (ok_same e), tt)
 row_by (Some width) l None cells e = no_ok e
-row_by (Some width) l (Some c) cells e =
-    let r = cond_ok (length c == width) c cells _ e in
-    (ap Some r.1, ap length (sym r.1) ∙ eqb_same (length c) width r.0)
+row_by (Some width) l (Some c) cells e = grind (arith, common_steps)
 
 pub row_ok : (width : Option ℕ) (l : LineValue) (cells : List (List ℕ)) → on_row width l ≡ Ok cells → (cells_of l ≡ Some cells) × Fits width cells
 unfolding on_row
@@ -213,12 +205,7 @@ pub stepped-built : (Before : Lines → Lines → Type 0) (steps : List StepValu
 unfolding on_body
 stepped-built Before steps st ls mid rest l StepLine t c b n e =
     subst (λ t. StepsBuilt Before t ls rest) (ok_same e) (b.0, mid, b.2, Many-push b.3 b.4, step_line st.step_type l n c, typed_push Given steps st (step_from st.step_type l) b.5 refl)
-stepped-built Before steps st ls mid rest l RowLine t c b n e =
-    let r = bind_is (on_block st.block l) (λ (block : BlockValue). Steps steps (with_block st block)) t e in
-    let i = b.4 in
-    let k = i.line in
-    let made : IsStep b.1 (with_block st r.0) rest = record { after_line = i.after_line; line = record { line = k.line; next = k.next; is = k.is; keyword = k.keyword; text = k.text; number = k.number }; block = on_block-built st.block i.after_line mid rest l r.0 c i.block n r.1 } in
-    subst (λ t. StepsBuilt Before t ls rest) r.2 (b.0, b.1, b.2, b.3, made, typed_block Given steps st r.0 b.5)
+stepped-built Before steps st ls mid rest l RowLine t c b n e = grind (arith, common_steps, bind_is, on_block-built, typed_block)
 stepped-built Before steps st ls mid rest l _ t c b n e = no_ok e
 
 on_body-built : (body : Body) (ls mid rest : Lines) (l : LineValue) (c : Class) (t : Body) → class l ≡ c → BodyBuilt body ls mid → Skips IsIgnored mid (l ∷ rest) → on_body body l c ≡ Ok t → BodyBuilt t ls rest
@@ -238,12 +225,8 @@ on_open-built InDescription ls mid rest l RowLine t c b n e = subst (λ t. OpenB
 on_open-built InDescription ls mid rest l (FenceLine fence) t c b n e = subst (λ t. OpenBuilt t ls rest) (ok_same e) (Describes-more b n (subst MayDescribeFeature (sym c) tt))
 on_open-built InDescription ls mid rest l Other t c b n e = subst (λ t. OpenBuilt t ls rest) (ok_same e) (Describes-more b n (subst MayDescribeFeature (sym c) tt))
 on_open-built InDescription ls mid rest l _ t c b n e = no_ok e
-on_open-built (InBody owner body) ls mid rest l k t c b n e =
-    let r = bind_is (on_body body l k) (InBody owner) t e in
-    subst (λ t. OpenBuilt t ls rest) r.2 (b.0, b.1, on_body-built body b.0 mid rest l k r.0 c b.2 n r.1)
-on_open-built (InExamples children scenario head grid) ls mid rest l k t c b n e =
-    let r = bind_is (on_grid grid l k) (InExamples children scenario head) t e in
-    subst (λ t. OpenBuilt t ls rest) r.2 (b.0, b.1, b.2, b.3, b.4, b.5, on_grid-built grid b.2 mid rest l k r.0 c b.6 n r.1)
+on_open-built (InBody owner body) ls mid rest l k t c b n e = grind (arith, common_steps, bind_is, on_body-built)
+on_open-built (InExamples children scenario head grid) ls mid rest l k t c b n e = grind (arith, common_steps, bind_is, on_grid-built)
 
 empty_block : (block : BlockValue) → is_empty block ≡ true → block ≡ Empty
 empty_block Empty h = refl
@@ -257,11 +240,4 @@ Skips-append (skip n s) t = skip n (Skips-append s t)
 -- a doc string under the last step
 pub text_under : (Before : Lines → Lines → Type 0) (body : Body) (ls mid after rest : Lines) (text : List ℕ) → body_takes_text body ≡ true → StepsBuilt Before body ls mid → Skips IsIgnored mid after → IsDocString after text rest → StepsBuilt Before (body_with_text body text) ls rest
 text_under Before NoSteps ls mid after rest text t b n d = let no : ⊥ = cc in absurd no
-text_under Before (Steps steps st) ls mid after rest text t b n d =
-    let i = b.4 in
-    let k = i.line in
-    let here : i.after_line ≡ mid = subst (λ (block : BlockValue). IsBlock i.after_line block mid) (empty_block st.block t) i.block in
-    let skipped : Skips IsIgnored i.after_line after = subst (λ (ls : Lines). Skips IsIgnored ls after) (sym here) n in
-    let block : IsBlock i.after_line (Text text) rest = record { fence = d.fence; opening = d.opening; content = d.content; closing = d.closing; next = Skips-append skipped d.next; is = d.is; inside = d.inside; closed = d.closed; says = d.says } in
-    let made : IsStep b.1 (with_block st (Text text)) rest = record { after_line = i.after_line; line = record { line = k.line; next = k.next; is = k.is; keyword = k.keyword; text = k.text; number = k.number }; block = block } in
-    (b.0, b.1, b.2, b.3, made, typed_block Given steps st (Text text) b.5)
+text_under Before (Steps steps st) ls mid after rest text t b n d = grind (arith, common_steps, empty_block, Skips-append, closed, typed_block)

@@ -1,5 +1,6 @@
 -- The parts of a row, byte by byte and part by part, and what escapes mean.
 use Rattle.std.proofs.Common.{◌≡◌, ◌≢◌, ℕ, zero, suc, ◌+◌, ◌-◌, ◌<◌, ◌≤◌, Bool, true, false, cond, ◌==◌, List, [], ◌∷◌, ◌++◌, length, map, take, drop, get_or, Option, Some, None, Bor, min, refl, sym, ap, subst, ◌∙◌, arith, inl, inr}
+use Rattle.std.proofs.lemmas.Grind.{common_steps}
 use Rattle.std.specs.Prelude.{option_map, codes}
 use Rattle.std.proofs.lemmas.Str.Pattern.{IsSplitOnceResult, split_parts}
 use Rattle.std.proofs.lemmas.Bool.{cases_lt, false≢true, or_parts}
@@ -8,8 +9,7 @@ use Rattle.std.proofs.lemmas.Bool.Decides.{nat_tests}
 use Rattle.memchr.specs.Find.{IsFirstByte, Nowhere, Passes, is_byte2}
 use Rattle.std.proofs.lemmas.List.{append-nil, get_or-drop, length-drop, drop_more, take_more, drop_all, take_all}
 use Rattle.gk_gherkin.specs.Lines.{LineValue}
-use Rattle.gk_gherkin.specs.Text.{trim}
-use Rattle.gk_gherkin.specs.Text.{begins}
+use Rattle.gk_gherkin.specs.Text.{trim, begins}
 use Rattle.gk_gherkin.specs.Rows.{cells_of, part_before, into_first, parts_of, parts_after, no_bar, unescaped, cell_of, cells_of_parts}
 
 -- The parts of the rest of a text, after a backslash or not.
@@ -43,11 +43,7 @@ other_byte b false (c ∷ rest) e n = rw (n, e) refl
 other_byte b true (c ∷ rest) e n = rw (n, e) refl
 
 pub next_byte : (text : List ℕ) (i : ℕ) (esc after : Bool) → i < length text → ((rest : List ℕ) → parts_in esc (get_or text i 0 ∷ rest) ≡ into_first (get_or text i 0) (parts_in after rest)) → parts_of text ≡ into_all (take i text) (parts_in esc (drop i text)) → parts_of text ≡ into_all (take (i + 1) text) (parts_in after (drop (i + 1) text))
-next_byte text i esc after below byte so_far =
-    so_far ∙ ap (λ (rest : List ℕ). into_all (take i text) (parts_in esc rest)) (drop_more text i 0 below)
-    ∙ ap (into_all (take i text)) (byte (drop (i + 1) text))
-    ∙ sym (into_all-push (take i text) (get_or text i 0) (parts_in after (drop (i + 1) text)))
-    ∙ ap (λ (part : List ℕ). into_all part (parts_in after (drop (i + 1) text))) (sym (take_more text i 0 below))
+next_byte text i esc after below byte so_far = grind (arith, common_steps, drop_more, into_all-push, take_more)
 
 onto_first : (b : ℕ) (bs : List ℕ) (o : Option (List (List ℕ))) → into_first b (option_map (λ parts. bs ∷ parts) o) ≡ option_map (λ parts. (b ∷ bs) ∷ parts) o
 onto_first b bs None = refl
@@ -59,12 +55,7 @@ into_all-bar [] (Some parts) = refl
 into_all-bar (b ∷ bs) o = ap (into_first b) (into_all-bar bs o) ∙ onto_first b bs o
 
 pub at_bar : (text : List ℕ) (i : ℕ) → i < length text → get_or text i 0 ≡ 124 → parts_of text ≡ into_all (take i text) (parts_in false (drop i text)) → parts_of text ≡ parts_after (take i text) (drop i text)
-at_bar text i below bar so_far =
-    let cut : drop i text ≡ 124 ∷ drop (i + 1) text = drop_more text i 0 below ∙ ap (λ (b : ℕ). b ∷ drop (i + 1) text) bar in
-    so_far ∙ ap (λ (rest : List ℕ). into_all (take i text) (parts_of rest)) cut
-    ∙ ap (into_all (take i text)) (bar_byte (drop (i + 1) text))
-    ∙ into_all-bar (take i text) (parts_of (drop (i + 1) text))
-    ∙ ap (parts_after (take i text)) (sym cut)
+at_bar text i below bar so_far = grind (arith, common_steps, drop_more, bar, bar_byte, into_all-bar)
 
 into_none : (part : List ℕ) → into_all part (Some []) ≡ no_bar part
 into_none [] = refl
@@ -89,9 +80,7 @@ not_bar b h n = grind (arith, nat_tests)
 
 -- Bytes that are neither bars nor backslashes are passed over.
 passed_over : (text : List ℕ) (i n : ℕ) → i + n ≤ length text → Nowhere (Passes (is_byte2 124 92) (drop i text)) 0 n → parts_of text ≡ into_all (take i text) (parts_of (drop i text)) → parts_of text ≡ into_all (take (i + n) text) (parts_of (drop (i + n) text))
-passed_over text i zero fits none so_far =
-    let same : i ≡ i + 0 = omega arith in
-    subst (λ (m : ℕ). parts_of text ≡ into_all (take m text) (parts_of (drop m text))) same so_far
+passed_over text i zero fits none so_far = grind (arith, common_steps)
 passed_over text i (suc n) fits none so_far =
     let before = passed_over text i n (omega arith) (λ k low high. none k low (omega arith)) so_far in
     let byte : get_or (drop i text) n 0 ≡ get_or text (i + n) 0 = get_or-drop i text n 0 in
@@ -158,16 +147,8 @@ cells_split None = refl
 cells_split (Some []) = refl
 cells_split (Some (part ∷ parts)) = refl
 
-no_bar_none : (rest : List ℕ) → 0 < length rest → no_bar rest ≡ None
-no_bar_none [] h = absurd (omega arith)
-no_bar_none (b ∷ bs) h = refl
-
 pub no_cells : (text rest : List ℕ) (n : ℕ) (xs : List (List ℕ)) → 0 < length rest → n ≡ length rest → parts_of rest ≡ parts_after (take n rest) (drop n rest) → cells_all (parts_of text) ≡ onto xs (cells_all (parts_of rest)) → cells_of_parts (parts_of text) ≡ None
-no_cells text rest n xs some all parts so_far =
-    let none : drop n rest ≡ [] = drop_all n rest (omega arith) in
-    let whole : take n rest ≡ rest = take_all n rest (omega arith) in
-    let gone : parts_of rest ≡ None = parts ∙ ap (parts_after (take n rest)) none ∙ ap no_bar whole ∙ no_bar_none rest some in
-    cells_split (parts_of text) ∙ ap some_cells (so_far ∙ ap (λ (o : Option (List (List ℕ))). onto xs (cells_all o)) gone)
+no_cells text rest n xs some all parts so_far = grind (arith, common_steps)
 
 empty_list : {A : Type 0} (xs : List A) → length xs ≤ 0 → xs ≡ []
 empty_list [] h = refl
@@ -175,8 +156,7 @@ empty_list (x ∷ xs) h = absurd (omega arith)
 
 pub all_cells : (text rest : List ℕ) (xs : List (List ℕ)) → length rest ≤ 0 → cells_all (parts_of text) ≡ onto xs (cells_all (parts_of rest)) → cells_of_parts (parts_of text) ≡ some_cells (Some xs)
 unfolding parts_of
-all_cells text rest xs h so_far =
-    cells_split (parts_of text) ∙ ap some_cells (so_far ∙ ap (λ (t : List ℕ). onto xs (cells_all (parts_of t))) (empty_list rest h) ∙ ap Some (append-nil xs))
+all_cells text rest xs h so_far = grind (arith, common_steps, cells_split, empty_list, append-nil)
 
 pub some_are_some : (xs : List (List ℕ)) → 0 < length xs → some_cells (Some xs) ≡ Some xs
 some_are_some [] h = absurd (omega arith)
@@ -222,18 +202,10 @@ pub backslash : (after rest : List ℕ) → after ≡ 92 ∷ rest → unescaped 
 unfolding unescaped
 backslash after rest e = ap (λ (t : List ℕ). unescaped (92 ∷ t)) e
 
-other_escape : (c : ℕ) (rest : List ℕ) → (c == 110) ≡ false → (c == 124) ≡ false → (c == 92) ≡ false → unescaped (92 ∷ c ∷ rest) ≡ 92 ∷ c ∷ unescaped rest
-unfolding unescaped
-other_escape c rest n b s = rw (n, b, s) refl
-
 pub no_meaning : (after : List ℕ) → ((rest : List ℕ) → after ≢ 110 ∷ rest) → ((rest : List ℕ) → after ≢ 124 ∷ rest) → ((rest : List ℕ) → after ≢ 92 ∷ rest) → unescaped (92 ∷ after) ≡ 92 ∷ unescaped after
 unfolding unescaped
 no_meaning [] n b s = refl
-no_meaning (c ∷ rest) n b s =
-    let nn : c ≢ 110 = λ e. n rest (ap (λ (d : ℕ). d ∷ rest) e) in
-    let nb : c ≢ 124 = λ e. b rest (ap (λ (d : ℕ). d ∷ rest) e) in
-    let ns : c ≢ 92 = λ e. s rest (ap (λ (d : ℕ). d ∷ rest) e) in
-    other_escape c rest (same_eqb c 110 nn) (same_eqb c 124 nb) (same_eqb c 92 ns) ∙ ap (λ (t : List ℕ). 92 ∷ t) (sym (plain_byte c rest (same_eqb c 92 ns)))
+no_meaning (c ∷ rest) n b s = grind (arith, common_steps)
 
 -- A text that is cut at its first backslash.
 module _ (text : List ℕ) (r : Option (Bor (List ℕ) × Bor (List ℕ))) (split : IsSplitOnceResult 92 text r) where

@@ -1,8 +1,9 @@
 -- A text has more lines than the feature that it spells has rules.
 use Rattle.std.proofs.Common.{◌≡◌, ℕ, ◌+◌, ◌<◌, ◌≤◌, ◌^◌, Bool, true, false, cond, nat_eq, List, [], ◌∷◌, ◌++◌, length, drop, Some, ap, arith, length-append, length-drop}
+use Rattle.std.proofs.lemmas.Grind.{common_steps}
 use Rattle.std.proofs.lemmas.List.Sums.{count_by-le-length}
 use Rattle.std.proofs.lemmas.List.Splits.{length-slice_split}
-use Rattle.std.specs.List.{slice_split, starts_with}
+use Rattle.std.specs.List.{starts_with}
 use Rattle.std.specs.Str.Lines.{lines, lines_of_parts}
 use Rattle.gk_gherkin.specs.declared.class.Class.{Class}
 use Rattle.gk_gherkin.specs.declared.class.Class.TheVariants.{FeatureHeading, RuleHeading}
@@ -53,9 +54,7 @@ parts_as_lines (x ∷ []) = last_as_line (nat_eq (length x) 0) x
 parts_as_lines (x ∷ y ∷ parts) = let ih = parts_as_lines (y ∷ parts) in omega (arith, ih)
 
 lines_counted : (text : List ℕ) → length (lines text) ≤ length text + 1
-lines_counted text =
-    let newline : ℕ → Bool = λ b. nat_eq b 10 in
-    omega (arith, parts_as_lines (slice_split newline text), length-slice_split newline text, count_by-le-length newline text)
+lines_counted text = grind (arith, common_steps, nat_eq, parts_as_lines, length-slice_split, count_by-le-length)
 
 marked_or_not : (marked : Bool) (bytes : List ℕ) → length (cond marked (drop 3 bytes) bytes) ≤ length bytes
 marked_or_not true bytes = omega (arith, length-drop 3 bytes)

@@ -1,5 +1,6 @@
 -- The words of a tag line, one after the other.
-use Rattle.std.proofs.Common.{◌≡◌, ℕ, zero, suc, ◌+◌, ◌<◌, ◌≤◌, Bool, true, false, not, cond, ◌==◌, ◌&&◌, List, [], ◌∷◌, ◌++◌, length, take, drop, get_or, Option, Some, None, inl, inr, refl, sym, ap, ◌∙◌, append_assoc, arith}
+use Rattle.std.proofs.Common.{◌≡◌, ℕ, zero, suc, ◌+◌, ◌<◌, ◌≤◌, Bool, true, false, not, cond, ◌==◌, List, [], ◌∷◌, ◌++◌, length, take, drop, get_or, Option, Some, None, inl, inr, refl, sym, ap, ◌∙◌, append_assoc, arith}
+use Rattle.std.proofs.lemmas.Grind.{common_steps}
 use Rattle.std.specs.Prelude.{String, option_map, codes, filter, take_while}
 use Rattle.std.specs.List.{prefix_len, position_or_len, slice_split, list_all}
 use Rattle.std.proofs.lemmas.Bool.Decides.{nat_tests}
@@ -9,10 +10,9 @@ use Rattle.std.proofs.lemmas.List.Splits.{slice_split-cons_yes, slice_split_firs
 use Rattle.std.proofs.Math.Nat.{eq-or-lt_of_le}
 use Rattle.std.proofs.lemmas.List.Elements.{All-from_get_or}
 use Rattle.gk_gherkin.specs.Lines.{LineValue}
-use Rattle.gk_gherkin.specs.Text.{is_blank, trim_front}
+use Rattle.gk_gherkin.specs.Text.{is_blank, trim_front, begins}
 use Rattle.std.specs.String.{string_bytes}
 use Rattle.gk_gherkin.specs.Feature.{texts}
-use Rattle.gk_gherkin.specs.Text.{begins}
 use Rattle.gk_gherkin.specs.Tags.{tags_of, words_of, is_tag}
 
 some_bytes : (b : ℕ) (bs : List ℕ) → not (length (b ∷ bs) == 0) ≡ true
@@ -26,9 +26,7 @@ blanks_first [] ys h = refl
 blanks_first (x ∷ xs) ys h = blank_first x (xs ++ ys) (h 0 (omega arith)) ∙ blanks_first xs ys (λ i below. h (suc i) (omega arith))
 
 blanks_taken : (t : List ℕ) (n : ℕ) → n ≡ prefix_len is_blank t → (i : ℕ) → i < length (take n t) → is_blank (get_or (take n t) i 0) ≡ true
-blanks_taken t n e i below =
-    let within : i < n = omega (arith, length-take n t) in
-    ap is_blank (get_or-take n t i 0 within) ∙ prefix_len_passes is_blank t i 0 (omega arith)
+blanks_taken t n e i below = grind (arith, common_steps, length-take, get_or-take, prefix_len_passes)
 
 pub after_blanks : (t : List ℕ) → words_of (trim_front t) ≡ words_of t
 after_blanks t =
@@ -69,14 +67,7 @@ word_before t n e h some =
     ∙ ap (λ (words : List (List ℕ)). take n t ∷ words) (sym (ap words_of (drop_more t n 0 (omega arith)) ∙ blank_first (get_or t n 0) (drop (n + 1) t) blank))
 
 pub first_word : (t : List ℕ) (n : ℕ) → 0 < length t → prefix_len is_blank t ≡ 0 → n ≡ position_or_len is_blank t → words_of t ≡ take n t ∷ words_of (drop n t)
-first_word t n some start e =
-    let long : 0 < position_or_len is_blank t = some_before t some start in
-    let within : position_or_len is_blank t ≤ length t = prefix_len-le-length (λ b. not (is_blank b)) t in
-    let taken : length (take n t) ≡ n = length-take-le n t (omega arith) in
-    elim (eq-or-lt_of_le within) [
-      | inl all ↦ last_word t n some (omega arith) (λ k below. fails_before_first is_blank t k 0 (omega arith))
-      | inr h ↦ word_before t n e h (omega arith)
-    ]
+first_word t n some start e = grind (arith, common_steps, some_before, prefix_len-le-length, length-take-le, eq-or-lt_of_le, last_word, fails_before_first, word_before)
 
 -- The tags among words.
 abbrev pub tag_words : List (List ℕ) → List (List ℕ)
@@ -92,19 +83,10 @@ pub word_kept : (word : List ℕ) (words : List (List ℕ)) → begins word (cod
 word_kept word words e = take_while-cons (λ word. not (begins word (codes "#"))) word words ∙ ap (λ (t : Bool). cond (not t) (word ∷ tag_words words) []) e
 
 pub no_tag : (word : List ℕ) (words : List (List ℕ)) → begins word (codes "#") ≡ false → is_tag word ≡ false → tags_by (word ∷ words) ≡ None
-no_tag word words e n =
-    ap (λ (ws : List (List ℕ)). all_tags (list_all is_tag ws) ws) (word_kept word words e)
-    ∙ ap (λ (t : Bool). all_tags (t && list_all is_tag (tag_words words)) (word ∷ tag_words words)) n
-
-onto_word : (word : List ℕ) (t : Bool) (words : List (List ℕ)) → all_tags t (word ∷ words) ≡ option_map (λ more. word ∷ more) (all_tags t words)
-onto_word word true words = refl
-onto_word word false words = refl
+no_tag word words e n = grind (arith, common_steps)
 
 pub one_tag : (word : List ℕ) (words : List (List ℕ)) → begins word (codes "#") ≡ false → is_tag word ≡ true → tags_by (word ∷ words) ≡ option_map (λ more. word ∷ more) (tags_by words)
-one_tag word words e y =
-    ap (λ (ws : List (List ℕ)). all_tags (list_all is_tag ws) ws) (word_kept word words e)
-    ∙ ap (λ (t : Bool). all_tags (t && list_all is_tag (tag_words words)) (word ∷ tag_words words)) y
-    ∙ onto_word word (list_all is_tag (tag_words words)) (tag_words words)
+one_tag word words e y = grind (arith, common_steps)
 
 pub begins_cut : (t : List ℕ) (n : ℕ) → 0 < n → begins (take n t) (codes "#") ≡ begins t (codes "#")
 begins_cut t zero h = absurd (omega arith)
@@ -143,9 +125,7 @@ onto_nothing (Some xs) = refl
 
 pub starts : (line : LineValue) (rest : List ℕ) (xs : List (List ℕ)) → rest ≡ trim_front line.text → xs ≡ [] → tags_of line ≡ onto_tags xs (tags_by (words_of rest))
 unfolding tags_of
-starts line rest xs e none =
-    sym (onto_nothing (tags_by (words_of line.text))) ∙ ap (λ (ys : List (List ℕ)). onto_tags ys (tags_by (words_of line.text))) (sym none)
-    ∙ ap (λ (words : List (List ℕ)). onto_tags xs (tags_by words)) (sym (after_blanks line.text) ∙ ap words_of (sym e))
+starts line rest xs e none = grind (arith, common_steps, onto_nothing, after_blanks)
 
 pub text_more : {Z : Type 0} (items more : List (String Z)) (s : String Z) (word : List ℕ) → more ≡ items ++ s ∷ [] → string_bytes s ≡ word → texts more ≡ texts items ++ word ∷ []
 text_more items more s word e w = ap texts e ∙ map_push string_bytes items s ∙ ap (λ (t : List ℕ). texts items ++ t ∷ []) w

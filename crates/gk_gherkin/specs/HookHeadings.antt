@@ -62,7 +62,7 @@ abbrev pub or_else : {A : Type 0} → Option A → Option A → Option A
 or_else None other = other
 or_else (Some x) other = Some x
 
--- The heading that a line spells: one without a tag, or `before_tag` or `after_tag`, at least one space or tab, a tag and a colon; `None` for any other text. (behave's documentation: environment file functions; that they stand in a file of their own is this project's profile)
+-- The heading that a line spells: one without a tag, or `before_tag` or `after_tag`, at least one space or tab, a tag and a colon; `None` for any other text. (behave's documentation: environment file functions; that hooks have a separate file is this project's profile)
 unfoldable pub hook_heading : LineValue → Option HookHeadingValue
 hook_heading line = or_else (plain_heading (trim line.text))
     (or_else (tag_heading (codes "before_tag") BeforeTag (trim line.text)) (tag_heading (codes "after_tag") AfterTag (trim line.text)))

@@ -1,6 +1,6 @@
 -- Hints and other results for the steps of lists that follow each other.
-use Rattle.std.proofs.Common.{◌≡◌, List, [], ◌∷◌, ◌++◌, flat_map, Option, Some, None, refl, ap, sym, ◌∙◌}
-use Rattle.std.proofs.lemmas.List.{append_assoc}
+use Rattle.std.proofs.Common.{◌≡◌, List, [], ◌∷◌, ◌++◌, flat_map, Option, Some, None, refl, ap, sym, ◌∙◌, arith}
+use Rattle.std.proofs.lemmas.Grind.{common_steps}
 use Rattle.std.specs.Option.{option_or}
 use Rattle.gk_gherkin.specs.Feature.{StepValue}
 use Rattle.gk_lint.specs.declared.nearest_entry.EntryHint.{EntryHint}
@@ -20,22 +20,12 @@ first_of_both hint_of (s ∷ ss) b = ap (option_or (hint_of s)) (first_of_both h
 
 -- The hint after some steps, if it is known after these steps and the later ones.
 pub next_hints : (hint_of : StepValue → Option EntryHint) (before new end : Option EntryHint) (all these later : List StepValue) → all ≡ these ++ later → new ≡ option_or before (first_hint hint_of these) → option_or before (first_hint hint_of all) ≡ end → option_or new (first_hint hint_of later) ≡ end
-next_hints hint_of before new end all these later split is so_far =
-    ap (λ (h : Option EntryHint). option_or h (first_hint hint_of later)) is
-    ∙ first_of_three before (first_hint hint_of these) (first_hint hint_of later)
-    ∙ ap (option_or before) (sym (first_of_both hint_of these later))
-    ∙ ap (λ (ss : List StepValue). option_or before (first_hint hint_of ss)) (sym split)
-    ∙ so_far
+next_hints hint_of before new end all these later split is so_far = grind (arith, common_steps, first_of_three, first_of_both)
 
 -- The same for one step.
 pub next_hint : (hint_of : StepValue → Option EntryHint) (before new end : Option EntryHint) (all : List StepValue) (this : StepValue) (later : List StepValue) → all ≡ this ∷ later → new ≡ option_or before (hint_of this) → option_or before (first_hint hint_of all) ≡ end → option_or new (first_hint hint_of later) ≡ end
-next_hint hint_of before new end all this later split is so_far =
-    next_hints hint_of before new end all (this ∷ []) later split (is ∙ ap (option_or before) (sym (no_other_hint (hint_of this)))) so_far
+next_hint hint_of before new end all this later split is so_far = grind (arith, common_steps)
 
 -- Lists of results after one step, if they are known after this step and the later ones.
 pub next_results : {A : Type 0} (results_of : StepValue → List A) (before new end : List A) (all : List StepValue) (this : StepValue) (later : List StepValue) → all ≡ this ∷ later → new ≡ before ++ results_of this → before ++ flat_map results_of all ≡ end → new ++ flat_map results_of later ≡ end
-next_results {A = A} results_of before new end all this later split is so_far =
-    ap (λ (results : List A). results ++ flat_map results_of later) is
-    ∙ append_assoc before (results_of this) (flat_map results_of later)
-    ∙ ap (λ (ss : List StepValue). before ++ flat_map results_of ss) (sym split)
-    ∙ so_far
+next_results {A = A} results_of before new end all this later split is so_far = grind (arith, common_steps)

@@ -14,6 +14,3 @@ pub mod EntryLinesLoop
 pub mod MisspeltLoop
 pub mod LineKinds
 pub mod OneLine
-pub mod WorkedLikeness
-pub mod WorkedFindings
-pub mod WorkedUse

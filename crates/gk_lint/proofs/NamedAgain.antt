@@ -1,5 +1,6 @@
 -- What is found of scenarios goes by which names were seen, whatever holds them.
-use Rattle.std.proofs.Common.{◌≡◌, ◌||◌, ℕ, Bool, true, false, cond, not, List, ◌∷◌, ◌++◌, refl, ap, ◌∙◌, append_assoc, arith}
+use Rattle.std.proofs.Common.{◌≡◌, ◌||◌, ℕ, Bool, true, false, cond, not, List, ◌∷◌, ◌++◌, refl, arith}
+use Rattle.std.proofs.lemmas.Grind.{common_steps}
 use Rattle.std.specs.Str.{bytes_eq}
 use Rattle.gk_gherkin.specs.Feature.{ScenarioValue}
 use Rattle.gk_lint.specs.declared.findings.Finding.{Finding}
@@ -12,7 +13,4 @@ or_of_cond true x = refl
 or_of_cond false x = refl
 
 pub one_named : (before : List Finding) (seen more : List ℕ → Bool) (s : ScenarioValue) (rest : List ScenarioValue) (is_new : Bool) → is_new ≡ not (seen s.name) → ((name : List ℕ) → more name ≡ (bytes_eq s.name name || seen name)) → (before ++ found_if (not is_new) s.line NameTwice) ++ named_again more rest ≡ before ++ named_again seen (s ∷ rest)
-one_named before seen more s rest is_new e has =
-    let was : not is_new ≡ seen s.name = grind (arith, e) in
-    let after : named_again more rest ≡ named_again (λ name. bytes_eq s.name name || seen name) rest = λ i. named_again (λ name. has name i) rest in
-    append_assoc before (found_if (not is_new) s.line NameTwice) (named_again more rest) ∙ ap (λ (b : Bool). before ++ (found_if b s.line NameTwice ++ named_again more rest)) was ∙ ap (λ (fs : List Finding). before ++ (found_if (seen s.name) s.line NameTwice ++ fs)) after
+one_named before seen more s rest is_new e has = grind (arith, common_steps)

@@ -1,5 +1,6 @@
 -- Whether lines are one line with a carriage return, as a loop over them finds it.
-use Rattle.std.proofs.Common.{◌≡◌, ◌||◌, ◌&&◌, ◌==◌, ℕ, suc, ◌+◌, ◌<◌, Bool, false, List, [], ◌∷◌, length, drop, get_or, refl, sym, ap, ◌∙◌, arith}
+use Rattle.std.proofs.Common.{◌≡◌, ◌||◌, ◌&&◌, ◌==◌, ℕ, suc, ◌+◌, ◌<◌, Bool, List, [], ◌∷◌, length, drop, get_or, refl, sym, ap, ◌∙◌, arith}
+use Rattle.std.proofs.lemmas.Grind.{common_steps}
 use Rattle.std.proofs.Math.Bool.{or-false, or_assoc}
 use Rattle.std.proofs.lemmas.List.{drop_all}
 use Rattle.std.proofs.lemmas.Bool.Decides.{nat_tests}
@@ -19,8 +20,4 @@ one_more m n e = grind (arith, nat_tests)
 
 -- After all lines.
 pub whole : (all : List (List ℕ)) (i n : ℕ) (found : Bool) → n ≡ 1 + i → i ≡ length all → (found || have_cr (numbered_from n (drop i all))) ≡ have_cr (numbered_from 1 all) → ((n == 2) && found) ≡ is_one_with_cr (numbered_from 1 all)
-whole all i n found counted over so_far =
-    let none : have_cr (numbered_from n (drop i all)) ≡ false = ap (λ (ls : List (List ℕ)). have_cr (numbered_from n ls)) (drop_all i all (omega (arith, over))) in
-    let has : found ≡ have_cr (numbered_from 1 all) = sym (or-false found) ∙ ap (λ (b : Bool). found || b) (sym none) ∙ so_far in
-    let is_one : (n == 2) ≡ (length (numbered_from 1 all) == 1) = one_more i n counted ∙ ap (λ (k : ℕ). k == 1) (over ∙ sym (length_numbered 1 all)) in
-    ap (λ (b : Bool). b && found) is_one ∙ ap (λ (b : Bool). (length (numbered_from 1 all) == 1) && b) has
+whole all i n found counted over so_far = grind (arith, common_steps, drop_all, or-false, one_more, length_numbered)

@@ -2,7 +2,6 @@
 mod FilesLemmas
 mod FaultListingLemmas
 mod WorldFilesLemmas
-mod ProgramLemmas
+pub mod ProgramLemmas
 mod AskedLemmas
 mod EndedLemmas
-mod WorkedHelp

@@ -1,5 +1,6 @@
 -- No value of the report has a float, and what writing one value after another gives.
-use Rattle.std.proofs.Common.{◌≡◌, ℕ, Bool, true, false, ◌||◌, not, List, [], ◌∷◌, ◌++◌, length, map, Option, Some, None, codes, refl, ap, sym, ◌∙◌, subst, suc, append_assoc}
+use Rattle.std.proofs.Common.{◌≡◌, ℕ, Bool, true, false, ◌||◌, not, List, [], ◌∷◌, ◌++◌, length, map, Option, Some, None, codes, refl, ap, sym, ◌∙◌, subst, suc, append_assoc, arith}
+use Rattle.std.proofs.lemmas.Grind.{common_steps}
 use Rattle.std.specs.Fmt.{decimal}
 use Rattle.serde.specs.Event.{Log, Logs, map_begins, map_ends}
 use Rattle.serde_json.specs.Data.{Data, string, object, Members, no_members, member}
@@ -138,9 +139,7 @@ summary_sent s old first one two three end begun features scenarios steps e =
 pub tail_from : (around : Status) (s : Summary) (text run counts : List ℕ) (number : ℕ) → text ≡ tail_of run number counts →
     run ≡ compact_text (status_data around) → number ≡ status_by s around → counts ≡ compact_text (summary_data s) → text ≡ json_tail around (status_by s around) s
 unfolding tail_of json_tail
-tail_from around s text run counts number e a b c =
-    let done = compact_text (status_data around) in
-    e ∙ ap (λ xs. tail_of xs number counts) a ∙ ap (λ n. tail_of done n counts) b ∙ ap (λ xs. tail_of done (status_by s around) xs) c
+tail_from around s text run counts number e a b c = grind (arith, common_steps)
 
 -- Values with commas between them and the closing bracket.
 joined_items : (first : Bool) (ds : List Data) → items_text (not first) (items_of ds) ≡ joined first ds ++ 93 ∷ []

@@ -7,4 +7,3 @@ pub mod JsonReportLemmas
 pub mod FormatLemmas
 pub mod ReportLemmas
 pub mod PartPiecesLemmas
-pub mod WorkedReports

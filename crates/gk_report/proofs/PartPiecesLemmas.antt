@@ -1,11 +1,11 @@
 -- What a part begins with, and which texts aren't empty.
-use Rattle.std.proofs.Common.{◌≡◌, ◌≢◌, ℕ, Bool, true, false, Result, Ok, Err, IfErr, List, [], ◌∷◌, ◌++◌, codes, ap, sym, ◌∙◌, append_assoc}
+use Rattle.std.proofs.Common.{◌≡◌, ◌≢◌, ℕ, Bool, true, false, Result, Ok, Err, IfErr, List, [], ◌∷◌, ◌++◌, append_assoc, arith}
+use Rattle.std.proofs.lemmas.Grind.{common_steps}
 use Rattle.gk_run.specs.Results.{FeatureRow}
 use Rattle.gk_report.specs.declared.plain_report.LinesLeft.{LinesLeft}
 use Rattle.gk_report.specs.declared.json_report.ObjectsLeft.{ObjectsLeft}
 use Rattle.gk_report.specs.declared.part_pieces.PartPieces.{PartPieces}
-use Rattle.gk_report.specs.ReportTexts.{is_hidden, line_feed}
-use Rattle.gk_report.specs.PlainReport.{around_line, lines_left}
+use Rattle.gk_report.specs.ReportTexts.{is_hidden}
 use Rattle.gk_report.specs.JsonReport.{object_start, objects_text, objects_left, object_end, json_part}
 use Rattle.gk_report.specs.PartPieces.{lines_and_end, objects_and_end}
 use Rattle.gk_report.proofs.JsonReportLemmas.{object_parts}
@@ -14,8 +14,7 @@ use Rattle.gk_report.proofs.JsonReportLemmas.{object_parts}
 pub json_start : (no_skipped first : Bool) (f : FeatureRow) (old : List ℕ) {new objects : List ℕ} → is_hidden no_skipped f.status ≡ false → new ≡ old ++ object_start first f →
     objects ≡ objects_text no_skipped true f.cases → new ++ (objects ++ object_end f) ≡ old ++ json_part no_skipped first f
 unfolding json_part
-json_start no_skipped first f old shown a b =
-    rw (shown, a, b) (append_assoc old (object_start first f) (objects_text no_skipped true f.cases ++ object_end f) ∙ ap (λ (xs : List ℕ). old ++ xs) (sym (object_parts no_skipped first f)))
+json_start no_skipped first f old shown a b = grind (arith, common_steps, append_assoc, object_parts)
 
 some_first : (b : ℕ) (bs : List ℕ) → b ∷ bs ≢ []
 some_first b bs = λ e. absurd cc
@@ -27,8 +26,7 @@ some_after (x ∷ xs) ys some = some_first x (xs ++ ys)
 
 -- The lines of scenarios and the text after them aren't empty.
 pub some_lines : (p : PartPieces) (lines : LinesLeft) → lines_and_end p lines ≢ []
-some_lines p lines =
-    some_after (lines_left p.style.no_skipped lines) _ (some_after (around_line (codes "  ") p.feature.now.around) line_feed (some_first _ _))
+some_lines p lines = grind (arith, common_steps, some_after, some_first)
 
 -- The objects of scenarios and the text after them aren't empty.
 pub some_objects : (p : PartPieces) (objects : ObjectsLeft) → objects_and_end p objects ≢ []

@@ -1,6 +1,7 @@
 -- A JSON report is one document, and a report grows by the parts of its features.
+use Rattle.std.proofs.Common.{◌≡◌, ℕ, Bool, true, false, cond, not, ◌&&◌, List, [], ◌∷◌, ◌++◌, map, ap, sym, ◌∙◌, refl, append_assoc, append-nil, arith}
+use Rattle.std.proofs.lemmas.Grind.{common_steps}
 use Rattle.std.specs.Prelude.{codes}
-use Rattle.std.proofs.Common.{◌≡◌, ℕ, Bool, true, false, cond, not, ◌&&◌, List, [], ◌∷◌, ◌++◌, map, ap, sym, ◌∙◌, refl, append_assoc, append-nil}
 use Rattle.serde_json.specs.View.{items_of}
 use Rattle.serde_json.specs.Written.{compact_text, items_text}
 use Rattle.serde_json.proofs.OnLiterals.{serde_json_on_literals}
@@ -26,10 +27,8 @@ one_more : (no_skipped first hidden : Bool) (f : FeatureRow) (rows : List Featur
     ≡ one_part no_skipped first f hidden ++ parts_from (json no_skipped) (first && is_empty (one_part no_skipped first f hidden)) rows ++ 93 ∷ []
 one_more no_skipped true true f rows others = others true
 one_more no_skipped false true f rows others = others false
-one_more no_skipped true false f rows others = let d = feature_data no_skipped f in
-    ap (λ xs. compact_text d ++ xs) (others false) ∙ sym (append_assoc (compact_text d) (parts_from (json no_skipped) false rows) (93 ∷ []))
-one_more no_skipped false false f rows others = let d = feature_data no_skipped f in
-    ap (λ xs. 44 ∷ (compact_text d ++ xs)) (others false) ∙ ap (λ xs. 44 ∷ xs) (sym (append_assoc (compact_text d) (parts_from (json no_skipped) false rows) (93 ∷ [])))
+one_more no_skipped true false f rows others = grind (arith, common_steps)
+one_more no_skipped false false f rows others = grind (arith, common_steps)
 
 items_parts : (no_skipped : Bool) (rows : List FeatureRow) (first : Bool) → Items no_skipped first rows
 unfolding json_part

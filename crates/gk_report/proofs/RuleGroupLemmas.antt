@@ -3,6 +3,7 @@ use Rattle.std.specs.Prelude.{nat_lt, All, filter}
 use Rattle.std.specs.List.{last_or}
 use Rattle.std.specs.List.Sorted.{IsNonDecreasingBy}
 use Rattle.std.proofs.Common.{◌≡◌, ℕ, ◌+◌, ◌≤◌, ◌<◌, Bool, true, false, cond, not, List, [], ◌∷◌, ◌++◌, length, get_or, map, flat_map, Option, Some, None, refl, ap, sym, ◌∙◌, subst, arith, append-nil}
+use Rattle.std.proofs.lemmas.Grind.{common_steps}
 use Rattle.std.proofs.lemmas.Bool.{ltb-true, ltb-false, lt-ltb, le-ltb, not-false, not-true}
 use Rattle.std.proofs.lemmas.List.{take-append-drop, get_or-take, get_or-drop, length-take, length-drop}
 use Rattle.std.proofs.lemmas.List.Elements.{All-nil, All-cons, All-tail, All-weaker}
@@ -37,11 +38,7 @@ above_first (r ∷ rules) line rising e = none_above (r ∷ rules) line (λ k d 
 
 -- The scenarios in front of the first rule are above it.
 before_above : (rules : List RuleRow) (cases : List CaseRow) → All (λ (c : CaseRow). begins_above rules c.line ≡ false) (cases_before rules cases)
-before_above rules cases k d lt =
-    let n = count_before rules cases in
-    let within : k < n = omega (arith, lt, length-take n cases) in
-    subst (λ (c : CaseRow). begins_above rules c.line ≡ false) (sym (get_or-take n cases k d within))
-    (not-true (begins_above rules (get_or cases k d).line) (prefix_len_passes (λ (c : CaseRow). not (begins_above rules c.line)) cases k d within))
+before_above rules cases k d lt = grind (arith, common_steps, length-take, get_or-take, not-true, prefix_len_passes)
 
 own_in_none : (rules : List RuleRow) (cases : List CaseRow) → AreInFileOrder rules cases → All (λ c. rule_of rules c ≡ None) (cases_before rules cases)
 own_in_none rules cases order =
@@ -70,8 +67,7 @@ abbrev InGroup : List RuleRow → RuleGroup → Type 0
 InGroup rules g = All (λ c. rule_of rules c ≡ Some g.rule) g.cases
 
 in_group_more : (r : RuleRow) (rules : List RuleRow) (g : RuleGroup) → InGroup rules g → InGroup (r ∷ rules) g
-in_group_more r rules g h =
-    All-weaker (λ c. rule_of rules c ≡ Some g.rule) (λ c. rule_of (r ∷ rules) c ≡ Some g.rule) (λ c e. one_more (nat_lt r.line c.line) r g.rule (filter (λ (s : RuleRow). nat_lt s.line c.line) rules) e) g.cases h
+in_group_more r rules g h = grind (arith, common_steps, All-weaker, one_more)
 
 -- The scenarios of the first of rules are in it.
 first_group : (r : RuleRow) (rules : List RuleRow) (cs : List CaseRow) → IsNonDecreasingBy (λ (s : RuleRow). s.line) rules → All (λ (c : CaseRow). r.line < c.line) cs →

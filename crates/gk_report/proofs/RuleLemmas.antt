@@ -1,11 +1,12 @@
 -- The scenarios of rules, one after another.
-use Rattle.std.proofs.Common.{◌≡◌, ℕ, suc, ◌+◌, Bool, false, cond, not, List, [], ◌∷◌, ◌++◌, drop, flat_map, Option, codes, ap, sym, ◌∙◌, append_assoc, arith}
+use Rattle.std.proofs.Common.{◌≡◌, ℕ, ◌+◌, Bool, false, cond, not, List, [], ◌∷◌, ◌++◌, flat_map, Option, codes, ap, sym, ◌∙◌, append_assoc, arith}
+use Rattle.std.proofs.lemmas.Grind.{common_steps}
 use Rattle.std.specs.Fmt.{decimal}
 use Rattle.std.proofs.lemmas.List.Sums.{take_while-cons}
 use Rattle.gk_run.specs.Results.{CaseRow, RuleRow, is_passed}
 use Rattle.gk_report.specs.ReportTexts.{status_text, line_feed, is_hidden}
-use Rattle.gk_report.specs.RuleGroups.{begins_above, count_before, cases_before, cases_behind, rule_groups}
-use Rattle.gk_report.specs.PlainReport.{status_line, case_lines, printed_lines, rule_line, line_of, group_lines, lines_in}
+use Rattle.gk_report.specs.RuleGroups.{begins_above, cases_before, cases_behind}
+use Rattle.gk_report.specs.PlainReport.{status_line, case_lines, printed_lines, rule_line, lines_in}
 use Rattle.gk_report.proofs.PrintedLemmas.{lines_next}
 
 -- A scenario in front of the first rule is one of those in front of it.
@@ -16,23 +17,13 @@ pub lines_before_next : (no_skipped : Bool) (rules : List RuleRow) (c : CaseRow)
     printed_lines no_skipped (cases_before rules (c ∷ cs)) ≡ cond (is_hidden no_skipped c.status) [] (case_lines c) ++ printed_lines no_skipped (cases_before rules cs)
 lines_before_next no_skipped rules c cs e = ap (printed_lines no_skipped) (before_next rules c cs e) ∙ lines_next no_skipped c (cases_before rules cs)
 
-count_before_next : (rules : List RuleRow) (c : CaseRow) (cs : List CaseRow) → begins_above rules c.line ≡ false → count_before rules (c ∷ cs) ≡ 1 + count_before rules cs
-count_before_next rules c cs e = ap (λ b. cond (not b) (1 + count_before rules cs) 0) e
-
 behind_next : (rules : List RuleRow) (c : CaseRow) (cs : List CaseRow) → begins_above rules c.line ≡ false → cases_behind rules (c ∷ cs) ≡ cases_behind rules cs
-behind_next rules c cs e =
-    let n = count_before rules cs in
-    let more : 1 + n ≡ suc n = omega arith in
-    ap (λ k. drop k (c ∷ cs)) (count_before_next rules c cs e ∙ more)
+behind_next rules c cs e = grind (arith, common_steps)
 
 -- The lines of one scenario and of what follows it.
 pub lines_in_next : (no_skipped : Bool) (rule : Option RuleRow) (rules : List RuleRow) (c : CaseRow) (cs : List CaseRow) → begins_above rules c.line ≡ false →
     lines_in no_skipped rule rules (c ∷ cs) ≡ cond (is_hidden no_skipped c.status) [] (case_lines c) ++ lines_in no_skipped rule rules cs
-lines_in_next no_skipped rule rules c cs e =
-    let others = λ (xs : List CaseRow). line_of rule ++ flat_map (group_lines no_skipped) (rule_groups rules xs) in
-    ap (λ xs. printed_lines no_skipped (cases_before rules (c ∷ cs)) ++ others xs) (behind_next rules c cs e)
-    ∙ ap (λ xs. xs ++ others (cases_behind rules cs)) (lines_before_next no_skipped rules c cs e)
-    ∙ append_assoc (cond (is_hidden no_skipped c.status) [] (case_lines c)) (printed_lines no_skipped (cases_before rules cs)) (others (cases_behind rules cs))
+lines_in_next no_skipped rule rules c cs e = grind (arith, common_steps, flat_map, behind_next, lines_before_next, append_assoc)
 
 -- The line of a rule's hooks and cleanups, piece by piece.
 line_written : (old front number back dots verdict feed : List ℕ) →

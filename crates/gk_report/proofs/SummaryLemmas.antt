@@ -1,11 +1,11 @@
 -- Counting one status after the other counts all.
 use Rattle.std.proofs.Common.{◌≡◌, ℕ, ◌+◌, Bool, true, false, cond, ◌||◌, min, nat_lt, ◌<◌, List, [], ◌∷◌, ◌++◌, map, flat_map, fold, count_by, refl, ap, sym, ◌∙◌, append_assoc}
+use Rattle.std.proofs.lemmas.Grind.{common_steps}
 use native.Mathlib.Omega.{arith}
 use Rattle.std.specs.List.{list_any}
 use Rattle.std.proofs.lemmas.List.{append-nil}
 use Rattle.std.proofs.lemmas.List.Sums.{fold-append}
-use Rattle.std.proofs.lemmas.Bool.{ltb-true, lt-ltb}
-use Rattle.std.proofs.Math.Bool.{or_assoc, or-true, or-false}
+use Rattle.std.proofs.Math.Bool.{or_assoc, or-false}
 use Rattle.std.proofs.lemmas.List.Folds.{list_any-append}
 use Rattle.gk_run.specs.declared.results.Status.{Status}
 use Rattle.gk_run.specs.declared.results.Status.TheVariants as statuses
@@ -14,22 +14,11 @@ use Rattle.gk_report.specs.declared.summary.Summary.{Summary}
 use Rattle.gk_run.specs.Results.{CaseRow, FeatureRow, is_passed, is_failed, is_skipped, is_undefined, is_untested, is_memory}
 use Rattle.gk_report.specs.Summary.{greatest, count_of, counts_of, feature_statuses, case_statuses, scenario_statuses, statuses_of_case, statuses_of_feature, step_statuses, summary_of, verdicts, status_of, raised, one_status_more, one_case_more, one_feature_more, status_by, IsStatusOf}
 
-raised_least : (g n : ℕ) → min (min g n + 1) g ≡ min g (n + 1)
-raised_least g n = omega arith
-
-same_least : (g n : ℕ) → min g n ≡ min g (n + 0)
-same_least g n = omega arith
-
-count_more : (p : Status → Bool) (xs : List Status) (s : Status) → count_by p (xs ++ s ∷ []) ≡ count_by p xs + cond (p s) 1 0
-count_more p xs s = fold-append (λ a x. a + cond (p x) 1 0) 0 xs (s ∷ [])
-
 raised_count : (p : Status → Bool) (xs : List Status) (s : Status) → p s ≡ true → raised (count_of p xs) ≡ count_of p (xs ++ s ∷ [])
-raised_count p xs s h =
-    raised_least greatest (count_by p xs) ∙ ap (min greatest) (ap (λ b. count_by p xs + cond b 1 0) (sym h) ∙ sym (count_more p xs s))
+raised_count p xs s h = grind (arith, common_steps)
 
 kept_count : (p : Status → Bool) (xs : List Status) (s : Status) → p s ≡ false → count_of p xs ≡ count_of p (xs ++ s ∷ [])
-kept_count p xs s h =
-    same_least greatest (count_by p xs) ∙ ap (min greatest) (ap (λ b. count_by p xs + cond b 1 0) (sym h) ∙ sym (count_more p xs s))
+kept_count p xs s h = grind (arith, common_steps)
 
 six : {a a' b b' c c' d d' e e' f f' : ℕ} → a ≡ a' → b ≡ b' → c ≡ c' → d ≡ d' → e ≡ e' → f ≡ f' →
     let x : Counts = record { passed = a; failed = b; skipped = c; undefined = d; untested = e; memory = f } in
@@ -47,8 +36,7 @@ status_more xs statuses.Memory = six (kept_count is_passed xs _ refl) (kept_coun
 
 pub statuses_more : (xs ys : List Status) → fold one_status_more (counts_of xs) ys ≡ counts_of (xs ++ ys)
 statuses_more xs [] = ap counts_of (sym (append-nil xs))
-statuses_more xs (y ∷ ys) =
-    ap (λ c. fold one_status_more c ys) (status_more xs y) ∙ statuses_more (xs ++ y ∷ []) ys ∙ ap counts_of (append_assoc xs (y ∷ []) ys)
+statuses_more xs (y ∷ ys) = grind (arith, common_steps, statuses_more (xs ++ y ∷ []) ys)
 
 -- a summary of these lists of statuses
 over : List Status → List Status → List Status → Summary
@@ -58,25 +46,13 @@ cases_more : (fs cs ss : List Status) (rows : List CaseRow) →
     fold one_case_more (over fs cs ss) rows ≡ over fs (cs ++ map (λ (c : CaseRow). c.status) rows) (ss ++ flat_map statuses_of_case rows)
 unfolding over
 cases_more fs cs ss [] = ap (λ xs. over fs xs ss) (sym (append-nil cs)) ∙ ap (over fs (cs ++ [])) (sym (append-nil ss))
-cases_more fs cs ss (c ∷ rows) =
-    ap (λ s. fold one_case_more s rows) (ap (λ k. let x : Summary = record { features = counts_of fs; scenarios = k; steps = fold one_status_more (counts_of ss) (statuses_of_case c) } in x) (status_more cs c.status)
-    ∙ ap (λ k. let x : Summary = record { features = counts_of fs; scenarios = counts_of (cs ++ c.status ∷ []); steps = k } in x) (statuses_more ss (statuses_of_case c)))
-    ∙ cases_more fs (cs ++ c.status ∷ []) (ss ++ statuses_of_case c) rows
-    ∙ ap (λ xs. over fs xs ((ss ++ statuses_of_case c) ++ flat_map statuses_of_case rows)) (append_assoc cs (c.status ∷ []) (map (λ (x : CaseRow). x.status) rows))
-    ∙ ap (over fs (cs ++ c.status ∷ map (λ (x : CaseRow). x.status) rows)) (append_assoc ss (statuses_of_case c) (flat_map statuses_of_case rows))
+cases_more fs cs ss (c ∷ rows) = grind (arith, common_steps, status_more, statuses_more, cases_more fs (cs ++ c.status ∷ []) (ss ++ statuses_of_case c) rows, over, flat_map, append_assoc)
 
 features_more : (fs cs ss : List Status) (rows : List FeatureRow) →
     fold one_feature_more (over fs cs ss) rows ≡ over (fs ++ feature_statuses rows) (cs ++ scenario_statuses rows) (ss ++ step_statuses rows)
 unfolding over
-features_more fs cs ss [] =
-    ap (λ xs. over xs cs ss) (sym (append-nil fs)) ∙ ap (λ xs. over (fs ++ []) xs ss) (sym (append-nil cs)) ∙ ap (over (fs ++ []) (cs ++ [])) (sym (append-nil ss))
-features_more fs cs ss (f ∷ rows) =
-    ap (λ s. fold one_feature_more s rows) (ap (λ k. fold one_case_more (let x : Summary = record { features = k; scenarios = counts_of cs; steps = counts_of ss } in x) f.cases) (status_more fs f.status)
-    ∙ cases_more (fs ++ f.status ∷ []) cs ss f.cases)
-    ∙ features_more (fs ++ f.status ∷ []) (cs ++ case_statuses f) (ss ++ statuses_of_feature f) rows
-    ∙ ap (λ xs. over xs ((cs ++ case_statuses f) ++ scenario_statuses rows) ((ss ++ statuses_of_feature f) ++ step_statuses rows)) (append_assoc fs (f.status ∷ []) (feature_statuses rows))
-    ∙ ap (λ xs. over (fs ++ f.status ∷ feature_statuses rows) xs ((ss ++ statuses_of_feature f) ++ step_statuses rows)) (append_assoc cs (case_statuses f) (scenario_statuses rows))
-    ∙ ap (over (fs ++ f.status ∷ feature_statuses rows) (cs ++ (case_statuses f ++ scenario_statuses rows))) (append_assoc ss (statuses_of_feature f) (step_statuses rows))
+features_more fs cs ss [] = grind (arith, common_steps)
+features_more fs cs ss (f ∷ rows) = grind (arith, common_steps, status_more, cases_more, features_more (fs ++ f.status ∷ []) (cs ++ case_statuses f) (ss ++ statuses_of_feature f) rows, over, append_assoc)
 
 -- Adding the features one after another gives the summary of all.
 pub all_added : (rows : List FeatureRow) → fold one_feature_more (summary_of []) rows ≡ summary_of rows
@@ -94,24 +70,12 @@ both_ways false false f g = refl
 both_ways true false f g = sym (f refl)
 both_ways false true f g = g refl
 
-counted_or : (a : Bool) (n : ℕ) → nat_lt 0 (n + cond a 1 0) ≡ (nat_lt 0 n || a)
-counted_or true n =
-    let above : 0 < n + 1 = omega arith in
-    lt-ltb 0 (n + 1) above ∙ sym (or-true (nat_lt 0 n))
-counted_or false n =
-    let none : n + 0 ≡ n = omega arith in
-    ap (nat_lt 0) none ∙ sym (or-false (nat_lt 0 n))
-
 any_counted : (p : Status → Bool) (n : ℕ) (xs : List Status) → nat_lt 0 (fold (λ a x. a + cond (p x) 1 0) n xs) ≡ (nat_lt 0 n || list_any p xs)
 any_counted p n [] = sym (or-false (nat_lt 0 n))
-any_counted p n (x ∷ xs) =
-    any_counted p (n + cond (p x) 1 0) xs ∙ ap (λ b. b || list_any p xs) (counted_or (p x) n) ∙ or_assoc (nat_lt 0 n) (p x) (list_any p xs)
+any_counted p n (x ∷ xs) = grind (arith, common_steps, any_counted p (n + cond (p x) 1 0) xs)
 
 least_above : (g n : ℕ) → 0 < g → nat_lt 0 (min g n) ≡ nat_lt 0 n
-least_above g n h =
-    both_ways (nat_lt 0 (min g n)) (nat_lt 0 n)
-    (λ e. let least : 0 < min g n = ltb-true 0 (min g n) e in let above : 0 < n = omega (arith, least) in lt-ltb 0 n above)
-    (λ e. let some : 0 < n = ltb-true 0 n e in let above : 0 < min g n = omega (arith, some, h) in lt-ltb 0 (min g n) above)
+least_above g n h = grind (arith, common_steps)
 
 any_count : (p : Status → Bool) (xs : List Status) → nat_lt 0 (count_of p xs) ≡ list_any p xs
 any_count p xs =
@@ -120,20 +84,11 @@ any_count p xs =
 
 any_verdict : (p : Status → Bool) (rows : List FeatureRow) (around : Status) →
     (p around || nat_lt 0 (count_of p (feature_statuses rows)) || nat_lt 0 (count_of p (scenario_statuses rows))) ≡ list_any p (verdicts rows around)
-any_verdict p rows around =
-    ap (λ a. p around || a || nat_lt 0 (count_of p (scenario_statuses rows))) (any_count p (feature_statuses rows))
-    ∙ ap (λ b. p around || list_any p (feature_statuses rows) || b) (any_count p (scenario_statuses rows))
-    ∙ or_assoc (p around) (list_any p (feature_statuses rows)) (list_any p (scenario_statuses rows))
-    ∙ ap (λ any. p around || any) (sym (list_any-append p (feature_statuses rows) (scenario_statuses rows)))
+any_verdict p rows around = grind (arith, common_steps, nat_lt, any_count, or_assoc, list_any-append)
 
 -- The status by the counts is that of the rows.
 pub status_counted : (rows : List FeatureRow) (around : Status) → status_by (summary_of rows) around ≡ status_of rows around
-status_counted rows around =
-    let counts = summary_of rows in
-    let failed = is_failed around || nat_lt 0 counts.features.failed || nat_lt 0 counts.scenarios.failed in
-    ap (λ a. cond a 4 (cond (failed || nat_lt 0 counts.steps.undefined) 1 0)) (any_verdict is_memory rows around)
-    ∙ ap (λ b. cond (list_any is_memory (verdicts rows around)) 4 (cond (b || nat_lt 0 counts.steps.undefined) 1 0)) (any_verdict is_failed rows around)
-    ∙ ap (λ b. cond (list_any is_memory (verdicts rows around)) 4 (cond (list_any is_failed (verdicts rows around) || b) 1 0)) (any_count is_undefined (step_statuses rows))
+status_counted rows around = grind (arith, common_steps, nat_lt, any_verdict, any_count)
 
 -- So a number that is the status by the counts is that of whatever rows they count.
 pub status_from : (s : Summary) (around : Status) (number : ℕ) → number ≡ status_by s around → IsStatusOf s around number

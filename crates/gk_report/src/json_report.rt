@@ -240,6 +240,7 @@ fn summary_text(alloc: Global, summary: &Summary) -> Result<String, AllocError>
     json_text(alloc, &SummaryObject { summary: *summary })
 }
 
+#[tactic(auto, using(serde_json::proofs::FreeTexts::text_of_str))]
 fn string_text(alloc: Global, text: &str) -> Result<String, AllocError>
     ensures { AnswersText result (compact_text (string text.now)) }
 {
@@ -305,7 +306,7 @@ pub fn json_head(alloc: Global) -> Result<String, AllocError>
 
 /// Pushes the text before the scenarios in the object of a feature, after a comma unless the object is the first that
 /// is printed. An error comes only if a growth was refused.
-#[tactic(auto, unfolding(crate::specs::JsonReport::object_start))]
+#[tactic(auto, using(crate::proofs::JsonReportLemmas::start_written), unfolding(crate::specs::JsonReport::object_start))]
 pub fn push_object_start(
     out: &mut String,
     alloc: Global,

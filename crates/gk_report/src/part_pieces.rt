@@ -101,7 +101,7 @@ impl<'a> PartPieces<'a> {
     }
 
     // Pushes the next of these lines, or the text after them. Returns whether more may be left.
-    #[tactic(auto, unfolding(crate::specs::PartPieces::rest))]
+    #[tactic(auto, using(crate::proofs::PartPiecesLemmas::if_err, crate::proofs::PartPiecesLemmas::some_lines), unfolding(crate::specs::PartPieces::rest))]
     fn push_lines(&mut self, out: &mut String, lines: LinesLeft<'a>) -> Result<bool, AllocError>
         ensures pushed { PushesSome out.old (lines_and_end self.old lines.entry)
             result out.new (rest self.new) }
@@ -121,7 +121,7 @@ impl<'a> PartPieces<'a> {
     }
 
     // Pushes the next of these objects, or the text after them. Returns whether more may be left.
-    #[tactic(auto, unfolding(crate::specs::PartPieces::rest))]
+    #[tactic(auto, using(crate::proofs::PartPiecesLemmas::if_err, crate::proofs::PartPiecesLemmas::some_objects), unfolding(crate::specs::PartPieces::rest))]
     fn push_objects(
         &mut self,
         out: &mut String,
@@ -162,6 +162,7 @@ impl<'a> PartPieces<'a> {
     }
 
     // Pushes what is left, up to the end of a piece.
+    #[tactic(auto, using(crate::proofs::PartPiecesLemmas::if_err, crate::proofs::PartPiecesLemmas::some_after))]
     fn push_piece(&mut self, out: &mut String, alloc: Global) -> Result<(), AllocError>
         ensures pushed { PushesSome out.old (rest self.old) result out.new (rest self.new) }
         ensures full { OnOk result

@@ -288,7 +288,7 @@ fn push_undefined(out: &mut String, count: u64, of_steps: bool) -> Result<(), Al
 }
 
 // Pushes a line of counts. A line for steps has the undefined ones, too.
-#[tactic(auto, unfolding(crate::specs::PlainReport::count_line))]
+#[tactic(auto, using(crate::proofs::PushLemmas::written_after), unfolding(crate::specs::PlainReport::count_line))]
 fn push_count_line(
     out: &mut String,
     noun: &str,

@@ -87,6 +87,7 @@ pub fn head(alloc: Global, style: Style) -> Result<String, AllocError>
 /// Returns the end of a report: the counts of a summary, and how the run's own hooks and cleanups ended (`around`). For
 /// the report of a run, the summary is that of all its features, including hidden ones. An error comes only if a growth
 /// was refused. (behave's documentation: summary)
+#[tactic(auto, using(crate::proofs::SummaryLemmas::status_counted))]
 pub fn tail(
     alloc: Global,
     style: Style,
@@ -103,12 +104,14 @@ pub fn tail(
 }
 
 /// States that each JSON report is the compact text of one document, followed by a line feed.
+#[tactic(auto, using(crate::proofs::ReportLemmas::one_document))]
 pub fn json_reports_are_documents()
     ensures { IsOneDocument }
 {}
 
 /// States that the head, the parts in order and the tail make up the report. What is written after some features begins
 /// the report of all results that begin with them.
+#[tactic(auto, using(crate::proofs::ReportLemmas::grow_by_parts))]
 pub fn reports_grow_by_parts()
     ensures { ReportsGrowByParts }
 {}

@@ -68,6 +68,7 @@ fn push_lines(out: &mut String, text: &str) -> Result<(), AllocError>
 /// Pushes a name or a text, with a backslash and `n` in place of each line feed. An error comes only if a growth was
 /// refused.
 #[inline(always)]
+#[tactic(auto, using(crate::proofs::PushLemmas::one_line_plain, std::proofs::lemmas::Grind::common_steps))]
 pub fn push_one_line(out: &mut String, text: &str) -> Result<(), AllocError>
     ensures { Pushes out.old (one_line text.now) result out.new }
 {

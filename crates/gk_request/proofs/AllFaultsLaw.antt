@@ -1,5 +1,6 @@
 -- The first fault and those of the files after it are the faults of all files.
-use Rattle.std.proofs.Common.{◌≡◌, ℕ, suc, zero, ◌+◌, Bool, List, [], ◌∷◌, take, drop, Some, None, refl, sym, subst, inl, inr, add-one, arith}
+use Rattle.std.proofs.Common.{◌≡◌, ℕ, suc, zero, ◌+◌, Bool, List, [], ◌∷◌, take, drop, Some, None, refl, subst, inl, add-one, arith}
+use Rattle.std.proofs.lemmas.Grind.{common_steps}
 use Rattle.std.specs.Prelude.{slice_get}
 use Rattle.gk_select.specs.declared.select_fault.SelectFault.TheVariants as select_faults
 use Rattle.gk_select.specs.Case.{CaseValue}
@@ -11,23 +12,14 @@ use Rattle.gk_request.specs.AllFaults.{source_at, IsFaultOf, AreFaultsOf, librar
 use Rattle.gk_request.specs.Request.{request_of_files}
 use Rattle.gk_request.specs.Inputs.{AreRead}
 use Rattle.gk_request.specs.Source.{SourceValue}
-use Rattle.gk_request.proofs.InputsLemmas.{same_some}
-use Rattle.gk_request.proofs.AllFaultsLemmas.{are_more, library_reads, library_stops, hooks_read, hooks_stop}
+use Rattle.gk_request.proofs.AllFaultsLemmas.{are_more, library_reads, hooks_read, hooks_stop}
 
 -- The sources before the one at a place read, and that one doesn't.
 sources_stop : (chooses : CaseValue → Bool) (n : ℕ) (sources : List SourceValue) (input : ℕ) (before : List ChosenValue) (source : SourceValue) (fault : RunFault) (later : List RunFault) →
     AreRead chooses (take input sources) before → slice_get sources input ≡ Some source → IsFaultOf (source_at (n + input) source.bytes) fault
     → AreFaultsOf (sources_from (n + input + 1) (drop (suc input) sources)) later → AreFaultsOf (sources_from n sources) (fault ∷ later)
 sources_stop chooses n [] input before source fault later read place says rest = let no : ⊥ = cc in absurd no
-sources_stop chooses n (s ∷ ss) zero before source fault later read place says rest =
-    let here : n + 0 ≡ n = omega arith in
-    inr (
-      fault,
-      later,
-      subst (λ (t : SourceValue). IsFaultOf (source_at n t.bytes) fault) (sym (same_some s source place)) (subst (λ k. IsFaultOf (source_at k source.bytes) fault) here says),
-      subst (λ k. AreFaultsOf (sources_from (k + 1) ss) later) here rest,
-      refl,
-    )
+sources_stop chooses n (s ∷ ss) zero before source fault later read place says rest = grind (arith, common_steps)
 sources_stop chooses n (s ∷ ss) (suc input) before source fault later read place says rest =
     let here : n + suc input ≡ n + 1 + input = omega arith in
     inl (
@@ -48,8 +40,7 @@ stops_there chooses sources input before source fault later read place says rest
 
 pub all_found : AllFaultsAreFound
 all_found options files (Select None fault) later named unread h = h
-all_found options files (Library fault) later named unread h =
-    are_more (library_files files.library) (after_library files) (Library fault ∷ []) later (library_stops files.library unread.bytes fault unread.given unread.says unread.named) h
+all_found options files (Library fault) later named unread h = grind (arith, common_steps)
 all_found options files (Hooks fault) later named unread h =
     are_more (library_files files.library) (after_library files) [] (Hooks fault ∷ later) (library_reads files.library unread.entries unread.library)
     (are_more (hooks_files files.hooks) (sources_from 0 files.sources) (Hooks fault ∷ []) later (hooks_stop files.hooks unread.bytes fault unread.given unread.says unread.named) h)

@@ -1,5 +1,6 @@
 -- The faults of files, some after others.
-use Rattle.std.proofs.Common.{◌≡◌, ◌≢◌, ℕ, suc, zero, ◌+◌, List, [], ◌∷◌, ◌++◌, drop, Option, Some, None, Err, refl, ap, sym, subst, ◌∙◌, inl, inr, add-one, append_assoc}
+use Rattle.std.proofs.Common.{◌≡◌, ◌≢◌, ℕ, suc, zero, ◌+◌, List, [], ◌∷◌, ◌++◌, drop, Option, Some, None, Err, refl, ap, sym, subst, ◌∙◌, inl, inr, add-one, append_assoc, arith}
+use Rattle.std.proofs.lemmas.Grind.{common_steps}
 use Rattle.std.proofs.lemmas.List.{append-nil}
 use Rattle.std.specs.Prelude.{slice_get}
 use Rattle.gk_gherkin.specs.declared.read_fault.ReadFault.{ReadFault}
@@ -11,7 +12,6 @@ use Rattle.gk_select.specs.declared.select_fault.SelectFault.TheVariants as sele
 use Rattle.gk_steps.specs.declared.library_fault.LibraryFault.{LibraryFault}
 use Rattle.gk_steps.specs.declared.library_fault.LibraryFault.TheVariants as library_faults
 use Rattle.gk_steps.specs.Finding.{LibraryValue}
-use Rattle.gk_steps.specs.LibraryFault.{LibraryFaultSays}
 use Rattle.gk_request.specs.declared.run_fault.RunFault.{RunFault}
 use Rattle.gk_request.specs.declared.run_fault.RunFault.TheVariants.{Read, Library, Hooks, Select, Write, Memory}
 use Rattle.gk_request.specs.AllFaults.{RunFile, source_at, AreFaultsOf, library_files, hooks_files, sources_from, SaysOfFiles, AreAdded}
@@ -26,27 +26,9 @@ pub library_reads : (file : Option SourceValue) (entries : LibraryValue) → IsL
 library_reads None entries reads = refl
 library_reads (Some s) entries reads = inl ((entries, reads), refl)
 
--- A library file that doesn't.
-pub library_stops : (file : Option SourceValue) (bytes : List ℕ) (fault : LibraryFault) → bytes_of file ≡ Some bytes → LibraryFaultSays fault bytes → fault ≢ library_faults.Memory → AreFaultsOf (library_files file) (Library fault ∷ [])
-library_stops None bytes fault given says named = let no : ⊥ = cc in absurd no
-library_stops (Some s) bytes fault given says named = inr (Library fault, [], (subst (LibraryFaultSays fault) (sym (same_some s.bytes bytes given)) says, named), refl, refl)
-
--- The fault of a library file, as a run names it.
-pub says_of_library : (file : Option SourceValue) (fault : LibraryFault) → SaysLibrary (bytes_of file) fault → SaysOfFiles (library_files file) (Err (library_fault fault))
-says_of_library file library_faults.Memory h = tt
-says_of_library file library_faults.TooLong h = library_stops file h.0 library_faults.TooLong h.1 h.2 (λ e. cc)
-says_of_library file (library_faults.NotUtf8 n) h = library_stops file h.0 (library_faults.NotUtf8 n) h.1 h.2 (λ e. cc)
-says_of_library file (library_faults.BadType n) h = library_stops file h.0 (library_faults.BadType n) h.1 h.2 (λ e. cc)
-says_of_library file (library_faults.BadPattern n) h = library_stops file h.0 (library_faults.BadPattern n) h.1 h.2 (λ e. cc)
-says_of_library file (library_faults.UnknownAction n) h = library_stops file h.0 (library_faults.UnknownAction n) h.1 h.2 (λ e. cc)
-says_of_library file (library_faults.MissingField n) h = library_stops file h.0 (library_faults.MissingField n) h.1 h.2 (λ e. cc)
-says_of_library file (library_faults.FieldKind n) h = library_stops file h.0 (library_faults.FieldKind n) h.1 h.2 (λ e. cc)
-says_of_library file (library_faults.Ambiguous n) h = library_stops file h.0 (library_faults.Ambiguous n) h.1 h.2 (λ e. cc)
-
 -- The same, by the bytes that were read.
 pub says_of_given : (file : Option SourceValue) (s : SourceValue) (bytes : List ℕ) (fault : LibraryFault) → file ≡ Some s → bytes ≡ s.bytes → SaysLibrary (Some bytes) fault → SaysOfFiles (library_files file) (Err (library_fault fault))
-says_of_given file s bytes fault is same says =
-    subst (λ f. SaysOfFiles (library_files f) (Err (library_fault fault))) (sym is) (says_of_library (Some s) fault (subst (λ b. SaysLibrary (Some b) fault) same says))
+says_of_given file s bytes fault is same says = grind (arith, common_steps)
 
 -- A hooks file that reads, or none.
 pub hooks_read : (file : Option SourceValue) (hooks : List HookValue) → AreHooks (bytes_of file) hooks → AreFaultsOf (hooks_files file) []

@@ -1,5 +1,6 @@
 -- Inputs, one after another, and that they are determined.
 use Rattle.std.proofs.Common.{◌≡◌, ◌⊎◌, inl, inr, ℕ, suc, zero, ◌+◌, ◌<◌, Bool, true, false, List, [], ◌∷◌, ◌++◌, map, take, drop, length, get_or, Option, Some, None, Result, Ok, Err, refl, ap, sym, subst, ◌∙◌, arith, add-one}
+use Rattle.std.proofs.lemmas.Grind.{common_steps}
 use denote.Ref.{Bor}
 use Rattle.std.specs.Prelude.{option_map, slice_get, zip, OnOk}
 use Rattle.std.specs.List.{AllByRecursion}
@@ -156,8 +157,7 @@ too_many_of input bytes f Memory reading h = tt
 
 -- What bytes that are known read as.
 pub reading_of : (known bytes : List ℕ) (found : Option Feature) (feature : Feature) → known ≡ bytes → found ≡ Some feature → IsReading known (option_map feature_value found) → IsReading bytes (Some (feature_value feature))
-reading_of known bytes found feature same is reading =
-    subst (λ b. IsReading b (Some (feature_value feature))) same (subst (λ o. IsReading known (option_map feature_value o)) is reading)
+reading_of known bytes found feature same is reading = grind (arith, common_steps)
 
 -- A source whose feature was added reads, and its feature stands after the others.
 pub added_onto : (chooses : CaseValue → Bool) (source : SourceValue) (f : FeatureValue) (old new : List Chosen) (r : Result (Unit {0}) RunFault) →
@@ -170,10 +170,8 @@ added_onto chooses source f old new (Err e) reading added formed limit = tt
 -- The first source that doesn't read is named, or memory was refused.
 pub first_unread : (chooses : CaseValue → Bool) (sources : List SourceValue) (features : List ChosenValue) (input : ℕ) (source : SourceValue) (fault : RunFault) →
     AreRead chooses (take input sources) features → slice_get sources input ≡ Some source → SaysSourceAt input source.bytes fault → SaysSources chooses sources fault
-first_unread chooses sources features input source (Read i fault) read place h =
-    subst (λ n. SaysSources chooses sources (Read n fault)) (sym h.0) (record { before = features; read = read; source = source; place = place; unread = h.1 }, h.2)
-first_unread chooses sources features input source (Select (Some i) select_faults.TooMany) read place h =
-    subst (λ n. SaysSources chooses sources (Select (Some n) select_faults.TooMany)) (sym h.0) (record { before = features; read = read; source = source; place = place; unread = h.1 })
+first_unread chooses sources features input source (Read i fault) read place h = grind (arith, common_steps)
+first_unread chooses sources features input source (Select (Some i) select_faults.TooMany) read place h = grind (arith, common_steps)
 first_unread chooses sources features input source (Select (Some i) select_faults.BadTagText) read place h = h
 first_unread chooses sources features input source (Select (Some i) select_faults.Memory) read place h = h
 first_unread chooses sources features input source (Select None fault) read place h = h

@@ -1,6 +1,6 @@
 -- What a reader has left after the bytes that it gave.
-use Rattle.std.proofs.Common.{◌≡◌, ◌≤◌, ℕ, ◌+◌, ◌++◌, List, length, drop, take, Option, Some, None, ap, sym, ◌∙◌, arith, length-append}
-use Rattle.std.proofs.Math.Seq.{drop-append_seam}
+use Rattle.std.proofs.Common.{◌≡◌, ◌≤◌, ℕ, ◌+◌, ◌++◌, List, length, take, Option, Some, None, arith, length-append}
+use Rattle.std.proofs.lemmas.Grind.{common_steps}
 use Rattle.std.specs.Io.KnownBytes.{Consumes}
 use Rattle.std.proofs.KnownBytes.{Consumes-trans}
 use Rattle.std.proofs.lemmas.List.{length-take}
@@ -9,9 +9,7 @@ use Rattle.gk_request.specs.Source.{StopsAfter, GivesAtMost}
 pub stops_after : (n : ℕ) (a b : Option (List ℕ)) (bytes : List ℕ) → Consumes a b bytes → length bytes ≡ n → StopsAfter n a b
 stops_after n None b bytes taken size = tt
 stops_after n (Some x) None bytes taken size = absurd taken
-stops_after n (Some x) (Some y) bytes taken size =
-    let whole : length x ≡ length bytes + length y = ap length taken ∙ length-append bytes y in
-    (omega arith, sym (ap (λ k. drop k x) (sym size) ∙ ap (drop (length bytes)) taken ∙ drop-append_seam bytes y))
+stops_after n (Some x) (Some y) bytes taken size = grind (arith, common_steps)
 
 -- what was given, and the piece that was given last
 pub given_within : (limit : ℕ) (a b c : Option (List ℕ)) (bytes piece : List ℕ) (n room : ℕ) → Consumes a b bytes → Consumes b c (take n piece) → n ≤ room → length bytes + room ≤ limit → GivesAtMost limit a c

@@ -1,12 +1,12 @@
 -- What the world's changes and answers are to the table of actions.
-use Rattle.std.specs.Prelude.{⊤, ℤ, pos, negsuc, ◌+ℤ◌, if◌then◌else◌, not, String, FitsSigned, cond, option_map, ◌&&◌, Option, Some, None, Result, Ok, Err, OnOk, OnErr, map, unwrap_or, is_none}
+use Rattle.std.specs.Prelude.{⊤, ℤ, pos, negsuc, ◌+ℤ◌, String, FitsSigned, cond, option_map, Option, Some, None, Result, Ok, Err, OnOk, OnErr, map, is_none}
 use Rattle.std.specs.FinMap as finite
 use Rattle.std.specs.FinMap.{get-insert, get-remove}
-use Rattle.std.specs.Str.Parse.{signed_digits_value, without_leading_sign}
 use Rattle.std.specs.Fmt.{signed_decimal}
-use Rattle.std.proofs.Common.{inl, inr, ◌≤◌, Vec, Global, get_or, drop-cons, add-one, w64, ◌≡◌, ℕ, suc, ◌+◌, ◌<◌, Bool, true, false, List, [], ◌∷◌, length, drop, refl, sym, ap, subst, ◌∙◌, arith, leb-true, le-leb, true≢false}
+use Rattle.std.proofs.Common.{inl, inr, ◌≤◌, Vec, Global, get_or, w64, ◌≡◌, ℕ, ◌+◌, ◌<◌, Bool, true, false, List, [], ◌∷◌, length, drop, refl, sym, ap, subst, ◌∙◌, arith, leb-true, le-leb, true≢false}
+use Rattle.std.proofs.lemmas.Grind.{common_steps}
 use Rattle.std.proofs.lemmas.Bool.Decides.{Decides-ltb}
-use Rattle.std.proofs.lemmas.List.{append-nil, drop_all}
+use Rattle.std.proofs.lemmas.List.{append-nil}
 use Rattle.std.proofs.lemmas.Fmt.{length_signed_le}
 use Rattle.std.proofs.lemmas.Cmp.{nat_list_cmp_total}
 use Rattle.std.proofs.lemmas.Map.Text.{is_eq-slice_cmp}
@@ -22,25 +22,20 @@ use Rattle.gk_run.specs.declared.acting.Site.{Site}
 use Rattle.gk_run.specs.declared.acting.Site.TheVariants as sites
 use Rattle.gk_run.specs.declared.results.Reason.{Reason}
 use Rattle.gk_run.specs.declared.results.Reason.TheVariants as reasons
-use Rattle.gk_steps.specs.Decimal.{is_number, is_numeral, number_of, is_i64}
+use Rattle.gk_steps.specs.Decimal.{number_of, is_i64}
 use Rattle.gk_steps.specs.declared.action.Action.{Action}
 use Rattle.gk_steps.specs.declared.action.Does.{Does}
 use Rattle.gk_steps.specs.declared.action.Does.TheVariants.{Changes, Checks, Registers, Skips}
-use Rattle.std.specs.Option.{option_or}
 use Rattle.std.specs.Ordering.{int_eq}
 use Rattle.gk_steps.specs.declared.used_fields.UsedFields.{UsedFields}
-use Rattle.gk_steps.specs.Finding.{found_any, HasUsedFields, LibraryValue, FoundValue, action_of}
+use Rattle.gk_steps.specs.Finding.{HasUsedFields, LibraryValue, FoundValue, action_of}
 use Rattle.gk_gherkin.specs.Feature.{BlockValue, texts}
 use Rattle.gk_run.specs.declared.acting.Arguments.{Arguments}
-use Rattle.gk_run.specs.Acting.{WritesFirst, WritesFile, row_file, ArgumentsValue, arguments_of, arguments_by_uses, arguments_value, doc_string, table, act, at_site, does_at_site, without_cleanups, registers, registers_at, may_register, CleanupValue, HasRegistered, write_row, write_rows, Done, add_number, is_pass, and_then, put, passes, fails, stays, unless, unless_for, outcome_of, IsDone, IsActed, Performs, exists, is_absent, agreement, agrees, equals, is_number as number_check, skip_outcome, with_file, without_file, with_env, without_env, with_own, without_own}
+use Rattle.gk_run.specs.Acting.{WritesFirst, WritesFile, row_file, ArgumentsValue, arguments_of, arguments_by_uses, arguments_value, table, act, at_site, does_at_site, without_cleanups, CleanupValue, HasRegistered, write_row, write_rows, Done, add_number, is_pass, and_then, put, passes, fails, stays, unless, unless_for, outcome_of, IsDone, IsActed, Performs, exists, is_absent, agreement, agrees, equals, is_number as number_check, skip_outcome, with_file, without_file, with_env, without_env, with_own, without_own}
 
 not_so : (b : Bool) (P : Type 0) → (b ≡ true → P) → (P → ⊥) → b ≡ false
 not_so true P so never = absurd (never (so refl))
 not_so false P so never = refl
-
-second_of : (a b : Bool) → (a && b) ≡ true → b ≡ true
-second_of true b h = h
-second_of false b h = absurd (true≢false (sym h))
 
 -- a number that an `i64` holds
 fits_test : (z : ℤ) → FitsSigned w64 z → is_i64 z ≡ true
@@ -125,22 +120,14 @@ none_written (file ∷ files) old new same = inl same
 acted_so : (ws : List (Bool × WorldFault)) (r : Result ⊤ WorldFault) (old new : SandboxValue) (changed : Contents) (after : State)
     → OnOk r (Becomes changed old new) → IsAnswer (first_true ws) r → OnErr r (new ≡ old) → state_of changed ≡ after
     → IsActed (unless (state_of old.now) (reasons_of ws) after) old (outcome_of r) new
-acted_so ws (Ok x) old new changed after ok answer err e = record {
-  carried_out = carried (state_of old.now) ws after (state_of new.now) answer (ap state_of ok.contents ∙ e);
-  layers = record { layers = ok.layers; starts = ok.starts };
-  kept = λ m. let no : ⊥ = cc in absurd no;
-}
-acted_so ws (Err fault) old new changed after ok answer err e =
-    let P : SandboxValue → Type 0 = λ v. IsActed (unless (state_of old.now) (reasons_of ws) after) old (outcome_of {A = ⊤} (Err fault)) v in
-    subst P (sym err) (record { carried_out = refused (state_of old.now) ws after fault answer; layers = record { layers = refl; starts = refl }; kept = λ m. none_written _ old old refl })
+acted_so ws (Ok x) old new changed after ok answer err e = grind (arith, common_steps, carried)
+acted_so ws (Err fault) old new changed after ok answer err e = grind (arith, common_steps, refused, none_written)
 
 -- a change of the world by one call
 pub acted : (ws : List (Bool × WorldFault)) (r : Result ⊤ WorldFault) (o : Outcome) (old new : SandboxValue) (changed : Contents) (after : State) → o ≡ outcome_of r
     → OnOk r (Becomes changed old new) → IsAnswer (first_true ws) r → OnErr r (new ≡ old) → state_of changed ≡ after
     → IsActed (unless (state_of old.now) (reasons_of ws) after) old o new
-acted ws r o old new changed after is ok answer err e =
-    let P : Outcome → Type 0 = λ p. IsActed (unless (state_of old.now) (reasons_of ws) after) old p new in
-    subst P (sym is) (acted_so ws r old new changed after ok answer err e)
+acted ws r o old new changed after is ok answer err e = grind (arith, common_steps, acted_so)
 
 -- a file that was written
 written_so : (r : Result ⊤ WorldFault) (file : List ℕ × List ℕ) (old new : SandboxValue) → OnOk r (changes.PutsFile old file.0 file.1 new) → WritesFile file old (outcome_of r) new
@@ -222,9 +209,7 @@ stayed old o p e free = subst (λ (x : Outcome). IsActed (stays (state_of old.no
 -- a check, by its row
 pub checked : (action row : Action) (arguments : Arguments) (old : SandboxValue) (o p : Outcome) → action ≡ row → o ≡ p → refuses p ≡ false
     → table row (arguments_value arguments) (state_of old.now) ≡ stays (state_of old.now) p → Performs action arguments old o old
-checked action row arguments old o p is e free by =
-    let P : Done → Type 0 = λ d. IsActed d old o old in
-    subst (λ (a : Action). Performs a arguments old o old) (sym is) (subst P (sym by) (stayed old o p e free))
+checked action row arguments old o p is e free by = grind (arith, common_steps)
 
 -- a part that comes after one that passed
 pub went_on : (d : Done) (files : List (List ℕ × List ℕ)) (o : Outcome) (s : State) → IsDone d o s → IsDone (record d { takes_memory = true; files = files }) o s
@@ -240,17 +225,6 @@ no_files s new (Some why) = refl
 
 pub put_no_files : (s : State) (name text : List ℕ) (new : State) → (put s name text new).files ≡ []
 put_no_files s name text new = no_files s new (first_true ((is_bad_name name, reasons.BadName) ∷ (is_too_long text, reasons.TextTooLong) ∷ []))
-
-pub row_no_files : (s : State) (row : List (List ℕ)) → (write_row s row).files ≡ []
-row_no_files s [] = refl
-row_no_files s (name ∷ []) = refl
-row_no_files s (name ∷ text ∷ []) = put_no_files s name text (with_file s name text)
-row_no_files s (name ∷ text ∷ other ∷ more) = refl
-
--- where memory may be refused in the first of two parts, it may be in both
-may_end : (b : Bool) (file : List ℕ × List ℕ) (this next : Done) → this.takes_memory ≡ true → (cond b (record next { takes_memory = true; files = file ∷ next.files }) this).takes_memory ≡ true
-may_end true file this next h = refl
-may_end false file this next h = h
 
 -- an action in two parts, of which the first wrote a file and passed
 pub part_passes : (file : List ℕ × List ℕ) (this : Done) (next : State → Done) (old mid new : SandboxValue) (written o : Outcome) → written ≡ outcomes.Passed
@@ -270,18 +244,14 @@ part_passes file this next old mid new written o is h puts k =
     })
 
 ended_so : (file : List ℕ × List ℕ) (this next : Done) (old new : SandboxValue) (o : Outcome) → is_pass o ≡ false → o ≡ this.outcome → IsActed this old o new → IsActed (and_then file this next) old o new
-ended_so file this next old new o fails is h =
-    let both = record next { takes_memory = true; files = file ∷ next.files } in
-    subst (λ (d : Done). IsActed d old o new) (ap (λ b. cond b both this) (sym fails ∙ ap is_pass is)) h
+ended_so file this next old new o fails is h = grind (arith, common_steps)
 
 -- an action in two parts, which ended with the first
 pub part_ends : (file : List ℕ × List ℕ) (this next : Done) (old new : SandboxValue) (o : Outcome) → this.files ≡ [] → (o ≡ outcomes.Passed → ⊥) → IsActed this old o new → IsActed (and_then file this next) old o new
 part_ends file this next old new outcomes.Passed none never h = absurd (never refl)
 part_ends file this next old new outcomes.Skip none never h = ended_so file this next old new outcomes.Skip refl h.carried_out.0 h
 part_ends file this next old new (outcomes.Failed why) none never h = ended_so file this next old new (outcomes.Failed why) refl h.carried_out.0 h
-part_ends file this next old new outcomes.Memory none never h =
-    let same : new ≡ old = subst (λ (fs : List (List ℕ × List ℕ)). WritesFirst fs old new) none (h.kept refl) in
-    record { carried_out = may_end (is_pass this.outcome) file this next h.carried_out; layers = h.layers; kept = λ m. none_written _ old new same }
+part_ends file this next old new outcomes.Memory none never h = grind (arith, common_steps)
 
 -- a number's text is short
 short_number : (z : ℤ) (text : List ℕ) → FitsSigned w64 z → text ≡ signed_decimal z → is_too_long text ≡ false
@@ -310,11 +280,7 @@ cells row = texts row.items
 
 -- the rows that are left, with the first of them
 rows_left : (rows : List RowInMemory) (i : ℕ) (row : RowInMemory) → i < length rows → row ≡ get_or rows i row → drop i rows ≡ row ∷ drop (i + 1) rows
-rows_left rows i row some is =
-    let a = drop-cons rows i row some in
-    let b = ap (λ r. r ∷ drop (suc i) rows) (sym is) in
-    let c = ap (λ n. row ∷ drop n rows) (sym (add-one i)) in
-    a ∙ b ∙ c
+rows_left rows i row some is = grind (arith, common_steps)
 
 -- rows in turn, as files that are written
 abbrev pub RowsActed : List RowInMemory → SandboxValue → Outcome → SandboxValue → Type 0
@@ -334,73 +300,28 @@ row_passed rows i row held old mid new written o some is items passed h puts k =
 -- a row that ended the writing
 pub row_ended : (rows : List RowInMemory) (i : ℕ) (row : RowInMemory) (held : List (String Global)) (old new : SandboxValue) (o : Outcome) → i < length rows → row ≡ get_or rows i row → held ≡ row.items
     → (o ≡ outcomes.Passed → ⊥) → IsActed (write_row (state_of old.now) (texts held)) old o new → RowsActed (drop i rows) old o new
-row_ended rows i row held old new o some is items never h =
-    let P : List (String Global) → Type 0 = λ cs. IsActed (write_row (state_of old.now) (texts cs)) old o new in
-    subst (λ (rs : List RowInMemory). RowsActed rs old o new) (sym (rows_left rows i row some is))
-    (part_ends (row_file (cells row)) (write_row (state_of old.now) (cells row)) (write_rows ((write_row (state_of old.now) (cells row)).state) (map (λ row. texts row.items) (drop (i + 1) rows))) old new o (row_no_files (state_of old.now) (cells row)) never (subst P items h))
+row_ended rows i row held old new o some is items never h = grind (arith, common_steps)
 
 -- no row is left
 pub rows_end : (rows : List RowInMemory) (i : ℕ) (s : SandboxValue) → length rows ≤ i → RowsActed (drop i rows) s outcomes.Passed s
-rows_end rows i s none =
-    subst (λ (rs : List RowInMemory). RowsActed rs s outcomes.Passed s) (sym (drop_all i rows none)) (record { carried_out = (refl, refl); layers = record { layers = refl; starts = refl }; kept = λ m. refl })
+rows_end rows i s none = grind (arith, common_steps)
 
 -- a sum that no `i64` has
 pub not_in_range : (z : ℤ) → (FitsSigned w64 z → ⊥) → is_i64 z ≡ false
 not_in_range z never = not_so (is_i64 z) (FitsSigned w64 z) (fits_so z) never
 
-abbrev sum_row : State → List ℕ → ℤ → Bool → Option ℤ → Done
-sum_row s name n bad number = let sum = unwrap_or number (pos 0) +ℤ n in
-    unless s ((bad, reasons.BadName) ∷ (false, reasons.Absent) ∷ (is_none number, reasons.NotNumber) ∷ (not (is_i64 sum), reasons.OutOfRange) ∷ []) (with_own s name (signed_decimal sum))
-
-out_of_range_row : (s : State) (name text : List ℕ) (n m : ℤ) → is_bad_name name ≡ false → number_of text ≡ Some m → is_i64 (m +ℤ n) ≡ false
-    → sum_row s name n (is_bad_name name) (number_of text) ≡ fails s reasons.OutOfRange
-out_of_range_row s name text n m good number far =
-    let a = ap (λ b. sum_row s name n b (number_of text)) good in
-    let b = ap (λ k. sum_row s name n false k) number in
-    let c = ap (λ b. unless_for s (first_true ((not b, reasons.OutOfRange) ∷ [])) (with_own s name (signed_decimal (m +ℤ n)))) far in
-    a ∙ b ∙ c
-
-pub failed_acted : (old : SandboxValue) (why : Reason) → IsActed (fails (state_of old.now) why) old (outcomes.Failed why) old
-failed_acted old why = stayed_so old (outcomes.Failed why) refl
-
 pub out_of_range_acted : (old : SandboxValue) (name text : List ℕ) (looked : Option (List ℕ)) (n m : ℤ) → is_bad_name name ≡ false → Some text ≡ looked → number_of text ≡ Some m → is_i64 (m +ℤ n) ≡ false
     → IsActed (add_number (state_of old.now) name looked n) old (outcomes.Failed reasons.OutOfRange) old
-out_of_range_acted old name text looked n m good is number far =
-    let P : Option (List ℕ) → Type 0 = λ x. IsActed (add_number (state_of old.now) name x n) old (outcomes.Failed reasons.OutOfRange) old in
-    let Q : Done → Type 0 = λ d. IsActed d old (outcomes.Failed reasons.OutOfRange) old in
-    subst P is (subst Q (sym (out_of_range_row (state_of old.now) name text n m good number far)) (failed_acted old reasons.OutOfRange))
-
-in_range_row : (s : State) (name text : List ℕ) (n m : ℤ) → is_bad_name name ≡ false → number_of text ≡ Some m → is_i64 (m +ℤ n) ≡ true
-    → sum_row s name n (is_bad_name name) (number_of text) ≡ passes (with_own s name (signed_decimal (m +ℤ n)))
-in_range_row s name text n m good number near =
-    let a = ap (λ b. sum_row s name n b (number_of text)) good in
-    let b = ap (λ k. sum_row s name n false k) number in
-    let c = ap (λ b. unless_for s (first_true ((not b, reasons.OutOfRange) ∷ [])) (with_own s name (signed_decimal (m +ℤ n)))) near in
-    a ∙ b ∙ c
+out_of_range_acted old name text looked n m good is number far = grind (arith, common_steps)
 
 -- a sum that is held as a number
 pub sum_acted : (old new : SandboxValue) (o : Outcome) (name text : List ℕ) (looked : Option (List ℕ)) (n m sum : ℤ) → is_bad_name name ≡ false → Some text ≡ looked → number_of text ≡ Some m → sum ≡ m +ℤ n → FitsSigned w64 sum
     → IsActed (passes (with_own (state_of old.now) name (signed_decimal sum))) old o new → IsActed (add_number (state_of old.now) name looked n) old o new
-sum_acted old new o name text looked n m sum good is number e fits h =
-    let near : is_i64 (m +ℤ n) ≡ true = ap is_i64 (sym e) ∙ fits_test sum fits in
-    let S : ℤ → Type 0 = λ z. IsActed (passes (with_own (state_of old.now) name (signed_decimal z))) old o new in
-    let P : Option (List ℕ) → Type 0 = λ x. IsActed (add_number (state_of old.now) name x n) old o new in
-    let Q : Done → Type 0 = λ d. IsActed d old o new in
-    subst P is (subst Q (sym (in_range_row (state_of old.now) name text n m good number near)) (subst S e h))
-
-abbrev option_fits : Option ℤ → Type 0
-option_fits None = ⊤
-option_fits (Some z) = FitsSigned w64 z
-
-number_fits_in : (b : Bool) (v m : ℤ) → (b ≡ true → FitsSigned w64 v) → (if b then Some v else None) ≡ Some m → FitsSigned w64 m
-number_fits_in true v m fits e = let P : Option ℤ → Type 0 = λ x. option_fits x in subst P e (fits refl)
-number_fits_in false v m fits e = let never : ⊥ = cc in absurd never
+sum_acted old new o name text looked n m sum good is number e fits h = grind (arith, common_steps)
 
 -- a text that is a number has one in range
 pub number_fits : (text : List ℕ) (m : ℤ) → number_of text ≡ Some m → FitsSigned w64 m
-number_fits text m e =
-    let v = signed_digits_value 10 text in
-    number_fits_in (is_number text) v m (λ yes. fits_so v (second_of (is_numeral (without_leading_sign text)) (is_i64 v) yes)) e
+number_fits text m e = grind (arith, common_steps)
 
 -- ---- where an action is carried out
 
@@ -412,10 +333,6 @@ row_at Registers action site library g s n m = absurd (n refl)
 row_at Skips action site library g s n m = absurd (m refl)
 
 -- a cleanup that is registered where that is allowed
-pub registered_at : (site : Site) (library : LibraryValue) (g h : ArgumentsValue) (s : State) → may_register site ≡ true → g ≡ h → registers s g.block (found_any library g.step) ≡ registers_at site s library h
-registered_at site library g h s may e =
-    ap (λ x. registers s x.block (found_any library x.step)) e ∙ ap (λ b. cond b (registers s h.block (found_any library h.step)) (without_cleanups (fails s reasons.NotHere))) (sym may)
-
 pub none_registered : (done : Done) (cleanups : List CleanupValue) (o : Outcome) → HasRegistered (without_cleanups done) cleanups o cleanups
 none_registered done cleanups outcomes.Memory = refl
 none_registered done cleanups outcomes.Passed = sym (append-nil cleanups)
@@ -424,13 +341,7 @@ none_registered done cleanups (outcomes.Failed why) = sym (append-nil cleanups)
 
 -- what the used fields of what was found give
 pub used_given : (library : LibraryValue) (f : FoundValue) (u : UsedFields) (block : BlockValue) → HasUsedFields library f u → arguments_by_uses u block ≡ arguments_of library f block
-used_given library f u block h =
-    let g : ArgumentsValue = arguments_by_uses u block in
-    ap (λ (x : Option (List ℕ)). record g { name = unwrap_or x [] }) h.name
-    ∙ ap (λ (x : Option (List ℕ)). record (arguments_of library f block) { to = unwrap_or x []; step = g.step; number = g.number; text = g.text }) h.to
-    ∙ ap (λ (x : Option (List ℕ)). record (arguments_of library f block) { step = unwrap_or x []; number = g.number; text = g.text }) h.step
-    ∙ ap (λ (x : Option ℤ). record (arguments_of library f block) { number = unwrap_or x (pos 0); text = g.text }) h.number
-    ∙ ap (λ (x : Option (List ℕ)). record (arguments_of library f block) { text = option_or x (doc_string block) }) h.text
+used_given library f u block h = grind (arith, common_steps)
 
 -- the action of a found step as it is called
 pub called_is : (library : LibraryValue) (site : Site) (f : FoundValue) (block : BlockValue) (s : State) (action : Action) (g : ArgumentsValue) → action ≡ action_of library f → g ≡ arguments_of library f block → at_site action site library g s ≡ act library site f block s

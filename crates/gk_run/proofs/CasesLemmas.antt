@@ -1,6 +1,7 @@
 -- Cases, one after another.
 use Rattle.std.specs.List.{FoldsTo, list_any}
 use Rattle.std.proofs.Common.{◌⊎◌, inl, inr, Bool, List, [], ap, append_assoc, arith, cond, false, length, map, refl, suc, subst, sym, true, ℕ, ◌&&◌, ◌++◌, ◌<◌, ◌||◌, ◌∙◌, ◌∷◌, ◌≡◌, Err, IfOk, None, Ok, Result, Some, Vec, Global, eq-eqb}
+use Rattle.std.proofs.lemmas.Grind.{common_steps}
 use Rattle.std.proofs.lemmas.List.{append-nil, map_push}
 use Rattle.gk_gherkin.specs.Feature.{StepValue}
 use Rattle.gk_select.specs.declared.case.Case.{Case}
@@ -25,7 +26,7 @@ use Rattle.gk_run.specs.declared.cases.Cases.{Cases}
 use Rattle.gk_run.specs.declared.cases.Member.{Member}
 use Rattle.gk_select.specs.RuleOrder as order
 use Rattle.gk_run.specs.declared.results.RuleResult.{RuleResult}
-use Rattle.gk_run.specs.Results.{CaseRow, RuleRow, StepRow, case_row, rule_row}
+use Rattle.gk_run.specs.Results.{CaseRow, RuleRow, case_row, rule_row}
 use Rattle.gk_run.specs.Section.{Cut, happened, in_order, nowhere}
 use Rattle.gk_run.proofs.Nothing.{nothing_in}
 
@@ -80,11 +81,7 @@ member_by : {S : Type 0} (hears : S → Event → S → Type 0) (run : Run) (sec
     row ≡ cond selected (cond opens (reached_row run section cut m.scenario) (unreached_row m.scenario)) (unselected_row m.scenario) →
     FoldsTo hears first (cond (selected && opens) (in_order (happened cut (alone run section m.scenario))) []) last →
     (cut : Cut) × (row ≡ case_of run section is_open cut m) × FoldsTo hears first (case_events run section is_open cut m) last
-member_by hears run section is_open cut m row first last selected opens h o is told =
-    let c = m.scenario in
-    let Is : Bool → Bool → Type 0 = λ s b. (row ≡ cond s (cond b (reached_row run section cut c) (unreached_row c)) (unselected_row c)) × FoldsTo hears first (cond (s && b) (in_order (happened cut (alone run section c))) []) last in
-    let both = subst (λ (b : Bool). Is m.selected b) (sym o) (subst (λ (s : Bool). Is s opens) (sym h) (is, told)) in
-    (cut, both.0, both.1)
+member_by hears run section is_open cut m row first last selected opens h o is told = grind (arith, common_steps)
 
 -- nothing happens in an unselected case
 pub member_unselected : {S : Type 0} (hears : S → Event → S → Type 0) (run : Run) (now : State) (is_open : Bool) (m : MemberValue) (row : CaseRow) (first : S) → m.selected ≡ false → row ≡ unrun_row m.scenario statuses.Skipped (same_marks Skipped m.scenario) →
@@ -94,16 +91,11 @@ member_unselected hears run now is_open m row first h e section opens = member_b
 -- nor in one that isn't reached
 pub member_unreached : {S : Type 0} (hears : S → Event → S → Type 0) (run : Run) (now : State) (is_open : Bool) (m : MemberValue) (row : CaseRow) (first : S) → m.selected ≡ true → is_open ≡ false → row ≡ unrun_row m.scenario statuses.Untested (same_marks Untested m.scenario) →
     IsMember hears run now is_open m row first first
-member_unreached hears run now is_open m row first h o e section opens =
-    let c = m.scenario in
-    let with_rows : List StepRow → CaseRow = λ rows. record { keyword = c.keyword; name = c.name; line = c.line; status = statuses.Untested; around = statuses.Passed; cleanups = []; steps = rows } in
-    member_by hears run section is_open nowhere m row first first true false h o (e ∙ ap with_rows (sym (without_marks c.steps))) refl
+member_unreached hears run now is_open m row first h o e section opens = grind (arith, common_steps, member_by, without_marks)
 
 pub member_reached : {S : Type 0} (hears : S → Event → S → Type 0) (run : Run) (now : State) (is_open : Bool) (m : MemberValue) (row : CaseRow) (first last : S) → m.selected ≡ true → is_open ≡ true → AreEventsTold hears run now m.scenario row first last →
     IsMember hears run now is_open m row first last
-member_reached hears run now is_open m row first last h o told section opens =
-    let here = subst (λ (s : State). AreEventsTold hears run s m.scenario row first last) (opens o) told in
-    member_by hears run section is_open here.cut m row first last true true h o here.is here.told
+member_reached hears run now is_open m row first last h o told section opens = grind (arith, common_steps)
 
 pub of_ok : {A E : Type 0} {P : A → Type 0} (Q : A → Type 0) (x : Result A E) → IfOk x P → ((a : A) → P a → Q a) → IfOk x Q
 of_ok Q (Ok a) h f = f a h
@@ -119,11 +111,7 @@ GoesCases told run first first_open all rows is_open left begin here =
 -- the rows and the telling of one case more
 push_case : (rows : List CaseRow) (row : CaseRow) (front events : List Told) (ended : Told) (next : Ran (List CaseRow)) →
     ran_of (rows ++ row ∷ next.result) (front ++ (events ++ ended ∷ next.told)) ≡ ran_of ((rows ++ row ∷ []) ++ next.result) ((front ++ (events ++ ended ∷ [])) ++ next.told)
-push_case rows row front events ended next =
-    let with_rows : List CaseRow → Ran (List CaseRow) = λ rs. ran_of rs (front ++ (events ++ ended ∷ next.told)) in
-    let with_told : List Told → Ran (List CaseRow) = λ told. ran_of ((rows ++ row ∷ []) ++ next.result) told in
-    ap with_rows (sym (append_assoc rows (row ∷ []) next.result))
-    ∙ ap with_told (ap (λ xs. front ++ xs) (sym (append_assoc events (ended ∷ []) next.told)) ∙ sym (append_assoc front (events ++ ended ∷ []) next.told))
+push_case rows row front events ended next = grind (arith, common_steps)
 
 pub cases_on : {S : Type 0} (hears : S → Event → S → Type 0) (ends : S → EndTold → S → Type 0) (run : Run) (first now : State) (first_open : Bool) (all : List MemberValue) (rows : List CaseRow) (row : CaseRow) (is_open next : Bool) (m : MemberValue) (left : List MemberValue) (begin here ran after : S) →
     now ≡ first → (is_open ≡ true → first_open ≡ true) → IsMember hears run now is_open m row here ran → ends ran (of_case row) after → next ≡ (is_open && stays_open run row.status) →

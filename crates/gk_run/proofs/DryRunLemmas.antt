@@ -1,11 +1,12 @@
 -- What the loops of a dry run come to.
+use Rattle.std.proofs.Common.{Bool, List, [], ap, append_assoc, cond, false, inl, inr, is_some, map, refl, subst, suc, sym, true, ◌++◌, ◌||◌, ◌∙◌, ◌∷◌, ◌≡◌, append-nil, arith}
+use Rattle.std.proofs.lemmas.Grind.{common_steps}
 use Rattle.std.specs.List.{list_any}
-use Rattle.std.proofs.Common.{Bool, List, [], ap, append_assoc, cond, false, inl, inr, is_some, map, refl, subst, suc, sym, true, ◌++◌, ◌||◌, ◌∙◌, ◌∷◌, ◌≡◌, append-nil}
 use Rattle.gk_gherkin.specs.Feature.{StepValue}
 use Rattle.gk_select.specs.Case.{CaseValue}
-use Rattle.gk_steps.specs.Finding.{LibraryValue, found}
+use Rattle.gk_steps.specs.Finding.{LibraryValue}
 use Rattle.gk_run.specs.declared.results.Mark.{Mark}
-use Rattle.gk_run.specs.declared.results.Mark.TheVariants.{Acted, Skipped, Undefined, Untested}
+use Rattle.gk_run.specs.declared.results.Mark.TheVariants.{Skipped, Undefined, Untested}
 use Rattle.gk_run.specs.declared.results.Outcome.TheVariants as outcomes
 use Rattle.gk_run.specs.declared.results.Status.{Status}
 use Rattle.gk_run.specs.declared.results.Status.TheVariants as statuses
@@ -35,19 +36,12 @@ looked_more library step steps m is more false h = ap (λ x. row_of_step step x 
 
 by_look : (library : LibraryValue) (next : Bool) (step : StepValue) (steps : List StepValue) (m : Mark) → IsLookedUp library Untested step m → next ≡ is_memory_mark m → (more : List StepRow) (e : Bool) → AreDrySteps library next steps more e →
     AreDrySteps library false (step ∷ steps) (row_of_step step m ∷ more) e
-by_look library next step steps m (inl is) n more e h =
-    let here = subst (λ (x : Bool). AreDrySteps library x steps more e) (n ∙ ap is_memory_mark is.0) h in
-    let there : AreDrySteps library false (step ∷ steps) (row_of_step step m ∷ more) true = (0, refl, ap (λ x. row_of_step step x ∷ more) is.0 ∙ ap (λ rs. row_of_step step (Acted outcomes.Memory) ∷ rs) here.0) in
-    subst (λ (x : Bool). AreDrySteps library false (step ∷ steps) (row_of_step step m ∷ more) x) (sym here.1) there
-by_look library next step steps m (inr is) n more e h =
-    let none = n ∙ ap is_memory_mark is ∙ no_memory_mark (is_some (found library step.step_type step.text)) in
-    looked_more library step steps m is more e (subst (λ (x : Bool). AreDrySteps library x steps more e) none h)
+by_look library next step steps m (inl is) n more e h = grind (arith, common_steps)
+by_look library next step steps m (inr is) n more e h = grind (arith, common_steps, no_memory_mark, is_some, looked_more)
 
 one_more : (library : LibraryValue) (refused next : Bool) (step : StepValue) (steps : List StepValue) (m : Mark) → IsDryStep library refused step m → next ≡ (refused || is_memory_mark m) →
     (more : List StepRow) (e : Bool) → AreDrySteps library next steps more e → AreDrySteps library refused (step ∷ steps) (row_of_step step m ∷ more) e
-one_more library true next step steps m t n more e h =
-    let here = subst (λ (x : Bool). AreDrySteps library x steps more e) n h in
-    (ap (λ x. row_of_step step x ∷ more) t ∙ ap (λ rs. row_of_step step Untested ∷ rs) here.0, here.1)
+one_more library true next step steps m t n more e h = grind (arith, common_steps)
 one_more library false next step steps m t n more e h = by_look library next step steps m t n more e h
 
 -- whatever the steps that are left come to, all come to, with these rows before theirs
@@ -75,8 +69,7 @@ dry_steps_last library all refused (step ∷ left) rows none whole = let no : �
 
 no_memory : (library : LibraryValue) (steps : List StepValue) → list_any is_memory_mark (event_marks (map (dry_step library) steps)) ≡ false
 no_memory library [] = refl
-no_memory library (step ∷ steps) =
-    ap (λ b. b || list_any is_memory_mark (event_marks (map (dry_step library) steps))) (no_memory_mark (is_some (found library step.step_type step.text))) ∙ no_memory library steps
+no_memory library (step ∷ steps) = grind (arith, common_steps, no_memory library steps)
 
 -- the row of a case with these results of its steps
 abbrev dry_row_by : CaseValue → Status → List StepRow → CaseRow
@@ -88,9 +81,7 @@ verdict_of refused = cond refused statuses.Memory statuses.Untested
 
 pub dry_is : (library : LibraryValue) (c : CaseValue) (rows : List StepRow) (refused : Bool) (status : Status) → status ≡ cond refused statuses.Memory statuses.Untested → AreDrySteps library false c.steps rows refused →
     (cut : Cut) × (record { keyword = c.keyword; name = c.name; line = c.line; status = status; around = statuses.Passed; cleanups = []; steps = rows } ≡ dry_row library cut c)
-dry_is library c rows false status s h =
-    let marks = event_marks (map (dry_step library) c.steps) in
-    (nowhere, ap (λ x. dry_row_by c x rows) (s ∙ ap verdict_of (sym (no_memory library c.steps))) ∙ ap (dry_row_by c (verdict_of (list_any is_memory_mark marks))) h)
+dry_is library c rows false status s h = grind (arith, common_steps, no_memory)
 dry_is library c rows true status s h =
     let n = h.0 in
     let there = state_of nothing_yet in

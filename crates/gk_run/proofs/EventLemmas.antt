@@ -1,10 +1,11 @@
 -- How events end, where they are cut, and where they leave a section.
+use Rattle.std.proofs.Common.{List, [], ap, length, refl, subst, suc, sym, true, zero, ℕ, ◌++◌, ◌||◌, ◌∙◌, ◌∷◌, ◌≡◌, true≢false, arith}
+use Rattle.std.proofs.lemmas.Grind.{common_steps}
 use Rattle.std.specs.List.{FoldsTo, list_any}
-use Rattle.std.proofs.Common.{List, [], ap, cond, length, refl, subst, suc, sym, true, zero, ℕ, ◌++◌, ◌||◌, ◌∙◌, ◌∷◌, ◌≡◌, true≢false}
 use Rattle.std.proofs.lemmas.List.{map-append}
 use Rattle.gk_world.specs.State.{State}
 use Rattle.gk_run.specs.declared.ending.Ending.TheVariants as endings
-use Rattle.gk_run.specs.Ending.{ended_of, is_failed_or_undefined, is_memory_mark, is_skip_mark, worse}
+use Rattle.gk_run.specs.Ending.{ended_of, is_memory_mark, worse}
 use Rattle.gk_run.specs.Events.{Event, SectionNow, after_event, cut_at, ended_in, event_marks, left_by, mark_of, of_cleanup, of_step, outcomes_of, refused}
 use Rattle.gk_run.specs.Section.{has_event}
 use Rattle.gk_run.proofs.EndingLemmas.{ended_append, or_true, worse_memory}
@@ -54,6 +55,4 @@ cut_is_memory (x ∷ xs) zero s h = refused_is_memory s x
 cut_is_memory (x ∷ xs) (suc n) s h = ap (λ b. is_memory_mark (mark_of x) || b) (cut_is_memory xs n s h) ∙ or_true (is_memory_mark (mark_of x))
 
 pub cut_ends : (events : List Event) (n : ℕ) (s : State) → has_event n events ≡ true → ended_in (cut_at n s events) ≡ endings.Memory
-cut_ends events n s h =
-    let marks = event_marks (cut_at n s events) in
-    ap (λ b. cond b endings.Memory (cond (list_any is_failed_or_undefined marks) endings.Failed (cond (list_any is_skip_mark marks) endings.Skipped endings.Passed))) (cut_is_memory events n s h)
+cut_ends events n s h = grind (arith, common_steps, cut_is_memory)

@@ -1,5 +1,6 @@
 -- What is inside of a feature, and what it comes to.
 use Rattle.std.proofs.Common.{Bool, List, [], ap, arith, false, flat_map, map, refl, subst, suc, sym, true, zero, ℕ, ◌&&◌, ◌++◌, ◌<◌, ◌≤◌, ◌∙◌, ◌≡◌, append-nil}
+use Rattle.std.proofs.lemmas.Grind.{common_steps}
 use Rattle.gk_world.specs.State.{State}
 use Rattle.gk_run.specs.declared.cases.Cases.{Cases}
 use Rattle.gk_run.specs.declared.results.RuleResult.{RuleResult}
@@ -8,16 +9,16 @@ use Rattle.gk_run.specs.declared.results.Status.TheVariants as statuses
 use Rattle.gk_run.specs.declared.section.Level.TheVariants as levels
 use Rattle.std.specs.List.{FoldsTo}
 use Rattle.gk_run.specs.Running.{all_stay_open, case_statuses, cases_of}
-use Rattle.gk_run.specs.Events.{Event, EndTold, IsRan, Ran, Told, happens, tells}
+use Rattle.gk_run.specs.Events.{Event, EndTold, IsRan, Ran, Told, tells}
 use Rattle.gk_run.specs.PrivateContracts.{AreCasesInPart, AreRulesInPart, IsFeatureEnd, IsFeatureEndInPart, IsInside, IsInsideInPart, RunsCases, RunsFeature, RunsRules, StopsFeature, members_in}
 use Rattle.gk_run.proofs.CasesLemmas.{stops_cases}
 use Rattle.gk_run.proofs.PartLemmas.{told_between}
 use Rattle.gk_run.proofs.EventLemmas.{heard_both}
 use Rattle.gk_run.specs.Chosen.{ChosenValue, HeadValue, MemberValue, has_selected, CasesFallIntoRules, Group, groups_from, members_of_rank, own_members, rule_groups}
 use Rattle.gk_run.specs.Features.{FeatureCuts, FeaturesWithoutRulesHaveTheirCases, feature_row_of, feature_verdict, inside_by, inside_of, rule_statuses, Inside, IsToldInPart, feature_of, rules_of, uncut_feature}
-use Rattle.gk_run.specs.OpenSection.{SectionRow, happened_in, section_of, section_state, Run}
+use Rattle.gk_run.specs.OpenSection.{SectionRow, section_of, section_state, Run}
 use Rattle.gk_run.specs.Results.{CaseRow, FeatureRow, case_row, rule_row}
-use Rattle.gk_run.specs.Section.{around_of, before_passed, nowhere}
+use Rattle.gk_run.specs.Section.{nowhere}
 use Rattle.gk_run.proofs.GroupingLemmas.{and_left, groups_all, groups_same}
 
 pub later_rank : (first other : ℕ) → first ≡ 0 → suc zero ≤ other → first < other
@@ -134,26 +135,11 @@ feature_untold hears ends run now is_open f here outside opens = let ran = featu
 -- ---- a feature without rules
 
 own_are_all : (f : ChosenValue) → f.rules ≡ [] → CasesFallIntoRules f → own_members f ≡ f.members
-own_are_all f none falls =
-    sym (append-nil (own_members f))
-    ∙ ap (λ (heads : List HeadValue). own_members f ++ flat_map (λ (g : Group). g.members) (groups_from 1 heads f.members)) (sym none)
-    ∙ groups_all f falls
+own_are_all f none falls = grind (arith, common_steps, append-nil, flat_map, groups_all)
 
 inside_without_rules : (run : Run) (section : State) (is_open : Bool) (cuts : FeatureCuts) (f : ChosenValue) → f.rules ≡ [] → CasesFallIntoRules f →
     inside_of run cuts f section is_open ≡ (let ran = cases_of run section is_open cuts.cases f.members in record { result = record { rules = []; cases = ran.result }; told = ran.told })
-inside_without_rules run section is_open cuts f none falls =
-    let alone : Ran (List CaseRow) → Ran Inside = λ ran. record { result = record { rules = []; cases = ran.result }; told = ran.told } in
-    let own = cases_of run section is_open cuts.cases (own_members f) in
-    let with_rows : List CaseRow → Ran Inside = λ rows. record { result = record { rules = []; cases = rows }; told = own.told ++ [] } in
-    let with_told : List Told → Ran Inside = λ told. record { result = record { rules = []; cases = own.result }; told = told } in
-    ap (λ (heads : List HeadValue). inside_by run section is_open cuts.cases cuts.rules (own_members f) (groups_from 1 heads f.members)) none
-    ∙ ap with_rows (append-nil own.result)
-    ∙ ap with_told (append-nil own.told)
-    ∙ ap (λ (ms : List MemberValue). alone (cases_of run section is_open cuts.cases ms)) (own_are_all f none falls)
+inside_without_rules run section is_open cuts f none falls = grind (arith, common_steps, append-nil, own_are_all)
 
 pub without_rules : FeaturesWithoutRulesHaveTheirCases
-without_rules run outside is_open cuts f none falls =
-    let is_begun = is_open && has_selected f.members in
-    let events = happened_in run levels.Feature f.tags outside is_begun cuts.own in
-    let whole : Ran Inside → Ran FeatureRow = λ i. record { result = feature_row_of f (around_of events) i.result; told = map happens events.before ++ (i.told ++ map happens (events.after ++ events.cleanups)) } in
-    ap whole (inside_without_rules run (section_state run levels.Feature f.tags outside) (is_begun && before_passed events) cuts f none falls)
+without_rules run outside is_open cuts f none falls = grind (arith, common_steps, inside_without_rules)

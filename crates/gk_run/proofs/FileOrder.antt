@@ -1,6 +1,6 @@
 -- The results of a feature stand in file order.
-use Rattle.std.proofs.Common.{Bool, List, [], ap, cond, false, flat_map, map, refl, suc, sym, true, ℕ, ◌&&◌, ◌++◌, ◌∙◌, ◌∷◌, ◌≡◌}
-use Rattle.std.proofs.lemmas.List.{map-append}
+use Rattle.std.proofs.Common.{Bool, List, [], ap, cond, false, flat_map, map, refl, suc, true, ℕ, ◌&&◌, ◌++◌, ◌∙◌, ◌∷◌, ◌≡◌, arith}
+use Rattle.std.proofs.lemmas.Grind.{common_steps}
 use Rattle.gk_world.specs.State.{State}
 use Rattle.gk_run.specs.declared.section.Level.TheVariants as levels
 use Rattle.gk_run.specs.Running.{all_stay_open, case_of, cases_of, first_or, without_first, stays_open, reached_row, unreached_row, unselected_row}
@@ -40,11 +40,7 @@ case_lines run section is_open cuts (m ∷ ms) =
 
 -- the lines of cases that come one after another
 lines_joined : (rows more : List CaseRow) (ms others : List MemberValue) → lines_told rows ≡ lines_in ms → lines_told more ≡ lines_in others → lines_told (rows ++ more) ≡ lines_in (ms ++ others)
-lines_joined rows more ms others these those =
-    map-append (λ (row : CaseRow). row.line) rows more
-    ∙ ap (λ (lines : List ℕ). lines ++ lines_told more) these
-    ∙ ap (λ (lines : List ℕ). lines_in ms ++ lines) those
-    ∙ sym (map-append (λ (m : MemberValue). m.scenario.line) ms others)
+lines_joined rows more ms others these those = grind (arith, common_steps)
 
 -- the cases of rules, one rule after another
 abbrev members_of_groups : List Group → List MemberValue

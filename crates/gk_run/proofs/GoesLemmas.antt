@@ -1,5 +1,6 @@
 -- What happens in a section, one part after another.
-use Rattle.std.proofs.Common.{Bool, List, [], ap, append_assoc, cond, false, refl, subst, sym, true, ◌++◌, ◌||◌, ◌∙◌, ◌∷◌, ◌≡◌, true≢false, append-nil}
+use Rattle.std.proofs.Common.{Bool, List, [], ap, append_assoc, cond, false, refl, subst, sym, true, ◌++◌, ◌||◌, ◌∙◌, ◌∷◌, ◌≡◌, true≢false, append-nil, arith}
+use Rattle.std.proofs.lemmas.Grind.{common_steps}
 use Rattle.gk_run.specs.declared.ending.Ending.{Ending}
 use Rattle.gk_run.specs.declared.ending.Ending.TheVariants as endings
 use Rattle.gk_run.specs.Ending.{has_passed, is_memory_ending, worse}
@@ -28,8 +29,7 @@ chained true false b2 all rest part more xs ys k l p r q = absurd (true≢false 
 chained false true false all rest part more xs ys k l p r q = absurd (true≢false (sym (l refl)))
 chained false true true all rest part more xs ys k l p r q = subst (IsCutOff all) (sym (append-nil xs) ∙ ap (λ zs. xs ++ zs) (sym q)) p
 chained false false true all rest part more xs ys k l p r q = cut_within xs part more ys all q (p ∙ ap (λ zs. xs ++ zs) (r refl))
-chained false false false all rest part more xs ys k l p r q =
-    p ∙ ap (λ zs. xs ++ zs) (r refl ∙ ap (λ zs. zs ++ more) (q ∙ append-nil ys)) ∙ sym (append_assoc xs ys more)
+chained false false false all rest part more xs ys k l p r q = grind (arith, common_steps)
 
 -- one part after another
 abbrev pub chain : {S : Type 0} {hears : S → Event → S → Type 0} {before mid_end end : Ending} {all rest part : List Event} (more : List Event) {start mid now : SectionNow} {first here last : S} →

@@ -1,11 +1,12 @@
 -- Cases by their rules.
+use Rattle.std.proofs.Common.{Bool, Bor, List, drop, [], ap, arith, cond, false, length, map, refl, sym, true, suc, ℕ, ◌&&◌, ◌++◌, ◌+◌, ◌<◌, ◌≤◌, ◌∙◌, ◌∷◌, ◌≡◌, nat_eq, nat_le, flat_map, MatchOption, Option, Some, None, rules}
+use Rattle.std.proofs.lemmas.Grind.{common_steps}
 use Rattle.std.specs.Slice.{IsItemAt}
-use Rattle.std.proofs.Common.{Bool, Bor, List, drop, get_or, [], ap, arith, cond, false, length, map, refl, subst, sym, true, suc, ℕ, ◌&&◌, ◌++◌, ◌+◌, ◌<◌, ◌≤◌, ◌∙◌, ◌∷◌, ◌≡◌, nat_eq, nat_le, flat_map, slice_index_or, MatchOption, Option, Some, None}
-use Rattle.std.proofs.lemmas.Bool.{eq-eqb, eqb-false, eqb-true, le-leb, leb-true, ne_eqb, true≢false}
-use Rattle.std.proofs.lemmas.List.{drop_all, drop_more, get_or_default, length-map}
+use Rattle.std.proofs.lemmas.Bool.{eqb-false, eqb-true, le-leb, leb-true, ne_eqb}
+use Rattle.std.proofs.lemmas.List.{drop_all, length-map}
 use Rattle.gk_select.specs.declared.case.Case.{Case}
-use Rattle.gk_select.specs.RuleOrder.{rank, FallFrom, FallIntoRules}
-use Rattle.gk_run.specs.Chosen.{HeadValue, MemberValue, head_value, member_of, members_of, FormedCasesFallIntoRules, Group, GroupsAreAll, falls_from, groups_from, members_of_rank}
+use Rattle.gk_select.specs.RuleOrder.{rank, FallFrom}
+use Rattle.gk_run.specs.Chosen.{HeadValue, MemberValue, member_of, members_of, FormedCasesFallIntoRules, Group, GroupsAreAll, falls_from, groups_from, members_of_rank}
 
 pub and_left : (a b : Bool) → (a && b) ≡ true → a ≡ true
 and_left true b h = refl
@@ -26,22 +27,14 @@ falls_into count least (c ∷ cs) h = and_all (nat_le least (rank c.rule)) (fall
 
 pub falls_less : (a b : ℕ) (cases : List Case) → a ≤ b → falls_from b cases ≡ true → falls_from a cases ≡ true
 falls_less a b [] le h = refl
-falls_less a b (c ∷ cs) le h =
-    let first = leb-true b (rank c.rule) (and_left (nat_le b (rank c.rule)) (falls_from (rank c.rule) cs) h) in
-    and_all (nat_le a (rank c.rule)) (falls_from (rank c.rule) cs) (le-leb a (rank c.rule) (omega (arith, le, first))) (and_right (nat_le b (rank c.rule)) (falls_from (rank c.rule) cs) h)
+falls_less a b (c ∷ cs) le h = grind (arith, common_steps)
 
 above : (a b : ℕ) → a ≤ b → (b ≡ a → ⊥) → suc a ≤ b
 above a b le other = omega (arith, le, other)
 
 -- without a first case of the rank, the cases fall from the next one on
 pub falls_next : (r : ℕ) (c : Case) (cs : List Case) → falls_from r (c ∷ cs) ≡ true → (rank c.rule ≡ r → ⊥) → falls_from (suc r) (c ∷ cs) ≡ true
-falls_next r c cs h other =
-    let first = leb-true r (rank c.rule) (and_left (nat_le r (rank c.rule)) (falls_from (rank c.rule) cs) h) in
-    and_all (nat_le (suc r) (rank c.rule)) (falls_from (rank c.rule) cs) (le-leb (suc r) (rank c.rule) (above r (rank c.rule) first other)) (and_right (nat_le r (rank c.rule)) (falls_from (rank c.rule) cs) h)
-
--- behind a case of the rank the cases fall from it on
-pub falls_behind : (r : ℕ) (c : Case) (cs : List Case) → falls_from r (c ∷ cs) ≡ true → rank c.rule ≡ r → falls_from r cs ≡ true
-falls_behind r c cs h is = subst (λ (n : ℕ). falls_from n cs ≡ true) is (and_right (nat_le r (rank c.rule)) (falls_from (rank c.rule) cs) h)
+falls_next r c cs h other = grind (arith, common_steps)
 
 -- a case of another rank isn't among those of this one
 pub not_of_rank : (r : ℕ) (m : MemberValue) (ms : List MemberValue) → (rank m.scenario.rule ≡ r → ⊥) → members_of_rank r (m ∷ ms) ≡ members_of_rank r ms
@@ -62,13 +55,6 @@ nothing_in_rank : (r : ℕ) (left : List Case) (choices : List Bool) → falls_f
 nothing_in_rank r [] choices falls first = refl
 nothing_in_rank r (c ∷ cs) choices falls first = none_of_rank r (c ∷ cs) choices (falls_next r c cs falls (first c cs refl))
 
-abbrev head_or : Case → List Case → Case
-head_or other [] = other
-head_or other (c ∷ cs) = c
-
-head_is : (c d : Case) (cs ds : List Case) → c ∷ cs ≡ d ∷ ds → c ≡ d
-head_is c d cs ds e = ap (head_or c) e
-
 -- without a first case of the rank from a place on, there is none
 pub none_left : (r place : ℕ) (cases : List Case) (choices : List Bool) → falls_from r (drop place cases) ≡ true → ((c : Case) (cs : List Case) → drop place cases ≡ c ∷ cs → rank c.rule ≡ r → ⊥) →
     members_of_rank r (members_of (drop place cases) (drop place choices)) ≡ []
@@ -77,26 +63,16 @@ none_left r place cases choices falls first = nothing_in_rank r (drop place case
 empty : (c : Case) (cs : List Case) → [] ≡ c ∷ cs → ⊥
 empty c cs e = let no : ⊥ = cc in no
 
-same_default : (cases : List Case) (place : ℕ) (d e : Case) → place < length cases → slice_index_or cases place d ≡ get_or cases place e
-same_default cases place d e lt = get_or_default cases place d e lt
-
 -- the case at a place isn't of the rank, where the test says so
 pub no_first : (r place : ℕ) (cases : List Case) (got : Option (Bor Case)) (test : Bool) → IsItemAt cases place got → MatchOption got (test ≡ false) (λ x. test ≡ nat_eq (rank x.now.rule) r) → test ≡ false →
     (c : Case) (cs : List Case) → drop place cases ≡ c ∷ cs → rank c.rule ≡ r → ⊥
 no_first r place cases None test item tests fails c cs is of_rank = empty c cs (sym (drop_all place cases item.3) ∙ is)
-no_first r place cases (Some x) test item tests fails c cs is of_rank =
-    let at = item.3.0 in
-    let here : get_or cases place c ≡ c = head_is (get_or cases place c) c (drop (place + 1) cases) cs (sym (drop_more cases place c at) ∙ is) in
-    let value : x.now ≡ c = item.1 ∙ same_default cases place x.now c at ∙ here in
-    true≢false (sym (eq-eqb (rank x.now.rule) r (ap (λ (k : Case). rank k.rule) value ∙ of_rank)) ∙ sym tests ∙ fails)
+no_first r place cases (Some x) test item tests fails c cs is of_rank = grind (arith, common_steps)
 
 -- rules have the same cases where there are the same cases of each later rank
 pub groups_same : (r : ℕ) (heads : List HeadValue) (these those : List MemberValue) → ((other : ℕ) → r ≤ other → members_of_rank other these ≡ members_of_rank other those) → groups_from r heads these ≡ groups_from r heads those
 groups_same r [] these those same = refl
-groups_same r (head ∷ heads) these those same =
-    let group : List MemberValue → Group = λ ms. record { head = head; members = ms } in
-    ap (λ (ms : List MemberValue). group ms ∷ groups_from (suc r) heads these) (same r (omega arith))
-    ∙ ap (λ (gs : List Group). group (members_of_rank r those) ∷ gs) (groups_same (suc r) heads these those (λ other le. same other (omega (arith, le))))
+groups_same r (head ∷ heads) these those same = grind (arith, common_steps, groups_same (suc r) heads these those (λ other le. same other (omega (arith, le))))
 
 -- ---- the groups are all
 
@@ -124,15 +100,7 @@ record Parted (count r : ℕ) (ms : List MemberValue) : Type 0 where
   others : (other : ℕ) → suc r ≤ other → members_of_rank other ms ≡ members_of_rank other behind
 
 parted_on : (count r : ℕ) (m : MemberValue) (ms : List MemberValue) → FallFrom count r (rules_in (m ∷ ms)) → (FallFrom count r (rules_in ms) → Parted count r ms) → (b : Bool) → nat_eq (rank m.scenario.rule) r ≡ b → Parted count r (m ∷ ms)
-parted_on count r m ms h on true is =
-    let of_rank : rank m.scenario.rule ≡ r = eqb-true (rank m.scenario.rule) r is in
-    let next = on (subst (λ (n : ℕ). FallFrom count n (rules_in ms)) of_rank h.2) in
-    record {
-      behind = next.behind;
-      whole = ap (λ (xs : List MemberValue). xs ++ next.behind) (first_of_rank r m ms is) ∙ ap (λ (xs : List MemberValue). m ∷ xs) next.whole;
-      falls = next.falls;
-      others = λ other le. not_of_rank other m ms (λ that. omega (arith, le, of_rank, that)) ∙ next.others other le;
-    }
+parted_on count r m ms h on true is = search (rules, eqb-true, first_of_rank, not_of_rank)
 parted_on count r m ms h on false is =
     let first = h.0 in
     let other_rank : rank m.scenario.rule ≡ r → ⊥ = eqb-false (rank m.scenario.rule) r is in
@@ -172,7 +140,4 @@ rules_of_members (c ∷ cs) [] h = absurd (omega arith)
 rules_of_members (c ∷ cs) (s ∷ ss) h = ap (λ (rs : List (Option ℕ)). c.rule ∷ rs) (rules_of_members cs ss (omega arith))
 
 pub formed_falls : FormedCasesFallIntoRules
-formed_falls c formed =
-    let rules = map (λ (case : Case). case.rule) c.cases.items in
-    subst (λ (rs : List (Option ℕ)). FallIntoRules (length (map head_value c.rules.items)) rs) (sym (rules_of_members c.cases.items c.selected.items formed.paired))
-    (subst (λ (n : ℕ). FallIntoRules n rules) (sym (length-map c.rules.items head_value)) formed.falls)
+formed_falls c formed = grind (arith, common_steps, rules_of_members, length-map)

@@ -1,25 +1,24 @@
 -- Judged results are those of which the words hold.
 use Rattle.std.specs.List.{list_all}
-use Rattle.std.proofs.Common.{All, Bool, Decides, List, Some, [], ap, arith, cond, false, flat_map, not, refl, slice_get, subst, suc, sym, take, true, unwrap_or, zero, ℕ, ◌&&◌, ◌++◌, ◌↔◌, ◌∙◌, ◌∷◌, ◌≡◌, true≢false}
+use Rattle.std.proofs.Common.{All, Bool, Decides, List, Some, [], ap, arith, cond, false, flat_map, not, refl, slice_get, subst, suc, sym, take, true, zero, ℕ, ◌&&◌, ◌++◌, ◌↔◌, ◌∙◌, ◌∷◌, ◌≡◌, true≢false}
+use Rattle.std.proofs.lemmas.Grind.{common_steps}
 use Rattle.std.proofs.lemmas.Bool.Decides.{Decides-and, Decides-at, Decides-by_and, Decides-like}
 use Rattle.std.proofs.lemmas.Option.{none-some, same_Some}
 use Rattle.gk_steps.specs.Finding.{LibraryValue}
 use Rattle.gk_world.specs.State.{Contents, State, state_of}
-use Rattle.gk_run.specs.declared.results.Mark.TheVariants.{Untested}
 use Rattle.gk_run.specs.declared.results.Status.{Status}
 use Rattle.gk_run.specs.declared.results.Status.TheVariants as statuses
 use Rattle.gk_run.specs.declared.section.Level.{Level}
 use Rattle.gk_run.specs.declared.section.Level.TheVariants as levels
 use Rattle.gk_run.specs.Running.{all_stay_open, case_of, cases_of, first_or, is_failed_or_memory, without_first, stays_open, reached_row, unreached_row, unselected_row}
 use Rattle.gk_run.specs.Chosen.{ChosenValue, MemberValue, has_selected, Group, own_members, rule_groups}
-use Rattle.gk_run.specs.DryRun.{dry_case_of, dry_cases_of, dry_feature_of, dry_features_of, dry_row, dry_rules_of}
+use Rattle.gk_run.specs.DryRun.{dry_case_of, dry_cases_of, dry_feature_of, dry_features_of, dry_rules_of}
 use Rattle.gk_run.specs.Features.{FeatureCuts, feature_of, feature_row_of, features_of, inside_by, uncut_feature, Inside, RuleCuts, rule_of, rule_stays_open, rules_of, uncut_rule}
 use Rattle.gk_run.specs.Judged.{Cuts, Judged, dry_results, results_from, JudgedCase, JudgedCases, JudgedDryCase, JudgedDryFeature, JudgedDryRun, Each, JudgedFeature, JudgedFeatures, JudgedInside, IsGoodCase, IsGoodFeature, IsGoodRule, IsHeaded, JudgedHoldPartByPart, JudgedPartByPart, JudgedRule, JudgedSection, StepsHaveTheirResults, rule_rows}
 use Rattle.gk_run.specs.Events.{Ran, result_of}
 use Rattle.gk_run.specs.OpenSection.{SectionRow, happened_in, no_events, section_events, section_of, section_state, Run}
 use Rattle.gk_run.specs.Results.{CaseRow, FeatureRow, Results, RuleRow}
 use Rattle.gk_run.specs.Section.{Cut, Events, around_of, before_passed, happened, nowhere}
-use Rattle.gk_run.specs.Walk.{row_of_step, rows_of_steps}
 use Rattle.gk_run.proofs.CasesLemmas.{and_assoc, and_true}
 use Rattle.gk_run.proofs.JudgedLemmas.{results_by}
 
@@ -206,9 +205,7 @@ rules_told run outside b cuts (g ∷ gs) =
     ap before (rules_told run outside (b && rule_stays_open run end) (without_first cuts) gs)
 
 stays_rule_is : (run : Run) (end : SectionRow (List CaseRow)) → Decides (rule_stays_open run end) (run.stop ≡ true → IsGoodRule end)
-stays_rule_is run end =
-    Decides-like (rule_stays_open run end) (λ q s. (q.0 s, q.1 s)) (λ q. (λ s. (q s).0, λ s. (q s).1))
-    (Decides-and (stays_open run end.around) (all_stay_open run end.inside) (stays run.stop (is_failed_or_memory end.around)) (cases_stay run end.inside))
+stays_rule_is run end = grind (arith, common_steps, Decides-like, Decides-and, stays, cases_stay)
 
 rule_words : (run : Run) (outside : State) (b : Bool) (P : Type 0) (g : Group) (end : SectionRow (List CaseRow)) → Decides b P → JudgedRule run outside P g end ↔ ((cuts : RuleCuts) × (end ≡ result_of (rule_of run outside b cuts g)))
 rule_words run outside b P g end d =
@@ -276,10 +273,7 @@ abbrev end_in : FeatureRow → SectionRow Inside
 end_in row = record { around = row.around; inside = record { rules = row.rules; cases = row.cases } }
 
 headed : (f : ChosenValue) (row : FeatureRow) → IsHeaded f row → row ≡ (let end = end_in row in feature_row_of f end.around end.inside)
-headed f row h =
-    let at : List ℕ → List ℕ → ℕ → Status → FeatureRow = λ source name line status. record { source = source; name = name; line = line; status = status; around = row.around; rules = row.rules; cases = row.cases } in
-    ap (λ (x : List ℕ). at x row.name row.line row.status) h.source ∙ ap (λ (x : List ℕ). at f.source x row.line row.status) h.name
-    ∙ ap (λ (x : ℕ). at f.source f.name x row.status) h.line ∙ ap (at f.source f.name f.line) h.verdict
+headed f row h = grind (arith, common_steps)
 
 heading_of : (f : ChosenValue) (row : FeatureRow) (around : Status) (inside : Inside) → row ≡ feature_row_of f around inside → IsHeaded f row
 heading_of f row around inside e = subst (IsHeaded f) (sym e) (record { source = refl; name = refl; line = refl; verdict = refl })
@@ -313,18 +307,8 @@ features_words run section b P fs rows d =
 abbrev always : {R : Type 0} → R → Bool
 always row = true
 
-dry_case_chosen : (library : LibraryValue) (m : MemberValue) (row : CaseRow) → JudgedDryCase library m row → (selected : Bool) → m.selected ≡ selected → (cut : Cut) × (row ≡ cond selected (dry_row library cut m.scenario) (unselected_row m.scenario))
-dry_case_chosen library m row w false s = (nowhere, w.unselected s)
-dry_case_chosen library m row w true s = w.selected s
-
 dry_case_words : (library : LibraryValue) (m : MemberValue) (row : CaseRow) → JudgedDryCase library m row ↔ ((cut : Cut) × (row ≡ dry_case_of library cut m))
-dry_case_words library m row = (
-  λ w. dry_case_chosen library m row w m.selected refl,
-  λ c. (
-      let by : Bool → CaseRow = λ x. cond x (dry_row library c.0 m.scenario) (unselected_row m.scenario) in
-      record { unselected = λ s. c.1 ∙ ap by s; selected = λ s. (c.0, c.1 ∙ ap by s) }
-      ),
-)
+dry_case_words library m row = grind (arith, common_steps)
 
 dry_cases_words : (library : LibraryValue) (ms : List MemberValue) (rows : List CaseRow) → Each (λ k m row. JudgedDryCase library m row) ms rows ↔ ((cuts : List Cut) × (rows ≡ dry_cases_of library cuts ms))
 dry_cases_words library ms rows =
@@ -400,7 +384,5 @@ judged_in_words run contents fs results = (
 
 pub steps_results : StepsHaveTheirResults
 steps_results [] marks = record { count = refl; each = λ k step row at that. absurd (none-some step at) }
-steps_results (step ∷ steps) [] =
-    each_first (λ k x row. row ≡ row_of_step x (unwrap_or (slice_get [] k) Untested)) step steps (row_of_step step Untested) (rows_of_steps steps []) refl (steps_results steps [])
-steps_results (step ∷ steps) (mark ∷ marks) =
-    each_first (λ k x row. row ≡ row_of_step x (unwrap_or (slice_get (mark ∷ marks) k) Untested)) step steps (row_of_step step mark) (rows_of_steps steps marks) refl (steps_results steps marks)
+steps_results (step ∷ steps) [] = grind (arith, common_steps, steps_results steps [])
+steps_results (step ∷ steps) (mark ∷ marks) = grind (arith, common_steps, steps_results steps marks)

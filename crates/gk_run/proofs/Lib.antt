@@ -1,6 +1,4 @@
 pub mod ActingLemmas
-pub mod ActingExamples
-pub mod RunningExamples
 pub mod Nothing
 pub mod EndingLemmas
 pub mod EventLemmas

@@ -1,6 +1,7 @@
 -- Without a memory mark there is one list only.
+use Rattle.std.proofs.Common.{Bool, List, [], ap, cond, false, map, refl, subst, sym, true, ℕ, ◌&&◌, ◌++◌, ◌||◌, ◌∙◌, ◌∷◌, ◌≡◌, true≢false, rules, arith}
+use Rattle.std.proofs.lemmas.Grind.{common_steps}
 use Rattle.std.specs.List.{list_any}
-use Rattle.std.proofs.Common.{Bool, List, [], ap, cond, false, map, refl, subst, sym, true, ℕ, ◌&&◌, ◌++◌, ◌||◌, ◌∙◌, ◌∷◌, ◌≡◌, true≢false}
 use Rattle.std.proofs.lemmas.List.Folds.{list_any-append}
 use Rattle.gk_select.specs.Case.{CaseValue}
 use Rattle.gk_steps.specs.Finding.{LibraryValue}
@@ -12,9 +13,9 @@ use Rattle.gk_run.specs.declared.results.Status.TheVariants as statuses
 use Rattle.gk_run.specs.declared.section.Level.{Level}
 use Rattle.gk_run.specs.declared.section.Level.TheVariants as levels
 use Rattle.gk_run.specs.OpenSection.{Run, SectionRow, happened_in, section_events, section_of, section_state}
-use Rattle.gk_run.specs.Running.{alone, reached_row, row_of_case, unreached_row, unselected_row, verdict_of, all_stay_open, case_of, cases_of, first_or, without_first, stays_open}
+use Rattle.gk_run.specs.Running.{reached_row, case_of, cases_of, first_or, without_first, stays_open}
 use Rattle.gk_run.specs.Chosen.{ChosenValue, MemberValue, has_selected, Group, own_members, rule_groups}
-use Rattle.gk_run.specs.DryRun.{dry_case_of, dry_cases_of, dry_events, dry_feature_of, dry_features_of, dry_row, dry_rules_of, dry_step, dry_verdict}
+use Rattle.gk_run.specs.DryRun.{dry_case_of, dry_cases_of, dry_events, dry_feature_of, dry_features_of, dry_row, dry_step}
 use Rattle.gk_run.specs.Ending.{around_status, is_memory_mark, verdict_status}
 use Rattle.gk_run.specs.Events.{cut_at, ended_in, event_marks, Ran, result_of}
 use Rattle.gk_run.specs.Features.{FeatureCuts, feature_of, feature_row_of, features_of, inside_by, inside_of, uncut_feature, Inside, RuleCuts, rule_of, rule_stays_open, rules_of, uncut_rule}
@@ -38,33 +39,18 @@ uncut_by true now e f h free = absurd (free (h refl))
 
 case_uncut : (cut : Cut) (e : Events) → (ended_in (in_order (happened cut e)) ≡ endings.Memory → ⊥) → happened cut e ≡ e
 case_uncut nowhere e free = refl
-case_uncut (in_before n s) e free =
-    uncut_by (has_event n e.before) (record { before = cut_at n s e.before; steps = []; after = []; cleanups = [] }) e (λ x. ended_in (in_order x)) (λ h. first_refused (cut_at n s e.before) [] (cut_ends e.before n s h)) free
-case_uncut (in_steps n s) e free =
-    uncut_by (has_event n e.steps) (record e { steps = cut_at n s e.steps; after = []; cleanups = [] }) e (λ x. ended_in (in_order x))
-    (λ h. later_refused e.before (cut_at n s e.steps ++ []) (first_refused (cut_at n s e.steps) [] (cut_ends e.steps n s h))) free
-case_uncut (in_after n s) e free =
-    uncut_by (has_event n e.after) (record e { after = cut_at n s e.after; cleanups = [] }) e (λ x. ended_in (in_order x))
-    (λ h. later_refused e.before (e.steps ++ (cut_at n s e.after ++ [])) (later_refused e.steps (cut_at n s e.after ++ []) (first_refused (cut_at n s e.after) [] (cut_ends e.after n s h)))) free
-case_uncut (in_cleanups n s) e free =
-    uncut_by (has_event n e.cleanups) (record e { cleanups = cut_at n s e.cleanups }) e (λ x. ended_in (in_order x))
-    (λ h. let tail = cut_at n s e.cleanups in later_refused e.before (e.steps ++ (e.after ++ tail)) (later_refused e.steps (e.after ++ tail) (later_refused e.after tail (cut_ends e.cleanups n s h)))) free
+case_uncut (in_before n s) e free = grind (arith, common_steps, uncut_by, first_refused, cut_ends)
+case_uncut (in_steps n s) e free = grind (arith, common_steps, uncut_by, later_refused, first_refused, cut_ends)
+case_uncut (in_after n s) e free = grind (arith, common_steps, uncut_by, later_refused, first_refused, cut_ends)
+case_uncut (in_cleanups n s) e free = grind (arith, common_steps, uncut_by, later_refused, cut_ends)
 
 section_uncut : (run : Run) (level : Level) (tags : List (List ℕ)) (outside : State) (cut : Cut) →
     (let es = section_events run level tags outside in ended_in (around_events (happened cut es)) ≡ endings.Memory → ⊥) → (let es = section_events run level tags outside in happened cut es ≡ es)
 section_uncut run level tags outside nowhere free = refl
-section_uncut run level tags outside (in_before n s) free =
-    let e = section_events run level tags outside in
-    uncut_by (has_event n e.before) (record { before = cut_at n s e.before; steps = []; after = []; cleanups = [] }) e (λ x. ended_in (around_events x)) (λ h. first_refused (cut_at n s e.before) [] (cut_ends e.before n s h)) free
+section_uncut run level tags outside (in_before n s) free = grind (arith, common_steps, uncut_by, first_refused, cut_ends)
 section_uncut run level tags outside (in_steps n s) free = refl
-section_uncut run level tags outside (in_after n s) free =
-    let e = section_events run level tags outside in
-    uncut_by (has_event n e.after) (record e { after = cut_at n s e.after; cleanups = [] }) e (λ x. ended_in (around_events x))
-    (λ h. later_refused e.before (cut_at n s e.after ++ []) (first_refused (cut_at n s e.after) [] (cut_ends e.after n s h))) free
-section_uncut run level tags outside (in_cleanups n s) free =
-    let e = section_events run level tags outside in
-    uncut_by (has_event n e.cleanups) (record e { cleanups = cut_at n s e.cleanups }) e (λ x. ended_in (around_events x))
-    (λ h. let tail = cut_at n s e.cleanups in later_refused e.before (e.after ++ tail) (later_refused e.after tail (cut_ends e.cleanups n s h))) free
+section_uncut run level tags outside (in_after n s) free = grind (arith, common_steps, uncut_by, later_refused, first_refused, cut_ends)
+section_uncut run level tags outside (in_cleanups n s) free = grind (arith, common_steps, uncut_by, later_refused, cut_ends)
 
 not_verdict : (e : Ending) → is_memory (verdict_status e) ≡ false → e ≡ endings.Memory → ⊥
 not_verdict e h m = true≢false (sym (ap (λ x. is_memory (verdict_status x)) m) ∙ h)
@@ -75,19 +61,14 @@ not_around e h m = true≢false (sym (ap (λ x. is_memory (around_status x)) m) 
 -- ---- cases
 
 reached_kept : (run : Run) (section : State) (cut : Cut) (c : CaseValue) → (let row = reached_row run section cut c in is_memory row.status ≡ false) → reached_row run section cut c ≡ reached_row run section nowhere c
-reached_kept run section cut c h =
-    let es = alone run section c in
-    ap (λ (e : Events). row_of_case c (verdict_of e) e) (case_uncut cut es (not_verdict (ended_in (in_order (happened cut es))) h))
+reached_kept run section cut c h = search (rules, case_uncut, not_verdict)
 
 choice_kept : (b : Bool) (x x' y y' : CaseRow) → (is_memory x.status ≡ false → x ≡ x') → (is_memory y.status ≡ false → y ≡ y') → (let row : CaseRow = cond b x y in is_memory row.status ≡ false) → cond b x y ≡ cond b x' y'
 choice_kept true x x' y y' f g h = f h
 choice_kept false x x' y y' f g h = g h
 
 case_kept : (run : Run) (section : State) (is_open : Bool) (cut : Cut) (m : MemberValue) → (let row = case_of run section is_open cut m in is_memory row.status ≡ false) → case_of run section is_open cut m ≡ case_of run section is_open nowhere m
-case_kept run section is_open cut m h =
-    let c = m.scenario in
-    choice_kept m.selected (cond is_open (reached_row run section cut c) (unreached_row c)) (cond is_open (reached_row run section nowhere c) (unreached_row c)) (unselected_row c) (unselected_row c)
-    (choice_kept is_open (reached_row run section cut c) (reached_row run section nowhere c) (unreached_row c) (unreached_row c) (reached_kept run section cut c) (λ _. refl)) (λ _. refl) h
+case_kept run section is_open cut m h = grind (arith, common_steps, choice_kept, reached_kept)
 
 cases_kept : (run : Run) (section : State) (is_open : Bool) (cuts : List Cut) (ms : List MemberValue) →
     list_any is_memory_case (result_of (cases_of run section is_open cuts ms)) ≡ false → result_of (cases_of run section is_open cuts ms) ≡ result_of (cases_of run section is_open [] ms)
@@ -104,21 +85,14 @@ cases_kept run section is_open cuts (m ∷ ms) h =
 happened_kept : (run : Run) (level : Level) (tags : List (List ℕ)) (outside : State) (is_begun : Bool) (cut : Cut) →
     is_memory (around_of (happened_in run level tags outside is_begun cut)) ≡ false → happened_in run level tags outside is_begun cut ≡ happened_in run level tags outside is_begun nowhere
 happened_kept run level tags outside false cut h = refl
-happened_kept run level tags outside true cut h =
-    let es = section_events run level tags outside in
-    section_uncut run level tags outside cut (not_around (ended_in (around_events (happened cut es))) h)
+happened_kept run level tags outside true cut h = grind (arith, common_steps, section_uncut, not_around)
 
 -- what a section comes to in which no memory was refused
 section_kept : {A : Type 0} (run : Run) (level : Level) (tags : List (List ℕ)) (outside : State) (is_begun : Bool) (cut : Cut) (inside uncut_inside : State → Bool → Ran A) →
     (let end = result_of (section_of run level tags outside is_begun cut inside) in is_memory end.around ≡ false) →
     (let events = happened_in run level tags outside is_begun cut in let section = section_state run level tags outside in result_of (inside section (is_begun && before_passed events)) ≡ result_of (uncut_inside section (is_begun && before_passed events))) →
     result_of (section_of run level tags outside is_begun cut inside) ≡ result_of (section_of run level tags outside is_begun nowhere uncut_inside)
-section_kept {A} run level tags outside is_begun cut inside uncut_inside h same =
-    let section = section_state run level tags outside in
-    let events = happened_in run level tags outside is_begun cut in
-    let with_inside : A → SectionRow A = λ x. record { around = around_of events; inside = x } in
-    let whole : Events → SectionRow A = λ es. record { around = around_of es; inside = result_of (uncut_inside section (is_begun && before_passed es)) } in
-    ap with_inside same ∙ ap whole (happened_kept run level tags outside is_begun cut h)
+section_kept {A} run level tags outside is_begun cut inside uncut_inside h same = grind (arith, common_steps, happened_kept)
 
 append_left : (xs ys : List CaseRow) → list_any is_memory_case (xs ++ ys) ≡ false → list_any is_memory_case xs ≡ false
 append_left xs ys h = or_left (list_any is_memory_case xs) (list_any is_memory_case ys) (sym (list_any-append is_memory_case xs ys) ∙ h)
@@ -130,11 +104,7 @@ append_right xs ys h = or_right (list_any is_memory_case xs) (list_any is_memory
 rule_kept : (run : Run) (outside : State) (is_open : Bool) (cuts : RuleCuts) (g : Group) →
     (let end = result_of (rule_of run outside is_open cuts g) in is_memory end.around ≡ false) → (let end = result_of (rule_of run outside is_open cuts g) in list_any is_memory_case end.inside ≡ false) →
     result_of (rule_of run outside is_open cuts g) ≡ result_of (rule_of run outside is_open uncut_rule g)
-rule_kept run outside is_open cuts g around cases =
-    let is_begun = is_open && has_selected g.members in
-    let is_ready = is_begun && before_passed (happened_in run levels.Rule g.head.tags outside is_begun cuts.own) in
-    section_kept run levels.Rule g.head.tags outside is_begun cuts.own (λ section is_ready. cases_of run section is_ready cuts.cases g.members) (λ section is_ready. cases_of run section is_ready [] g.members) around
-    (cases_kept run (section_state run levels.Rule g.head.tags outside) is_ready cuts.cases g.members cases)
+rule_kept run outside is_open cuts g around cases = search (rules, section_kept, cases_kept)
 
 rules_kept : (run : Run) (outside : State) (is_open : Bool) (cuts : List RuleCuts) (gs : List Group) →
     (let inside = result_of (rules_of run outside is_open cuts gs) in list_any is_memory_rule inside.rules ≡ false) → (let inside = result_of (rules_of run outside is_open cuts gs) in list_any is_memory_case inside.cases ≡ false) →
@@ -153,13 +123,7 @@ rules_kept run outside is_open cuts (g ∷ gs) h k =
 inside_kept : (run : Run) (section : State) (is_open : Bool) (cuts : List Cut) (rule_cuts : List RuleCuts) (own : List MemberValue) (gs : List Group) →
     (let inside = result_of (inside_by run section is_open cuts rule_cuts own gs) in list_any is_memory_rule inside.rules ≡ false) → (let inside = result_of (inside_by run section is_open cuts rule_cuts own gs) in list_any is_memory_case inside.cases ≡ false) →
     result_of (inside_by run section is_open cuts rule_cuts own gs) ≡ result_of (inside_by run section is_open [] [] own gs)
-inside_kept run section is_open cuts rule_cuts own gs h k =
-    let rows = result_of (cases_of run section is_open cuts own) in
-    let opens : List CaseRow → Bool = λ rs. is_open && all_stay_open run rs in
-    let next = result_of (rules_of run section (opens rows) rule_cuts gs) in
-    let both : List CaseRow → Inside → Inside = λ rs n. record { rules = n.rules; cases = rs ++ n.cases } in
-    ap (both rows) (rules_kept run section (opens rows) rule_cuts gs h (append_right rows next.cases k))
-    ∙ ap (λ rs. both rs (result_of (rules_of run section (opens rs) [] gs))) (cases_kept run section is_open cuts own (append_left rows next.cases k))
+inside_kept run section is_open cuts rule_cuts own gs h k = grind (arith, common_steps, rules_kept, append_right, cases_kept, append_left)
 
 feature_kept : (run : Run) (outside : State) (is_open : Bool) (cuts : FeatureCuts) (f : ChosenValue) →
     is_memory_feature (result_of (feature_of run outside is_open cuts f)) ≡ false → result_of (feature_of run outside is_open cuts f) ≡ result_of (feature_of run outside is_open uncut_feature f)
@@ -218,14 +182,10 @@ not_dry_verdict true h = absurd (true≢false h)
 not_dry_verdict false h = refl
 
 dry_row_kept : (library : LibraryValue) (cut : Cut) (c : CaseValue) → (let row = dry_row library cut c in is_memory row.status ≡ false) → dry_row library cut c ≡ dry_row library nowhere c
-dry_row_kept library cut c h =
-    let e = happened cut (dry_events library c) in
-    ap (λ (e : Events). row_of_case c (dry_verdict e) e) (dry_uncut library cut c (not_dry_verdict (list_any is_memory_mark (event_marks e.steps)) h))
+dry_row_kept library cut c h = grind (arith, common_steps, dry_uncut, not_dry_verdict)
 
 dry_case_kept : (library : LibraryValue) (cut : Cut) (m : MemberValue) → (let row = dry_case_of library cut m in is_memory row.status ≡ false) → dry_case_of library cut m ≡ dry_case_of library nowhere m
-dry_case_kept library cut m h =
-    let c = m.scenario in
-    choice_kept m.selected (dry_row library cut c) (dry_row library nowhere c) (unselected_row c) (unselected_row c) (dry_row_kept library cut c) (λ _. refl) h
+dry_case_kept library cut m h = grind (arith, common_steps, choice_kept, dry_row_kept)
 
 dry_cases_kept : (library : LibraryValue) (cuts : List Cut) (ms : List MemberValue) → list_any is_memory_case (dry_cases_of library cuts ms) ≡ false → dry_cases_of library cuts ms ≡ dry_cases_of library [] ms
 dry_cases_kept library cuts [] h = refl
@@ -236,10 +196,7 @@ dry_cases_kept library cuts (m ∷ ms) h =
     ∙ ap (λ (r : CaseRow). r ∷ dry_cases_of library [] ms) (dry_case_kept library (first_or nowhere cuts) m (or_left (is_memory_case row) (list_any is_memory_case rest) h))
 
 dry_feature_kept : (library : LibraryValue) (cuts : FeatureCuts) (f : ChosenValue) → is_memory_feature (dry_feature_of library cuts f) ≡ false → dry_feature_of library cuts f ≡ dry_feature_of library uncut_feature f
-dry_feature_kept library cuts f h =
-    let rules = dry_rules_of f.rules in
-    let whole : List CaseRow → FeatureRow = λ rows. feature_row_of f statuses.Passed (record { rules = rules; cases = rows }) in
-    ap whole (dry_cases_kept library cuts.cases f.members (or_right (list_any is_memory_rule rules) (list_any is_memory_case (dry_cases_of library cuts.cases f.members)) h))
+dry_feature_kept library cuts f h = grind (arith, common_steps, dry_cases_kept, or_right)
 
 dry_features_kept : (library : LibraryValue) (cuts : List FeatureCuts) (fs : List ChosenValue) → list_any is_memory_feature (dry_features_of library cuts fs) ≡ false → dry_features_of library cuts fs ≡ dry_features_of library [] fs
 dry_features_kept library cuts [] h = refl
@@ -250,9 +207,7 @@ dry_features_kept library cuts (f ∷ fs) h =
     ∙ ap (λ (r : FeatureRow). r ∷ dry_features_of library [] fs) (dry_feature_kept library (first_or uncut_feature cuts) f (or_left (is_memory_feature row) (list_any is_memory_feature rest) h))
 
 dry_run_kept : (run : Run) (cuts : Cuts) (fs : List ChosenValue) → has_memory (dry_results run cuts fs) ≡ false → dry_results run cuts fs ≡ dry_results run uncut fs
-dry_run_kept run cuts fs h =
-    let with_features : List FeatureRow → Results = λ rows. record { features = rows; around = statuses.Passed } in
-    ap with_features (dry_features_kept run.library cuts.features fs h)
+dry_run_kept run cuts fs h = grind (arith, common_steps, dry_features_kept)
 
 -- ---- both
 

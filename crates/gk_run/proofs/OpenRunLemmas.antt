@@ -1,15 +1,15 @@
 -- A whole run, and one that isn't finished.
-use Rattle.std.proofs.Common.{Bool, List, [], ap, false, not, refl, subst, sym, true, ◌&&◌, ◌++◌, ◌∙◌, ◌∷◌, ◌≡◌, ◌||◌}
+use Rattle.std.proofs.Common.{Bool, List, [], ap, false, not, refl, sym, true, ◌&&◌, ◌++◌, ◌∙◌, ◌∷◌, ◌≡◌, ◌||◌, arith}
+use Rattle.std.proofs.lemmas.Grind.{common_steps}
 use Rattle.gk_world.specs.State.{State, state_of}
 use Rattle.gk_run.specs.declared.results.Status.{Status}
 use Rattle.gk_run.specs.declared.section.Level.TheVariants as levels
 use Rattle.gk_run.specs.OpenSection.{Run, run_of, section_events, section_state}
-use Rattle.gk_run.specs.PrivateContracts.{RunsFeature}
 use Rattle.gk_gherkin.specs.declared.hooks.HookFile.{HookFile}
 use Rattle.gk_steps.specs.declared.library.Library.{Library}
 use Rattle.gk_run.specs.Chosen.{ChosenValue}
 use Rattle.gk_run.specs.Ending.{has_passed, is_memory_ending}
-use Rattle.gk_run.specs.Events.{Event, ended_in, section_now, EndTold, result_of}
+use Rattle.gk_run.specs.Events.{ended_in, section_now, result_of}
 use Rattle.gk_run.specs.Running.{first_or, without_first, stays_open}
 use Rattle.gk_run.specs.Features.{FeatureCuts, feature_of, features_of, uncut_feature}
 use Rattle.gk_run.specs.Judged.{Cuts, results_of}
@@ -35,10 +35,7 @@ next_opens true true false bad = refl
 -- what is so of a run's feature is so by the run's own hooks and stop, and by whether it is open
 pub run_so : (Is : Run → Bool → Type 0) (library : Library) (file hooks : HookFile) (stop stops is_open opens : Bool) → file ≡ hooks → stop ≡ stops → is_open ≡ opens →
     Is (run_of library file stop) is_open → Is (run_of library hooks stops) opens
-run_so Is library file hooks stop stops is_open opens by_hooks by_stop by_open is =
-    subst (λ (b : Bool). Is (run_of library hooks stops) b) by_open
-    (subst (λ (b : Bool). Is (run_of library hooks b) is_open) by_stop
-    (subst (λ (x : HookFile). Is (run_of library x stop) is_open) by_hooks is))
+run_so Is library file hooks stop stops is_open opens by_hooks by_stop by_open is = grind (arith, common_steps)
 
 -- a run that was started, whose features were run, and that was finished
 pub judged_all : FinishedRunsAreJudged

@@ -1,6 +1,7 @@
 -- What was told of a part of a run that didn't come to its end.
+use Rattle.std.proofs.Common.{◌⊎◌, Bool, Err, List, Ok, OnErr, Result, [], ap, append_assoc, cond, false, length, map, refl, subst, suc, sym, true, zero, ℕ, ◌++◌, ◌∙◌, ◌∷◌, ◌≡◌, append-nil, arith}
+use Rattle.std.proofs.lemmas.Grind.{common_steps}
 use Rattle.std.specs.List.{FoldsTo}
-use Rattle.std.proofs.Common.{◌⊎◌, Bool, Err, List, Ok, OnErr, Result, [], ap, append_assoc, cond, false, length, map, refl, subst, suc, sym, true, zero, ℕ, ◌++◌, ◌∙◌, ◌∷◌, ◌≡◌, append-nil}
 use Rattle.gk_gherkin.specs.Feature.{StepValue}
 use Rattle.gk_steps.specs.Finding.{LibraryValue}
 use Rattle.gk_world.specs.State.{State, enter}
@@ -112,13 +113,7 @@ told_so_far {S} {C} {A} told whole rest behind begin here goes =
 -- a part between others
 pub told_between : {S A B : Type 0} (told : S → Told → S → Type 0) (part : Ran A) (whole : Ran B) (before behind : List Told) (begin here last : S) → whole.told ≡ before ++ (part.told ++ behind) → FoldsTo told begin before here → StopsBeforeCase before →
     IsToldInPart told part here last → IsToldInPart told whole begin last
-told_between told part whole before behind begin here last is heard stops in_part = record {
-  front = before ++ in_part.front;
-  rest = in_part.rest ++ behind;
-  whole = is ∙ ap (λ xs. before ++ (xs ++ behind)) in_part.whole ∙ ap (λ xs. before ++ xs) (append_assoc in_part.front in_part.rest behind) ∙ sym (append_assoc before in_part.front (in_part.rest ++ behind));
-  heard = heard_both told begin before here in_part.front last heard in_part.heard;
-  stops = stops_both before in_part.front stops in_part.stops;
-}
+told_between told part whole before behind begin here last is heard stops in_part = grind (arith, common_steps, append_assoc, heard_both, stops_both)
 
 -- of what is left a part is told
 pub told_further : {S C A B : Type 0} (told : S → Told → S → Type 0) (whole rest : List C → Ran A) (behind : A → A) (begin here last : S) (left : List C) (part : Ran B) (others : List Told) → (let next = rest left in next.told ≡ part.told ++ others) →

@@ -1,5 +1,6 @@
 -- Rules, one after another.
 use Rattle.std.proofs.Common.{Bool, List, [], ap, append_assoc, arith, false, map, refl, subst, suc, sym, true, ℕ, ◌&&◌, ◌++◌, ◌<◌, ◌≤◌, ◌∙◌, ◌∷◌, ◌≡◌}
+use Rattle.std.proofs.lemmas.Grind.{common_steps}
 use Rattle.std.proofs.lemmas.List.{append-nil, map_push}
 use Rattle.gk_world.specs.State.{State}
 use Rattle.gk_run.specs.declared.cases.Cases.{Cases}
@@ -97,20 +98,11 @@ rules_first hears ends run first first_open heads old begin falls = record {
   goes = λ outside opens. record { front = []; heard = refl; stops = tt; cuts = λ cuts. (cuts, refl) };
 }
 
-pub regroup : (rules : List RuleRow) (rows : List CaseRow) (rule : RuleRow) (more : List CaseRow) (n : Inside) → joined (record { rules = rules ++ rule ∷ []; cases = rows ++ more }) n ≡ joined (record { rules = rules; cases = rows }) (record { rules = rule ∷ n.rules; cases = more ++ n.cases })
-regroup rules rows rule more n =
-    ap (λ (rs : List RuleRow). record { rules = rs; cases = (rows ++ more) ++ n.cases }) (append_assoc rules (rule ∷ []) n.rules)
-    ∙ ap (λ (cs : List CaseRow). record { rules = rules ++ rule ∷ n.rules; cases = cs }) (append_assoc rows more n.cases)
-
 -- the results and the telling of one rule more
 push_rule : (rules : List RuleRow) (rows : List CaseRow) (rule : RuleRow) (inside : List CaseRow) (front events : List Told) (ended : Told) (next : Ran Inside) →
     ran_of (joined (record { rules = rules; cases = rows }) (record { rules = rule ∷ next.result.rules; cases = inside ++ next.result.cases })) (front ++ (events ++ ended ∷ next.told))
     ≡ ran_of (joined (record { rules = rules ++ rule ∷ []; cases = rows ++ inside }) next.result) ((front ++ (events ++ ended ∷ [])) ++ next.told)
-push_rule rules rows rule inside front events ended next =
-    let with_result : Inside → Ran Inside = λ i. ran_of i (front ++ (events ++ ended ∷ next.told)) in
-    let with_told : List Told → Ran Inside = λ told. ran_of (joined (record { rules = rules ++ rule ∷ []; cases = rows ++ inside }) next.result) told in
-    ap with_result (sym (regroup rules rows rule inside next.result))
-    ∙ ap with_told (ap (λ xs. front ++ xs) (sym (append_assoc events (ended ∷ []) next.told)) ∙ sym (append_assoc front (events ++ ended ∷ []) next.told))
+push_rule rules rows rule inside front events ended next = grind (arith, common_steps)
 
 pub above : (a r other : ℕ) → a ≡ r → suc r ≤ other → a < other
 above a r other is le = omega (arith, is, le)

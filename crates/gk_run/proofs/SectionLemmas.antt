@@ -1,9 +1,10 @@
 -- What the parts of a section come to together: there is a cut that gives all of it.
+use Rattle.std.proofs.Common.{Bool, List, [], ap, cond, false, length, refl, subst, sym, true, ℕ, ◌++◌, ◌∙◌, ◌≡◌, true≢false, append-nil, arith}
+use Rattle.std.proofs.lemmas.Grind.{common_steps}
 use Rattle.std.specs.List.{FoldsTo}
-use Rattle.std.proofs.Common.{Bool, List, [], ap, cond, false, length, refl, subst, sym, true, ℕ, ◌++◌, ◌∙◌, ◌≡◌, true≢false, append-nil}
 use Rattle.gk_select.specs.Case.{CaseValue}
 use Rattle.gk_world.specs.Sandbox.{SandboxValue}
-use Rattle.gk_world.specs.State.{State, state_of}
+use Rattle.gk_world.specs.State.{State}
 use Rattle.gk_run.specs.declared.ending.Ending.{Ending}
 use Rattle.gk_run.specs.declared.ending.Ending.TheVariants as endings
 use Rattle.gk_run.specs.declared.results.Outcome.{Outcome}
@@ -20,10 +21,9 @@ use Rattle.gk_run.specs.Running.{AreEventsTold, alone, row_of_case, verdict_of}
 use Rattle.gk_run.specs.Section.{Cut, Events, around_of, before_passed, happened, in_after, in_before, in_cleanups, in_order, in_steps, has_event, nowhere}
 use Rattle.gk_run.specs.Walk.{rows_of_steps, steps_from}
 use Rattle.gk_run.specs.PrivateContracts.{Happens, IsClosing}
-use Rattle.gk_run.proofs.EndingLemmas.{passed_unrefused, worse_assoc}
+use Rattle.gk_run.proofs.EndingLemmas.{worse_assoc}
 use Rattle.gk_run.proofs.EventLemmas.{cut_there, ended_both, heard_both, place_there}
 use Rattle.gk_run.proofs.GoesLemmas.{all_told, begin, chain, stays_refused}
-use Rattle.gk_run.proofs.WalkLemmas.{at}
 
 -- ---- four parts and their cut
 
@@ -69,10 +69,7 @@ parts_cut all xs ys zs ws false false false true k l m p q r s = (
   parts_are xs all.before ys all.steps zs all.after ws (cut_at (length s.front) s.left all.cleanups) (all_told false all.before xs refl p) (all_told false all.steps ys refl q) (all_told false all.after zs refl r) (cut_told all.cleanups ws s)
       ∙ cut_is (has_event (length s.front) all.cleanups) (parts all.before all.steps all.after (cut_at (length s.front) s.left all.cleanups)) all (cut_place all.cleanups ws s),
 )
-parts_cut all xs ys zs ws false false false false k l m p q r s = (
-  nowhere,
-  parts_are xs all.before ys all.steps zs all.after ws all.cleanups (all_told false all.before xs refl p) (all_told false all.steps ys refl q) (all_told false all.after zs refl r) (all_told false all.cleanups ws refl s),
-)
+parts_cut all xs ys zs ws false false false false k l m p q r s = grind (arith, common_steps)
 parts_cut all xs ys zs ws true false b3 b4 k l m p q r s = absurd (true≢false (sym (k refl)))
 parts_cut all xs ys zs ws true true false b4 k l m p q r s = absurd (true≢false (sym (l refl)))
 parts_cut all xs ys zs ws true true true false k l m p q r s = absurd (true≢false (sym (m refl)))
@@ -204,14 +201,12 @@ section_ends hears run level tags b now l reported first last closing =
 -- a section whose before list passed whole has its state
 pub passed_state : (run : Run) (level : Level) (tags : List (List ℕ)) (outside : State) (first : List Event) (ended : Ending) (now : SectionNow) → IsBegun run level tags outside first ended now → has_passed ended ≡ true →
     now.state ≡ section_state run level tags outside
-passed_state run level tags outside first ended now begins p =
-    ap (λ (x : SectionNow). x.state) (left_whole (is_memory_ending ended) (before_events run.library run.hooks level tags outside) first (entered outside) now (passed_unrefused ended p) begins.so_far begins.leaves)
+passed_state run level tags outside first ended now begins p = grind (arith, common_steps)
 
 -- a section that was begun is so still if the sandbox has the same contents
 pub begun_still : (run : Run) (level : Level) (tags : List (List ℕ)) (outside : State) (first : List Event) (ended : Ending) (cleanups : List CleanupValue) (old new : SandboxValue) → new.now ≡ old.now →
     IsBegun run level tags outside first ended (section_now old cleanups) → IsBegun run level tags outside first ended (section_now new cleanups)
-begun_still run level tags outside first ended cleanups old new same begins =
-    record { so_far = begins.so_far; ends = begins.ends; leaves = ap (λ x. at (state_of x) cleanups) same ∙ begins.leaves }
+begun_still run level tags outside first ended cleanups old new same begins = grind (arith, common_steps)
 
 -- whether it passed whole is that of the cut
 pub ready : (run : Run) (level : Level) (tags : List (List ℕ)) (outside : State) (around : Status) (first last : List Event) (ended : Ending) → ended ≡ ended_in first → (end : IsSectionEnd run level tags outside around first last) →

@@ -1,6 +1,7 @@
 -- What the code's steps make of a walk.
+use Rattle.std.proofs.Common.{Bool, List, None, Some, [], ap, cond, drop, false, get_or, inl, inr, is_some, length, map, refl, subst, sym, true, ℕ, ◌++◌, ◌+◌, ◌<◌, ◌∙◌, ◌∷◌, ◌≡◌, ◌≤◌, Option, find, true≢false, arith}
+use Rattle.std.proofs.lemmas.Grind.{common_steps}
 use Rattle.std.specs.List.{FoldsTo}
-use Rattle.std.proofs.Common.{Bool, List, None, Some, [], ap, append_assoc, cond, drop, false, get_or, inl, inr, is_some, length, map, refl, subst, sym, true, ℕ, ◌++◌, ◌+◌, ◌<◌, ◌∙◌, ◌∷◌, ◌≡◌, ◌≤◌, Option, find, true≢false}
 use Rattle.std.specs.Option.{option_map_or}
 use Rattle.std.proofs.lemmas.List.{append-nil, at_drop_all, at_drop_more, map-append}
 use Rattle.gk_gherkin.specs.Feature.{StepValue}
@@ -20,8 +21,8 @@ use Rattle.gk_run.specs.declared.results.Outcome.{Outcome}
 use Rattle.gk_run.specs.declared.results.Outcome.TheVariants as outcomes
 use Rattle.gk_run.specs.declared.section.Level.{Level}
 use Rattle.gk_run.specs.declared.section.Stage.{Stage}
-use Rattle.gk_run.specs.Acting.{ActionEffect as ActedValue, CleanupValue, ArgumentsValue, arguments_by_uses, act, at_site, done_of, IsDone, HasRegistered, WritesFirst}
-use Rattle.gk_run.specs.Ending.{ending_of, has_passed, is_memory_ending, is_memory_mark, worse}
+use Rattle.gk_run.specs.Acting.{ActionEffect as ActedValue, CleanupValue, ArgumentsValue, arguments_by_uses, at_site, done_of, IsDone, HasRegistered, WritesFirst}
+use Rattle.gk_run.specs.Ending.{ending_of, has_passed, is_memory_ending, worse}
 use Rattle.gk_run.specs.Events.{Event, SoFar, SectionNow, ended_in, event_marks, left_by, mark_of, of_step}
 use Rattle.gk_run.specs.Results.{StepRow}
 use Rattle.gk_run.specs.Section.{after_of, site_of, steps_of_case}
@@ -268,14 +269,11 @@ shown_any endings.Skipped left rows all ms h = h
 
 shown_more : (e : Ending) (rows : List StepRow) (step : StepValue) (steps all : List StepValue) (ms : List Mark) (m : Mark) → ((more : List Mark) → rows ++ rows_of_steps (step ∷ steps) more ≡ rows_of_steps all (ms ++ more)) →
     Shows e steps (rows ++ row_of_step step m ∷ []) all (ms ++ m ∷ [])
-shown_more e rows step steps all ms m h =
-    shown_any e steps (rows ++ row_of_step step m ∷ []) all (ms ++ m ∷ [])
-    (λ more. append_assoc rows (row_of_step step m ∷ []) (rows_of_steps steps more) ∙ h (m ∷ more) ∙ ap (rows_of_steps all) (sym (append_assoc ms (m ∷ []) more)))
+shown_more e rows step steps all ms m h = grind (arith, common_steps)
 
 shown_next : (library : LibraryValue) (stood : Ending) (s new : State) (cs left : List CleanupValue) (step : StepValue) (steps all : List StepValue) (rows : List StepRow) (ms : List Mark) (m : Mark) → IsNext library stood s cs step m new left →
     Shows stood (step ∷ steps) rows all ms → Shows (worse stood (ending_of m)) steps (rows ++ row_of_step step m ∷ []) all (ms ++ next_marks stood m)
-shown_next library endings.Memory s new cs left step steps all rows ms m t h =
-    ap (λ x. (rows ++ row_of_step step x ∷ []) ++ rows_of_steps steps []) t.0 ∙ append_assoc rows (row_of_step step Untested ∷ []) (rows_of_steps steps []) ∙ h ∙ ap (rows_of_steps all) (sym (append-nil ms))
+shown_next library endings.Memory s new cs left step steps all rows ms m t h = grind (arith, common_steps)
 shown_next library endings.Passed s new cs left step steps all rows ms m t h = shown_more (ending_of m) rows step steps all ms m h
 shown_next library endings.Failed s new cs left step steps all rows ms m t h = shown_more (worse endings.Failed (ending_of m)) rows step steps all ms m h
 shown_next library endings.Skipped s new cs left step steps all rows ms m t h = shown_more (worse endings.Skipped (ending_of m)) rows step steps all ms m h
@@ -354,27 +352,16 @@ pub used_step : (library : LibraryValue) (site : Site) (s new : State) (cleanups
     → IsDone (done_of (at_site u.action site library g s)) o new → HasRegistered (at_site u.action site library g s) cleanups o new_cleanups
     → IsStepRun (stepped library site s step x) cleanups (Acted o) new new_cleanups
 used_step library site s new cleanups new_cleanups step None u g o looked h done registered = absurd looked
-used_step library site s new cleanups new_cleanups step (Some f) u g o looked h done registered =
-    let is = called_is library site f step.block s u.action g looked.action (h ∙ used_given library f u.fields step.block looked.fields) in
-    acted_step (act library site f step.block s) cleanups new_cleanups o new
-    (subst (λ (a : ActedValue). IsDone (done_of a) o new) is done)
-    (subst (λ (a : ActedValue). HasRegistered a cleanups o new_cleanups) is registered)
+used_step library site s new cleanups new_cleanups step (Some f) u g o looked h done registered = grind (arith, common_steps, called_is, used_given, acted_step)
 
 -- what such a step wrote where memory was refused in its action
 pub used_kept : (library : LibraryValue) (site : Site) (old new : SandboxValue) (step : StepValue) (x : Option FoundValue) (u : FoundUse) (g : ArgumentsValue)
     → IsUseOf library x (Some u) → g ≡ arguments_by_uses u.fields step.block
     → WritesFirst (done_of (at_site u.action site library g (state_of old.now))).files old new → WritesFirst (stepped library site (state_of old.now) step x).files old new
 used_kept library site old new step None u g looked h kept = absurd looked
-used_kept library site old new step (Some f) u g looked h kept =
-    let is = called_is library site f step.block (state_of old.now) u.action g looked.action (h ∙ used_given library f u.fields step.block looked.fields) in
-    subst (λ (a : ActedValue). WritesFirst a.done.files old new) is kept
-
-only_skipped : (b : Bool) → is_memory_mark (cond b Skipped Undefined) ≡ false
-only_skipped true = refl
-only_skipped false = refl
+used_kept library site old new step (Some f) u g looked h kept = grind (arith, common_steps, called_is, used_given)
 
 -- memory is refused while a step is looked up only where its text has the ends of an entry
 pub look_needs : (library : LibraryValue) (step : StepValue) (m : Mark) → IsLookedUp library Skipped step m → m ≡ Acted outcomes.Memory → HasCandidateFor library step.step_type step.text
 look_needs library step m (inl is) memory = is.1
-look_needs library step m (inr is) memory =
-    absurd (true≢false (sym (ap is_memory_mark memory) ∙ ap is_memory_mark is ∙ only_skipped (is_some (found library step.step_type step.text))))
+look_needs library step m (inr is) memory = grind (arith, common_steps)

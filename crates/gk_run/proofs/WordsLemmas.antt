@@ -1,5 +1,6 @@
 -- What walking through steps is, in words.
-use Rattle.std.proofs.Common.{Bool, List, None, Option, Some, [], ap, append-nil, arith, cond, drop, false, inl, inr, length, option_map, refl, slice_get, subst, suc, sym, zero, ℕ, ◌∙◌, ◌∷◌, ◌≡◌, ◌≢◌, ◌<◌, ◌⊎◌, true≢false}
+use Rattle.std.proofs.Common.{Bool, List, None, Option, Some, [], ap, arith, cond, drop, false, inl, inr, length, option_map, refl, slice_get, subst, suc, sym, zero, ℕ, ◌∙◌, ◌∷◌, ◌≡◌, ◌≢◌, ◌<◌, ◌⊎◌, true≢false}
+use Rattle.std.proofs.lemmas.Grind.{common_steps}
 use Rattle.std.proofs.lemmas.Option.{same_Some}
 use Rattle.gk_gherkin.specs.Feature.{StepValue}
 use Rattle.gk_steps.specs.Finding.{FoundValue, LibraryValue, found}
@@ -13,7 +14,6 @@ use Rattle.gk_run.specs.declared.results.Mark.TheVariants.{Acted, Skipped}
 use Rattle.gk_run.specs.declared.results.Outcome.{Outcome}
 use Rattle.gk_run.specs.declared.results.Outcome.TheVariants as outcomes
 use Rattle.gk_run.specs.declared.section.Stage.{Stage}
-use Rattle.gk_run.specs.Acting.{CleanupValue}
 use Rattle.gk_run.specs.Ending.{ending_of, has_passed}
 use Rattle.gk_run.specs.Events.{Event, SectionNow, event_marks, left_by}
 use Rattle.gk_run.specs.Section.{site_of, steps_of_case}
@@ -211,9 +211,7 @@ steps_by library endings.Memory s steps = unrun_all library endings.Memory s ste
 -- steps that aren't carried out leave all as it was
 unrun_leave : (library : LibraryValue) (section : SectionNow) (ended : Ending) (steps : List StepValue) → left_by section (unrun_steps library ended section.state steps) ≡ section
 unrun_leave library section ended [] = refl
-unrun_leave library section ended (step ∷ steps) =
-    let at : List CleanupValue → SectionNow = λ cs. record { state = section.state; cleanups = cs } in
-    ap (λ (cs : List CleanupValue). left_by (at cs) (unrun_steps library ended section.state steps)) (append-nil section.cleanups) ∙ unrun_leave library section ended steps
+unrun_leave library section ended (step ∷ steps) = grind (arith, common_steps, unrun_leave library section ended steps)
 
 pub steps_in_words : StepsEndAtTheLeastStop
 steps_in_words library start steps =

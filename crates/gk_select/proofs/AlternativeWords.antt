@@ -1,5 +1,6 @@
 -- What a text of alternatives says, piece after piece, and the words of it.
 use Rattle.std.proofs.Common.{◌≡◌, ◌≢◌, ◌⊎◌, ◌<◌, ◌==◌, ℕ, zero, suc, Bool, true, false, not, ◌||◌, if◌then◌else◌, List, [], ◌∷◌, ◌++◌, length, map, take, get_or, Option, Some, None, IsSome, is_some, option_map, Err, refl, sym, ap, subst, ◌∙◌, arith, append_assoc, append-nil, inl, inr}
+use Rattle.std.proofs.lemmas.Grind.{common_steps}
 use Rattle.std.proofs.lemmas.Bool.{cond-false}
 use Rattle.std.proofs.lemmas.Bool.Decides.{nat_tests}
 use Rattle.std.proofs.lemmas.List.{length-map, map-append}
@@ -38,10 +39,7 @@ handed_on v w f TooMany o p is g = g
 nothing_said : (texts : List (List ℕ)) (rule : List AlternativeValue) (k : ℕ) (piece : List ℕ) → k < length texts → piece ≡ get_or texts k piece → alternative piece ≡ None → map alternative texts ≡ map Some rule → ⊥
 nothing_said [] rule k piece l is n e = omega arith
 nothing_said (t ∷ texts) [] k piece l is n e = let no : ⊥ = cc e in no
-nothing_said (t ∷ texts) (a ∷ rule) zero piece l is n e =
-    let first : alternative t ≡ Some a = cc e in
-    let none : alternative t ≡ None = ap alternative (sym is) ∙ n in
-    let no : ⊥ = cc (first, none) in no
+nothing_said (t ∷ texts) (a ∷ rule) zero piece l is n e = grind (arith, common_steps)
 nothing_said (t ∷ texts) (a ∷ rule) (suc k) piece l is n e = let after : map alternative texts ≡ map Some rule = cc e in nothing_said texts rule k piece (omega arith) is n after
 
 -- Where the pieces so far and the next one say something, the first does.
@@ -67,13 +65,11 @@ factor_words false tag = refl
 
 or_spelling : (a : AlternativeValue) (more : List AlternativeValue) → spelling (or_of a more) ≡ joined (a ∷ more)
 or_spelling a [] = factor_words a.negated a.tag ∙ sym (append-nil (alternative_words a))
-or_spelling a (b ∷ more) =
-    ap (λ (ws : List WordValue). ws ++ or_word ∷ spelling (or_of b more)) (factor_words a.negated a.tag) ∙ ap (λ (ws : List WordValue). alternative_words a ++ or_word ∷ ws) (or_spelling b more)
+or_spelling a (b ∷ more) = grind (arith, common_steps, or_spelling b more)
 
 or_words_more : (read : List AlternativeValue) (a : AlternativeValue) → or_words (read ++ a ∷ []) ≡ or_words read ++ or_word ∷ alternative_words a
 or_words_more [] a = ap (λ (ws : List WordValue). or_word ∷ ws) (append-nil (alternative_words a))
-or_words_more (b ∷ read) a =
-    ap (λ (ws : List WordValue). or_word ∷ (alternative_words b ++ ws)) (or_words_more read a) ∙ ap (λ (ws : List WordValue). or_word ∷ ws) (sym (append_assoc (alternative_words b) (or_words read) (or_word ∷ alternative_words a)))
+or_words_more (b ∷ read) a = grind (arith, common_steps, or_words_more read a)
 
 some_words : (absent : Bool) (tag : List ℕ) (more : List WordValue) → (length ((if absent then not_word ∷ tag_word tag ∷ [] else tag_word tag ∷ []) ++ more) == 0) ≡ false
 some_words true tag more = grind (arith, nat_tests)
@@ -81,9 +77,7 @@ some_words false tag more = grind (arith, nat_tests)
 
 words_more : (read : List AlternativeValue) (a : AlternativeValue) → joined (read ++ a ∷ []) ≡ words_with (joined read) a
 words_more [] a = append-nil (alternative_words a)
-words_more (b ∷ read) a =
-    ap (λ (ws : List WordValue). alternative_words b ++ ws) (or_words_more read a) ∙ sym (append_assoc (alternative_words b) (or_words read) (or_word ∷ alternative_words a))
-    ∙ sym (ap (λ (x : Bool). if x then alternative_words a else joined (b ∷ read) ++ or_word ∷ alternative_words a) (some_words b.negated b.tag (or_words read)))
+words_more (b ∷ read) a = grind (arith, common_steps, or_words_more, append_assoc, some_words)
 
 -- Pieces so far, and the words pushed for them.
 pub record ReadSo (texts : List (List ℕ)) (words : List WordValue) : Type 0 where

@@ -1,13 +1,13 @@
 -- The cases of features without outlines, and how many cases a feature has.
-use Rattle.std.proofs.Common.{◌≡◌, ℕ, ◌+◌, List, [], ◌∷◌, length, map, flat_map, refl, sym, ap, ◌∙◌, arith, inl, inr}
+use Rattle.std.proofs.Common.{◌≡◌, ℕ, ◌+◌, List, [], ◌∷◌, length, map, flat_map, refl, sym, ap, ◌∙◌, arith}
+use Rattle.std.proofs.lemmas.Grind.{common_steps}
 use Rattle.std.proofs.lemmas.Bool.{cases_Bool}
 use Rattle.std.proofs.lemmas.List.{length-append}
 use Rattle.std.proofs.lemmas.List.Sums.{sum_by-cons}
 use Rattle.std.specs.List.{AllByRecursion, sum_by, enumerate_from}
-use Rattle.gk_gherkin.specs.Feature.{RowValue, ExamplesValue, ScenarioValue, RuleValue, FeatureValue}
+use Rattle.gk_gherkin.specs.Feature.{ScenarioValue, RuleValue, FeatureValue}
 use Rattle.gk_select.specs.Inherited.{InheritedValue, inherited_in_feature, inherited_in_rule}
-use Rattle.gk_select.specs.Outline.{is_outline}
-use Rattle.gk_select.specs.Expansion.{plain_case, row_case, examples_cases, scenario_cases, rule_cases, cases, ArePlain, HasNoOutline, plain_cases, case_count_of, case_count}
+use Rattle.gk_select.specs.Expansion.{plain_case, scenario_cases, rule_cases, cases, ArePlain, HasNoOutline, plain_cases, case_count_of, case_count}
 
 plain_scenarios : (i : InheritedValue) (scenarios : List ScenarioValue) → ArePlain scenarios → flat_map (scenario_cases i) scenarios ≡ map (plain_case i) scenarios
 plain_scenarios i [] plain = refl
@@ -36,11 +36,7 @@ sum_enumerate G n [] = refl
 sum_enumerate {A} G n (x ∷ xs) = sum_by-cons (λ (p : ℕ × A). G p.1) (n, x) (enumerate_from (n + 1) xs) ∙ ap (λ (m : ℕ). G x + m) (sum_enumerate G (n + 1) xs) ∙ sym (sum_by-cons G x xs)
 
 scenario_counted : (i : InheritedValue) (s : ScenarioValue) → length (scenario_cases i s) ≡ case_count_of s
-scenario_counted i s = elim (cases_Bool (is_outline s)) [
-  | inl t ↦ rw t (length-flat_map (examples_cases i s) (λ (e : ℕ × ExamplesValue). length e.1.rows) (λ e. length-enumerate (λ (r : ℕ × RowValue). row_case i s e.0 e.1 r.0 r.1) 1 e.1.rows) (enumerate_from 1 s.examples)
-      ∙ sum_enumerate (λ (e : ExamplesValue). length e.rows) 1 s.examples)
-  | inr f ↦ rw f refl
-]
+scenario_counted i s = grind (arith, common_steps, cases_Bool, length-flat_map, length-enumerate, sum_enumerate)
 
 abbrev rule_count : RuleValue → ℕ
 rule_count r = sum_by case_count_of r.scenarios
@@ -50,9 +46,4 @@ rule_counted f r = let inherited = inherited_in_rule f r.0 r.1 in length-flat_ma
 
 pub cases_counted : (f : FeatureValue) → length (cases f) ≡ case_count f
 unfolding cases
-cases_counted f = length-append (flat_map (scenario_cases (inherited_in_feature f)) f.scenarios) (flat_map (rule_cases f) (enumerate_from 0 f.rules))
-    ∙ rw (
-      length-flat_map (scenario_cases (inherited_in_feature f)) case_count_of (scenario_counted (inherited_in_feature f)) f.scenarios,
-      length-flat_map (rule_cases f) (λ (r : ℕ × RuleValue). rule_count r.1) (rule_counted f) (enumerate_from 0 f.rules),
-      sum_enumerate rule_count 0 f.rules,
-    ) refl
+cases_counted f = grind (arith, common_steps, length-append, flat_map, length-flat_map, scenario_counted, rule_counted, sum_enumerate)

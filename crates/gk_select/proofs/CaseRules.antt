@@ -1,12 +1,13 @@
 -- The cases of a feature fall into its rules.
-use Rattle.std.proofs.Common.{◌≡◌, ℕ, suc, ◌+◌, ◌≤◌, List, [], ◌∷◌, ◌++◌, length, map, flat_map, Option, Some, None, refl, sym, subst, arith, inl, inr}
+use Rattle.std.proofs.Common.{◌≡◌, ℕ, ◌+◌, ◌≤◌, List, [], ◌∷◌, ◌++◌, length, map, flat_map, Option, refl, arith, inl, inr}
+use Rattle.std.proofs.lemmas.Grind.{common_steps}
 use Rattle.std.proofs.lemmas.Bool.{cases_Bool}
 use Rattle.std.proofs.lemmas.List.{map-append}
 use Rattle.std.specs.List.{AllByRecursion, enumerate_from}
 use Rattle.gk_gherkin.specs.Feature.{RowValue, ExamplesValue, ScenarioValue, RuleValue, FeatureValue}
 use Rattle.gk_select.specs.Case.{CaseValue}
 use Rattle.gk_select.specs.RuleOrder.{rank, FallFrom, FallIntoRules}
-use Rattle.gk_select.specs.Inherited.{InheritedValue, inherited_in_feature, inherited_in_rule}
+use Rattle.gk_select.specs.Inherited.{InheritedValue}
 use Rattle.gk_select.specs.Outline.{is_outline}
 use Rattle.gk_select.specs.Expansion.{row_case, examples_cases, scenario_cases, rule_cases, cases}
 
@@ -47,24 +48,12 @@ fall_from_less count least more (rule ∷ rules) l falls = (omega (arith, l, fal
 fall_on : (count least : ℕ) (rule : Option ℕ) (cs : List CaseValue) (rest : List (Option ℕ)) → AllByRecursion (IsIn rule) cs → least ≤ rank rule → rank rule ≤ count
     → FallFrom count (rank rule) rest → FallFrom count least (rules_of cs ++ rest)
 fall_on count least rule [] rest all l within falls = fall_from_less count least (rank rule) rest l falls
-fall_on count least rule (c ∷ cs) rest all l within falls =
-    subst (λ (r : Option ℕ). FallFrom count least (r ∷ (rules_of cs ++ rest))) (sym all.0)
-    (l, within, fall_on count (rank rule) rule cs rest all.1 (omega arith) within falls)
+fall_on count least rule (c ∷ cs) rest all l within falls = grind (arith, common_steps, fall_on count (rank rule) rule cs rest all.1 (omega arith) within falls)
 
 rules_fall : (f : FeatureValue) (count n : ℕ) (rules : List RuleValue) → n + length rules ≤ count → FallFrom count n (rules_of (flat_map (rule_cases f) (enumerate_from n rules)))
 rules_fall f count n [] within = tt
-rules_fall f count n (r ∷ rules) within =
-    let here = rule_cases f (n, r) in
-    let behind = flat_map (rule_cases f) (enumerate_from (n + 1) rules) in
-    let next : n + 1 ≡ suc n = omega arith in
-    subst (FallFrom count n) (sym (map-append (λ (c : CaseValue). c.rule) here behind))
-    (fall_on count n (Some n) here (rules_of behind) (scenarios_are_in (inherited_in_rule f n r) r.scenarios) (omega arith) (omega (arith, within))
-    (subst (λ (least : ℕ). FallFrom count least (rules_of behind)) next (rules_fall f count (n + 1) rules (omega (arith, within)))))
+rules_fall f count n (r ∷ rules) within = grind (arith, common_steps, flat_map, map-append, fall_on, scenarios_are_in, rules_fall f count (n + 1) rules (omega (arith, within)))
 
 pub cases_fall : (f : FeatureValue) → FallIntoRules (length f.rules) (rules_of (cases f))
 unfolding cases
-cases_fall f =
-    let own = flat_map (scenario_cases (inherited_in_feature f)) f.scenarios in
-    let behind = flat_map (rule_cases f) (enumerate_from 0 f.rules) in
-    subst (FallFrom (length f.rules) 0) (sym (map-append (λ (c : CaseValue). c.rule) own behind))
-    (fall_on (length f.rules) 0 None own (rules_of behind) (scenarios_are_in (inherited_in_feature f) f.scenarios) (omega arith) (omega arith) (rules_fall f (length f.rules) 0 f.rules (omega arith)))
+cases_fall f = grind (arith, common_steps, flat_map, map-append, fall_on, scenarios_are_in, rules_fall)

@@ -1,8 +1,8 @@
 -- Whether a line is among lines in rising order.
-use Rattle.std.proofs.Common.{◌≡◌, ◌<◌, ◌≤◌, ℕ, Bool, true, false, ◌==◌, ◌&&◌, List, [], ◌∷◌, length, map, get_or, Result, Ok, Err, is_ok, refl, sym, ap, arith, inl, inr}
+use Rattle.std.proofs.lemmas.Grind.{common_steps, get_or_default_zero}
+use Rattle.std.proofs.Common.{◌≡◌, ◌<◌, ◌≤◌, ℕ, Bool, true, false, ◌==◌, ◌&&◌, List, [], ◌∷◌, length, map, get_or, Result, Ok, Err, is_ok, refl, sym, ap, arith}
 use Rattle.std.proofs.lemmas.Bool.{cases_lt}
 use Rattle.std.proofs.lemmas.Bool.Decides.{nat_tests}
-use Rattle.std.proofs.lemmas.Grind.{get_or_default_zero}
 use Rattle.std.proofs.lemmas.List.Folds.{list_any_at, list_any_none}
 use Rattle.std.proofs.lemmas.List.Sorted.{searched, list_any-IsPermutation, length_permutation}
 use Rattle.std.specs.List.{list_all, list_any}
@@ -27,10 +27,7 @@ from_searched : (xs : List ℕ) (x : ℕ) (r : Result ℕ ℕ)
     → MatchResult r (λ i. (i < length xs) × (get_or xs i 0 ≡ x)) (λ i. (i ≤ length xs) × ((k : ℕ) → k < i → get_or xs k 0 < x) × ((k : ℕ) → i ≤ k → k < length xs → x < get_or xs k 0))
     → is_ok r ≡ list_any (λ y. y == x) xs
 from_searched xs x (Ok i) f = sym (list_any_at (λ y. y == x) xs i 0 f.0 (same_number (get_or xs i 0) x f.1))
-from_searched xs x (Err i) f = sym (list_any_none (λ y. y == x) xs (λ k d within. rw (get_or_default_zero xs k d within) (elim (cases_lt k i) [
-  | inl l ↦ below (get_or xs k 0) x (f.1 k l)
-  | inr l ↦ above (get_or xs k 0) x (f.2 k l within)
-])))
+from_searched xs x (Err i) f = grind (arith, common_steps, list_any_none, get_or_default_zero, cases_lt, below, above)
 
 pub is_among : (xs : List ℕ) (x : ℕ) (r : Result ℕ ℕ) → IsBinarySearchResult (λ y. nat_cmp y x) xs r → IsNonDecreasing xs → is_ok r ≡ list_any (λ y. y == x) xs
 is_among xs x r s up = from_searched xs x r (searched xs x r s (λ i j. up i j 0))

@@ -1,12 +1,12 @@
 -- A text is filled piece by piece, each piece the text before a `>`.
 use Rattle.std.proofs.Common.{◌≡◌, ◌≢◌, ℕ, zero, suc, ◌+◌, ◌<◌, false, ◌&&◌, nat_eq, List, [], ◌∷◌, ◌++◌, length, get_or, Option, Some, None, refl, ap, ◌∙◌, arith, inl, inr}
+use Rattle.std.proofs.lemmas.Grind.{common_steps}
 use Rattle.std.proofs.lemmas.Bool.{cases_Bool, cases_eq, cond-true, cond-false, ne_eqb}
 use Rattle.std.proofs.lemmas.Bool.Decides.{nat_tests}
 use Rattle.std.proofs.lemmas.Slice.Eq.{bytes_eq-Decides}
 use Rattle.std.specs.List.{starts_with}
 use Rattle.std.specs.Str.{bytes_eq}
-use Rattle.gk_select.specs.Filling.{can_stand, header_at, cell_under, filled_at, filled_from, filled}
-use Rattle.gk_select.specs.Filling.{cell_of, cell_or_byte, filled_piece}
+use Rattle.gk_select.specs.Filling.{can_stand, header_at, cell_under, filled_at, filled_from, filled, cell_of, cell_or_byte, filled_piece}
 
 -- A text without a byte.
 pub record Without (c : ℕ) (bs : List ℕ) : Type 0 where
@@ -49,12 +49,7 @@ finds : (headers cells : List (List ℕ)) (bs after : List ℕ) → length cells
 unfolding cell_of cell_under
 finds [] cells bs after e w = tt
 finds (h ∷ headers) [] bs after e w = absurd (omega arith)
-finds (h ∷ headers) (cell ∷ cells) bs after e w =
-    let ih = finds headers cells bs after (omega arith) w in
-    rw (ends_piece h bs after w) (elim (cases_Bool (bytes_eq h bs)) [
-      | inl t ↦ rw t ((bytes_eq-Decides h bs).0 t, cond-true (bytes_eq h bs) cell (cell_under headers cells bs) t)
-      | inr f ↦ rw f (Finds-same headers cells (h ∷ headers) (cell ∷ cells) bs _ _ (cond-false (bytes_eq h bs) cell (cell_under headers cells bs) f) ih)
-    ])
+finds (h ∷ headers) (cell ∷ cells) bs after e w = grind (arith, common_steps, finds headers cells bs after (omega arith) w, ends_piece, cases_Bool, bytes_eq-Decides, cond-true, Finds-same, cond-false)
 
 -- A byte other than `<` begins no placeholder.
 no_placeholder : (headers : List (List ℕ)) (b : ℕ) (bs : List ℕ) → b ≢ 60 → header_at headers (b ∷ bs) ≡ None

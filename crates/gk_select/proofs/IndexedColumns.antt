@@ -1,15 +1,13 @@
 -- What an index over the columns of a header finds.
 use Rattle.std.specs.Prelude.{IfSome, ltb, Bool, true, false, cond, is_some, slice_get, option_map, option_copied, bytes_eq}
-use Rattle.std.specs.Cmp.Lexicographic.{slice_cmp}
-use Rattle.std.specs.Map.{lookup, update}
+use Rattle.std.specs.Map.{update}
 use Rattle.std.specs.Ordering.{nat_cmp, is_eq}
 use Rattle.std.specs.String.{string_bytes}
 use Rattle.std.proofs.Common.{◌≡◌, ℕ, zero, suc, ◌+◌, ◌<◌, ◌≤◌, List, [], ◌∷◌, length, drop, get_or, Option, Some, None, Bor, String, inl, inr, refl, sym, ap, ◌∙◌, arith}
+use Rattle.std.proofs.lemmas.Grind.{common_steps}
 use Rattle.std.proofs.lemmas.Bool.{cond-true, cond-false, cases_lt, lt-ltb, ltb-true}
-use Rattle.std.proofs.lemmas.Bool.Decides.{nat_tests}
 use Rattle.std.proofs.lemmas.List.{drop_more, drop_all}
 use Rattle.std.proofs.lemmas.Option.{slice_get_past}
-use Rattle.std.proofs.lemmas.Slice.Eq.{bytes_eq-Decides}
 use Rattle.gk_gherkin.specs.Feature.{texts}
 use Rattle.gk_select.specs.Filling.{cell_of}
 use Rattle.gk_select.specs.Columns.{column_of, position_in, has_length, IsIndexFrom}
@@ -47,21 +45,12 @@ module _ {Z : Type 0} (header : List (String Z)) (i : ℕ) (name : List ℕ) whe
 -- An index without names.
 pub no_names : (first : ℕ) (index : ColumnIndex) → index.positions.entries ≡ [] → IsIndexFrom first [] index
 unfolding column_of
-no_names first index e = record {
-  positions = λ name. ap (λ es. lookup (λ (k : Bor (List ℕ)). is_eq (slice_cmp nat_cmp name k.now)) es) e;
-  lengths = λ name absent. refl;
-}
+no_names first index e = grind (arith, common_steps)
 
 -- An index with one name more.
 no_column : (name other : List ℕ) (names : List (List ℕ)) (b known : Bool) → bytes_eq name other ≡ b → cond (is_eq (nat_cmp (length name) (length other))) true known ≡ false → (known ≡ false → column_of names other ≡ None) → cond b (Some 0) (option_map suc (column_of names other)) ≡ None
-no_column name other names true known e absent more =
-    let same : name ≡ other = (bytes_eq-Decides name other).0 e in
-    let lengths : length name ≡ length other = ap length same in
-    let never : ⊥ = grind (arith, nat_tests, lengths, absent) in
-    absurd never
-no_column name other names false known e absent more =
-    let unknown : known ≡ false = grind (arith, nat_tests, absent) in
-    ap (option_map suc) (more unknown)
+no_column name other names true known e absent more = grind (arith, common_steps)
+no_column name other names false known e absent more = grind (arith, common_steps)
 
 pub added : (old new : ColumnIndex) (name : List ℕ) (position : ℕ) (names : List (List ℕ))
     → ((n : ℕ) → has_length new n ≡ cond (is_eq (nat_cmp (length name) n)) true (has_length old n))

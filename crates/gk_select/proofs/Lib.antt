@@ -23,6 +23,3 @@ pub mod RowOrder
 pub mod ChosenLines
 pub mod Selected
 pub mod Untagged
-pub mod WorkedOutlines
-pub mod WorkedChoices
-pub mod WorkedExpressions

@@ -1,6 +1,6 @@
 -- What lines whose numbers rise leave for what a part reads from them, and for the lines after it.
-use Rattle.std.proofs.Common.{◌≡◌, ℕ, zero, suc, ◌+◌, ◌≤◌, ◌<◌, List, [], ◌∷◌, ◌++◌, length, map, get_or, Option, Some, None, sym, subst, arith, inl, inr}
-use Rattle.std.specs.List.{slice_index}
+use Rattle.std.proofs.Common.{ℕ, zero, suc, ◌+◌, ◌≤◌, ◌<◌, List, [], ◌∷◌, ◌++◌, length, map, get_or, Option, Some, None, sym, subst, arith, inl, inr}
+use Rattle.std.proofs.lemmas.Grind.{common_steps}
 use Rattle.std.specs.List.Sorted.{IsNonDecreasingBy, IsStrictlyIncreasing}
 use Rattle.gk_gherkin.specs.declared.class.Class.{Class}
 use Rattle.gk_gherkin.specs.Lines.{LineValue, Lines, numbered_from}
@@ -44,9 +44,7 @@ pub between_increases : (n m : ℕ) (xs : List ℕ) → Between (λ (x : ℕ). x
 between_increases n m [] b k lt = absurd (omega (arith, lt))
 between_increases n m (x ∷ []) b k lt = absurd (omega (arith, lt))
 between_increases n m (x ∷ y ∷ ys) b zero lt = omega (arith, b.1.0)
-between_increases n m (x ∷ y ∷ ys) b (suc k) lt =
-    let next : suc (k + 1) ≡ suc k + 1 = omega arith in
-    subst (λ (j : ℕ). slice_index (x ∷ y ∷ ys) (suc k) < slice_index (x ∷ y ∷ ys) j) next (between_increases (suc x) m (y ∷ ys) b.1 k (omega (arith, lt)))
+between_increases n m (x ∷ y ∷ ys) b (suc k) lt = grind (arith, common_steps, between_increases (suc x) m (y ∷ ys) b.1 k (omega (arith, lt)))
 
 -- The numbers of lines rise, from n on.
 abbrev pub Rise : ℕ → Lines → Type 0
@@ -59,9 +57,7 @@ rise_less least n (x ∷ ls) l r = (omega (arith, l, r.0), r.1)
 
 pub numbered_rise : (n : ℕ) (texts : List (List ℕ)) → Rise n (numbered_from n texts)
 numbered_rise n [] = tt
-numbered_rise n (text ∷ texts) =
-    let next : n + 1 ≡ suc n = omega arith in
-    (omega arith, subst (λ (m : ℕ). Rise m (numbered_from (n + 1) texts)) next (numbered_rise (n + 1) texts))
+numbered_rise n (text ∷ texts) = grind (arith, common_steps, numbered_rise (n + 1) texts)
 
 -- What a part leaves where nothing is asked of what it says.
 skips_rise : {Ignored : LineValue → Type 0} (n : ℕ) {ls rest : Lines} → Skips Ignored ls rest → Rise n ls → Rise n rest
@@ -104,8 +100,7 @@ steps_rise n ls steps rest i r = many_rise IsStep n (step_rise n) i.parts r
 
 pub background_rise : (n : ℕ) (ls : Lines) (background : Option BackgroundValue) (rest : Lines) → Perhaps IsBackground ls background rest → Rise n ls → Rise n rest
 background_rise n ls None rest i r = subst (Rise n) i r
-background_rise n ls (Some background) rest i r =
-    steps_rise n i.after_description background.steps rest i.steps (describes_rise n i.description (next_rise n ls i.line i.after_heading i.heading.next r))
+background_rise n ls (Some background) rest i r = grind (arith, common_steps, steps_rise, describes_rise, next_rise)
 
 -- A heading stands no higher than n, and the lines after it are below it.
 pub heading_rise : (Ignored : LineValue → Type 0) (kind : Class) (n : ℕ) (ls : Lines) (tags : List (List ℕ)) (l : LineValue) (rest : Lines) → IsTaggedHeading Ignored kind ls tags l rest → Rise n ls → (n ≤ l.line) × Rise (suc l.line) rest

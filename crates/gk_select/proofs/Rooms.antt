@@ -1,5 +1,6 @@
 -- The room that is left, part after part, and how many steps the cases have.
 use Rattle.std.proofs.Common.{◌≡◌, ◌≤◌, ◌<◌, ℕ, ◌+◌, ◌*◌, nat_lt, true, false, List, [], ◌∷◌, ◌++◌, length, map, flat_map, drop, get_or, suc, Option, Some, is_some, not, refl, sym, ap, ◌∙◌, arith, inl, inr}
+use Rattle.std.proofs.lemmas.Grind.{common_steps}
 use Rattle.std.proofs.lemmas.Bool.{cases_Bool, cond-true, cond-false}
 use Rattle.std.proofs.lemmas.Bool.Decides.{nat_tests}
 use Rattle.std.proofs.lemmas.List.{at_drop_more, drop_all, length-append, length-map}
@@ -8,7 +9,7 @@ use Rattle.std.proofs.Math.Nat.{suc-mul}
 use Rattle.std.specs.List.{sum_by, enumerate_from}
 use Rattle.gk_gherkin.specs.Feature.{RowValue, ExamplesValue, ScenarioValue, RuleValue, FeatureValue}
 use Rattle.gk_select.specs.Case.{CaseValue}
-use Rattle.gk_select.specs.Inherited.{InheritedValue, background_steps, inherited_in_feature, inherited_in_rule}
+use Rattle.gk_select.specs.Inherited.{InheritedValue, background_steps, inherited_in_rule}
 use Rattle.gk_select.specs.Outline.{is_outline}
 use Rattle.gk_select.specs.Expansion.{row_case, examples_cases, scenario_cases, rule_cases, cases, step_count}
 use Rattle.gk_select.specs.Counting.{left, left_of, examples_steps, scenario_steps, rule_steps, feature_steps}
@@ -75,14 +76,7 @@ rule_counted f r =
 
 pub counted : (f : FeatureValue) → step_count f ≡ feature_steps f
 unfolding cases
-counted f =
-    let inherited = length (background_steps f.background) in
-    sum_by-append steps_of (flat_map (scenario_cases (inherited_in_feature f)) f.scenarios) (flat_map (rule_cases f) (enumerate_from 0 f.rules))
-    ∙ rw (
-      sum_flat_map steps_of (scenario_cases (inherited_in_feature f)) (scenario_steps inherited) (scenario_counted (inherited_in_feature f)) f.scenarios,
-      sum_flat_map steps_of (rule_cases f) (λ (r : ℕ × RuleValue). rule_steps inherited r.1) (rule_counted f) (enumerate_from 0 f.rules),
-      sum_enumerate (rule_steps inherited) 0 f.rules,
-    ) refl
+counted f = grind (arith, common_steps, sum_by-append, flat_map, sum_flat_map, scenario_counted, rule_counted, sum_enumerate)
 
 -- What the loop over Examples has to come to.
 pub outline_total : (inherited own : ℕ) (s : ScenarioValue) → own ≡ length s.steps → is_outline s ≡ true → sum_by (examples_steps (inherited + own)) s.examples ≡ scenario_steps inherited s

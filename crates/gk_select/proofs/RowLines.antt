@@ -1,5 +1,6 @@
 -- The rows of outlines, and the lines of their cases.
-use Rattle.std.proofs.Common.{◌≡◌, ℕ, ◌+◌, ◌<◌, ◌≤◌, suc, zero, Bool, true, false, ◌||◌, List, [], ◌∷◌, ◌++◌, length, map, flat_map, drop, get_or, Option, Some, refl, sym, ap, ◌∙◌, arith, add-one, append_assoc}
+use Rattle.std.proofs.Common.{◌≡◌, ℕ, ◌+◌, ◌<◌, ◌≤◌, suc, zero, Bool, true, false, ◌||◌, List, [], ◌∷◌, ◌++◌, length, map, flat_map, drop, get_or, Option, Some, refl, sym, ap, ◌∙◌, arith, add-one, append_assoc, rules}
+use Rattle.std.proofs.lemmas.Grind.{common_steps}
 use Rattle.std.proofs.lemmas.List.{map-append}
 use Rattle.std.specs.Prelude.{zip, slice_get}
 use Rattle.std.specs.List.{enumerate_from}
@@ -67,15 +68,12 @@ none_left (h ∷ hs) (t ∷ ts) (suc i) short = none_left hs ts i (omega (arith,
 -- One cell more under its header.
 pub one_cell : {X Y : Type 0} (more done : List (X × Y)) (p : X × Y) (hs : List X) (ts : List Y) (i : ℕ) → more ≡ done ++ p ∷ [] → slice_get hs i ≡ Some p.0 → slice_get ts i ≡ Some p.1 →
     (all : List (X × Y)) → done ++ zip (drop i hs) (drop i ts) ≡ all → more ++ zip (drop (i + 1) hs) (drop (i + 1) ts) ≡ all
-one_cell {X = X} {Y = Y} more done p hs ts i grown h t all before =
-    let rest : ℕ → List (X × Y) = λ n. zip (drop n hs) (drop n ts) in
-    ap (λ (l : List (X × Y)). l ++ rest (i + 1)) grown ∙ append_assoc done (p ∷ []) (rest (i + 1)) ∙ ap (λ (n : ℕ). done ++ p ∷ rest n) (add-one i) ∙ ap (λ (l : List (X × Y)). done ++ l) (sym (turn hs ts i p.0 p.1 h t)) ∙ before
+one_cell {X = X} {Y = Y} more done p hs ts i grown h t all before = search (rules, append_assoc, add-one, turn)
 
 -- There is no cell under this header.
 pub no_cell : {X Y : Type 0} (done : List (X × Y)) (hs : List X) (ts : List Y) (i : ℕ) → length ts ≤ i →
     (all : List (X × Y)) → done ++ zip (drop i hs) (drop i ts) ≡ all → done ++ zip (drop (i + 1) hs) (drop (i + 1) ts) ≡ all
-no_cell {X = X} {Y = Y} done hs ts i short all before =
-    ap (λ (l : List (X × Y)). done ++ l) (none_left hs ts (i + 1) (omega (arith, short)) ∙ sym (none_left hs ts i short)) ∙ before
+no_cell {X = X} {Y = Y} done hs ts i short all before = grind (arith, common_steps, none_left)
 
 pub at_cases : (i : InheritedValue) (s : ScenarioValue) → RowsAreAtCases i s
 at_cases i s = record { outline = outline_lines i s; plain = none_of_plain _ _ s.examples }

@@ -1,5 +1,5 @@
 -- The choice among the cases of a feature, made without the cases.
-use Rattle.std.proofs.Common.{◌≡◌, ◌<◌, ℕ, ◌+◌, Bool, List, [], ◌∷◌, ◌++◌, ◌&&◌, length, drop, get_or, map, flat_map, Result, Ok, Err, IfErr, refl, sym, ap, subst, ◌∙◌, inl, inr, arith, append_assoc}
+use Rattle.std.proofs.Common.{◌≡◌, ◌<◌, ℕ, ◌+◌, Bool, List, [], ◌∷◌, ◌++◌, ◌&&◌, length, drop, get_or, map, flat_map, Result, Ok, Err, IfErr, refl, sym, ap, subst, ◌∙◌, arith, append_assoc}
 use Rattle.std.proofs.lemmas.Grind.{common_steps}
 use Rattle.std.proofs.lemmas.Bool.{cases_Bool}
 use Rattle.std.proofs.lemmas.List.{get_or-map, length-append, length-map, map-append}
@@ -8,8 +8,7 @@ use Rattle.std.specs.List.{enumerate_from}
 use Rattle.gk_gherkin.specs.Feature.{RowValue, ExamplesValue, ScenarioValue, RuleValue, FeatureValue}
 use Rattle.gk_select.specs.declared.choice.Choice.{Choice}
 use Rattle.gk_select.specs.Choice.{is_chosen, is_at_lines, chosen_by}
-use Rattle.gk_select.specs.Inherited.{InheritedValue, inherited_in_feature, inherited_in_rule}
-use Rattle.gk_select.specs.Outline.{is_outline}
+use Rattle.gk_select.specs.Inherited.{InheritedValue, inherited_in_feature}
 use Rattle.gk_select.specs.Expansion.{row_case, examples_cases, scenario_cases, rule_cases, cases}
 use Rattle.gk_select.specs.Selecting.{rules_hold, rows_selected, examples_selected, scenario_selected, rules_selected}
 
@@ -28,10 +27,7 @@ examples_are choice i s k (e ∷ es) =
 
 scenario_is : (choice : Choice) (i : InheritedValue) (s : ScenarioValue) → scenario_selected choice i s ≡ map (chosen_by choice) (scenario_cases i s)
 unfolding is_chosen
-scenario_is choice i s = elim (cases_Bool (is_outline s)) [
-  | inl t ↦ rw t (examples_are choice i s 1 s.examples)
-  | inr f ↦ rw f refl
-]
+scenario_is choice i s = grind (arith, common_steps, cases_Bool, examples_are)
 
 scenarios_are : (choice : Choice) (i : InheritedValue) (ss : List ScenarioValue) → flat_map (scenario_selected choice i) ss ≡ map (chosen_by choice) (flat_map (scenario_cases i) ss)
 scenarios_are choice i [] = refl
@@ -39,15 +35,11 @@ scenarios_are choice i (s ∷ ss) = rw (scenario_is choice i s, scenarios_are ch
 
 rules_are : (choice : Choice) (f : FeatureValue) (n : ℕ) (rules : List RuleValue) → rules_selected choice f n rules ≡ map (chosen_by choice) (flat_map (rule_cases f) (enumerate_from n rules))
 rules_are choice f n [] = refl
-rules_are choice f n (r ∷ rules) =
-    rw (scenarios_are choice (inherited_in_rule f n r) r.scenarios, rules_are choice f (n + 1) rules) refl
-    ∙ sym (map-append (chosen_by choice) (rule_cases f (n, r)) (flat_map (rule_cases f) (enumerate_from (n + 1) rules)))
+rules_are choice f n (r ∷ rules) = grind (arith, common_steps, scenarios_are, rules_are choice f (n + 1) rules, map-append, flat_map)
 
 pub all_selected : (choice : Choice) (f : FeatureValue) → flat_map (scenario_selected choice (inherited_in_feature f)) f.scenarios ++ rules_selected choice f 0 f.rules ≡ map (chosen_by choice) (cases f)
 unfolding cases
-all_selected choice f =
-    rw (scenarios_are choice (inherited_in_feature f) f.scenarios, rules_are choice f 0 f.rules) refl
-    ∙ sym (map-append (chosen_by choice) (flat_map (scenario_cases (inherited_in_feature f)) f.scenarios) (flat_map (rule_cases f) (enumerate_from 0 f.rules)))
+all_selected choice f = grind (arith, common_steps, scenarios_are, rules_are, map-append, flat_map)
 
 -- The values of one part more.
 pub one_part : {A B C : Type 0} (F : B → List C) (v : A → B) (xs ys : List A) (i : ℕ) (x : A) → xs ≡ ys → i < length xs → x ≡ get_or xs i x → (old new whole : List C)

@@ -1,12 +1,13 @@
 -- What the words taken so far have built is as deep as it is measured.
-use Rattle.std.proofs.Common.{◌≡◌, ◌⊎◌, ◌≤◌, ◌<◌, ◌+◌, ◌-◌, ◌==◌, ℕ, zero, suc, max, min, nat_le, Bool, false, if◌then◌else◌, List, [], ◌∷◌, ◌++◌, length, take, get_or, Option, Some, None, option_and_then, refl, ap, sym, subst, ◌∙◌, arith, length-append, map, drop, inl, inr, Err, drop-cons}
+use Rattle.std.proofs.Common.{◌≡◌, ◌⊎◌, ◌≤◌, ◌<◌, ◌+◌, ◌-◌, ◌==◌, ℕ, zero, suc, max, min, nat_le, false, if◌then◌else◌, List, [], ◌∷◌, ◌++◌, length, take, get_or, Option, Some, None, option_and_then, refl, ap, sym, subst, ◌∙◌, arith, length-append, map, drop, inl, inr, Err}
+use Rattle.std.proofs.lemmas.Grind.{common_steps}
 use Rattle.std.proofs.lemmas.List.{map-append, take-append-drop}
-use Rattle.std.proofs.Math.Seq.{get_or-append_seam, take-append_seam}
+use Rattle.std.proofs.Math.Seq.{get_or-append_seam}
 use Rattle.std.proofs.lemmas.Bool.Decides.{nat_tests}
 use Rattle.gk_select.specs.TagWords.{WordValue, word_value, open_word, close_word, not_word, and_word, or_word, tag_word}
 use Rattle.gk_select.specs.TagGrammar.{Expression, Term, Factor, spelling, depth, term_depth, factor_depth, depth_limit}
 use Rattle.gk_select.specs.TagTrees.{Part, State, waiting, ready, term_from, expression_from, closed, step, run, run_whole, expression_again, first, head, part_of}
-use Rattle.gk_select.specs.TagMeasures.{Measure, measure_before, measure_of, deeper, built_value}
+use Rattle.gk_select.specs.TagMeasures.{Measure, measure_before, measure_of, built_value}
 use Rattle.gk_select.specs.declared.tag_words.Word.{Word}
 use Rattle.gk_select.specs.declared.select_fault.SelectFault.{SelectFault}
 use Rattle.gk_select.specs.declared.select_fault.SelectFault.TheVariants.{TooMany, BadTagText, Memory}
@@ -52,14 +53,8 @@ max_three f j l t d x y = omega arith
 closed_deep : (f : Factor) (p : Part) → depth (closed f p) ≡ max (factor_depth f) (part_depth p)
 closed_deep f p = max_three (factor_depth f) (joined_depth p.joined) (later_depth p.later) (term_depth (term_from f p.joined)) (depth (closed f p)) (term_deep f p.joined) (expression_deep (term_from f p.joined) p.later)
 
-capped_max : (a b c : ℕ) → c ≡ max a b → max (min a 101) (min b 101) ≡ min c 101
-capped_max a b c e = omega arith
-
 deeper_is : (n k : ℕ) → n ≡ min k 101 → (if nat_le n 100 then n + 1 else n) ≡ min (k + 1) 101
 deeper_is n k e = grind (arith, nat_tests)
-
-zero_max : (n : ℕ) → n ≡ max 0 n
-zero_max n = omega arith
 
 seam : (xs : List ℕ) (x : ℕ) → length (xs ++ x ∷ []) - 1 ≡ length xs
 seam xs x = omega (arith, length-append xs (x ∷ []))
@@ -67,14 +62,8 @@ seam xs x = omega (arith, length-append xs (x ∷ []))
 last_of : (xs : List ℕ) (x : ℕ) → get_or (xs ++ x ∷ []) (length (xs ++ x ∷ []) - 1) 0 ≡ x
 last_of xs x = ap (λ (k : ℕ). get_or (xs ++ x ∷ []) k 0) (seam xs x) ∙ get_or-append_seam xs x [] 0
 
-front_of : (xs : List ℕ) (x : ℕ) → take (length (xs ++ x ∷ []) - 1) (xs ++ x ∷ []) ≡ xs
-front_of xs x = ap (λ (k : ℕ). take k (xs ++ x ∷ [])) (seam xs x) ∙ take-append_seam xs (x ∷ [])
-
 long : (n m : ℕ) → n ≡ m + 1 → (n == 0) ≡ false
 long n m e = grind (arith, nat_tests)
-
-some_length : (xs : List ℕ) (x : ℕ) → (length (xs ++ x ∷ []) == 0) ≡ false
-some_length xs x = long (length (xs ++ x ∷ [])) (length xs) (length-append xs (x ∷ []))
 
 pub map_state : Option State → Option Measure
 map_state None = None
@@ -84,25 +73,15 @@ step_measured : (w : WordValue) (s : State) → measure_before w (measured s).fa
 unfolding map_state
 step_measured open_word (waiting p ps) = refl
 step_measured open_word (ready f p []) = refl
-step_measured open_word (ready f p (q ∷ ps)) =
-    let xs = outer_depths ps in
-    let x = capped (part_depth q) in
-    let top = deeper (max (capped (factor_depth f)) (capped (part_depth p))) in
-    ap (λ (b : Bool). if b then None else made (Some top) (get_or (xs ++ x ∷ []) (length (xs ++ x ∷ []) - 1) 0) (take (length (xs ++ x ∷ []) - 1) (xs ++ x ∷ []))) (some_length xs x)
-    ∙ ap (λ (k : ℕ). made (Some top) k (take (length (xs ++ x ∷ []) - 1) (xs ++ x ∷ []))) (last_of xs x)
-    ∙ ap (λ (o : List ℕ). made (Some top) x o) (front_of xs x)
-    ∙ ap (λ (k : ℕ). made (Some k) x xs) (deeper_is (max (capped (factor_depth f)) (capped (part_depth p))) (depth (closed f p)) (capped_max (factor_depth f) (part_depth p) (depth (closed f p)) (closed_deep f p)))
+step_measured open_word (ready f p (q ∷ ps)) = grind (arith, common_steps)
 step_measured close_word (waiting p ps) = refl
 step_measured close_word (ready f p ps) = refl
 step_measured not_word (waiting p ps) = refl
 step_measured not_word (ready f p ps) = ap (λ (k : ℕ). made (Some k) (capped (part_depth p)) (outer_depths ps)) (deeper_is (capped (factor_depth f)) (factor_depth f) refl)
 step_measured and_word (waiting p ps) = refl
-step_measured and_word (ready f p ps) =
-    ap (λ (k : ℕ). made None k (outer_depths ps)) (capped_max (factor_depth f) (part_depth p) (max (term_depth (term_from f p.joined)) (later_depth p.later))
-    (max_three (factor_depth f) (joined_depth p.joined) (later_depth p.later) (term_depth (term_from f p.joined)) (max (term_depth (term_from f p.joined)) (later_depth p.later)) (term_deep f p.joined) refl))
+step_measured and_word (ready f p ps) = grind (arith, common_steps)
 step_measured or_word (waiting p ps) = refl
-step_measured or_word (ready f p ps) =
-    ap (λ (k : ℕ). made None k (outer_depths ps)) (capped_max (factor_depth f) (part_depth p) (max 0 (depth (closed f p))) (sym (zero_max (depth (closed f p))) ∙ closed_deep f p))
+step_measured or_word (ready f p ps) = grind (arith, common_steps)
 step_measured (tag_word t) (waiting p ps) = refl
 step_measured (tag_word t) (ready f p ps) = refl
 
@@ -144,9 +123,7 @@ accepted_at ws (Some (ready f p [])) is n b o e none low =
     let first : capped (factor_depth f) ≡ n = cc some in
     let second : capped (part_depth p) ≡ b = ap behind_of e in
     (closed f p, spelt_by ws f p is, shallow (factor_depth f) (part_depth p) (depth (closed f p)) n b (closed_deep f p) (sym first) (sym second) low)
-accepted_at ws (Some (ready f p (q ∷ ps))) is n b o e none low =
-    let same : outer_depths ps ++ capped (part_depth q) ∷ [] ≡ o = ap outer_of e in
-    absurd (omega (arith, length-append (outer_depths ps) (capped (part_depth q) ∷ []), ap length same))
+accepted_at ws (Some (ready f p (q ∷ ps))) is n b o e none low = grind (arith, common_steps)
 
 pub accepted : (ws : List WordValue) (m : Measure) (n : ℕ) → measure_of ws ≡ Some m → m.factor ≡ Some n → length m.outer ≡ 0 → max n m.behind ≤ 100 → Accepted ws
 accepted ws m n is factor none low = accepted_at ws (run ws) refl n m.behind m.outer (sym (run_measured ws) ∙ is ∙ ap (λ (o : Option ℕ). made o m.behind m.outer) factor) none low
@@ -182,12 +159,7 @@ stopped ws i none e says =
 word_stops : (ws : List Word) (i : ℕ) (w : Word) (m : Measure) → 0 < i → i ≤ length ws → w ≡ get_or ws (i - 1) w → measure_of (map word_value (drop i ws)) ≡ Some m → measure_before (word_value w) m.factor m.behind m.outer ≡ None
     → measure_of (map word_value (drop (i - 1) ws)) ≡ None
 word_stops ws zero w m some within is h none = absurd (omega arith)
-word_stops ws (suc i) w m some within is h none =
-    let e : suc i - 1 ≡ i = omega arith in
-    let below : i < length ws = omega arith in
-    ap (λ (k : ℕ). measure_of (map word_value (drop k ws))) e ∙ ap (λ (xs : List Word). measure_of (map word_value xs)) (drop-cons ws i w below)
-    ∙ ap (λ (x : Word). measure_of (word_value x ∷ map word_value (drop (suc i) ws))) (sym (is ∙ ap (λ (k : ℕ). get_or ws k w) e))
-    ∙ ap (option_and_then (λ (m : Measure). measure_before (word_value w) m.factor m.behind m.outer)) h ∙ none
+word_stops ws (suc i) w m some within is h none = grind (arith, common_steps)
 
 pub before_errs : (ws : List Word) (i : ℕ) (w : Word) (m : Measure) → 0 < i → i ≤ length ws → w ≡ get_or ws (i - 1) w → measure_of (map word_value (drop i ws)) ≡ Some m
     → (e : SelectFault) → AnswersOrLacksMemory built_value (Err e) (measure_before (word_value w) m.factor m.behind m.outer)

@@ -1,9 +1,10 @@
 -- What words of an expression have built has those words.
-use Rattle.std.proofs.Common.{◌≡◌, List, [], ◌∷◌, ◌++◌, map, Option, Some, None, option_and_then, refl, ap, sym, ◌∙◌, append_assoc, append-nil}
+use Rattle.std.proofs.Common.{◌≡◌, List, [], ◌∷◌, ◌++◌, map, Option, Some, None, option_and_then, refl, ap, sym, ◌∙◌, append_assoc, append-nil, arith}
+use Rattle.std.proofs.lemmas.Grind.{common_steps}
 use Rattle.gk_select.specs.declared.tag_values.TagRule.{TagRule}
 use Rattle.gk_select.specs.TagRules.{tag_rule_value}
 use Rattle.gk_select.specs.TagWords.{WordValue, word_value, open_word, close_word, not_word, and_word, or_word, tag_word}
-use Rattle.gk_select.specs.TagGrammar.{Expression, Term, Factor, tagged, negated, grouped, spelling, term_spelling, factor_spelling, SpeltBy}
+use Rattle.gk_select.specs.TagGrammar.{Expression, Term, Factor, tagged, negated, spelling, term_spelling, factor_spelling, SpeltBy}
 use Rattle.gk_select.specs.TagTrees.{Part, State, waiting, ready, empty, term_from, expression_from, closed, step, run, built_from}
 
 -- What is built has the words taken so far.
@@ -40,26 +41,15 @@ closed_words f p = expression_words (term_from f p.joined) p.later ∙ ap (λ (t
 step_words : (w : WordValue) (s s' : State) → step w s ≡ Some s' → state_words s' ≡ w ∷ state_words s
 step_words open_word (waiting p ps) s' e = let no : ⊥ = cc e in absurd no
 step_words open_word (ready f p []) s' e = let no : ⊥ = cc e in absurd no
-step_words open_word (ready f p (q ∷ ps)) s' e =
-    let is : ready (grouped (closed f p)) q ps ≡ s' = cc e in
-    let rest = part_words q ++ outer_words ps in
-    ap state_words (sym is) ∙ ap (λ (x : List WordValue). open_word ∷ x)
-    (append_assoc (spelling (closed f p)) (close_word ∷ []) rest ∙ ap (λ (x : List WordValue). x ++ close_word ∷ rest) (closed_words f p) ∙ append_assoc (factor_spelling f) (part_words p) (close_word ∷ rest))
+step_words open_word (ready f p (q ∷ ps)) s' e = grind (arith, common_steps)
 step_words close_word (waiting p ps) s' e = let is : waiting empty (p ∷ ps) ≡ s' = cc e in ap state_words (sym is)
 step_words close_word (ready f p ps) s' e = let no : ⊥ = cc e in absurd no
 step_words not_word (waiting p ps) s' e = let no : ⊥ = cc e in absurd no
 step_words not_word (ready f p ps) s' e = let is : ready (negated f) p ps ≡ s' = cc e in ap state_words (sym is)
 step_words and_word (waiting p ps) s' e = let no : ⊥ = cc e in absurd no
-step_words and_word (ready f p ps) s' e =
-    let is : waiting (record { joined = Some (term_from f p.joined); later = p.later }) ps ≡ s' = cc e in
-    ap state_words (sym is) ∙ ap (λ (x : List WordValue). and_word ∷ ((x ++ later_words p.later) ++ outer_words ps)) (term_words f p.joined)
-    ∙ ap (λ (x : List WordValue). and_word ∷ (x ++ outer_words ps)) (append_assoc (factor_spelling f) (joined_words p.joined) (later_words p.later))
-    ∙ ap (λ (x : List WordValue). and_word ∷ x) (append_assoc (factor_spelling f) (part_words p) (outer_words ps))
+step_words and_word (ready f p ps) s' e = grind (arith, common_steps)
 step_words or_word (waiting p ps) s' e = let no : ⊥ = cc e in absurd no
-step_words or_word (ready f p ps) s' e =
-    let is : waiting (record { joined = None; later = Some (closed f p) }) ps ≡ s' = cc e in
-    ap state_words (sym is) ∙ ap (λ (x : List WordValue). or_word ∷ (x ++ outer_words ps)) (closed_words f p)
-    ∙ ap (λ (x : List WordValue). or_word ∷ x) (append_assoc (factor_spelling f) (part_words p) (outer_words ps))
+step_words or_word (ready f p ps) s' e = grind (arith, common_steps)
 step_words (tag_word t) (waiting p ps) s' e = let is : ready (tagged t) p ps ≡ s' = cc e in ap state_words (sym is)
 step_words (tag_word t) (ready f p ps) s' e = let no : ⊥ = cc e in absurd no
 

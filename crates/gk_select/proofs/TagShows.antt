@@ -4,9 +4,8 @@ use Rattle.std.specs.List.{list_any}
 use Rattle.std.proofs.lemmas.Bool.Decides.{nat_tests}
 use Rattle.gk_select.specs.TagWords.{WordValue, open_word, close_word, not_word, and_word, or_word, tag_word}
 use Rattle.gk_select.specs.TagGrammar.{Expression, Term, Factor, tagged, negated, grouped, spelling}
-use Rattle.gk_select.specs.TagValues.{holds, term_holds, factor_holds}
+use Rattle.gk_select.specs.TagValues.{seen_before, seen_of, seen_value, seen_depth, holds, term_holds, factor_holds}
 use Rattle.gk_select.specs.TagTrees.{Part, State, waiting, ready, empty, term_from, expression_from, closed, step, run, run_whole, expression_again, first, head, part_of}
-use Rattle.gk_select.specs.TagValues.{seen_before, seen_of, seen_value, seen_depth}
 use Rattle.gk_select.specs.declared.tag_values.Seen.{Seen}
 use Rattle.gk_select.specs.declared.tag_values.Seen.TheVariants.{Value, Failed, Held}
 

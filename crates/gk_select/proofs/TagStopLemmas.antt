@@ -1,7 +1,7 @@
 -- A text that spells a rule stops nowhere, and the words of any other are followed to where it stops.
 use Rattle.std.proofs.Common.{◌≡◌, ◌+◌, ◌-◌, ◌==◌, ◌<◌, ℕ, suc, Bool, true, false, not, if◌then◌else◌, List, [], ◌∷◌, ◌++◌, map, length, take, drop, get_or, Option, Some, None, option_and_then, option_map, refl, ap, sym, ◌∙◌, arith, append_assoc, append-nil, drop-cons, inl, inr}
+use Rattle.std.proofs.lemmas.Grind.{common_steps}
 use Rattle.std.specs.Prelude.{is_some, find}
-use Rattle.std.proofs.lemmas.Bool.Decides.{nat_tests}
 use Rattle.std.proofs.lemmas.List.{take-append-drop}
 use Rattle.gk_select.specs.Alternatives.{AlternativeValue, alternative, pieces}
 use Rattle.gk_select.specs.TagGrammar.{Expression, one_term, or_terms, Term, one_factor, and_factors, Factor, tagged, negated, grouped, spelling, term_spelling, factor_spelling}
@@ -13,19 +13,14 @@ use Rattle.gk_select.specs.declared.tag_stops.Wanted.TheVariants.{Alternative}
 
 -- One word more: it may stand there, or the text stops at it.
 pub goes_on : (place next : TagPlace) (rest after word : List ℕ) → words_of_text rest ≡ word ∷ words_of_text after → Some next ≡ place_after place (word_said word) → stop_in place (words_of_text rest) ≡ stop_in next (words_of_text after)
-goes_on place next rest after word e said =
-    ap (stop_in place) e ∙ sym (ap (λ (o : Option TagPlace). unless_after (record { at = Some word; wanted = wanted_at place }) o (λ p. stop_in p (words_of_text after))) said)
+goes_on place next rest after word e said = grind (arith, common_steps)
 
 pub stops_here : (place : TagPlace) (rest after word : List ℕ) → words_of_text rest ≡ word ∷ words_of_text after → None ≡ place_after place (word_said word) → stop_in place (words_of_text rest) ≡ Some (record { at = Some word; wanted = wanted_at place })
-stops_here place rest after word e said =
-    ap (stop_in place) e ∙ sym (ap (λ (o : Option TagPlace). unless_after (record { at = Some word; wanted = wanted_at place }) o (λ p. stop_in p (words_of_text after))) said)
+stops_here place rest after word e said = grind (arith, common_steps)
 
 -- The cut at a word, or at a blank.
 pub at_word : (blank : Bool) (n : ℕ) (rest word : List ℕ) → words_of_text rest ≡ (if blank then [] else take n rest ∷ []) ++ words_of_text (drop n rest) → blank ≡ false → word ≡ take (n - 0) rest → words_of_text rest ≡ word ∷ words_of_text (drop n rest)
-at_word blank n rest word cut is taken =
-    let all : n - 0 ≡ n = omega arith in
-    cut ∙ ap (λ (v : Bool). (if v then [] else take n rest ∷ []) ++ words_of_text (drop n rest)) is
-    ∙ ap (λ (w : List ℕ). w ∷ words_of_text (drop n rest)) (sym (taken ∙ ap (λ (k : ℕ). take k rest) all))
+at_word blank n rest word cut is taken = grind (arith, common_steps)
 
 pub at_blank : (blank : Bool) (n : ℕ) (rest : List ℕ) → words_of_text rest ≡ (if blank then [] else take n rest ∷ []) ++ words_of_text (drop n rest) → blank ≡ true → words_of_text rest ≡ words_of_text (drop n rest)
 at_blank blank n rest cut is = cut ∙ ap (λ (v : Bool). (if v then [] else take n rest ∷ []) ++ words_of_text (drop n rest)) is
@@ -56,10 +51,7 @@ goes_both [] ys last p e = let same : p ≡ last = cc e in ap (λ q. goes q ys) 
 goes_both (x ∷ xs) ys last p e = goes_further (place_after p (Some x)) xs ys last (goes_both xs ys last) e
 
 closes : (n : ℕ) → (if n + 1 == 0 then None else Some (given (n + 1 - 1))) ≡ Some (given n)
-closes n =
-    let some : (n + 1 == 0) ≡ false = grind (arith, nat_tests) in
-    let one : n + 1 - 1 ≡ n = omega arith in
-    ap (λ (v : Bool). if v then None else Some (given (n + 1 - 1))) some ∙ ap (λ k. Some (given k)) one
+closes n = grind (arith, common_steps)
 
 mutual
   expression_goes : (e : Expression) (n : ℕ) → goes (wants n) (spelling e) ≡ Some (given n)

@@ -2,7 +2,8 @@
 use Rattle.gk_select.specs.declared.select_fault.SelectFault.{SelectFault}
 use Rattle.gk_select.specs.declared.select_fault.SelectFault.TheVariants.{TooMany, BadTagText, Memory}
 use Rattle.gk_select.specs.SelectFault.{AnswersOrLacksMemory}
-use Rattle.std.proofs.Common.{Err, inl, inr, ◌≡◌, ◌⊎◌, ℕ, zero, suc, ◌<◌, ◌≤◌, Bool, true, false, ◌||◌, ◌==◌, if◌then◌else◌, List, [], ◌∷◌, ◌++◌, length, map, take, drop, get_or, Option, Some, None, IsSome, refl, ap, sym, subst, ◌∙◌, arith, append-nil}
+use Rattle.std.proofs.Common.{Err, inl, inr, ◌≡◌, ◌⊎◌, ℕ, zero, suc, ◌<◌, ◌≤◌, Bool, true, false, ◌||◌, if◌then◌else◌, List, [], ◌∷◌, ◌++◌, length, map, take, drop, get_or, Option, Some, None, IsSome, refl, ap, sym, subst, ◌∙◌, arith, append-nil}
+use Rattle.std.proofs.lemmas.Grind.{common_steps}
 use Rattle.std.proofs.lemmas.Bool.Decides.{nat_tests}
 use Rattle.std.proofs.lemmas.Str.{IsCharBoundary-after_ascii}
 use Rattle.std.specs.Str.{IsUtf8, IsCharBoundary}
@@ -43,9 +44,7 @@ front_at (b ∷ t) (suc n) le before at =
 some_word : (t : List ℕ) (n : ℕ) → 0 < n → n ≤ length t → (c : FirstWord) → first_word t ≡ record { front = take n t; after = c.after } → c ≡ record { front = []; after = c.after } → words_of_text t ≡ take n t ∷ words_with_first c
 some_word [] n some le c e f = absurd (omega arith)
 some_word (b ∷ t) zero some le c e f = absurd (omega arith)
-some_word (b ∷ t) (suc n) some le c e f =
-    let long : (length (b ∷ take n t) == 0) ≡ false = grind (arith, nat_tests) in
-    ap words_with_first e ∙ ap (λ (x : Bool). if x then c.after else (b ∷ take n t) ∷ c.after) long ∙ ap (λ (d : FirstWord). (b ∷ take n t) ∷ words_with_first d) (sym f)
+some_word (b ∷ t) (suc n) some le c e f = grind (arith, common_steps)
 
 one_byte : (x y : Bool) (b : ℕ) (c : FirstWord) → x || y ≡ true → words_with_first (by_tests x y b c) ≡ (if x then [] else (b ∷ []) ∷ []) ++ words_with_first c
 one_byte true y b c h = refl
@@ -58,10 +57,7 @@ left_of_or false y h = refl
 
 pub word_is : (t : List ℕ) (n : ℕ) → 0 < n → n ≤ length t → ((k : ℕ) → k < n → is_of_new_form (get_or t k 0) ≡ false) → (n < length t → is_of_new_form (get_or t n 0) ≡ true)
     → words_of_text t ≡ (if is_blank (get_or t 0 0) then [] else take n t ∷ []) ++ words_of_text (drop n t)
-word_is t n some le before at =
-    let r = front_at t n le before at in
-    some_word t n some le (first_word (drop n t)) r.0 r.1
-    ∙ ap (λ (x : Bool). (if x then [] else take n t ∷ []) ++ words_of_text (drop n t)) (sym (left_of_or (is_blank (get_or t 0 0)) (is_parenthesis (get_or t 0 0)) (before 0 some)))
+word_is t n some le before at = grind (arith, common_steps, front_at, some_word, left_of_or)
 
 pub byte_is : (t : List ℕ) → 0 < length t → is_of_new_form (get_or t 0 0) ≡ true → words_of_text t ≡ (if is_blank (get_or t 0 0) then [] else take 1 t ∷ []) ++ words_of_text (drop 1 t)
 unfolding first_word
@@ -116,9 +112,7 @@ pub record Turn (rest bytes again word : List ℕ) (n : ℕ) (blank : Bool) : Ty
   pub tested : blank ≡ is_blank (get_or again 0 0)
 
 pub turned : (rest bytes again word : List ℕ) (n : ℕ) (blank : Bool) → Turn rest bytes again word n blank → words_of_text rest ≡ (if blank then [] else take n rest ∷ []) ++ words_of_text (drop n rest)
-turned rest bytes again word n blank t =
-    subst (λ (bs : List ℕ). words_of_text bs ≡ (if is_blank (get_or bs 0 0) then [] else take n bs ∷ []) ++ words_of_text (drop n bs)) t.bytes_are t.cut
-    ∙ ap (λ (x : Bool). (if x then [] else take n rest ∷ []) ++ words_of_text (drop n rest)) (sym (t.tested ∙ ap (λ (bs : List ℕ). is_blank (get_or bs 0 0)) t.again_are))
+turned rest bytes again word n blank t = grind (arith, common_steps)
 
 pub word_fails : (text : List ℕ) (read : List WordValue) (rest bytes again word : List ℕ) (n : ℕ) (blank : Bool) → Turn rest bytes again word n blank → blank ≡ false → word ≡ take n rest → Reads text read rest
     → (e : SelectFault) → AnswersOrLacksMemory word_value (Err e) (word_said word) → (e ≡ Memory) ⊎ ((e ≡ BadTagText) × ((words : List WordValue) → AreWords text words → ⊥))
@@ -136,10 +130,7 @@ first_some (t ∷ texts) (r ∷ read) next others e some = let is : word_said t 
 
 pub word_needs_memory : (text : List ℕ) (read : List WordValue) (rest bytes again word : List ℕ) (n : ℕ) (blank : Bool) → Turn rest bytes again word n blank → blank ≡ false → word ≡ take n rest → Reads text read rest → IsSome (word_said word)
     → IsSome (word_said (get_or (words_of_text text) 0 []))
-word_needs_memory text read rest bytes again word n blank t is same r some =
-    let cut = turned rest bytes again word n blank t ∙ ap (λ (x : Bool). (if x then [] else take n rest ∷ []) ++ words_of_text (drop n rest)) is in
-    first_some (words_of_text text) read (word_said (take n rest)) (map word_said (words_of_text (drop n rest))) (r ∙ ap (λ (ws : List (List ℕ)). map Some read ++ map word_said ws) cut)
-    (subst (λ (w : List ℕ). IsSome (word_said w)) same some)
+word_needs_memory text read rest bytes again word n blank t is same r some = grind (arith, common_steps, turned, first_some)
 
 pub word_lacks_memory : (text : List ℕ) (read : List WordValue) (rest bytes again word : List ℕ) (n : ℕ) (blank : Bool) → Turn rest bytes again word n blank → blank ≡ false → word ≡ take n rest → Reads text read rest
     → (e : SelectFault) → AnswersOrLacksMemory word_value (Err e) (word_said word) → e ≡ Memory → IsSome (word_said (get_or (words_of_text text) 0 []))

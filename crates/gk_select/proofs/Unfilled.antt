@@ -1,8 +1,7 @@
 -- Under no header a text stays as it is.
 use Rattle.std.proofs.Common.{◌≡◌, ℕ, List, [], ◌∷◌, map, refl, ap}
 use Rattle.gk_gherkin.specs.Feature.{BlockValue, Empty, Text, Table, StepValue}
-use Rattle.gk_select.specs.Filling.{filled, filled_from}
-use Rattle.gk_select.specs.Filling.{filled_block, filled_step}
+use Rattle.gk_select.specs.Filling.{filled, filled_from, filled_block, filled_step}
 
 unfilled_text : (text : List ℕ) → filled [] [] text ≡ text
 unfolding filled filled_from

@@ -1,14 +1,13 @@
 -- The cases of a feature without its tags.
-use Rattle.std.proofs.Common.{◌≡◌, ◌<◌, ◌^◌, ℕ, ◌+◌, List, [], ◌∷◌, ◌++◌, length, map, flat_map, refl, sym, ap, subst, ◌∙◌, inl, inr}
+use Rattle.std.proofs.Common.{◌≡◌, ℕ, ◌+◌, List, [], ◌∷◌, length, map, flat_map, refl, sym, ap, ◌∙◌, arith}
+use Rattle.std.proofs.lemmas.Grind.{common_steps}
 use Rattle.std.proofs.lemmas.Bool.{cases_Bool}
 use Rattle.std.proofs.lemmas.List.{map-append, length-map}
-use Rattle.std.proofs.lemmas.List.Sums.{sum_by-cons}
 use Rattle.std.specs.List.{AllByRecursion, sum_by, enumerate_from}
 use Rattle.gk_gherkin.specs.Feature.{RowValue, ExamplesValue, ScenarioValue, RuleValue, FeatureValue}
 use Rattle.gk_select.specs.Case.{CaseValue}
 use Rattle.gk_select.specs.Inherited.{InheritedValue, inherited_in_feature, inherited_in_rule}
-use Rattle.gk_select.specs.Outline.{is_outline}
-use Rattle.gk_select.specs.Expansion.{row_case, examples_cases, scenario_cases, rule_cases, cases, RowsFit, IsExpandable}
+use Rattle.gk_select.specs.Expansion.{row_case, examples_cases, scenario_cases, rule_cases, cases, RowsFit}
 use Rattle.gk_select.specs.OwnTags.{with_own_tags, untagged_rule, untagged, HasSameCasesUntagged}
 
 abbrev untagged_part : InheritedValue → InheritedValue
@@ -27,10 +26,7 @@ examples_kept i s k (e ∷ es) =
     ∙ sym (map-append with_own_tags (examples_cases i s (k, e)) (flat_map (examples_cases i s) (enumerate_from (k + 1) es)))
 
 scenario_kept : (i : InheritedValue) (s : ScenarioValue) → scenario_cases (untagged_part i) s ≡ map with_own_tags (scenario_cases i s)
-scenario_kept i s = elim (cases_Bool (is_outline s)) [
-  | inl t ↦ rw t (examples_kept i s 1 s.examples)
-  | inr f ↦ rw f refl
-]
+scenario_kept i s = grind (arith, common_steps, cases_Bool, examples_kept)
 
 scenarios_kept : (i : InheritedValue) (ss : List ScenarioValue) → flat_map (scenario_cases (untagged_part i)) ss ≡ map with_own_tags (flat_map (scenario_cases i) ss)
 scenarios_kept i [] = refl
@@ -54,18 +50,11 @@ steps_in cs = sum_by (λ (c : CaseValue). length c.steps) cs
 
 steps_kept : (cs : List CaseValue) → steps_in (map with_own_tags cs) ≡ steps_in cs
 steps_kept [] = refl
-steps_kept (c ∷ cs) =
-    sum_by-cons (λ (c : CaseValue). length c.steps) (with_own_tags c) (map with_own_tags cs)
-    ∙ ap (λ (n : ℕ). length c.steps + n) (steps_kept cs)
-    ∙ sym (sum_by-cons (λ (c : CaseValue). length c.steps) c cs)
+steps_kept (c ∷ cs) = grind (arith, common_steps, steps_kept cs)
 
 rows_fit : (rules : List RuleValue) → AllByRecursion (λ (r : RuleValue). RowsFit r.scenarios) rules → AllByRecursion (λ (r : RuleValue). RowsFit r.scenarios) (map untagged_rule rules)
 rows_fit [] fit = tt
 rows_fit (r ∷ rules) fit = (fit.0, rows_fit rules fit.1)
 
 pub same_untagged : (f : FeatureValue) → HasSameCasesUntagged f
-same_untagged f = record {
-  cases = cases_kept f;
-  steps = ap steps_in (cases_kept f) ∙ steps_kept (cases f);
-  expandable = λ e. (e.0, rows_fit f.rules e.1, subst (λ (n : ℕ). n < 2 ^ 32) (sym (length-map f.rules untagged_rule)) e.2);
-}
+same_untagged f = grind (arith, common_steps, cases_kept, steps_kept, rows_fit, length-map)

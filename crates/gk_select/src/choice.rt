@@ -31,6 +31,7 @@ impl Choice {
     }
 
     /// Returns whether a case is chosen. Doesn't allocate.
+    #[tactic(auto, using(std::proofs::lemmas::Grind::common_steps), unfolding(crate::specs::Choice::is_chosen))]
     pub fn chooses(&self, case: &Case) -> bool
         ensures { result ≡ chosen_by self.now (case_value case.now) }
     {

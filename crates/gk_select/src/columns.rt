@@ -30,6 +30,7 @@ impl<'a> ColumnIndex<'a> {
     }
 
     // Adds a column in front of those of the index.
+    #[tactic(auto, using(std::proofs::lemmas::Map::Text::btree_map_updates_str, crate::proofs::IndexedColumns::added))]
     fn add(&mut self, name: &'a str, position: usize) -> Result<(), AllocError>
         ensures { OnOk result ((names : List (List ℕ)) → IsIndexFrom (position + 1) names self.old
             → IsIndexFrom position (name.now ∷ names) self.new) }

@@ -138,6 +138,7 @@ pub fn push_filled_steps(
 }
 
 /// Appends copies of steps. They are filled under an empty header, which changes nothing.
+#[tactic(auto, using(crate::proofs::Unfilled::unfilled_steps))]
 pub fn push_steps(alloc: Global, into: &mut Vec<Step>, from: &[Step]) -> Result<(), AllocError>
     ensures { Appends step_value result into.old.items into.new.items (map step_value from.now) }
 {

@@ -20,6 +20,7 @@ use gk_gherkin::rules_are_counted;
 
 /// Each text has exactly one cut for a header row, and the filled text is made of the filled parts. (Cucumber's
 /// Gherkin reference: scenario outline)
+#[tactic(auto, using(crate::proofs::OneCut::fills_by_cut))]
 pub fn texts_have_one_cut()
     ensures { (headers cells : List (List ℕ)) (text : List ℕ) → FillsByCut headers cells text }
 {}
@@ -36,18 +37,21 @@ pub fn read_features_are_expandable()
 
 /// If no scenario is an outline, the cases are the scenarios, each with its inherited tags and steps before its
 /// own. (Cucumber's Gherkin reference: example, background, tag inheritance)
+#[tactic(auto, using(crate::proofs::CaseCounts::without_outlines))]
 pub fn plain_scenarios_are_cases()
     ensures { (f : FeatureValue) → HasNoOutline f → cases f ≡ plain_cases f }
 {}
 
 /// A feature has one case for each row under the headers of an outline's tables, and one for each other
 /// scenario. (Cucumber's Gherkin reference: scenario outline)
+#[tactic(auto, using(crate::proofs::CaseCounts::cases_counted))]
 pub fn rows_are_cases()
     ensures { (f : FeatureValue) → length (cases f) ≡ case_count f }
 {}
 
 /// The rows of an outline have the lines of its cases, in order. Any other scenario has no rows. (Cucumber's
 /// Gherkin reference: scenario outline)
+#[tactic(auto, using(crate::proofs::RowLines::at_cases))]
 pub fn rows_are_at_cases()
     ensures { (inherited : InheritedValue) (s : ScenarioValue) → RowsAreAtCases inherited s }
 {}
@@ -86,6 +90,7 @@ pub fn texts_have_one_rule()
 
 /// A text of alternatives spells a rule. The rule holds for a set of tags if and only if one of the alternatives
 /// does. (behave's documentation: tag expressions)
+#[tactic(auto, using(crate::proofs::TagReading::rules_of_alternatives))]
 pub fn alternatives_are_rules()
     ensures { (text : List ℕ) (alternatives : List AlternativeValue) →
         ReadsAlternatives text alternatives → (rule : Expression) × ReadsTags text rule ×

@@ -22,6 +22,7 @@ pub fn is_outline(scenario: &Scenario) -> bool
 
 /// Returns the name of the case of a row under Examples, from the filled name of its scenario. Rows and Examples are
 /// counted from 1.
+#[tactic(auto, using(std::proofs::lemmas::List::append_assoc, crate::proofs::CaseNames::front_is, crate::proofs::CaseNames::splits))]
 pub fn case_name(
     name: String,
     examples_number: usize,

@@ -111,6 +111,7 @@ fn select_scenario(
 }
 
 // Appends for each case of scenarios whether it is chosen.
+#[tactic(auto, using(crate::proofs::Selected::if_err, crate::proofs::Selected::some_part))]
 fn select_scenarios(
     choice: &Choice,
     inherited: &Inherited<'_>,

@@ -14,6 +14,7 @@ pub struct TagLists<'a> {
 
 impl<'a> TagLists<'a> {
     /// Returns lists of which only one has tags.
+    #[tactic(auto, using(std::proofs::lemmas::Grind::common_steps))]
     pub fn of(tags: &'a [String]) -> TagLists<'a>
         ensures { tags_of result ≡ texts tags.now }
     {

@@ -130,6 +130,7 @@ impl TagRule {
     }
 
     /// Returns whether the rule holds for the tags of a case. Doesn't allocate.
+    #[tactic(auto, using(std::proofs::lemmas::Grind::common_steps, crate::proofs::TagShows::value_seen, crate::proofs::TagShows::depth_seen))]
     pub(crate) fn holds_for(&self, tags: &TagLists<'_>) -> bool
         ensures { result ≡ holds (tag_rule_value self.now) (tags_of tags.now) }
     {
@@ -145,6 +146,7 @@ impl TagRule {
 
     /// Returns the tags that the rule names, each with its `@`, in the order of its text. A tag is listed as
     /// often as it occurs there, whether negated or not. An error comes only if a growth was refused.
+    #[tactic(auto, using(crate::proofs::TagNames::among_words))]
     pub fn tags(&self, alloc: Global) -> Result<Vec<&str>, AllocError>
         ensures { IfOk result (λ tags. map (λ t. t.now) tags.items
             ≡ tags_in (tag_rule_value self.now)) }

@@ -92,6 +92,7 @@ fn first_cut(text: &[u8]) -> usize
 }
 
 /// Returns the end of the word at the front of a text, or of the space or tab there.
+#[tactic(auto, using(crate::proofs::TagTextWords::word_is, crate::proofs::TagTextWords::byte_word, crate::proofs::TagTextWords::edge_one))]
 pub fn word_end(text: &[u8]) -> usize
     requires { 0 < length text.now }
     ensures within { result ≤ length text.now }

@@ -1,10 +1,9 @@
 -- The steps that the code takes.
-use Rattle.std.proofs.Common.{◌≡◌, ℕ, zero, suc, ◌<◌, ◌≤◌, inl, inr, Bool, true, false, List, [], ◌∷◌, ◌++◌, length, drop, get_or, Option, Some, None, ap, ◌∙◌, arith}
-use Rattle.std.specs.Prelude.{IsUtf8}
-use Rattle.std.proofs.Math.Nat.{eq-or-lt_of_le}
+use Rattle.std.proofs.Common.{◌≡◌, ℕ, zero, suc, ◌<◌, ◌≤◌, Bool, true, false, List, [], ◌∷◌, ◌++◌, length, drop, get_or, Option, Some, None, ap, ◌∙◌, arith}
+use Rattle.std.proofs.lemmas.Grind.{common_steps}
+use Rattle.std.specs.Prelude.{String, string_bytes, IsUtf8}
 use Rattle.std.proofs.lemmas.Str.{IsUtf8-between, IsUtf8-string_bytes}
 use Rattle.gk_steps.specs.declared.pattern.FieldKind.TheVariants.{Plain, Decimal}
-use Rattle.std.specs.Prelude.{String, string_bytes}
 use Rattle.std.specs.declared.alloc.Global.{Global}
 use Rattle.gk_steps.specs.declared.pattern.FieldKind.{FieldKind}
 use Rattle.gk_steps.specs.declared.pattern.Piece.{Piece}
@@ -24,17 +23,11 @@ literal_cut literal text boundaries row c d h l s = cut_at text boundaries c d h
 
 -- a step over a plain field
 pub plain_takes : (name text boundaries : List ℕ) (row : List Bool) (c d : ℕ) → IsUtf8 text → AreBoundaries text boundaries → c < length boundaries → d < c → get_or row d false ≡ true → IsAdvanceTo (FieldPiece name Plain) text boundaries row c d
-plain_takes name text boundaries row c d u h l less is =
-    let up = h.falling d c less l in
-    let size = part_size text boundaries c d h l (omega arith) in
-    record { within = omega arith; rest = is; takes = (IsUtf8-between text (get_or boundaries c 0) (get_or boundaries d 0) u (omega arith) (h.cuts c l) (h.cuts d (omega arith)), omega arith) }
+plain_takes name text boundaries row c d u h l less is = grind (arith, common_steps, part_size, IsUtf8-between)
 
 -- a field takes something
 pub before : (piece : PieceValue) (text boundaries : List ℕ) (row : List Bool) (c d : ℕ) → AreBoundaries text boundaries → c < length boundaries → IsAdvanceTo piece text boundaries row c d → 0 < length (part text boundaries c d) → d < c
-before piece text boundaries row c d h l s some = elim (eq-or-lt_of_le s.within) [
-  | inr less ↦ less
-  | inl same ↦ let size = part_size text boundaries c d h l s.within in let at : get_or boundaries d 0 ≡ get_or boundaries c 0 = ap (λ k. get_or boundaries k 0) same in absurd (omega arith)
-]
+before piece text boundaries row c d h l s some = grind (arith, common_steps)
 
 pub plain_is : (name text boundaries : List ℕ) (row : List Bool) (c : ℕ) (o : Option ℕ) → IsUtf8 text → AreBoundaries text boundaries → c < length boundaries → IsNearest row c o → IsAdvance (FieldPiece name Plain) text boundaries row c o
 plain_is name text boundaries row c None u h l none = λ d s. let is_false = none d (before (FieldPiece name Plain) text boundaries row c d h l s s.takes.1) in let is_true = s.rest in let bad : ⊥ = cc in bad

@@ -1,10 +1,10 @@
 -- The computed match of a pattern is the preferred one.
-use Rattle.std.proofs.Common.{◌≡◌, ℕ, ◌+◌, ◌<◌, ◌≤◌, ◌⊎◌, inl, inr, Bool, true, false, nat_lt, List, [], ◌∷◌, ◌++◌, length, take, drop, nat_eq, Option, Some, None, option_map, refl, ap, sym, subst, ◌∙◌, arith, append_assoc, length-append}
+use Rattle.std.proofs.Common.{◌≡◌, ℕ, ◌+◌, ◌<◌, ◌⊎◌, inl, inr, Bool, true, false, nat_lt, List, [], ◌∷◌, ◌++◌, length, take, drop, nat_eq, Option, Some, None, option_map, refl, ap, sym, ◌∙◌, arith, append_assoc, length-append}
+use Rattle.std.proofs.lemmas.Grind.{common_steps}
 use Rattle.std.specs.List.{starts_with}
 use Rattle.std.specs.Str.{is_utf8}
 use Rattle.std.proofs.lemmas.Str.{IsUtf8-from_is_utf8, is_utf8-from_IsUtf8}
-use Rattle.std.proofs.lemmas.List.{append-nil, take-append-drop}
-use Rattle.std.proofs.Math.Nat.{eq-or-lt_of_le}
+use Rattle.std.proofs.lemmas.List.{take-append-drop}
 use Rattle.std.proofs.Math.Seq.{take-append_seam}
 use Rattle.std.proofs.lemmas.Slice.Eq.{bytes_eq-Decides}
 use Rattle.gk_steps.specs.declared.pattern.FieldKind.{FieldKind}
@@ -45,17 +45,12 @@ begins_with_itself word rest = (bytes_eq-Decides word (take (length word) (word 
 
 pub after_literal : (literal : List ℕ) (ps : List PieceValue) (text rest : List ℕ) (o : Option (List (List ℕ))) → text ≡ literal ++ rest → IsBestResult ps rest o → IsBestResult (Literal literal ∷ ps) text o
 after_literal literal ps text rest None e h = λ spans m. h spans (record { spans_fit = m.spans_fit; whole = same_back literal literal rest (woven ps spans) (sym e ∙ m.whole) refl })
-after_literal literal ps text rest (Some found) e h = record {
-  matches = record { spans_fit = h.matches.spans_fit; whole = e ∙ ap (λ r. literal ++ r) h.matches.whole };
-  best = λ others m. h.best others (record { spans_fit = m.spans_fit; whole = same_back literal literal rest (woven ps others) (sym e ∙ m.whole) refl });
-}
+after_literal literal ps text rest (Some found) e h = grind (arith, common_steps, same_back)
 
 literal_result : (literal : List ℕ) (ps : List PieceValue) (text : List ℕ) (rest_match : List ℕ → Option (List (List ℕ))) (b : Bool) → starts_with nat_eq text literal ≡ b → IsBestResult ps (drop (length literal) text) (rest_match (drop (length literal) text))
     → IsBestResult (Literal literal ∷ ps) text (rest_where b rest_match (drop (length literal) text))
 literal_result literal ps text rest_match true e h = after_literal literal ps text (drop (length literal) text) (rest_match (drop (length literal) text)) (begins_so text literal e) h
-literal_result literal ps text rest_match false e h = λ spans m.
-    let no : true ≡ false = sym (begins_with_itself literal (woven ps spans)) ∙ ap (λ t. starts_with nat_eq t literal) (sym m.whole) ∙ e in
-    let bad : ⊥ = cc in bad
+literal_result literal ps text rest_match false e h = grind (arith, common_steps, begins_with_itself, nat_eq)
 
 -- a match whose first span is longer than `taken`, preferred to each other such
 pub record IsBestAbove (name : List ℕ) (kind : FieldKind) (ps : List PieceValue) (text : List ℕ) (taken : List ℕ) (y : List ℕ) (ys : List (List ℕ)) : Type 0 where
@@ -98,10 +93,7 @@ with_rest name kind ps text span rest (Some ss) e fit h = record {
 one_span : (name : List ℕ) (kind : FieldKind) (ps : List PieceValue) (text span rest : List ℕ) (rest_match : List ℕ → Option (List (List ℕ))) (b : Bool) → is_span kind span ≡ b → text ≡ span ++ rest → IsBestResult ps rest (rest_match rest)
     → IsResultWith name kind ps text span (option_map (λ spans. span ∷ spans) (rest_where b rest_match rest))
 one_span name kind ps text span rest rest_match true is e h = with_rest name kind ps text span rest (rest_match rest) e (span_so kind span is) h
-one_span name kind ps text span rest rest_match false is e h = λ x xs m size.
-    let first : x ≡ span = sym (same_prefix span x rest (woven ps xs) (sym e ∙ m.whole) (sym size)) in
-    let no : true ≡ false = sym (span_test kind span (subst (IsSpan kind) first m.spans_fit.0)) ∙ is in
-    let bad : ⊥ = cc in bad
+one_span name kind ps text span rest rest_match false is e h = grind (arith, common_steps, same_prefix, span_test)
 
 more_by_one : (taken : List ℕ) (b : ℕ) → length (taken ++ b ∷ []) ≡ length taken + 1
 more_by_one taken b = length-append taken (b ∷ [])
@@ -113,58 +105,22 @@ one_more taken rest b text e = e ∙ sym (append_assoc taken (b ∷ []) rest)
 shorter : (name : List ℕ) (ps : List PieceValue) (text taken span : List ℕ) (o later : Option (List (List ℕ))) → length span ≡ length taken + 1 → IsResultWith name Plain ps text span o → IsResultAbove name Plain ps text span later
     → IsResultAbove name Plain ps text taken (elim o [ Some spans ↦ Some spans | None ↦ later ])
 shorter name ps text taken span (Some []) later size h more = absurd h
-shorter name ps text taken span (Some (y ∷ ys)) later size h more = record {
-  above = omega (arith, h.size);
-  matches = h.matches;
-  best = λ x xs m less. elim (let most : length span ≤ length x = omega arith in eq-or-lt_of_le most) [
-    | inl same ↦ h.best x xs m (sym same)
-    | inr longer ↦ inr (inl (omega (arith, h.size)))
-  ];
-}
-shorter name ps text taken span None None size h more = λ x xs m less. elim (let most : length span ≤ length x = omega arith in eq-or-lt_of_le most) [
-  | inl same ↦ h x xs m (sym same)
-  | inr longer ↦ more x xs m longer
-]
+shorter name ps text taken span (Some (y ∷ ys)) later size h more = grind (arith, common_steps)
+shorter name ps text taken span None None size h more = grind (arith, common_steps)
 shorter name ps text taken span None (Some []) size h more = absurd more
-shorter name ps text taken span None (Some (y ∷ ys)) size h more = record {
-  above = omega (arith, more.above);
-  matches = more.matches;
-  best = λ x xs m less. elim (let most : length span ≤ length x = omega arith in eq-or-lt_of_le most) [
-    | inl same ↦ absurd (h x xs m (sym same))
-    | inr longer ↦ more.best x xs m longer
-  ];
-}
+shorter name ps text taken span None (Some (y ∷ ys)) size h more = grind (arith, common_steps)
 
 -- the longer span first
 longer : (name : List ℕ) (ps : List PieceValue) (text taken span : List ℕ) (o later : Option (List (List ℕ))) → length span ≡ length taken + 1 → IsResultWith name Decimal ps text span o → IsResultAbove name Decimal ps text span later
     → IsResultAbove name Decimal ps text taken (elim later [ Some spans ↦ Some spans | None ↦ o ])
 longer name ps text taken span o (Some []) size h more = absurd more
-longer name ps text taken span o (Some (y ∷ ys)) size h more = record {
-  above = omega (arith, more.above);
-  matches = more.matches;
-  best = λ x xs m less. elim (let most : length span ≤ length x = omega arith in eq-or-lt_of_le most) [
-    | inl same ↦ inr (inl (omega (arith, more.above)))
-    | inr further ↦ more.best x xs m further
-  ];
-}
-longer name ps text taken span None None size h more = λ x xs m less. elim (let most : length span ≤ length x = omega arith in eq-or-lt_of_le most) [
-  | inl same ↦ h x xs m (sym same)
-  | inr further ↦ more x xs m further
-]
+longer name ps text taken span o (Some (y ∷ ys)) size h more = grind (arith, common_steps)
+longer name ps text taken span None None size h more = grind (arith, common_steps)
 longer name ps text taken span (Some []) None size h more = absurd h
-longer name ps text taken span (Some (y ∷ ys)) None size h more = record {
-  above = omega (arith, h.size);
-  matches = h.matches;
-  best = λ x xs m less. elim (let most : length span ≤ length x = omega arith in eq-or-lt_of_le most) [
-    | inl same ↦ h.best x xs m (sym same)
-    | inr further ↦ absurd (more x xs m further)
-  ];
-}
+longer name ps text taken span (Some (y ∷ ys)) None size h more = grind (arith, common_steps)
 
 nothing_left : (name : List ℕ) (kind : FieldKind) (ps : List PieceValue) (text taken : List ℕ) → text ≡ taken ++ [] → (x : List ℕ) (xs : List (List ℕ)) → Matches (FieldPiece name kind ∷ ps) text (x ∷ xs) → length taken < length x → ⊥
-nothing_left name kind ps text taken e x xs m less =
-    let sizes : length x + length (woven ps xs) ≡ length taken = sym (length-append x (woven ps xs)) ∙ ap length (sym m.whole ∙ e ∙ append-nil taken) in
-    omega arith
+nothing_left name kind ps text taken e x xs m less = grind (arith, common_steps)
 
 shortest_is : (name : List ℕ) (ps : List PieceValue) (rest_match : List ℕ → Option (List (List ℕ))) (text taken rest : List ℕ) → ((t : List ℕ) → IsBestResult ps t (rest_match t)) → text ≡ taken ++ rest
     → IsResultAbove name Plain ps text taken (shortest_match rest_match Plain taken rest)
@@ -186,10 +142,7 @@ longest_is name ps rest_match text taken (b ∷ rest) each e =
 
 -- every match has more than nothing in its first span
 whole_field : (name : List ℕ) (kind : FieldKind) (ps : List PieceValue) (text : List ℕ) (o : Option (List (List ℕ))) → IsResultAbove name kind ps text [] o → IsBestResult (FieldPiece name kind ∷ ps) text o
-whole_field name kind ps text None h = λ spans m. none spans m where
-  none : (spans : List (List ℕ)) → Matches (FieldPiece name kind ∷ ps) text spans → ⊥
-  none [] m = m.spans_fit
-  none (x ∷ xs) m = h x xs m (not_empty kind x m.spans_fit.0)
+whole_field name kind ps text None h = grind (arith, common_steps)
 whole_field name kind ps text (Some []) h = absurd h
 whole_field name kind ps text (Some (y ∷ ys)) h = record { matches = h.matches; best = λ others m. each others m } where
   each : (others : List (List ℕ)) → Matches (FieldPiece name kind ∷ ps) text others → (others ≡ y ∷ ys) ⊎ IsPreferred (FieldPiece name kind ∷ ps) (y ∷ ys) others
@@ -202,10 +155,7 @@ field_is name Decimal ps rest_match text each = whole_field name Decimal ps text
 
 -- the computed spans are those of the preferred match
 pub best_match_is : (ps : List PieceValue) (text : List ℕ) → IsBestResult ps text (best_match ps text)
-best_match_is [] [] = record { matches = record { spans_fit = tt; whole = refl }; best = λ others m. only others m } where
-  only : (others : List (List ℕ)) → Matches [] [] others → (others ≡ []) ⊎ IsPreferred [] [] others
-  only [] m = inl refl
-  only (x ∷ xs) m = absurd m.spans_fit
+best_match_is [] [] = grind (arith, common_steps)
 best_match_is [] (b ∷ text) = λ spans m. let bad : b ∷ text ≡ [] = m.whole in let no : ⊥ = cc in no
 best_match_is (Literal literal ∷ ps) text = literal_result literal ps text (best_match ps) (starts_with nat_eq text literal) refl (best_match_is ps (drop (length literal) text))
 best_match_is (FieldPiece name kind ∷ ps) text = field_is name kind ps (best_match ps) text (best_match_is ps)

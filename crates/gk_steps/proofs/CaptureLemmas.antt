@@ -1,5 +1,6 @@
 -- What is kept of a match, and of what is found.
 use Rattle.std.proofs.Common.{◌≡◌, ◌<◌, inl, inr, ℕ, ◌++◌, Bool, true, false, List, [], ◌∷◌, length, ap, map, take, Option, Some, None, refl, sym, subst, ◌∙◌, arith}
+use Rattle.std.proofs.lemmas.Grind.{common_steps}
 use Rattle.std.proofs.lemmas.Bool.Decides.{nat_tests}
 use Rattle.std.proofs.lemmas.List.{append-nil, append_assoc, take-map}
 use Rattle.std.specs.Prelude.{Result, Ok, Err, IfOk, ◌==◌}
@@ -9,12 +10,11 @@ use Rattle.gk_steps.specs.declared.library.Entry.{Entry}
 use Rattle.gk_steps.specs.Pattern.{PieceValue, Literal}
 use Rattle.gk_steps.specs.Library.{are_for_each_from}
 use Rattle.gk_steps.specs.Matching.{FieldValue, IsMatchResult}
-use Rattle.gk_steps.specs.Finding.{FoundValue, LibraryValue, IsFoundOf, entry_value, found, found_any}
+use Rattle.gk_steps.specs.Finding.{FoundValue, LibraryValue, entry_value, found, found_any}
 use Rattle.gk_steps.specs.Captures.{AreKept, Hit, IsKeptResult, KeepsMore, KeepsRest, IsHit, HitsWhatIsFound, hit_of, kept_if}
 use Rattle.gk_steps.specs.Leftmost.{FindsRest}
-use Rattle.gk_steps.specs.LiteralEnds.{IsAfterStart}
 use Rattle.gk_steps.proofs.LibraryLemmas.{get_before, get_taken, typed_found}
-use Rattle.gk_steps.proofs.LeftmostLemmas.{left_after_start, left_nothing, left_over}
+use Rattle.gk_steps.proofs.LeftmostLemmas.{finds_last, left_after_start, left_nothing, left_over, IsCutOrWhole}
 use Rattle.gk_steps.proofs.FindingLemmas.{own_computed, any_computed, found_as_any}
 
 -- pieces that are gone through one by one, with those that are left
@@ -51,8 +51,19 @@ rest_over keeps done before fields left text rest kept false e is h =
     let some : 0 < length rest = grind (arith, nat_tests) in
     (None, tt, h None (λ ps whole known. left_over ps whole fields rest known some))
 
+-- what is kept with a literal after all pieces
+pub rest_last : {K : Type 0} (keeps : List PieceValue → K → List FieldValue → Type 0) (done : List PieceValue) (before : List FieldValue) (ps : List PieceValue) (literal text whole : List ℕ) (kept new : K) → whole ≡ text ++ literal → ((qs : List PieceValue) (fields : List FieldValue) → keeps qs kept fields → keeps (qs ++ Literal literal ∷ []) new (fields ++ []))
+    → KeepsRest keeps done before ps text (Some kept) → KeepsRest keeps done before (ps ++ Literal literal ∷ []) whole (Some new)
+rest_last keeps done before ps literal text whole kept new e added (None, are, is) = absurd are
+rest_last keeps done before ps literal text whole kept new e added (Some fields, are, is) =
+    (Some fields, subst (λ qs. keeps qs new fields) (append_assoc done ps (Literal literal ∷ [])) (subst (keeps ((done ++ ps) ++ Literal literal ∷ []) new) (append-nil fields) (added (done ++ ps) fields are)), finds_last before ps literal text whole e (Some fields) is)
+
+pub rest_last_none : {K : Type 0} (keeps : List PieceValue → K → List FieldValue → Type 0) (done : List PieceValue) (before : List FieldValue) (ps : List PieceValue) (literal text whole : List ℕ) → whole ≡ text ++ literal → KeepsRest keeps done before ps text None → KeepsRest keeps done before (ps ++ Literal literal ∷ []) whole None
+rest_last_none keeps done before ps literal text whole e (None, are, is) = (None, tt, finds_last before ps literal text whole e None is)
+rest_last_none keeps done before ps literal text whole e (Some fields, are, is) = absurd are
+
 -- what is kept of all pieces is that of the pieces after the literal at their beginning
-pub after_literal : {K : Type 0} (keeps : List PieceValue → K → List FieldValue → Type 0) (ps : List PieceValue) (text : List ℕ) (left : List PieceValue) (rest : List ℕ) (old : K) (kept : Option K) → IsAfterStart ps text left rest → keeps [] old [] → ((literal : List ℕ) → keeps (Literal literal ∷ []) old []) → KeepsMore keeps old left rest kept → IsKeptResult keeps ps text kept
+pub after_literal : {K : Type 0} (keeps : List PieceValue → K → List FieldValue → Type 0) (ps : List PieceValue) (text : List ℕ) (left : List PieceValue) (rest : List ℕ) (old : K) (kept : Option K) → IsCutOrWhole ps text left rest → keeps [] old [] → ((literal : List ℕ) → keeps (Literal literal ∷ []) old []) → KeepsMore keeps old left rest kept → IsKeptResult keeps ps text kept
 after_literal keeps ps text left rest old kept (inl same) none literal more =
     let r = more [] [] none in
     (r.0, subst (λ qs. AreKept (keeps qs) kept r.0) same.0 r.1, r.2 ps text (left_after_start ps text left rest (inl same)))
@@ -74,8 +85,7 @@ hit_before : {K : Type 0} (keeps : List PieceValue → K → List FieldValue →
 hit_before keeps es n None None h = h
 hit_before keeps es n None (Some f) h = absurd h
 hit_before keeps es n (Some hit) None h = absurd h
-hit_before keeps es n (Some hit) (Some f) h =
-    record { position = h.position; entry = h.entry; stands = sym (get_before es n f.entry (get_taken es n f.entry h.entry h.stands)) ∙ h.stands; kept = h.kept }
+hit_before keeps es n (Some hit) (Some f) h = grind (arith, common_steps, get_before, get_taken)
 
 pub typed_hit : {K : Type 0} (keeps : List PieceValue → K → List FieldValue → Type 0) (entries : List Entry) (typed : ℕ) (t : StepType) (text : List ℕ) (hit : Option (Hit K)) → are_for_each_from typed entries ≡ true → HitsWhatIsFound keeps (map entry_value (take typed entries)) (Some t) text hit → HitsWhatIsFound keeps (map entry_value entries) (Some t) text hit
 typed_hit keeps entries typed t text hit all h =
@@ -96,5 +106,4 @@ any_hit keeps es text kept (Ok entry) h = subst (IsHit keeps es (hit_of kept ent
 -- where no entry of the own type has a match, what is found is what the entries of type `step` give
 pub other_hit : {K : Type 0} (keeps : List PieceValue → K → List FieldValue → Type 0) (es : LibraryValue) (step_type : StepType) (text : List ℕ) (kept : K) (r : Result (Option ℕ) AllocError) → HitsWhatIsFound keeps es (Some step_type) text None → IfOk r (λ entry. IsHit keeps es (hit_of kept entry) (found_any es text)) → IfOk r (λ entry. IsHit keeps es (hit_of kept entry) (found es step_type text))
 other_hit keeps es step_type text kept (Err e) none h = tt
-other_hit keeps es step_type text kept (Ok entry) none h =
-    subst (IsHit keeps es (hit_of kept entry)) (found_as_any es step_type text (subst (IsFoundOf es (Some step_type) text) (hit_none keeps es none.0 none.1) none.2)) h
+other_hit keeps es step_type text kept (Ok entry) none h = grind (arith, common_steps, found_as_any, hit_none)

@@ -1,5 +1,6 @@
 -- The boundaries of a text.
-use Rattle.std.proofs.Common.{◌≡◌, ℕ, zero, suc, ◌+◌, ◌-◌, ◌<◌, ◌≤◌, ◌⊎◌, inl, inr, List, [], ◌∷◌, ◌++◌, length, take, drop, get_or, refl, ap, sym, subst, ◌∙◌, arith, append_assoc, length-append, length-drop, length-take}
+use Rattle.std.proofs.Common.{◌≡◌, ℕ, ◌+◌, ◌-◌, ◌<◌, ◌≤◌, ◌⊎◌, inl, inr, List, [], ◌∷◌, ◌++◌, length, take, drop, get_or, refl, ap, sym, subst, ◌∙◌, arith, append_assoc, length-append, length-drop, length-take}
+use Rattle.std.proofs.lemmas.Grind.{common_steps}
 use Rattle.std.specs.Prelude.{IsUtf8}
 use Rattle.std.specs.Str.{chars, IsCharBoundary}
 use lib.Utf8.{encodes, encode}
@@ -34,11 +35,7 @@ same_end text rest rest' q f c c' within less is is' most =
     omega arith
 
 step_past : (text rest : List ℕ) (q f c : ℕ) → IsUtf8 (drop q text) → drop q text ≡ encode c ++ rest → f ≡ q + len_utf8 c → length (chars (drop q text)) ≡ length (chars (drop f text)) + 1
-step_past text rest q f c u is at =
-    let is_rest : drop f text ≡ rest = ap (λ k. drop k text) at ∙ drop_past_char text rest q c is in
-    let one : length (chars (drop q text)) ≡ length (c ∷ chars rest) = ap length (chars_past_char (drop q text) rest c u is) in
-    let same : length (chars (drop f text)) ≡ length (chars rest) = ap (λ r. length (chars r)) is_rest in
-    omega arith
+step_past text rest q f c u is at = grind (arith, common_steps, drop_past_char, chars_past_char)
 
 not_empty : (text : List ℕ) (q f : ℕ) → f ≤ length text → q < f → 0 < length (drop q text)
 not_empty text q f within less = omega (arith, length-drop q text)
@@ -59,25 +56,10 @@ one_char text q f u bq bf less none =
 
 -- a list of boundaries before and after one more
 last_position : (low : ℕ) (text boundaries : List ℕ) → AreBoundariesFrom low text boundaries → (p : ℕ) → low ≤ p → IsCharBoundary text p → get_or boundaries (length boundaries - 1) 0 ≤ p
-last_position low text boundaries h p least b =
-    let here = h.complete p least b in
-    let some : 0 < length boundaries = h.some in
-    let within : here.0 < length boundaries = here.1 in
-    let most : here.0 ≤ length boundaries - 1 = omega arith in
-    elim (eq-or-lt_of_le most) [
-      | inl e ↦ let is : get_or boundaries (length boundaries - 1) 0 ≡ p = ap (λ k. get_or boundaries k 0) (sym e) ∙ here.2 in omega arith
-      | inr l ↦ let is : get_or boundaries (length boundaries - 1) 0 < get_or boundaries here.0 0 = h.falling here.0 (length boundaries - 1) l (omega arith) in omega (arith, here.2)
-    ]
+last_position low text boundaries h p least b = grind (arith, common_steps)
 
 pub skipped : (low : ℕ) (text boundaries : List ℕ) (q : ℕ) → low ≡ q + 1 → AreBoundariesFrom low text boundaries → (IsCharBoundary text q → ⊥) → AreBoundariesFrom q text boundaries
-skipped low text boundaries q e h not_here = record {
-  some = h.some;
-  cuts = h.cuts;
-  above = λ c l. let a = h.above c l in omega arith;
-  falling = h.falling;
-  complete = λ p least b. elim (eq-or-lt_of_le least) [ inl same ↦ absurd (not_here (subst (IsCharBoundary text) (sym same) b)) | inr more ↦ h.complete p (omega arith) b ];
-  counts = h.counts;
-}
+skipped low text boundaries q e h not_here = grind (arith, common_steps)
 
 below : (boundaries : List ℕ) (q c : ℕ) → c < length boundaries → get_or (boundaries ++ q ∷ []) c 0 ≡ get_or boundaries c 0
 below boundaries q c l = get_or_append_left boundaries (q ∷ []) 0 c l
@@ -86,8 +68,7 @@ newest : (boundaries : List ℕ) (q c : ℕ) → length boundaries ≡ c → get
 newest boundaries q c e = get_or_push boundaries q 0 c e
 
 old_or_new : (boundaries : List ℕ) (q c : ℕ) → c < length (boundaries ++ q ∷ []) → (length boundaries ≡ c) ⊎ (c < length boundaries)
-old_or_new boundaries q c l = let size : length (boundaries ++ q ∷ []) ≡ length boundaries + 1 = length-append boundaries (q ∷ []) in let most : c ≤ length boundaries = omega arith in
-    elim (eq-or-lt_of_le most) [ inl e ↦ inl (sym e) | inr l ↦ inr l ]
+old_or_new boundaries q c l = grind (arith, common_steps)
 
 pub pushed : (low : ℕ) (text boundaries : List ℕ) (q : ℕ) → IsUtf8 text → low ≡ q + 1 → AreBoundariesFrom low text boundaries → IsCharBoundary text q → AreBoundariesFrom q text (boundaries ++ q ∷ [])
 pushed low text boundaries q u e h b = record {
@@ -118,14 +99,4 @@ pushed low text boundaries q u e h b = record {
 
 -- the end alone
 pub end_only : (text : List ℕ) → AreBoundariesFrom (length text) text (length text ∷ [])
-end_only text = record {
-  some = omega arith;
-  cuts = λ c l. subst (IsCharBoundary text) (sym (only c l)) (IsCharBoundary-end text);
-  above = λ c l. omega (arith, only c l);
-  falling = λ c d less l. absurd (omega arith);
-  complete = λ p least b. (0, omega arith, omega (arith, b.0));
-  counts = λ c l. ap (λ k. length (chars (drop k text))) (only c l) ∙ ap (λ r. length (chars r)) (drop-length text) ∙ ap length chars-nil ∙ omega arith;
-} where
-  only : (c : ℕ) → c < 1 → get_or (length text ∷ []) c 0 ≡ length text
-  only zero l = refl
-  only (suc c) l = absurd (omega arith)
+end_only text = grind (arith, common_steps, IsCharBoundary-end, drop-length, chars-nil)

@@ -6,6 +6,7 @@ use Rattle.std.specs.List.{list_all}
 use Rattle.std.specs.Result.{result_ok}
 use Rattle.std.specs.Str.Parse.{IsNumeral, AllDigits, ParsesSigned, without_leading_sign, signed_digits_value}
 use Rattle.std.proofs.Common.{◌≡◌, ◌<◌, ◌≤◌, ℕ, ℤ, pos, negsuc, Bool, true, false, List, [], ◌∷◌, length, refl, sym, ap, ◌∙◌, arith}
+use Rattle.std.proofs.lemmas.Grind.{common_steps}
 use Rattle.std.proofs.lemmas.Bool.Decides.{nat_tests}
 use Rattle.gk_steps.specs.Decimal.{is_i64, is_numeral, IsNumber, is_number, number_of}
 
@@ -57,10 +58,7 @@ fits_test (pos n) h = not_more_test n 9223372036854775807 (omega (arith, h.sfits
 fits_test (negsuc n) h = not_more_test n 9223372036854775807 (omega (arith, h.sfits))
 
 pub number_so : (x : List ℕ) → is_number x ≡ true → IsNumber x
-number_so x e =
-    let a = is_numeral (without_leading_sign x) in
-    let b = is_i64 (signed_digits_value 10 x) in
-    (numeral_so (without_leading_sign x) (and_left a b e), fits_so (signed_digits_value 10 x) (and_right a b e))
+number_so x e = grind (arith, common_steps, numeral_so, and_left, fits_so, and_right)
 
 pub number_test : (x : List ℕ) → IsNumber x → is_number x ≡ true
 number_test x h = both (is_numeral (without_leading_sign x)) (is_i64 (signed_digits_value 10 x)) (numeral_test (without_leading_sign x) h.0) (fits_test (signed_digits_value 10 x) h.1)

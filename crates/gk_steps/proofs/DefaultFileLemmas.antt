@@ -1,5 +1,6 @@
 -- The default library is what its text says.
-use Rattle.std.proofs.Common.{◌≡◌, ℕ, ◌<◌, ◌≤◌, Bool, true, false, not, nat_lt, ◌&&◌, List, [], ◌∷◌, ◌++◌, length, map, option_map, flat_map, IsTrue, Option, Some, None, refl, ap, sym, ◌∙◌, arith, lit≤}
+use Rattle.std.proofs.Common.{◌≡◌, ℕ, ◌<◌, ◌≤◌, Bool, true, false, not, nat_lt, ◌&&◌, List, [], ◌∷◌, ◌++◌, length, map, option_map, flat_map, IsTrue, Option, Some, None, refl, arith, lit≤}
+use Rattle.std.proofs.lemmas.Grind.{common_steps}
 use Rattle.std.specs.Prelude.{⊤, is_some, filter}
 use Rattle.std.specs.List.{AllByRecursion, list_all}
 use Rattle.std.specs.Str.{bytes_eq, chars, is_utf8}
@@ -15,7 +16,7 @@ use Rattle.gk_steps.specs.Action.{ActionRowValue, action_row, kind_of_field}
 use Rattle.gk_steps.specs.Finding.{EntryValue, LibraryValue, is_of_type}
 use Rattle.gk_steps.specs.LibraryFile.{Sides, is_ignored, type_of, sides_of, last_arrow, NoneMatches, SpellsEntry, SpellEntries, ReadsLibrary}
 use Rattle.gk_steps.specs.LibraryLine.{is_none_or_kind}
-use Rattle.gk_steps.specs.Spelling.{IsSpelled, is_pattern}
+use Rattle.gk_steps.specs.Spelling.{is_pattern}
 use Rattle.gk_steps.specs.DefaultFile.{default_text, default_entries}
 use Rattle.gk_steps.proofs.BestMatchLemmas.{IsBestResult, best_match_is}
 use Rattle.gk_steps.proofs.FindingLemmas.{of_type_itself}
@@ -54,12 +55,7 @@ spells_ok text ps = bytes_eq text (flat_map spelled_piece ps) && (list_all is_fi
 
 spells_so : (text : List ℕ) (ps : List PieceValue) → spells_ok text ps ≡ true → SpellsPattern text ps
 unfolding spells_ok
-spells_so text ps e =
-    let a = and_so (bytes_eq text (flat_map spelled_piece ps)) (list_all is_field_name (field_names ps) && (runs_ok ps && is_pattern ps)) e in
-    let b = and_so (list_all is_field_name (field_names ps)) (runs_ok ps && is_pattern ps) a.1 in
-    let c = and_so (runs_ok ps) (is_pattern ps) b.1 in
-    let s : IsSpelled text ps = record { spelled = (bytes_eq-Decides text (flat_map spelled_piece ps)).0 a.0; names = names_so (field_names ps) b.0; runs = runs_so ps c.0 } in
-    spells text ps s c.1
+spells_so text ps e = grind (arith, common_steps, and_so, flat_map, bytes_eq-Decides, names_so, runs_so, spells)
 
 unfoldable pub passes : Option StepType → List ℕ → EntryValue → Bool
 passes step_type text e = not (is_of_type e.step_type step_type && is_some (best_match e.pattern text))
@@ -70,9 +66,7 @@ no_match ps text (Some spans) e h = let bad : ⊥ = cc in absurd bad
 
 passes_so : (step_type : Option StepType) (text : List ℕ) (e : EntryValue) → passes step_type text e ≡ true → e.step_type ≡ step_type → MatchesNot e.pattern text
 unfolding passes
-passes_so step_type text e is same =
-    let t : is_of_type e.step_type step_type ≡ true = ap (λ (o : Option StepType). is_of_type o step_type) same ∙ of_type_itself step_type in
-    no_match e.pattern text (best_match e.pattern text) (sym (ap (λ v. not (v && is_some (best_match e.pattern text))) t) ∙ is) (best_match_is e.pattern text)
+passes_so step_type text e is same = grind (arith, common_steps, of_type_itself, no_match, best_match_is)
 
 none_so : (earlier : LibraryValue) (step_type : Option StepType) (text : List ℕ) → list_all (passes step_type text) earlier ≡ true → NoneMatches earlier step_type text
 none_so [] step_type text e = tt
@@ -82,18 +76,7 @@ none_so (x ∷ xs) step_type text e = let parts = and_so (passes step_type text 
 good : (earlier : LibraryValue) (line : LineValue) (e : EntryValue) (sides : Sides) (row : ActionRowValue) → type_of line ≡ Some e.step_type → sides_of line ≡ Some sides → action_row sides.action ≡ Some row → e.action ≡ row.action
     → spells_ok sides.pattern e.pattern ≡ true → list_all (λ name. is_some (field_kind e.pattern name)) row.needs ≡ true → list_all (λ name. is_none_or_kind (field_kind e.pattern name) (kind_of_field name)) row.uses ≡ true
     → list_all (passes e.step_type sides.pattern) earlier ≡ true → SpellsEntry earlier line e
-good earlier line e sides row is_type is_cut is_action action spelled needs kinds none = record {
-  sides = sides;
-  row = row;
-  is_type = is_type;
-  is_cut = is_cut;
-  is_pattern = spells_so sides.pattern e.pattern spelled;
-  is_action = is_action;
-  action = action;
-  needs = needed_so e.pattern row.needs needs;
-  kinds = kinds_so e.pattern row.uses kinds;
-  unambiguous = none_so earlier e.step_type sides.pattern none;
-}
+good earlier line e sides row is_type is_cut is_action action spelled needs kinds none = grind (arith, common_steps, spells_so, needed_so, kinds_so, none_so)
 
 -- lines that are good, each after the entries of those before
 unfoldable pub option_action : Option Sides → Option Action
@@ -120,12 +103,7 @@ row_so : (earlier : LibraryValue) (line : LineValue) (e : EntryValue) (sides : S
     → SpellsEntry earlier line e
 unfolding row_ok
 row_so earlier line e sides None is typed cut action ok = let bad : ⊥ = cc in absurd bad
-row_so earlier line e sides (Some row) is typed cut action ok =
-    let a = and_so (spells_ok sides.pattern e.pattern) _ ok in
-    let b = and_so (list_all (λ name. is_some (field_kind e.pattern name)) row.needs) _ a.1 in
-    let c = and_so (list_all (λ name. is_none_or_kind (field_kind e.pattern name) (kind_of_field name)) row.uses) _ b.1 in
-    let same : e.action ≡ row.action = sym (some_same row.action e.action action) in
-    good earlier line e sides row typed cut is same a.0 b.0 c.0 c.1
+row_so earlier line e sides (Some row) is typed cut action ok = grind (arith, common_steps, and_so, some_same, good)
 
 sides_so : (earlier : LibraryValue) (line : LineValue) (e : EntryValue) (sides : Option Sides) → sides_of line ≡ sides → type_of line ≡ Some e.step_type → option_action sides ≡ Some e.action → sides_ok earlier e sides ≡ true → SpellsEntry earlier line e
 unfolding option_action sides_ok

@@ -1,5 +1,6 @@
 -- Runs of digits between two columns.
 use Rattle.std.proofs.Common.{◌≡◌, ℕ, ◌+◌, ◌-◌, ◌*◌, ◌<◌, ◌≤◌, inl, inr, Bool, true, false, List, [], ◌∷◌, ◌++◌, length, take, drop, get_or, Option, Some, None, ap, sym, subst, ◌∙◌, arith, length-drop}
+use Rattle.std.proofs.lemmas.Grind.{common_steps}
 use Rattle.std.specs.Prelude.{IsUtf8}
 use Rattle.std.specs.Char.{digit_value}
 use Rattle.std.specs.Str.Parse.{AllDigits, digits_value}
@@ -62,12 +63,7 @@ part_none text boundaries c = let none : get_or boundaries c 0 - get_or boundari
 -- one digit more
 pub one_digit : (text boundaries : List ℕ) (c d b value value' : ℕ) → AreBoundaries text boundaries → c < length boundaries → d + 1 ≤ c → get_or boundaries d 0 ≡ get_or boundaries (d + 1) 0 + 1 → b ≡ get_or text (get_or boundaries (d + 1) 0) 0 → 48 ≤ b → b < 58 → value' ≡ value * 10 + (b - 48) → AllDigits 10 (part text boundaries c (d + 1)) → value ≡ digits_value 10 (part text boundaries c (d + 1))
     → AllDigits 10 (part text boundaries c d) × (value' ≡ digits_value 10 (part text boundaries c d))
-one_digit text boundaries c d b value value' h l within next is low high sum digits before =
-    let more : part text boundaries c d ≡ part text boundaries c (d + 1) ++ b ∷ [] = part_more text boundaries c d h l within next ∙ ap (λ x. part text boundaries c (d + 1) ++ x ∷ []) (sym is) in
-    let digit = digit_is b low high in
-    let pushed = digits_value_push 10 (part text boundaries c (d + 1)) b in
-    let whole : digits_value 10 (part text boundaries c d) ≡ digits_value 10 (part text boundaries c (d + 1)) * 10 + digit_value b = ap (digits_value 10) more ∙ pushed in
-    (subst (AllDigits 10) (sym more) (all_more (part text boundaries c (d + 1)) b digits (omega arith)), omega arith)
+one_digit text boundaries c d b value value' h l within next is low high sum digits before = grind (arith, common_steps, part_more, digit_is, digits_value_push, all_more)
 
 pub run_more : (most : ℕ) (text boundaries : List ℕ) (below : List Bool) (c d value value' : ℕ) → AllDigits 10 (part text boundaries c d) × (value' ≡ digits_value 10 (part text boundaries c d)) → get_or below d false ≡ false → IsRunTo (d + 1) most text boundaries below c value → IsRunTo d most text boundaries below c value'
 run_more most text boundaries below c d value value' now not_here r = record {
@@ -81,10 +77,7 @@ run_more most text boundaries below c d value value' now not_here r = record {
 
 -- digits down to a column
 pub digits_here : (most : ℕ) (text boundaries : List ℕ) (below : List Bool) (c d value : ℕ) → AreBoundaries text boundaries → c < length boundaries → d + 1 ≤ c → AllDigits 10 (part text boundaries c d) × (value ≡ digits_value 10 (part text boundaries c d)) → value ≤ most → get_or below d false ≡ true → IsDigitsTo most text boundaries below c d
-digits_here most text boundaries below c d value h l within now small here =
-    let size = part_size text boundaries c d h l (omega arith) in
-    let up = h.falling d c (omega arith) l in
-    record { within = omega arith; rest = here; numeral = (omega arith, now.0); value = omega (arith, now.1) }
+digits_here most text boundaries below c d value h l within now small here = grind (arith, common_steps)
 
 pub run_found : (most : ℕ) (text boundaries : List ℕ) (below : List Bool) (c d value : ℕ) → AreBoundaries text boundaries → c < length boundaries → d + 1 ≤ c → AllDigits 10 (part text boundaries c d) × (value ≡ digits_value 10 (part text boundaries c d)) → value ≤ most → get_or below d false ≡ true → (e : ℕ) × IsDigitsTo most text boundaries below c e
 run_found most text boundaries below c d value h l within now small here = (d, digits_here most text boundaries below c d value h l within now small here)
@@ -119,10 +112,7 @@ run_past most text boundaries below c d b value h l within is not_digit r = λ e
 
 -- the longest step so far
 pub longest_stays : (most : ℕ) (text boundaries : List ℕ) (below : List Bool) (c d : ℕ) (o : Option ℕ) → get_or below d false ≡ false → IsLongestTo (d + 1) most text boundaries below c o → IsLongestTo d most text boundaries below c o
-longest_stays most text boundaries below c d None not_here h = λ e least s. elim (eq-or-lt_of_le least) [
-  | inr more ↦ h e (omega arith) s
-  | inl same ↦ let is_true = s.rest in let is_false : get_or below e false ≡ false = ap (λ k. get_or below k false) (sym same) ∙ not_here in let bad : ⊥ = cc in bad
-]
+longest_stays most text boundaries below c d None not_here h = grind (arith, common_steps)
 longest_stays most text boundaries below c d (Some b) not_here h = (
   h.0,
   λ e least s. elim (eq-or-lt_of_le least) [
@@ -133,10 +123,6 @@ longest_stays most text boundaries below c d (Some b) not_here h = (
 
 pub longest_here : (most : ℕ) (text boundaries : List ℕ) (below : List Bool) (c d : ℕ) → IsDigitsTo most text boundaries below c d → IsLongestTo d most text boundaries below c (Some d)
 longest_here most text boundaries below c d s = (s, λ e least t. least)
-
-pub longest_ends : (low most : ℕ) (text boundaries : List ℕ) (below : List Bool) (c : ℕ) (o : Option ℕ) → ((e : ℕ) → e < low → IsDigitsTo most text boundaries below c e → ⊥) → IsLongestTo low most text boundaries below c o → IsLongest most text boundaries below c o
-longest_ends low most text boundaries below c None none h = λ e least s. let not_less : e < low → ⊥ = λ less. none e less s in h e (omega (arith, not_less)) s
-longest_ends low most text boundaries below c (Some b) none h = (h.0, λ e least s. let not_less : e < low → ⊥ = λ less. none e less s in h.1 e (omega (arith, not_less)) s)
 
 -- the column before which the loop stands, and the byte after it
 pub column_up : (column back : ℕ) → back < column → column - back - 1 + 1 ≡ column - back
@@ -157,5 +143,4 @@ digit_read text bytes boundaries column back value value' u h within same less l
 
 -- the longest step, where no digits lead past a column of the loop
 pub longest_at : (column back most : ℕ) (text boundaries : List ℕ) (below : List Bool) (o : Option ℕ) → back < column → ((e : ℕ) → e < column - back - 1 + 1 → IsDigitsTo most text boundaries below column e → ⊥) → IsLongestTo (column - back) most text boundaries below column o → IsLongest most text boundaries below column o
-longest_at column back most text boundaries below o less none best =
-    longest_ends (column - back - 1 + 1) most text boundaries below column o none (subst (λ k. IsLongestTo k most text boundaries below column o) (sym (column_up column back less)) best)
+longest_at column back most text boundaries below o less none best = grind (arith, common_steps)

@@ -1,16 +1,13 @@
 -- An index over the literals at the ends of patterns.
-use Rattle.std.proofs.Common.{◌≡◌, ℕ, Bool, zero, suc, ◌+◌, ◌-◌, ◌%◌, ◌<◌, ◌≤◌, ◌⊎◌, inl, inr, List, [], ◌∷◌, ◌++◌, length, take, drop, map, get_or, Option, Some, refl, ap, sym, subst, ◌∙◌, arith, length-append, Bor, None}
-use Rattle.std.specs.Prelude.{slice_get, slice_set, IfSome, option_copied, is_some, Vec, ◌==◌, true, false, Result, Ok, Err, OnOk, if◌then◌else◌}
-use Rattle.std.specs.Int.{w64, from_le_bytes}
-use Rattle.std.specs.declared.alloc.Global.{Global}
-use Rattle.std.proofs.Math.Nat.{eq-or-lt_of_le, mod-lt}
-use Rattle.std.proofs.Math.ListN.{drop_of_length-le}
-use Rattle.std.proofs.lemmas.Bool.{cases_lt, eq-eqb, lt-ltb, le-ltb}
-use Rattle.std.proofs.lemmas.List.{append-nil, take_at, drop_at, take_all, take-append-le}
+use Rattle.std.proofs.Common.{◌≡◌, ℕ, Bool, zero, suc, ◌+◌, ◌-◌, ◌*◌, ◌%◌, ◌^◌, ◌<◌, ◌≤◌, ◌⊎◌, inl, inr, List, [], ◌∷◌, ◌++◌, length, take, drop, map, get_or, Option, Some, refl, ap, sym, subst, ◌∙◌, arith, length-append, None}
+use Rattle.std.proofs.lemmas.Grind.{common_steps}
+use Rattle.std.specs.Prelude.{slice_get, slice_set, is_some, true, false}
+use Rattle.std.proofs.Math.Nat.{eq-or-lt_of_le}
+use Rattle.std.proofs.lemmas.Bool.{cases_lt}
+use Rattle.std.proofs.lemmas.List.{append-nil, take_at, drop_at, take_all}
 use Rattle.gk_steps.specs.declared.library.Entry.{Entry}
 use Rattle.gk_steps.specs.declared.pattern.Piece.{Piece}
 use Rattle.gk_steps.specs.declared.entry_index.Index.{Index}
-use Rattle.gk_steps.specs.declared.entry_index.Keyed.{Keyed}
 use Rattle.gk_steps.specs.declared.entry_index.Head.{Head}
 use Rattle.gk_steps.specs.Pattern.{PieceValue, Literal, FieldPiece, piece_value, pattern_value}
 use Rattle.gk_steps.specs.Matching.{Matches, MatchesNot, woven}
@@ -18,7 +15,7 @@ use Rattle.gk_steps.specs.LiteralEnds.{FitsEnd}
 use Rattle.gk_gherkin.specs.declared.feature.StepType.{StepType}
 use Rattle.gk_steps.specs.Finding.{EntryValue, entry_value, NoneBefore}
 use Rattle.gk_steps.specs.FilledCells.{cells_of_type}
-use Rattle.gk_steps.specs.EntryIndex.{literal_of, first_literal, last_literal, key_more, key_over, first_key, ends_key, keyed, IsAmong, IsUnder, IsMarked, bucket_at, bucket_of, HasBuckets, Lists, AreListed, IsLeastFrom, Skips, CanStand, HasFirst, HasEnds, HasEndsAmong, IsShorter, IsAny, SkipsEntries, word_of, head_of, IsOther, PassesHeads, StandsFor, AreHeads, AreSingle}
+use Rattle.gk_steps.specs.EntryIndex.{literal_of, first_literal, last_literal, first_length, last_length, key_over, ends_key, items_under, IsAmong, IsMarked, Lists, AreListed, IsIndexOf, IsLeastFrom, Skips, CanStand, HasFirst, HasEnds, IsShorter, IsAny, SkipsEntries, word_of, head_of, IsOther, PassesHeads, StandsFor, AreHeads, AreSingle}
 use Rattle.gk_steps.proofs.LiteralEndLemmas.{match_fits}
 
 -- the last literal
@@ -55,69 +52,12 @@ get_within [] k x is = let bad : ⊥ = cc in absurd bad
 get_within (y ∷ ys) zero x is = omega arith
 get_within (y ∷ ys) (suc k) x is = let less = get_within ys k x is in omega arith
 
-among_push : (p q : Keyed) (xs : List Keyed) → IsAmong p xs → IsAmong p (xs ++ q ∷ [])
-among_push p q [] a = let bad : ⊥ = cc in absurd bad
-among_push p q (x ∷ xs) (zero, e) = (0, e)
-among_push p q (x ∷ xs) (suc k, e) = let more = among_push p q xs (k, e) in (suc more.0, more.1)
-
-among_new : (p : Keyed) (xs : List Keyed) → IsAmong p (xs ++ p ∷ [])
-among_new p [] = (0, refl)
-among_new p (x ∷ xs) = let more = among_new p xs in (suc more.0, more.1)
-
--- a bucket with a position more
-pub kept_set : (bs : List (Vec Keyed Global)) (slot k : ℕ) (old new : Vec Keyed Global) (position p : Keyed) → slot < length bs → old ≡ get_or bs slot old → new.items ≡ old.items ++ position ∷ [] → IsAmong p (bucket_at bs k) → IsAmong p (bucket_at (slice_set bs slot new) k)
-kept_set [] slot k old new position p l e is a = absurd (omega arith)
-kept_set (b ∷ bs) zero zero old new position p l e is a = subst (IsAmong p) (sym is) (among_push p position old.items (subst (λ (v : Vec Keyed Global). IsAmong p v.items) (sym e) a))
-kept_set (b ∷ bs) zero (suc k) old new position p l e is a = a
-kept_set (b ∷ bs) (suc slot) zero old new position p l e is a = a
-kept_set (b ∷ bs) (suc slot) (suc k) old new position p l e is a = kept_set bs slot k old new position p (omega arith) e is a
-
-pub added_set : (bs : List (Vec Keyed Global)) (slot : ℕ) (old new : Vec Keyed Global) (position : Keyed) → slot < length bs → new.items ≡ old.items ++ position ∷ [] → IsAmong position (bucket_at (slice_set bs slot new) slot)
-added_set [] slot old new position l is = absurd (omega arith)
-added_set (b ∷ bs) zero old new position l is = subst (IsAmong position) (sym is) (among_new position old.items)
-added_set (b ∷ bs) (suc slot) old new position l is = added_set bs slot old new position (omega arith) is
-
-pub bucket_read : (bs : List (Vec Keyed Global)) (k : ℕ) (v : Vec Keyed Global) → k < length bs → v ≡ get_or bs k v → bucket_at bs k ≡ v.items
-bucket_read [] k v l e = absurd (omega arith)
-bucket_read (b ∷ bs) zero v l e = ap (λ (w : Vec Keyed Global). w.items) (sym e)
-bucket_read (b ∷ bs) (suc k) v l e = bucket_read bs k v (omega arith) e
-
--- the bucket of a key
-mod_of : (key n : ℕ) → 0 < n → key % n < n
-mod_of key n l = mod-lt key {m = n} l
-
-pub slot_within : (bs : List (Vec Keyed Global)) (key n : ℕ) → n ≡ length bs → 0 < length bs → key % n < length bs
-slot_within bs key n size some = let there : 0 < n = omega (arith, size, some) in omega (arith, mod_of key n there, size)
-
-pub kept_of : (bs : List (Vec Keyed Global)) (key slot k m : ℕ) (n : Keyed) (old new : Vec Keyed Global) (number : Keyed) → slot ≡ key % m → m ≡ length bs → 0 < length bs → length (slice_set bs slot new) ≡ length bs → old ≡ get_or bs slot old → new.items ≡ old.items ++ number ∷ [] → IsAmong n (bucket_of bs k) → IsAmong n (bucket_of (slice_set bs slot new) k)
-kept_of bs key slot k m n old new number at size some same e is a =
-    let less : slot < length bs = omega (arith, at, slot_within bs key m size some) in
-    subst (λ q. IsAmong n (bucket_at (slice_set bs slot new) (k % q))) (sym same) (kept_set bs slot (k % length bs) old new number n less e is a)
-
-pub added_of : (bs : List (Vec Keyed Global)) (key slot m : ℕ) (old new : Vec Keyed Global) (number : Keyed) → slot ≡ key % m → m ≡ length bs → 0 < length bs → length (slice_set bs slot new) ≡ length bs → new.items ≡ old.items ++ number ∷ [] → IsAmong number (bucket_of (slice_set bs slot new) key)
-added_of bs key slot m old new number at size some same is =
-    let less : slot < length bs = omega (arith, at, slot_within bs key m size some) in
-    let here : slot ≡ key % length (slice_set bs slot new) = at ∙ ap (λ q. key % q) (size ∙ sym same) in
-    subst (λ q. IsAmong number (bucket_at (slice_set bs slot new) q)) here (added_set bs slot old new number less is)
-
 -- keys
 pub key_between : (key : ℕ) (bytes : List ℕ) (size first : ℕ) → size ≤ first → first ≤ length bytes → key_over (key_over key (take size bytes)) (take (first - size) (drop size bytes)) ≡ key_over key (take first bytes)
 key_between key bytes zero first some within = let same : first - 0 ≡ first = omega arith in ap (λ n. key_over key (take n bytes)) same
 key_between key [] (suc size) first some within = absurd (omega arith)
 key_between key (b ∷ bytes) (suc size) zero some within = absurd (omega arith)
-key_between key (b ∷ bytes) (suc size) (suc first) some within =
-    let same : suc first - suc size ≡ first - size = omega arith in
-    ap (λ n. key_over (key_over (key_more key b) (take size bytes)) (take n (drop size bytes))) same ∙ key_between (key_more key b) bytes size first (omega arith) (omega arith)
-
--- what is listed stays so
-pub lists_kept : (old new : Index) (p : ℕ) (ps : List PieceValue) → ((k : ℕ) → IsMarked k old.firsts.items → IsMarked k new.firsts.items)
-    → ((k : ℕ) (n : Keyed) → IsAmong n (bucket_of old.lasts.items k) → IsAmong n (bucket_of new.lasts.items k))
-    → ((k : ℕ) (n : Keyed) → IsAmong n (bucket_of old.positions.items k) → IsAmong n (bucket_of new.positions.items k)) → Lists old p ps → Lists new p ps
-lists_kept old new p ps firsts lasts positions h = record {
-  first = firsts (length (first_literal ps)) h.first;
-  last = lasts (first_key ps) (keyed (first_key ps) (length (last_literal ps))) h.last;
-  listed = positions (ends_key ps) (keyed (ends_key ps) p) h.listed;
-}
+key_between key (b ∷ bytes) (suc size) (suc first) some within = grind (arith, common_steps, key_between ((key * 33 % 2 ^ 64 + b) % 2 ^ 64) bytes size first (omega arith) (omega arith))
 
 -- the ends of a text that a pattern matches
 match_begins : (ps : List PieceValue) (text : List ℕ) (spans : List (List ℕ)) → Matches ps text spans → (rest : List ℕ) × (text ≡ first_literal ps ++ rest)
@@ -149,68 +89,45 @@ fits_length ps text spans m =
     let b = match_ends ps text spans m in
     (omega (arith, ap length a.1, length-append (first_literal ps) a.0), omega (arith, ap length b.1, length-append b.0 (last_literal ps)))
 
--- a pattern that is added
-pub index_some : {T E : Type 0} (r : Result T E) (old new : Index) → length new.lasts.items ≡ length old.lasts.items → OnOk r (length new.positions.items ≡ length old.positions.items) → HasBuckets old → OnOk r (HasBuckets new)
-index_some (Ok x) old new lasts positions h = record { lasts = omega (arith, lasts, h.lasts); positions = omega (arith, positions, h.positions) }
-index_some (Err e) old new lasts positions h = tt
+-- patterns with a length below some
+pub skips_none : (index : Index) (from most : ℕ) (text : List ℕ) → Skips (λ ps. ⊥) index from most text most
+skips_none index from most text = record { low = λ l. l; high = omega arith; skipped = λ position ps never lists low under spans m. never }
 
-pub index_kept : {T E : Type 0} (r : Result T E) (old new : Index) → ((k : ℕ) → IsMarked k old.firsts.items → IsMarked k new.firsts.items)
-    → ((k : ℕ) (n : Keyed) → IsAmong n (bucket_of old.lasts.items k) → IsAmong n (bucket_of new.lasts.items k))
-    → OnOk r ((k : ℕ) (n : Keyed) → IsAmong n (bucket_of old.positions.items k) → IsAmong n (bucket_of new.positions.items k)) → OnOk r ((p : ℕ) (ps : List PieceValue) → Lists old p ps → Lists new p ps)
-index_kept (Ok x) old new firsts lasts positions = λ p ps h. lists_kept old new p ps firsts lasts positions h
-index_kept (Err e) old new firsts lasts positions = tt
-
-pub index_added : {T E : Type 0} (r : Result T E) (index : Index) (position key ends : ℕ) (first last : List ℕ) (ps : List PieceValue) → first ≡ first_literal ps → last ≡ last_literal ps → key ≡ key_over 0 first → ends ≡ key_over key last → IsMarked (length first) index.firsts.items
-    → IsUnder key (length last) (bucket_of index.lasts.items key) → OnOk r (IsUnder ends position (bucket_of index.positions.items ends)) → OnOk r (Lists index position ps)
-index_added (Ok x) index position key ends first last ps f g k e marked lasts positions =
-    let first_is : key ≡ first_key ps = k ∙ ap (key_over 0) f in
-    let ends_is : ends ≡ ends_key ps = e ∙ ap (key_over key) g ∙ ap (λ q. key_over q (last_literal ps)) first_is in
-    record {
-      first = subst (λ t. IsMarked (length t) index.firsts.items) f marked;
-      last = subst (λ t. IsUnder (first_key ps) (length t) (bucket_of index.lasts.items (first_key ps))) g (subst (λ q. IsUnder q (length last) (bucket_of index.lasts.items q)) first_is lasts);
-      listed = subst (λ q. IsUnder q position (bucket_of index.positions.items q)) ends_is positions;
-    }
-index_added (Err e) index position key ends first last ps f g k x marked lasts positions = tt
-
--- kinds of patterns
-pub skips_none : (IsKind : List PieceValue → Type 0) (index : Index) (from most : ℕ) (text : List ℕ) → ((position : ℕ) (ps : List PieceValue) (spans : List (List ℕ)) → IsKind ps → Lists index position ps → Matches ps text spans → ⊥) → Skips IsKind index from most text most
-skips_none IsKind index from most text h = record {
-  low = λ l. l;
-  high = omega arith;
-  skipped = λ position ps kind lists low under spans m. h position ps spans kind lists m;
-}
-
-pub skips_as : (IsOther IsKind : List PieceValue → Type 0) (index : Index) (from most result : ℕ) (text : List ℕ) → Skips IsOther index from most text result
-    → ((position : ℕ) (ps : List PieceValue) (spans : List (List ℕ)) → IsKind ps → Lists index position ps → Matches ps text spans → IsOther ps) → Skips IsKind index from most text result
-skips_as IsOther IsKind index from most result text h cover = record {
-  low = h.low;
-  high = h.high;
-  skipped = λ position ps kind lists low under spans m. h.skipped position ps (cover position ps spans kind lists m) lists low under spans m;
-}
-
-pub skips_more : (IsOne IsOther IsKind : List PieceValue → Type 0) (index : Index) (from most least next : ℕ) (text : List ℕ) → Skips IsOne index from most text least → Skips IsOther index from least text next
-    → ((position : ℕ) (ps : List PieceValue) (spans : List (List ℕ)) → IsKind ps → Lists index position ps → Matches ps text spans → IsOne ps ⊎ IsOther ps) → Skips IsKind index from most text next
-skips_more IsOne IsOther IsKind index from most least next text h more cover = record {
+pub shorter_more : (IsKind IsNext : List PieceValue → Type 0) (length_of : List PieceValue → ℕ) (index : Index) (size from most least next : ℕ) (text : List ℕ) → Skips (IsShorter IsKind length_of size) index from most text least → Skips IsNext index from least text next
+    → ((position : ℕ) (ps : List PieceValue) (spans : List (List ℕ)) → IsKind ps → length_of ps ≡ size → Lists index position ps → Matches ps text spans → IsNext ps) → Skips (IsShorter IsKind length_of (size + 1)) index from most text next
+shorter_more IsKind IsNext length_of index size from most least next text h more cover = record {
   low = λ l. more.low (h.low l);
   high = omega (arith, h.high, more.high);
-  skipped = λ position ps kind lists low under spans m. elim (cover position ps spans kind lists m) [
-    | inl one ↦ h.skipped position ps one lists low (omega (arith, under, more.high)) spans m
-    | inr other ↦ more.skipped position ps other lists low under spans m
+  skipped = λ position ps kind lists low under spans m. elim (let le : length_of ps ≤ size = omega (arith, kind.1) in eq-or-lt_of_le le) [
+    | inr less ↦ h.skipped position ps (kind.0, less) lists low (omega (arith, under, more.high)) spans m
+    | inl same ↦ more.skipped position ps (cover position ps spans kind.0 same lists m) lists low under spans m
   ];
+}
+
+shorter_all : (IsKind : List PieceValue → Type 0) (length_of : List PieceValue → ℕ) (index : Index) (size from most least : ℕ) (text : List ℕ) → Skips (IsShorter IsKind length_of size) index from most text least
+    → ((position : ℕ) (ps : List PieceValue) (spans : List (List ℕ)) → Lists index position ps → IsKind ps → Matches ps text spans → length_of ps < size) → Skips IsKind index from most text least
+shorter_all IsKind length_of index size from most least text h all = record {
+  low = h.low;
+  high = h.high;
+  skipped = λ position ps kind lists low under spans m. h.skipped position ps (kind, all position ps spans lists kind m) lists low under spans m;
 }
 
 -- both ends
 pub ends_short : (index : Index) (key last from most : ℕ) (text : List ℕ) → length text < last → Skips (HasEnds key last) index from most text most
-ends_short index key last from most text short = skips_none (HasEnds key last) index from most text (λ position ps spans kind lists m. omega (arith, short, kind.1, (fits_length ps text spans m).1))
+ends_short index key last from most text short = record {
+  low = λ l. l;
+  high = omega arith;
+  skipped = λ position ps kind lists low under spans m. omega (arith, short, kind.1, (fits_length ps text spans m).1);
+}
 
-pub ends_bucket : (index : Index) (key last from most result : ℕ) (text back : List ℕ) (bucket : List Keyed) (ends : ℕ) → back ≡ drop (length text - last) text → ends ≡ key_over key back → bucket ≡ bucket_of index.positions.items ends → IsLeastFrom bucket ends from most result → Skips (HasEnds key last) index from most text result
-ends_bucket index key last from most result text back bucket ends b e is h = record {
+pub ends_under : (index : Index) (key last from most result : ℕ) (text back positions : List ℕ) (ends : ℕ) → back ≡ drop (length text - last) text → ends ≡ key_over key back → positions ≡ items_under index.positions ends → IsLeastFrom positions from most result → Skips (HasEnds key last) index from most text result
+ends_under index key last from most result text back positions ends b e is h = record {
   low = h.low;
   high = h.high;
   skipped = λ position ps kind lists low under spans m.
       let back_is : back ≡ last_literal ps = b ∙ ap (λ n. drop (length text - n) text) kind.1 ∙ last_taken ps text spans m in
       let ends_is : ends ≡ ends_key ps = e ∙ ap (key_over key) back_is ∙ ap (λ k. key_over k (last_literal ps)) kind.0 in
-      let here : IsUnder ends position bucket = subst (IsUnder ends position) (sym is) (subst (λ q. IsUnder q position (bucket_of index.positions.items q)) (sym ends_is) lists.listed) in
+      let here : IsAmong position positions = subst (IsAmong position) (sym is) (subst (λ q. IsAmong position (items_under index.positions q)) (sym ends_is) lists.listed) in
       omega (arith, under, h.least position here low);
 }
 
@@ -225,92 +142,60 @@ can_stand (Literal literal ∷ q ∷ ps) text spans m =
     inl (omega (arith, ap length m.whole, length-append literal rest, (fits_length (q ∷ ps) rest spans more).1))
 can_stand (FieldPiece name kind ∷ q ∷ ps) text spans m = inl (omega (arith, (fits_length (FieldPiece name kind ∷ q ∷ ps) text spans m).1))
 
-same_last : (lasts : List Keyed) (count k key size : ℕ) (other : Keyed) → count < length lasts → k ≡ count → slice_get lasts k ≡ Some (keyed key size) → get_or lasts count other ≡ keyed key size
-same_last lasts count k key size other l same is = same_some (get_or lasts count other) (keyed key size) (sym (get_there lasts count other l) ∙ ap (slice_get lasts) (sym same) ∙ is)
+pub last_more : (index : Index) (first key last from most least next : ℕ) (text : List ℕ) → Skips (IsShorter (HasFirst first key) last_length last) index from most text least → Skips (HasEnds key last) index from least text next
+    → Skips (IsShorter (HasFirst first key) last_length (last + 1)) index from most text next
+last_more index first key last from most least next text h more = shorter_more (HasFirst first key) (HasEnds key last) last_length index last from most least next text h more (λ position ps spans kind same lists m. (kind.1, sym same))
 
-pub among_more : (index : Index) (first key count from most least next : ℕ) (other : Keyed) (lasts : List Keyed) (text : List ℕ) → count < length lasts
-    → Skips (HasEndsAmong first key lasts count) index from most text least → Skips (HasEnds key (get_or lasts count other).number) index from least text next → Skips (HasEndsAmong first key lasts (count + 1)) index from most text next
-among_more index first key count from most least next other lasts text l h more =
-    skips_more (HasEndsAmong first key lasts count) (HasEnds key (get_or lasts count other).number) (HasEndsAmong first key lasts (count + 1)) index from most least next text h more (λ position ps spans kind lists m.
-    elim (let le : kind.2 ≤ count = omega (arith, kind.3) in eq-or-lt_of_le le) [
-      | inr old ↦ inl (kind.0, kind.1, kind.2, old, kind.4)
-      | inl same ↦ inr (kind.1, ap (λ (n : Keyed). n.number) (same_last lasts count kind.2 key (length (last_literal ps)) other l same kind.4))
-    ])
+pub last_passed : (index : Index) (first key last from most least size : ℕ) (lasts : List Bool) (text : List ℕ) → lasts ≡ items_under index.lasts key → last < length lasts → size ≡ length text → (get_or lasts last false ≡ true → CanStand first last size → ⊥)
+    → Skips (IsShorter (HasFirst first key) last_length last) index from most text least → Skips (IsShorter (HasFirst first key) last_length (last + 1)) index from most text least
+last_passed index first key last from most least size lasts text is l same_size never h = shorter_more (HasFirst first key) (λ ps. ⊥) last_length index last from most least least text h (skips_none index from least text) (λ position ps spans kind same lists m.
+    let there : IsMarked last lasts = subst (λ n. IsMarked n lasts) same (subst (IsMarked (last_length ps)) (sym is) (subst (λ k. IsMarked (last_length ps) (items_under index.lasts k)) (sym kind.1) lists.last)) in
+    let stands : CanStand first last size = subst (λ n. CanStand n last size) (sym kind.0) (subst (λ n. CanStand (first_length ps) n size) same (subst (CanStand (first_length ps) (last_length ps)) (sym same_size) (can_stand ps text spans m))) in
+    never (same_some (get_or lasts last false) true (sym (get_there lasts last false l) ∙ there)) stands)
 
-pub among_passed : (index : Index) (first key count from most least size : ℕ) (other : Keyed) (lasts : List Keyed) (text : List ℕ) → count < length lasts → size ≡ length text → ((get_or lasts count other).key ≡ key → CanStand first (get_or lasts count other).number size → ⊥)
-    → Skips (HasEndsAmong first key lasts count) index from most text least → Skips (HasEndsAmong first key lasts (count + 1)) index from most text least
-among_passed index first key count from most least size other lasts text l same_size never h =
-    skips_as (HasEndsAmong first key lasts count) (HasEndsAmong first key lasts (count + 1)) index from most least text h (λ position ps spans kind lists m.
-    elim (let le : kind.2 ≤ count = omega (arith, kind.3) in eq-or-lt_of_le le) [
-      | inr old ↦ (kind.0, kind.1, kind.2, old, kind.4)
-      | inl same ↦
-          let is : get_or lasts count other ≡ keyed key (length (last_literal ps)) = same_last lasts count kind.2 key (length (last_literal ps)) other l same kind.4 in
-          let stands : CanStand first (get_or lasts count other).number size =
-          subst (λ n. CanStand n (get_or lasts count other).number size) (sym kind.0)
-          (subst (λ (n : Keyed). CanStand (length (first_literal ps)) n.number size) (sym is)
-          (subst (λ n. CanStand (length (first_literal ps)) (length (last_literal ps)) n) (sym same_size) (can_stand ps text spans m))) in
-          absurd (never (ap (λ (n : Keyed). n.key) is) stands)
-    ])
-
-pub among_all : (index : Index) (first key count from most least : ℕ) (lasts : List Keyed) (text : List ℕ) → length lasts ≤ count → lasts ≡ bucket_of index.lasts.items key → Skips (HasEndsAmong first key lasts count) index from most text least → Skips (HasFirst first key) index from most text least
-among_all index first key count from most least lasts text past is h =
-    skips_as (HasEndsAmong first key lasts count) (HasFirst first key) index from most least text h (λ position ps spans kind lists m.
-    let a : IsUnder key (length (last_literal ps)) lasts = subst (IsUnder key (length (last_literal ps))) (sym is) (subst (λ q. IsUnder q (length (last_literal ps)) (bucket_of index.lasts.items q)) (sym kind.1) lists.last) in
-    (kind.0, kind.1, a.0, omega (arith, past, get_within lasts a.0 (keyed key (length (last_literal ps))) a.1), a.1))
+pub last_all : (index : Index) (first key last from most least : ℕ) (lasts : List Bool) (text : List ℕ) → lasts ≡ items_under index.lasts key → length lasts ≤ last → Skips (IsShorter (HasFirst first key) last_length last) index from most text least → Skips (HasFirst first key) index from most text least
+last_all index first key last from most least lasts text is past h = shorter_all (HasFirst first key) last_length index last from most least text h (λ position ps spans lists kind m.
+    let there : IsMarked (last_length ps) lasts = subst (IsMarked (last_length ps)) (sym is) (subst (λ k. IsMarked (last_length ps) (items_under index.lasts k)) (sym kind.1) lists.last) in
+    omega (arith, past, get_within lasts (last_length ps) true there))
 
 -- the first literals
-pub first_more : (index : Index) (first key from most least next : ℕ) (text : List ℕ) → key ≡ key_over 0 (take first text) → Skips (IsShorter first) index from most text least → Skips (HasFirst first key) index from least text next → Skips (IsShorter (first + 1)) index from most text next
-first_more index first key from most least next text e h more =
-    skips_more (IsShorter first) (HasFirst first key) (IsShorter (first + 1)) index from most least next text h more (λ position ps spans kind lists m.
-    elim (let le : length (first_literal ps) ≤ first = omega (arith, kind) in eq-or-lt_of_le le) [
-      | inr old ↦ inl old
-      | inl same ↦ inr (sym same, e ∙ ap (λ n. key_over 0 (take n text)) (sym same) ∙ ap (key_over 0) (first_taken ps text spans m))
-    ])
+pub first_more : (index : Index) (first key from most least next : ℕ) (text : List ℕ) → key ≡ key_over 0 (take first text) → Skips (IsShorter IsAny first_length first) index from most text least → Skips (HasFirst first key) index from least text next → Skips (IsShorter IsAny first_length (first + 1)) index from most text next
+first_more index first key from most least next text e h more = shorter_more IsAny (HasFirst first key) first_length index first from most least next text h more (λ position ps spans kind same lists m.
+    (sym same, e ∙ ap (λ n. key_over 0 (take n text)) (sym same) ∙ ap (key_over 0) (first_taken ps text spans m)))
 
-pub first_unmarked : (index : Index) (marked : Bool) (first from most least : ℕ) (text : List ℕ) → first < length index.firsts.items → marked ≡ get_or index.firsts.items first marked → ◌≡◌ marked false → Skips (IsShorter first) index from most text least → Skips (IsShorter (first + 1)) index from most text least
-first_unmarked index marked first from most least text l e not h =
-    skips_as (IsShorter first) (IsShorter (first + 1)) index from most least text h (λ position ps spans kind lists m.
-    elim (let le : length (first_literal ps) ≤ first = omega (arith, kind) in eq-or-lt_of_le le) [
-      | inr old ↦ old
-      | inl same ↦
-          let bad : ◌≡◌ false true = sym not ∙ same_some marked true (sym (get_at index.firsts.items first marked l e) ∙ ap (slice_get index.firsts.items) (sym same) ∙ lists.first) in
-          absurd (let none : ⊥ = cc in none)
-    ])
+pub first_unmarked : (index : Index) (marked : Bool) (first from most least : ℕ) (text : List ℕ) → first < length index.firsts.items → marked ≡ get_or index.firsts.items first marked → ◌≡◌ marked false → Skips (IsShorter IsAny first_length first) index from most text least → Skips (IsShorter IsAny first_length (first + 1)) index from most text least
+first_unmarked index marked first from most least text l e not h = shorter_more IsAny (λ ps. ⊥) first_length index first from most least least text h (skips_none index from least text) (λ position ps spans kind same lists m.
+    let bad : ◌≡◌ false true = sym not ∙ same_some marked true (sym (get_at index.firsts.items first marked l e) ∙ ap (slice_get index.firsts.items) (sym same) ∙ lists.first) in
+    let none : ⊥ = cc in none)
 
-pub first_short : (index : Index) (first from most least : ℕ) (text : List ℕ) → length text < first → Skips (IsShorter first) index from most text least → Skips IsAny index from most text least
-first_short index first from most least text short h = skips_as (IsShorter first) IsAny index from most least text h (λ position ps spans kind lists m. omega (arith, short, (fits_length ps text spans m).0))
+pub first_short : (index : Index) (first from most least : ℕ) (text : List ℕ) → length text < first → Skips (IsShorter IsAny first_length first) index from most text least → Skips IsAny index from most text least
+first_short index first from most least text short h = shorter_all IsAny first_length index first from most least text h (λ position ps spans lists kind m. omega (arith, short, (fits_length ps text spans m).0))
 
-pub first_all : (index : Index) (first from most least : ℕ) (text : List ℕ) → length index.firsts.items ≤ first → Skips (IsShorter first) index from most text least → Skips IsAny index from most text least
-first_all index first from most least text past h = skips_as (IsShorter first) IsAny index from most least text h (λ position ps spans kind lists m. omega (arith, past, get_within index.firsts.items (length (first_literal ps)) true lists.first))
+pub first_all : (index : Index) (first from most least : ℕ) (text : List ℕ) → length index.firsts.items ≤ first → Skips (IsShorter IsAny first_length first) index from most text least → Skips IsAny index from most text least
+first_all index first from most least text past h = shorter_all IsAny first_length index first from most least text h (λ position ps spans lists kind m. omega (arith, past, get_within index.firsts.items (first_length ps) true lists.first))
 
 -- the entries
-pub skips_entries : (index : Index) (entries : List Entry) (from most result : ℕ) (text : List ℕ) → most ≡ length entries → 0 < length index.positions.items → AreListed index entries → Skips IsAny index from most text result → SkipsEntries entries from text result
-skips_entries index entries from most result text size some listed h = record {
-  low = λ le. h.low (omega (arith, size, le));
-  skipped = λ position entry is low under spans m. listed some position entry is (λ lists. h.skipped position (pattern_value entry.pattern) tt lists low under spans m);
+pub skips_entries : (index : Index) (entries : List Entry) (from result : ℕ) (text : List ℕ) → from < index.listed → AreListed index entries → Skips IsAny index from index.listed text result → SkipsEntries entries from text result
+skips_entries index entries from result text less listed h = record {
+  low = λ le. h.low (omega (arith, less));
+  skipped = λ position entry is low under spans m. listed position entry (omega (arith, under, h.high)) is (λ lists. h.skipped position (pattern_value entry.pattern) tt lists low under spans m);
 }
 
 -- one entry more is listed
-pub listed_more : (old new : Index) (entries : List Entry) (count : ℕ) (x : Entry) → count < length entries → x ≡ get_or entries count x → ((p : ℕ) (ps : List PieceValue) → Lists old p ps → Lists new p ps) → Lists new count (pattern_value x.pattern)
-    → ((position : ℕ) (entry : Entry) → position < count → slice_get entries position ≡ Some entry → Lists old position (pattern_value entry.pattern))
-    → (position : ℕ) (entry : Entry) → position < count + 1 → slice_get entries position ≡ Some entry → Lists new position (pattern_value entry.pattern)
-listed_more old new entries count x l e kept added h position entry less is = elim (let le : position ≤ count = omega arith in eq-or-lt_of_le le) [
-  | inr before ↦ kept position (pattern_value entry.pattern) (h position entry before is)
-  | inl same ↦
-      let entry_is : x ≡ entry = same_some x entry (sym (get_at entries count x l e) ∙ ap (slice_get entries) (sym same) ∙ is) in
-      subst (λ n. Lists new n (pattern_value entry.pattern)) (sym same) (subst (λ (v : Entry). Lists new count (pattern_value v.pattern)) entry_is added)
-]
-
-pub listed_all : (index : Index) (entries : List Entry) (count : ℕ) → length entries ≤ count → ((position : ℕ) (entry : Entry) → position < count → slice_get entries position ≡ Some entry → Lists index position (pattern_value entry.pattern)) → AreListed index entries
-listed_all index entries count past h some position entry is bad = bad (h position entry (omega (arith, get_within entries position entry is)) is)
-
--- whether there are buckets
-pub not_zero : (n : ℕ) → ◌≡◌ false (n == 0) → 0 < n
-not_zero zero e = let same : ◌≡◌ false true = e ∙ eq-eqb 0 0 refl in let bad : ⊥ = cc in absurd bad
-not_zero (suc n) e = omega arith
-
-pub bucket_here : (bs : List (Vec Keyed Global)) (key : ℕ) (v : Vec Keyed Global) (xs : List Keyed) → ◌≡◌ false (length bs == 0) → xs ≡ v.items → v ≡ get_or bs (key % length bs) v → xs ≡ bucket_of bs key
-bucket_here bs key v xs some same is = same ∙ sym (bucket_read bs (key % length bs) v (mod_of key (length bs) (not_zero (length bs) some)) is)
+pub listed_more : (old middle : Index) (entries : List Entry) (x : Entry) → old.listed < length entries → x ≡ get_or entries old.listed x → ((p : ℕ) (ps : List PieceValue) → Lists old p ps → Lists middle p ps) → Lists middle old.listed (pattern_value x.pattern) → AreListed old entries
+    → IsIndexOf (record { listed = old.listed + 1; firsts = middle.firsts; lasts = middle.lasts; positions = middle.positions }) entries
+listed_more old middle entries x l e kept added h =
+    let new : Index = record { listed = old.listed + 1; firsts = middle.firsts; lasts = middle.lasts; positions = middle.positions } in
+    let as_new : (p : ℕ) (ps : List PieceValue) → Lists middle p ps → Lists new p ps = λ p ps lists. record { first = lists.first; last = lists.last; listed = lists.listed } in
+    record {
+      within = omega (arith, l);
+      listed = λ position entry less is bad. elim (let le : position ≤ old.listed = omega (arith, less) in eq-or-lt_of_le le) [
+        | inr before ↦ h position entry before is (λ lists. bad (as_new position (pattern_value entry.pattern) (kept position (pattern_value entry.pattern) lists)))
+        | inl here ↦
+            let entry_is : x ≡ entry = same_some x entry (sym (get_at entries old.listed x l e) ∙ ap (slice_get entries) (sym here) ∙ is) in
+            bad (as_new position (pattern_value entry.pattern) (subst (λ n. Lists middle n (pattern_value entry.pattern)) (sym here) (subst (λ (v : Entry). Lists middle old.listed (pattern_value v.pattern)) entry_is added)))
+      ];
+    }
 
 -- entries that are skipped
 get_map : (entries : List Entry) (k : ℕ) (other : EntryValue) → slice_get (map entry_value entries) k ≡ Some other → (x : Entry) × (slice_get entries k ≡ Some x) × (entry_value x ≡ other)
@@ -338,21 +223,21 @@ pub cells_skipped : (entries : List Entry) (position next : ℕ) (step_type : Op
     → old + cells_of_type (map entry_value (drop next entries)) step_type text ≤ start + cells_of_type (map entry_value entries) step_type text
 cells_skipped entries position next step_type text start old le h = omega (arith, h, later_cells entries position next step_type text le)
 
--- an entry more is listed
+-- an entry more
 get_push : {X : Type 0} (xs : List X) (x : X) (k : ℕ) (y : X) → slice_get (xs ++ x ∷ []) k ≡ Some y → (slice_get xs k ≡ Some y) ⊎ ((k ≡ length xs) × (x ≡ y))
 get_push [] x zero y e = inr (refl, same_some x y e)
 get_push [] x (suc k) y e = let bad : ⊥ = cc in absurd bad
 get_push (z ∷ zs) x zero y e = inl e
 get_push (z ∷ zs) x (suc k) y e = elim (get_push zs x k y e) [ inl a ↦ inl a | inr b ↦ inr (ap suc b.0, b.1) ]
 
-pub listed_push : (old new : Index) (entries items : List Entry) (x : Entry) (n : ℕ) (pieces : List Piece) → n ≡ length entries → items ≡ entries ++ x ∷ [] → pieces ≡ x.pattern.pieces.items → ((p : ℕ) (ps : List PieceValue) → Lists old p ps → Lists new p ps) → Lists new n (map piece_value pieces) → 0 < length old.positions.items → AreListed old entries → AreListed new items
-listed_push old new entries items x n pieces size same said kept added before_some h some position entry is bad = elim (get_push entries x position entry (ap (λ es. slice_get es position) (sym same) ∙ is)) [
-  | inl before ↦ h before_some position entry before (λ lists. bad (kept position (pattern_value entry.pattern) lists))
-  | inr last ↦
-      let at : n ≡ position = size ∙ sym last.0 in
-      let own : Lists new n (pattern_value x.pattern) = subst (λ q. Lists new n (map piece_value q)) said added in
-      bad (subst (λ k. Lists new k (pattern_value entry.pattern)) at (subst (λ (v : Entry). Lists new n (pattern_value v.pattern)) last.1 own))
-]
+pub listed_push : (index : Index) (entries items : List Entry) (x : Entry) → items ≡ entries ++ x ∷ [] → IsIndexOf index entries → IsIndexOf index items
+listed_push index entries items x same h = record {
+  within = omega (arith, h.within, ap length same, length-append entries (x ∷ []));
+  listed = λ position entry less is. elim (get_push entries x position entry (ap (λ es. slice_get es position) (sym same) ∙ is)) [
+    | inl before ↦ h.listed position entry less before
+    | inr last ↦ absurd (omega (arith, less, h.within, last.0))
+  ];
+}
 
 -- the first entries alone
 get_taken : {X : Type 0} (xs : List X) (n i : ℕ) (x : X) → slice_get (take n xs) i ≡ Some x → slice_get xs i ≡ Some x
@@ -362,33 +247,14 @@ get_taken (y ∷ ys) (suc n) zero x e = e
 get_taken (y ∷ ys) (suc n) (suc i) x e = get_taken ys n i x e
 
 pub listed_taken : (index : Index) (entries slice : List Entry) (n : ℕ) → slice ≡ take n entries → AreListed index entries → AreListed index slice
-listed_taken index entries slice n same h some position entry is = h some position entry (get_taken entries n position entry (ap (λ es. slice_get es position) (sym same) ∙ is))
-
-pub if_taken : (o : Option (Bor Index)) (p : Option Index) (entries slice : List Entry) (n : ℕ) → option_copied o ≡ p → slice ≡ take n entries → IfSome p (λ i. AreListed i entries) → IfSome o (λ i. AreListed i.now slice)
-if_taken None p entries slice n e same h = tt
-if_taken (Some i) p entries slice n e same h = listed_taken i.now entries slice n same (subst (λ q. IfSome q (λ j. AreListed j entries)) (sym e) h)
-
--- an index that is asked
-pub if_asked : (o : Option Index) (index : Index) (entries : List Entry) → IfSome o (λ i. i ≡ index) → AreListed index entries → IfSome o (λ i. AreListed i entries)
-if_asked None index entries e h = tt
-if_asked (Some i) index entries e h = subst (λ (j : Index). AreListed j entries) (sym e) h
+listed_taken index entries slice n same h position entry less is = h position entry less (get_taken entries n position entry (ap (λ es. slice_get es position) (sym same) ∙ is))
 
 -- the word of a text
 pub all_before : {X : Type 0} (xs : List X) (size : ℕ) → length xs ≤ size → xs ≡ take size xs
 all_before xs size le = sym (take_all size xs le)
 
-abbrev word_by : Bool → List ℕ → Option ℕ
-word_by short text = if short then None else Some (from_le_bytes w64 (take 8 text))
-
 word_more : (first rest : List ℕ) (word : ℕ) → Some word ≡ word_of first → Some word ≡ word_of (first ++ rest)
-word_more first rest word e = elim (cases_lt (length first) 8) [
-  | inl short ↦
-      let bad : ◌≡◌ {A = Option ℕ} (Some word) None = e ∙ ap (λ b. word_by b first) (lt-ltb (length first) 8 short) in
-      absurd (let none : ⊥ = cc in none)
-  | inr long ↦
-      let longer : 8 ≤ length (first ++ rest) = omega (arith, long, length-append first rest) in
-      e ∙ ap (λ b. word_by b first) (le-ltb (length first) 8 long) ∙ ap (λ t. Some (from_le_bytes w64 t)) (sym (take-append-le 8 first rest long)) ∙ sym (ap (λ b. word_by b (first ++ rest)) (le-ltb (length (first ++ rest)) 8 longer))
-]
+word_more first rest word e = grind (arith, common_steps)
 
 match_word : (ps : List PieceValue) (text : List ℕ) (spans : List (List ℕ)) (word : ℕ) → Matches ps text spans → Some word ≡ head_of ps → Some word ≡ word_of text
 match_word ps text spans word m e =
@@ -438,10 +304,7 @@ heads_push old new entries items head x size same_heads same own single h positi
     ]
 
 pub single_push : (old new : List Head) (head : Head) → new ≡ old ++ head ∷ [] → head.more ≡ 0 → AreSingle old → AreSingle new
-single_push old new head same none h position found there = elim (get_push old head position found (ap (λ hs. slice_get hs position) (sym same) ∙ there)) [
-  | inl a ↦ h position found a
-  | inr a ↦ ap (λ (f : Head). f.more) (sym a.1) ∙ none
-]
+single_push old new head same none h position found there = grind (arith, common_steps, get_push)
 
 get_set : {X : Type 0} (xs : List X) (i : ℕ) (y : X) (k : ℕ) (z : X) → slice_get (slice_set xs i y) k ≡ Some z → (slice_get xs k ≡ Some z) ⊎ ((k ≡ i) × (y ≡ z))
 get_set [] i y k z e = inl e
@@ -464,14 +327,11 @@ heads_joined heads position own later new is_own is_later same kept most entries
 ]
 
 pub written_back : {X : Type 0} (n : ℕ) (new old : List X) → length new ≡ length old → n ≡ length old → take n (new ++ drop (length new) old) ≡ new
-written_back n new old same size =
-    let none : drop (length new) old ≡ [] = drop_of_length-le old {i = length new} (omega (arith, same)) in
-    ap (λ r. take n (new ++ r)) none ∙ ap (take n) (append-nil new) ∙ take_all n new (omega (arith, same, size))
+written_back n new old same size = grind (arith, common_steps)
 
 pub heads_taken : (heads some : List Head) (entries slice : List Entry) (n : ℕ) → some ≡ take n heads → slice ≡ take n entries → AreHeads heads entries → AreHeads some slice
 heads_taken heads some entries slice n same_heads same h position other word head entry for is_word is =
     h position other word head entry (record { there = get_taken heads n position head (ap (λ hs. slice_get hs position) (sym same_heads) ∙ for.there); low = for.low; high = for.high }) is_word (get_taken entries n other entry (ap (λ es. slice_get es other) (sym same) ∙ is))
 
-pub heads_size : (old middle new : List Head) (entries items : List Entry) (head : Head) (x : Entry) → length old ≡ length entries → middle ≡ old → new ≡ middle ++ head ∷ [] → items ≡ entries ++ x ∷ [] → length new ≡ length items
-heads_size old middle new entries items head x size kept same_heads same =
-    omega (arith, size, ap length kept, ap length same_heads, ap length same, length-append middle (head ∷ []), length-append entries (x ∷ []))
+pub heads_size : (old new : List Head) (entries items : List Entry) (head : Head) (x : Entry) → length old ≡ length entries → new ≡ old ++ head ∷ [] → items ≡ entries ++ x ∷ [] → length new ≡ length items
+heads_size old new entries items head x size same_heads same = grind (arith, common_steps)

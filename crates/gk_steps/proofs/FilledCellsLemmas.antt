@@ -1,5 +1,6 @@
 -- How many cells were filled.
 use Rattle.std.proofs.Common.{◌≡◌, inl, inr, ℕ, zero, suc, ◌+◌, ◌*◌, ◌<◌, ◌≤◌, List, [], ◌∷◌, length, take, drop, map, get_or, cond, Option, ap, sym, subst, ◌∙◌, arith, length-append}
+use Rattle.std.proofs.lemmas.Grind.{common_steps}
 use Rattle.std.specs.Str.{chars, IsCharBoundary, IsUtf8}
 use Rattle.std.proofs.Math.Nat.{mul-le-mul}
 use Rattle.std.proofs.lemmas.List.{take-append-drop, drop_more, length-map, take-map}
@@ -10,31 +11,28 @@ use Rattle.gk_steps.specs.declared.pattern.Piece.{Piece}
 use Rattle.gk_steps.specs.Pattern.{PieceValue, piece_value}
 use Rattle.gk_steps.specs.CharBoundaries.{AreBoundaries}
 use Rattle.gk_steps.specs.Finding.{LibraryValue, is_of_type, entry_value}
-use Rattle.gk_steps.specs.LiteralEnds.{IsAfterStart}
 use Rattle.gk_steps.specs.FilledCells.{table_cells, cells_of_type, GoesOnBy}
+use Rattle.gk_steps.proofs.LeftmostLemmas.{IsCutOrWhole}
 use Rattle.gk_steps.proofs.TableLemmas.{width_is}
-use Rattle.gk_steps.proofs.FindingLemmas.{of_type_itself}
 
 pub one_more : (start old new n : ℕ) → GoesOnBy n start old → GoesOnBy 1 old new → GoesOnBy (n + 1) start new
-one_more start old new n h more fits =
-    let before : old ≡ start + n = h (omega (arith, fits)) in
-    let after : new ≡ old + 1 = more (omega (arith, before, fits)) in
-    omega (arith, before, after)
+one_more start old new n h more fits = grind (arith, common_steps)
 
 pub row_more : (start old new rows width : ℕ) → GoesOnBy ((rows + 1) * width) start old → GoesOnBy width old new → GoesOnBy ((rows + 1 + 1) * width) start new
-row_more start old new rows width h more fits =
-    let before : old ≡ start + (rows + 1) * width = h (omega (arith, fits)) in
-    let after : new ≡ old + width = more (omega (arith, before, fits)) in
-    omega (arith, before, after)
+row_more start old new rows width h more fits = grind (arith, common_steps)
 
 -- the rest of a match asks for no larger a table
-pub fewer_chars : (text : List ℕ) (position : ℕ) → IsUtf8 text → IsCharBoundary text position → length (chars (drop position text)) ≤ length (chars text)
-fewer_chars text position u b =
-    let whole : length (chars text) ≡ length (chars (take position text)) + length (chars (drop position text)) =
-    ap (λ t. length (chars t)) (sym (take-append-drop position text)) ∙ ap length (chars-append (take position text) (drop position text) (IsUtf8-take text position u b)) ∙ length-append (chars (take position text)) (chars (drop position text)) in
-    omega (arith, whole)
+all_chars : (text : List ℕ) (position : ℕ) → IsUtf8 text → IsCharBoundary text position → length (chars text) ≡ length (chars (take position text)) + length (chars (drop position text))
+all_chars text position u b =
+    ap (λ t. length (chars t)) (sym (take-append-drop position text)) ∙ ap length (chars-append (take position text) (drop position text) (IsUtf8-take text position u b)) ∙ length-append (chars (take position text)) (chars (drop position text))
 
-pub fewer_pieces : (ps : List PieceValue) (text : List ℕ) (left : List PieceValue) (rest : List ℕ) → IsAfterStart ps text left rest → length left ≤ length ps
+pub fewer_chars : (text : List ℕ) (position : ℕ) → IsUtf8 text → IsCharBoundary text position → length (chars (drop position text)) ≤ length (chars text)
+fewer_chars text position u b = omega (arith, all_chars text position u b)
+
+pub fewer_before : (text : List ℕ) (position : ℕ) → IsUtf8 text → IsCharBoundary text position → length (chars (take position text)) ≤ length (chars text)
+fewer_before text position u b = omega (arith, all_chars text position u b)
+
+pub fewer_pieces : (ps : List PieceValue) (text : List ℕ) (left : List PieceValue) (rest : List ℕ) → IsCutOrWhole ps text left rest → length left ≤ length ps
 fewer_pieces ps text left rest (inl same) = omega (arith, ap length same.0)
 fewer_pieces ps text left rest (inr cut) = omega (arith, ap length cut.1)
 
@@ -46,9 +44,6 @@ pub cells_at : (entries : List Entry) (i : ℕ) (x : Entry) (step_type : Option 
     → cells_of_type (map entry_value (drop i entries)) step_type text ≡ cond (is_of_type x.step_type step_type) (table_cells (entry_value x).pattern text) 0 + cells_of_type (map entry_value (drop (i + 1) entries)) step_type text
 cells_at entries i x step_type text l e = ap (λ es. cells_of_type (map entry_value es) step_type text) (drop_more entries i x l ∙ ap (λ y. y ∷ drop (i + 1) entries) (sym e))
 
-pub cells_here : (x : Entry) (step_type : Option StepType) (text : List ℕ) → x.step_type ≡ step_type → cond (is_of_type x.step_type step_type) (table_cells (entry_value x).pattern text) 0 ≡ table_cells (entry_value x).pattern text
-cells_here x step_type text same = ap (λ v. cond v (table_cells (entry_value x).pattern text) 0) (ap (λ t. is_of_type t step_type) same ∙ of_type_itself step_type)
-
 pub first_cells : (entries : LibraryValue) (n : ℕ) (step_type : Option StepType) (text : List ℕ) → cells_of_type (take n entries) step_type text ≤ cells_of_type entries step_type text
 first_cells entries zero step_type text = omega arith
 first_cells [] (suc n) step_type text = omega arith
@@ -56,10 +51,7 @@ first_cells (e ∷ es) (suc n) step_type text = omega (arith, first_cells es n s
 
 -- what a match of the last pieces filled
 rest_cells : (pieces : List Piece) (rest boundaries slice : List ℕ) → IsUtf8 rest → AreBoundaries rest boundaries → slice ≡ boundaries → (length pieces + 1) * length slice ≡ table_cells (map piece_value pieces) rest
-rest_cells pieces rest boundaries slice u h same =
-    let width : length slice ≡ length (chars rest) + 1 = ap length same ∙ width_is rest boundaries u h in
-    let rows : length pieces ≡ length (map piece_value pieces) = sym (length-map pieces piece_value) in
-    ap (λ n. (length pieces + 1) * n) width ∙ ap (λ n. (n + 1) * (length (chars rest) + 1)) rows
+rest_cells pieces rest boundaries slice u h same = grind (arith, common_steps, width_is, length-map)
 
 pub rest_most : (pieces : List Piece) (rest boundaries slice : List ℕ) (old new : ℕ) → IsUtf8 rest → AreBoundaries rest boundaries → slice ≡ boundaries → new ≤ old + (length pieces + 1) * length slice → new ≤ old + table_cells (map piece_value pieces) rest
 rest_most pieces rest boundaries slice old new u h same most = subst (λ n. new ≤ old + n) (rest_cells pieces rest boundaries slice u h same) most
@@ -67,18 +59,11 @@ rest_most pieces rest boundaries slice old new u h same most = subst (λ n. new 
 pub rest_filled : (pieces : List Piece) (rest boundaries slice : List ℕ) (old new : ℕ) → IsUtf8 rest → AreBoundaries rest boundaries → slice ≡ boundaries → GoesOnBy ((length pieces + 1) * length slice) old new → GoesOnBy (table_cells (map piece_value pieces) rest) old new
 rest_filled pieces rest boundaries slice old new u h same goes = subst (λ n. GoesOnBy n old new) (rest_cells pieces rest boundaries slice u h same) goes
 
-pub left_most : (left pieces : List Piece) (rest text : List ℕ) (start old new : ℕ) → length left ≤ length pieces → length (chars rest) ≤ length (chars text) → old ≡ start → new ≤ old + table_cells (map piece_value left) rest → new ≤ start + table_cells (map piece_value pieces) text
-left_most left pieces rest text start old new l c same most =
-    let fewer : table_cells (map piece_value left) rest ≤ table_cells (map piece_value pieces) text = fewer_cells (map piece_value left) (map piece_value pieces) rest text (omega (arith, length-map left piece_value, length-map pieces piece_value)) c in
-    omega (arith, fewer, most)
-
 -- what a look-up filled after an entry that was asked, and after one that was passed over
 pub asked : (entries : List Entry) (position : ℕ) (x : Entry) (step_type : Option StepType) (text : List ℕ) (pieces : List Piece) (start old new : ℕ) → position < length entries → x ≡ get_or entries position x → x.step_type ≡ step_type → pieces ≡ x.pattern.pieces.items
     → new ≤ old + table_cells (map piece_value pieces) text → old + cells_of_type (map entry_value (drop position entries)) step_type text ≤ start + cells_of_type (map entry_value entries) step_type text
     → new + cells_of_type (map entry_value (drop (position + 1) entries)) step_type text ≤ start + cells_of_type (map entry_value entries) step_type text
-asked entries position x step_type text pieces start old new l e is same most h =
-    let here : table_cells (map piece_value pieces) text ≡ cond (is_of_type x.step_type step_type) (table_cells (entry_value x).pattern text) 0 = ap (λ q. table_cells (map piece_value q) text) same ∙ sym (cells_here x step_type text is) in
-    omega (arith, here, most, h, cells_at entries position x step_type text l e)
+asked entries position x step_type text pieces start old new l e is same most h = grind (arith, common_steps)
 
 pub passed_over : (entries : List Entry) (position : ℕ) (x : Entry) (step_type : Option StepType) (text : List ℕ) (start old : ℕ) → position < length entries → x ≡ get_or entries position x → old + cells_of_type (map entry_value (drop position entries)) step_type text ≤ start + cells_of_type (map entry_value entries) step_type text
     → old + cells_of_type (map entry_value (drop (position + 1) entries)) step_type text ≤ start + cells_of_type (map entry_value entries) step_type text
@@ -94,8 +79,4 @@ typed_cells entries slice typed step_type text same =
 
 -- a whole table, counted from 0
 pub whole_table : (n m a b rows width old new : ℕ) → a ≡ n → b ≡ m → rows ≡ n → width ≡ m → old ≡ 0 → (a + 1) * b ≤ 18446744073709551615 → GoesOnBy ((rows + 1) * width) old new → new ≡ (n + 1) * m
-whole_table n m a b rows width old new ea eb er ew start fits goes =
-    let counted : (a + 1) * b ≡ (n + 1) * m = ap (λ k. (k + 1) * b) ea ∙ ap (λ k. (n + 1) * k) eb in
-    let filled : (rows + 1) * width ≡ (n + 1) * m = ap (λ k. (k + 1) * width) er ∙ ap (λ k. (n + 1) * k) ew in
-    let on : new ≡ old + (rows + 1) * width = goes (omega (arith, counted, filled, start, fits)) in
-    omega (arith, on, start, filled)
+whole_table n m a b rows width old new ea eb er ew start fits goes = grind (arith, common_steps)

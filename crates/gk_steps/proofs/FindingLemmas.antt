@@ -1,5 +1,6 @@
 -- The search over a library.
 use Rattle.std.proofs.Common.{◌≡◌, ℕ, zero, suc, ◌+◌, ◌<◌, ◌≤◌, ◌⊎◌, inl, inr, Bool, true, false, List, [], ◌∷◌, length, map, get_or, Option, Some, None, refl, ap, sym, subst, ◌∙◌, arith}
+use Rattle.std.proofs.lemmas.Grind.{common_steps}
 use Rattle.std.specs.Prelude.{slice_get, Result, Ok, Err, IfErr}
 use Rattle.std.specs.Option.{option_or}
 use Rattle.std.proofs.Math.Nat.{eq-or-lt_of_le}
@@ -141,14 +142,11 @@ first_found e es step_type text base None later h more = later_found e es step_t
 
 found_from_is : (es : LibraryValue) (step_type : Option StepType) (text : List ℕ) (base : ℕ) → IsFoundFrom base es step_type text (found_from base es step_type text)
 found_from_is [] step_type text base = λ position entry is same. no_option entry is
-found_from_is (e ∷ es) step_type text base =
-    first_found e es step_type text base (match_where (is_of_type e.step_type step_type) e.pattern text) (found_from (suc base) es step_type text) (where_is e step_type text (is_of_type e.step_type step_type) refl) (found_from_is es step_type text (suc base))
+found_from_is (e ∷ es) step_type text base = grind (arith, common_steps, first_found, where_is, found_from_is es step_type text (suc base))
 
 from_zero : (es : LibraryValue) (step_type : Option StepType) (text : List ℕ) (o : Option FoundValue) → IsFoundFrom 0 es step_type text o → IsFoundOf es step_type text o
 from_zero es step_type text None h = h
-from_zero es step_type text (Some f) h =
-    let here : h.0 ≡ f.entry = omega (arith, h.1) in
-    subst (λ (k : ℕ). IsFirstFound es step_type text (record { entry = k; fields = f.fields })) here h.2
+from_zero es step_type text (Some f) h = grind (arith, common_steps)
 
 pub of_is : (es : LibraryValue) (step_type : Option StepType) (text : List ℕ) → IsFoundOf es step_type text (found_from 0 es step_type text)
 of_is es step_type text = from_zero es step_type text (found_from 0 es step_type text) (found_from_is es step_type text 0)

@@ -1,21 +1,22 @@
 -- What the first piece of a pattern takes, and how a match goes on after it.
 use Rattle.std.proofs.Common.{◌≡◌, ℕ, ◌+◌, ◌-◌, ◌<◌, ◌≤◌, ◌⊎◌, inl, inr, Bool, true, false, List, [], ◌∷◌, ◌++◌, length, take, drop, map, get_or, nat_eq, Option, Some, None, option_map, refl, ap, sym, subst, ◌∙◌, arith, append_assoc, length-append}
+use Rattle.std.proofs.lemmas.Grind.{common_steps}
 use Rattle.std.specs.Str.{IsCharBoundary, IsUtf8}
 use Rattle.std.specs.Prelude.{MatchBool, IsTrue, ◌↔◌}
 use Rattle.std.specs.List.{starts_with}
 use Rattle.std.proofs.lemmas.Str.{IsUtf8-append, IsUtf8-drop, IsUtf8-take, IsCharBoundary-from_take, IsCharBoundary-from_drop}
-use Rattle.std.proofs.lemmas.List.{append-nil, take-append-drop, length-take-le, length-drop, drop_more}
+use Rattle.std.proofs.lemmas.List.{append-nil, take-append-drop, length-take-le, length-drop}
 use Rattle.std.proofs.lemmas.Bool.{cases_lt}
 use Rattle.std.proofs.Math.Nat.{eq-or-lt_of_le}
-use Rattle.std.proofs.Math.Seq.{take-append_seam, drop-append_seam, take-length}
-use Rattle.gk_steps.specs.declared.pattern.FieldKind.TheVariants.{Plain}
+use Rattle.std.proofs.Math.Seq.{take-append_seam, drop-append_seam}
+use Rattle.gk_steps.specs.declared.pattern.FieldKind.TheVariants.{Plain, Decimal}
 use Rattle.gk_steps.specs.declared.pattern.Piece.{Piece}
 use Rattle.gk_steps.specs.Pattern.{PieceValue, Literal, FieldPiece, piece_value}
-use Rattle.gk_steps.specs.Matching.{IsSpan, Matches, MatchesNot, IsPreferred, IsBestMatch, IsMatchResult, FieldValue, TextField}
+use Rattle.gk_steps.specs.Matching.{AreSpans, IsSpan, Matches, MatchesNot, IsPreferred, IsBestMatch, IsMatchResult, FieldValue, TextField, span_value, span_values, woven}
 use Rattle.gk_steps.specs.Advances.{values_of}
-use Rattle.gk_steps.specs.Finding.{MayNeedTable}
+use Rattle.gk_steps.specs.Finding.{DependsOnMore, MayNeedTable}
 use Rattle.gk_steps.specs.Leftmost.{CanStandAt, StandsNowhereBefore, IsFirst, TakesUpTo, IsLeft, FindsRest}
-use Rattle.gk_steps.specs.LiteralEnds.{IsAfterStart}
+use Rattle.gk_steps.specs.LiteralEnds.{EndsWith, FitsEnd, IsAfterStart}
 use Rattle.gk_steps.proofs.MatchingLemmas.{same_prefix, same_back, split, join, nothing_left, best_nothing}
 use Rattle.gk_steps.proofs.BestMatchLemmas.{after_literal, begins_so, begins_with_itself}
 
@@ -33,9 +34,7 @@ utf8_front front back whole part =
     (IsUtf8-take (front ++ back) (length front) whole (IsCharBoundary-from_drop (front ++ back) (length front) le (subst IsUtf8 (sym (drop-append_seam front back)) part)))
 
 pub boundary_after : (text x rest : List ℕ) → IsUtf8 text → text ≡ x ++ rest → IsUtf8 x → IsCharBoundary text (length x)
-boundary_after text x rest whole e part =
-    let le : length x ≤ length text = omega (arith, ap length e, length-append x rest) in
-    IsCharBoundary-from_take text (length x) whole le (subst IsUtf8 (sym (ap (take (length x)) e ∙ take-append_seam x rest)) part)
+boundary_after text x rest whole e part = grind (arith, common_steps, length-append, IsCharBoundary-from_take, take-append_seam)
 
 taken : (text x rest : List ℕ) → text ≡ x ++ rest → take (length x) text ≡ x
 taken text x rest e = ap (take (length x)) e ∙ take-append_seam x rest
@@ -55,11 +54,7 @@ literal_goes_on literal ps text rest e None h = after_literal literal ps text re
 literal_goes_on literal ps text rest e (Some fields) h = (h.0, after_literal literal ps text rest (Some h.0) e h.1, h.2)
 
 pub literal_end : (literal : List ℕ) (ps : List PieceValue) (text rest : List ℕ) → IsUtf8 text → IsUtf8 literal → text ≡ literal ++ rest → TakesUpTo (Literal literal) ps text (length literal)
-literal_end literal ps text rest whole part e = record {
-  boundary = boundary_after text literal rest whole e part;
-  takes = taken text literal rest e;
-  goes_on = λ found h. literal_goes_on literal ps text rest e found (subst (λ r. IsMatchResult ps r found) (left text literal rest e) h);
-}
+literal_end literal ps text rest whole part e = grind (arith, common_steps, boundary_after, taken, literal_goes_on, left)
 
 -- a plain field that takes x: with whatever else it can take, x is no longer, and the rest of the pattern matches after x, too
 abbrev IsLeast : List PieceValue → List ℕ → List ℕ → List ℕ → Type 0
@@ -83,10 +78,7 @@ least_is_best name ps text x rest xs e fit least best others m =
 
 plain_goes_on : (name : List ℕ) (ps : List PieceValue) (text x rest : List ℕ) → text ≡ x ++ rest → IsSpan Plain x → IsLeast ps text x rest → (found : Option (List FieldValue)) → IsMatchResult ps rest found
     → IsMatchResult (FieldPiece name Plain ∷ ps) text (option_map (λ (fields : List FieldValue). values_of (FieldPiece name Plain) x ++ fields) found)
-plain_goes_on name ps text x rest e fit least None h = λ spans m.
-    let s = split (FieldPiece name Plain) ps text spans m in
-    let known = least s.x s.rest s.xs s.takes s.whole s.after in
-    h known.1.0 known.1.1
+plain_goes_on name ps text x rest e fit least None h = grind (arith, common_steps)
 plain_goes_on name ps text x rest e fit least (Some fields) h =
     let both : IsBestMatch (FieldPiece name Plain ∷ ps) text (x ∷ h.0) = record {
       matches = join (FieldPiece name Plain) ps text x rest h.0 fit e h.1.matches;
@@ -179,9 +171,7 @@ first_more literal text position before never = λ other some less here. elim (c
 
 -- a literal that begins with a byte
 pub other_byte : (first : ℕ) (others literal text : List ℕ) (position : ℕ) → literal ≡ first ∷ others → position < length text → (get_or text position 0 ≡ first → ⊥) → CanStandAt literal text position → ⊥
-other_byte first others literal text position begins within other here =
-    let e : get_or text position 0 ∷ drop (position + 1) text ≡ first ∷ (others ++ here.rest) = sym (drop_more text position 0 within) ∙ here.stands ∙ ap (λ l. l ++ here.rest) begins in
-    other (ap (λ l. get_or l 0 0) e)
+other_byte first others literal text position begins within other here = grind (arith, common_steps)
 
 -- a literal that is longer than what is left of a text
 pub no_room : (literal text : List ℕ) (end : ℕ) → length text < end + length literal → StandsNowhereBefore literal text end → StandsNowhereBefore literal text (length text + 1)
@@ -208,7 +198,16 @@ pub finds_more : (fields fields' : List FieldValue) (piece : PieceValue) (others
     → (found : Option (List FieldValue)) → FindsRest fields' others (drop position rest) found → FindsRest fields (piece ∷ others) rest found
 finds_more fields fields' piece others rest position cut e found h = λ ps text known. h ps text (left_more ps text fields fields' piece others rest position known cut e)
 
-pub left_after_start : (ps : List PieceValue) (text : List ℕ) (left : List PieceValue) (rest : List ℕ) → IsAfterStart ps text left rest → IsLeft ps text [] left rest
+-- what is left after the literal that a pattern begins with, or from the beginning
+abbrev pub IsCutOrWhole : List PieceValue → List ℕ → List PieceValue → List ℕ → Type 0
+IsCutOrWhole ps text left rest = ((left ≡ ps) × (rest ≡ text)) ⊎ ((literal : List ℕ) × (ps ≡ Literal literal ∷ left) × (text ≡ literal ++ rest))
+
+pub cut_or_whole : (ps : List PieceValue) (text : List ℕ) (left : List PieceValue) (rest : List ℕ) → IsAfterStart ps text left rest → IsCutOrWhole ps text left rest
+cut_or_whole [] text left rest same = inl same
+cut_or_whole (Literal literal ∷ ps) text left rest cut = inr (literal, ap (λ (ls : List PieceValue). Literal literal ∷ ls) (sym cut.0), cut.1)
+cut_or_whole (FieldPiece name kind ∷ ps) text left rest same = inl same
+
+pub left_after_start : (ps : List PieceValue) (text : List ℕ) (left : List PieceValue) (rest : List ℕ) → IsCutOrWhole ps text left rest → IsLeft ps text [] left rest
 left_after_start ps text left rest (inl same) = subst (λ ls. IsLeft ps text [] ls rest) (sym same.0) (subst (IsLeft ps text [] ps) (sym same.1) (left_start ps text))
 left_after_start ps text left rest (inr cut) = λ found h. subst (λ qs. IsMatchResult qs text (option_map (λ (fields : List FieldValue). fields) found)) (sym cut.1) (literal_goes_on cut.0 left text rest cut.2 found h)
 
@@ -224,18 +223,14 @@ stands true literal text position e test = record { boundary = test.0 refl; rest
 stands false literal text position e test = λ here. let bad : false ≡ true = test.1 here.boundary in let none : ⊥ = cc in none
 
 pub stands_not : (literal text : List ℕ) (position : ℕ) → starts_with nat_eq (drop position text) literal ≡ false → CanStandAt literal text position → ⊥
-stands_not literal text position e here =
-    let bad : true ≡ false = sym (begins_with_itself literal here.rest) ∙ ap (λ t. starts_with nat_eq t literal) (sym here.stands) ∙ e in
-    let none : ⊥ = cc in none
+stands_not literal text position e here = grind (arith, common_steps, begins_with_itself, nat_eq)
 
 pub match_not : (b : Bool) (literal text : List ℕ) (position : ℕ) → b ≡ false → starts_with nat_eq (drop position text) literal ≡ false → MatchBool b (CanStandAt literal text position) (CanStandAt literal text position → ⊥)
 match_not true literal text position is e = let bad : ⊥ = cc in absurd bad
 match_not false literal text position is e = stands_not literal text position e
 
 pub compared : (b : Bool) (bytes word text literal : List ℕ) (position : ℕ) → b ≡ starts_with nat_eq (take (length bytes - position) (drop position bytes)) word → bytes ≡ text → word ≡ literal → starts_with nat_eq (drop position text) literal ≡ b
-compared b bytes word text literal position e same equal =
-    let all : take (length bytes - position) (drop position bytes) ≡ drop position bytes = ap (λ n. take n (drop position bytes)) (sym (length-drop position bytes)) ∙ take-length (drop position bytes) in
-    ap (λ t. starts_with nat_eq (drop position t) literal) (sym same) ∙ ap (starts_with nat_eq (drop position bytes)) (sym equal) ∙ ap (λ t. starts_with nat_eq t word) (sym all) ∙ sym e
+compared b bytes word text literal position e same equal = grind (arith, common_steps)
 
 -- pieces, taken apart
 pub none_left : {A : Type 0} (xs : List A) → length xs ≡ 0 → xs ≡ []
@@ -250,3 +245,90 @@ pub table_after : (done left ps : List PieceValue) → done ++ left ≡ ps → M
 table_after [] left ps e t = subst MayNeedTable e t
 table_after (p ∷ done) left [] e t = let bad : ⊥ = cc in absurd bad
 table_after (p ∷ done) left (q ∷ ps) e t = inr (table_after done left ps (ap (λ xs. drop 1 xs) e) t)
+
+-- a literal after all pieces
+spans_more : (ps : List PieceValue) (literal : List ℕ) (spans : List (List ℕ)) → AreSpans ps spans → AreSpans (ps ++ Literal literal ∷ []) spans
+spans_more [] literal spans h = h
+spans_more (Literal text ∷ ps) literal spans h = spans_more ps literal spans h
+spans_more (FieldPiece name kind ∷ ps) literal [] h = h
+spans_more (FieldPiece name kind ∷ ps) literal (span ∷ spans) h = (h.0, spans_more ps literal spans h.1)
+
+spans_less : (ps : List PieceValue) (literal : List ℕ) (spans : List (List ℕ)) → AreSpans (ps ++ Literal literal ∷ []) spans → AreSpans ps spans
+spans_less [] literal spans h = h
+spans_less (Literal text ∷ ps) literal spans h = spans_less ps literal spans h
+spans_less (FieldPiece name kind ∷ ps) literal [] h = h
+spans_less (FieldPiece name kind ∷ ps) literal (span ∷ spans) h = (h.0, spans_less ps literal spans h.1)
+
+woven_more : (ps : List PieceValue) (literal : List ℕ) (spans : List (List ℕ)) → AreSpans ps spans → woven (ps ++ Literal literal ∷ []) spans ≡ woven ps spans ++ literal
+woven_more [] literal [] h = append-nil literal
+woven_more [] literal (span ∷ spans) h = absurd h
+woven_more (Literal text ∷ ps) literal spans h = ap (λ (l : List ℕ). text ++ l) (woven_more ps literal spans h) ∙ sym (append_assoc text (woven ps spans) literal)
+woven_more (FieldPiece name kind ∷ ps) literal [] h = absurd h
+woven_more (FieldPiece name kind ∷ ps) literal (span ∷ spans) h = ap (λ (l : List ℕ). span ++ l) (woven_more ps literal spans h.1) ∙ sym (append_assoc span (woven ps spans) literal)
+
+preferred_more : (ps : List PieceValue) (literal : List ℕ) (xs ys : List (List ℕ)) → IsPreferred ps xs ys → IsPreferred (ps ++ Literal literal ∷ []) xs ys
+preferred_more [] literal xs ys h = absurd h
+preferred_more (Literal text ∷ ps) literal xs ys h = preferred_more ps literal xs ys h
+preferred_more (FieldPiece name kind ∷ ps) literal [] ys h = h
+preferred_more (FieldPiece name kind ∷ ps) literal (x ∷ xs) [] h = h
+preferred_more (FieldPiece name kind ∷ ps) literal (x ∷ xs) (y ∷ ys) (inl h) = inl h
+preferred_more (FieldPiece name kind ∷ ps) literal (x ∷ xs) (y ∷ ys) (inr h) = inr (h.0, preferred_more ps literal xs ys h.1)
+
+values_more : (ps : List PieceValue) (literal : List ℕ) (spans : List (List ℕ)) → span_values (ps ++ Literal literal ∷ []) spans ≡ span_values ps spans
+values_more [] literal spans = refl
+values_more (Literal text ∷ ps) literal spans = values_more ps literal spans
+values_more (FieldPiece name kind ∷ ps) literal [] = refl
+values_more (FieldPiece name kind ∷ ps) literal (span ∷ spans) = ap (λ (vs : List FieldValue). span_value kind span ∷ vs) (values_more ps literal spans)
+
+match_less : (ps : List PieceValue) (literal text : List ℕ) (spans : List (List ℕ)) → Matches (ps ++ Literal literal ∷ []) (text ++ literal) spans → Matches ps text spans
+match_less ps literal text spans m =
+    let fit = spans_less ps literal spans m.spans_fit in
+    let whole : text ++ literal ≡ woven ps spans ++ literal = m.whole ∙ woven_more ps literal spans fit in
+    let size : length text ≡ length (woven ps spans) = omega (arith, ap length whole, length-append text literal, length-append (woven ps spans) literal) in
+    record { spans_fit = fit; whole = same_prefix text (woven ps spans) literal literal whole size }
+
+with_last : (ps : List PieceValue) (literal text : List ℕ) (found : Option (List FieldValue)) → IsMatchResult ps text found → IsMatchResult (ps ++ Literal literal ∷ []) (text ++ literal) found
+with_last ps literal text None h = λ spans m. h spans (match_less ps literal text spans m)
+with_last ps literal text (Some found) h = grind (arith, common_steps, spans_more, woven_more, match_less, preferred_more, values_more)
+
+pub finds_last : (fields : List FieldValue) (ps : List PieceValue) (literal text whole : List ℕ) → whole ≡ text ++ literal → (found : Option (List FieldValue)) → FindsRest fields ps text found → FindsRest fields (ps ++ Literal literal ∷ []) whole found
+finds_last fields ps literal text whole e found h = λ qs t known. h qs t (λ o r. known o (subst (λ w. IsMatchResult (ps ++ Literal literal ∷ []) w o) (sym e) (with_last ps literal text o r)))
+
+pub last_too_long : (ps : List PieceValue) (literal text : List ℕ) → length text < length literal → MatchesNot (ps ++ Literal literal ∷ []) text
+last_too_long ps literal text less = grind (arith, common_steps, woven_more, spans_less, length-append)
+
+table_before : (p : PieceValue) (ps : List PieceValue) (literal : List ℕ) → DependsOnMore p ps → DependsOnMore p (ps ++ Literal literal ∷ [])
+table_before (Literal text) ps literal h = h
+table_before (FieldPiece name Decimal) ps literal h = h
+table_before (FieldPiece name Plain) [] literal h = absurd h
+table_before (FieldPiece name Plain) (FieldPiece other kind ∷ ps) literal h = h
+table_before (FieldPiece name Plain) (Literal text ∷ []) literal h = absurd h
+table_before (FieldPiece name Plain) (Literal text ∷ FieldPiece other Plain ∷ ps) literal h = h
+table_before (FieldPiece name Plain) (Literal text ∷ FieldPiece other Decimal ∷ ps) literal h = h
+table_before (FieldPiece name Plain) (Literal text ∷ Literal other ∷ ps) literal h = h
+
+pub table_more : (ps : List PieceValue) (literal : List ℕ) → MayNeedTable ps → MayNeedTable (ps ++ Literal literal ∷ [])
+table_more [] literal h = absurd h
+table_more (p ∷ ps) literal (inl h) = inl (table_before p ps literal h)
+table_more (p ∷ ps) literal (inr h) = inr (table_more ps literal h)
+
+pub table_of_left : (ps : List PieceValue) (text : List ℕ) (left : List PieceValue) (rest : List ℕ) → IsCutOrWhole ps text left rest → MayNeedTable left → MayNeedTable ps
+table_of_left ps text left rest (inl same) t = subst MayNeedTable same.0 t
+table_of_left ps text left rest (inr cut) t = subst MayNeedTable (sym cut.1) (inr t)
+
+-- what is left of a text after its start ends with the last literal, if it isn't shorter
+fits_last : (front : List PieceValue) (literal text : List ℕ) → FitsEnd (front ++ Literal literal ∷ []) text → EndsWith text literal
+fits_last [] literal text h = h
+fits_last (p ∷ []) literal text h = h
+fits_last (p ∷ q ∷ front) literal text h = fits_last (q ∷ front) literal text h
+
+pub ends_after : (ps : List PieceValue) (text : List ℕ) (left : List PieceValue) (rest : List ℕ) (middle : List PieceValue) (literal : List ℕ) → IsCutOrWhole ps text left rest → left ≡ middle ++ Literal literal ∷ [] → FitsEnd ps text → length literal ≤ length rest → EndsWith rest literal
+ends_after ps text left rest middle literal (inl same) e h le = subst (λ t. EndsWith t literal) (sym same.1) (fits_last middle literal text (subst (λ qs. FitsEnd qs text) (sym same.0 ∙ e) h))
+ends_after ps text left rest middle literal (inr cut) e h le =
+    let ends = fits_last (Literal cut.0 ∷ middle) literal text (subst (λ qs. FitsEnd qs text) (cut.1 ∙ ap (λ (ls : List PieceValue). Literal cut.0 ∷ ls) e) h) in
+    let size : length cut.0 ≤ length ends.0 = omega (arith, ap length (sym cut.2 ∙ ends.1), length-append cut.0 rest, length-append ends.0 literal, le) in
+    longer cut.0 rest ends.0 literal (sym cut.2 ∙ ends.1) size
+
+-- a text that ends with a literal may be cut before it
+pub cut_before : (text literal : List ℕ) → IsUtf8 literal → EndsWith text literal → IsCharBoundary text (length text - length literal) × (drop (length text - length literal) text ≡ literal)
+cut_before text literal part ends = grind (arith, common_steps, length-append, left, IsCharBoundary-from_drop)

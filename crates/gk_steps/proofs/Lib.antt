@@ -18,7 +18,6 @@ mod LibraryStagesLemmas
 mod LibraryFileLemmas
 mod OneLibraryFault
 pub mod DefaultFileLemmas
-mod WorkedPatterns
 mod DigitLemmas
 mod NumberLemmas
 mod LeftmostLemmas

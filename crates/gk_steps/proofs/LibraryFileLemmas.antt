@@ -1,5 +1,6 @@
 -- The lines of a step library.
 use Rattle.std.proofs.Common.{◌≡◌, ℕ, zero, suc, ◌+◌, ◌<◌, Bool, true, false, cond, not, List, [], ◌∷◌, ◌++◌, length, take, drop, get_or, Option, Some, refl, ap, sym, subst, ◌∙◌, arith, append_assoc}
+use Rattle.std.proofs.lemmas.Grind.{common_steps}
 use Rattle.std.specs.Prelude.{filter}
 use Rattle.std.proofs.lemmas.List.Elements.{filter-append}
 use Rattle.gk_gherkin.specs.declared.feature.StepType.{StepType}
@@ -7,7 +8,7 @@ use Rattle.gk_gherkin.specs.Lines.{LineValue, Lines, lines_of, IsText}
 use Rattle.gk_steps.specs.declared.action.Action.{Action}
 use Rattle.gk_steps.specs.declared.library_fault.LibraryFault.{LibraryFault}
 use Rattle.gk_steps.specs.declared.library_fault.LibraryFault.TheVariants as faults
-use Rattle.gk_steps.specs.Pattern.{PieceValue, SpellsPattern}
+use Rattle.gk_steps.specs.Pattern.{PieceValue}
 use Rattle.gk_steps.specs.Action.{ActionRowValue, action_row}
 use Rattle.gk_steps.specs.Finding.{EntryValue, LibraryValue}
 use Rattle.gk_steps.specs.LibraryFile.{Sides, is_ignored, SpellsEntry, SpellEntries, ReadsLibrary, IsReadableLibrary, IsBadType, IsBadPattern, IsUnknownAction, IsMissingField, IsOtherKind, IsAmbiguous, StopsLibraryAt, LibraryReadingIsUnique, EntryNeedsMemory, LibraryNeedsMemory}
@@ -25,13 +26,7 @@ same_row : (a b : Sides) (r s : ActionRowValue) → a ≡ b → action_row a.act
 same_row a b r s e h k = some_same r s (sym h ∙ ap (λ (x : Sides). action_row x.action) e ∙ k)
 
 one_entry : (earlier : LibraryValue) (line : LineValue) (a b : EntryValue) → SpellsEntry earlier line a → SpellsEntry earlier line b → a ≡ b
-one_entry earlier line a b h k =
-    let types : a.step_type ≡ b.step_type = some_same a.step_type b.step_type (sym h.is_type ∙ k.is_type) in
-    let sides : h.sides ≡ k.sides = some_same h.sides k.sides (sym h.is_cut ∙ k.is_cut) in
-    let patterns : a.pattern ≡ b.pattern = spelling k.sides.pattern a.pattern b.pattern (subst (λ (s : Sides). SpellsPattern s.pattern a.pattern) sides h.is_pattern) k.is_pattern in
-    let rows : h.row ≡ k.row = same_row h.sides k.sides h.row k.row sides h.is_action k.is_action in
-    let actions : a.action ≡ b.action = h.action ∙ ap (λ (r : ActionRowValue). r.action) rows ∙ sym k.action in
-    ap (λ t. entry_from t a.pattern a.action) types ∙ ap (λ ps. entry_from b.step_type ps a.action) patterns ∙ ap (λ x. entry_from b.step_type b.pattern x) actions
+one_entry earlier line a b h k = grind (arith, common_steps, some_same, spelling, same_row)
 
 one_by_one : (earlier : LibraryValue) (ls : Lines) (a b : LibraryValue) → SpellEntries earlier ls a → SpellEntries earlier ls b → a ≡ b
 one_by_one earlier [] [] [] h k = refl
@@ -61,15 +56,7 @@ all_of (e ∷ es) = ap (λ (q : LibraryValue). e ∷ q) (all_of es)
 split_at : (earlier : LibraryValue) (xs ys : Lines) (es : LibraryValue) → SpellEntries earlier (xs ++ ys) es → IsSplitAt earlier xs ys es
 split_at earlier [] ys es h = record { first = []; second = es; whole = refl; before = tt; after = subst (λ (q : LibraryValue). SpellEntries q ys es) (sym (all_of earlier)) h }
 split_at earlier (x ∷ xs) ys [] h = absurd h
-split_at earlier (x ∷ xs) ys (e ∷ es) h =
-    let more = split_at (earlier ++ e ∷ []) xs ys es h.1 in
-    record {
-      first = e ∷ more.first;
-      second = more.second;
-      whole = ap (λ (q : LibraryValue). e ∷ q) more.whole;
-      before = (h.0, more.before);
-      after = subst (λ (q : LibraryValue). SpellEntries q ys more.second) (append_assoc earlier (e ∷ []) more.first) more.after;
-    }
+split_at earlier (x ∷ xs) ys (e ∷ es) h = grind (arith, common_steps, split_at (earlier ++ e ∷ []) xs ys es h.1)
 
 one_more : (earlier : LibraryValue) (xs : Lines) (es : LibraryValue) (l : LineValue) (e : EntryValue) → SpellEntries earlier xs es → SpellsEntry (earlier ++ es) l e → SpellEntries earlier (xs ++ l ∷ []) (es ++ e ∷ [])
 one_more earlier [] [] l e h s = (subst (λ (q : LibraryValue). SpellsEntry q l e) (all_of earlier) s, tt)
@@ -105,9 +92,7 @@ cut_at (y ∷ ys) zero x l e = record { whole = ap (λ (z : LineValue). z ∷ ys
 cut_at (y ∷ ys) (suc i) x l e = let c = cut_at ys i x (omega arith) e in record { whole = ap (λ (zs : Lines). y ∷ zs) c.whole; more = ap (λ (zs : Lines). y ∷ zs) c.more }
 
 values_more : (ls : Lines) (i : ℕ) (x : LineValue) → i < length ls → x ≡ get_or ls i x → take (i + 1) ls ≡ take i ls ++ x ∷ []
-values_more ls i x l e =
-    let next : i + 1 ≡ suc i = omega arith in
-    ap (λ (k : ℕ). take k ls) next ∙ (cut_at ls i x l e).more
+values_more ls i x l e = grind (arith, common_steps)
 
 pub ignored_at : (ls : Lines) (i : ℕ) (x : LineValue) (es : LibraryValue) → i < length ls → x ≡ get_or ls i x → is_ignored x ≡ true → ReadsLibrary (take i ls) es → ReadsLibrary (take (i + 1) ls) es
 ignored_at ls i x es l e ignored h = subst (λ (q : Lines). ReadsLibrary q es) (sym (values_more ls i x l e)) (ignored_more (take i ls) x es ignored h)
@@ -117,9 +102,7 @@ entry_at ls i x es entry l e counts h s = subst (λ (q : Lines). ReadsLibrary q 
 
 -- a faulty line ends every reading
 kept_rest : (xs : Lines) (l : LineValue) (more : Lines) → is_ignored l ≡ false → filter (λ line. not (is_ignored line)) (xs ++ l ∷ more) ≡ filter (λ line. not (is_ignored line)) xs ++ l ∷ filter (λ line. not (is_ignored line)) more
-kept_rest xs l more e =
-    let here : filter (λ line. not (is_ignored line)) (l ∷ more) ≡ l ∷ filter (λ line. not (is_ignored line)) more = ap (λ v. cond (not v) (l ∷ filter (λ line. not (is_ignored line)) more) (filter (λ line. not (is_ignored line)) more)) e in
-    filter-append (λ line. not (is_ignored line)) xs (l ∷ more) ∙ ap (λ (q : Lines). filter (λ line. not (is_ignored line)) xs ++ q) here
+kept_rest xs l more e = grind (arith, common_steps)
 
 first_spelled : (earlier : LibraryValue) (l : LineValue) (ls : Lines) (es : LibraryValue) → SpellEntries earlier (l ∷ ls) es → (e : EntryValue) × SpellsEntry earlier l e
 first_spelled earlier l ls [] h = absurd h

@@ -1,5 +1,6 @@
 -- What is found among entries of which those from a position on are for steps of each type.
 use Rattle.std.proofs.Common.{◌≡◌, ℕ, zero, suc, ◌<◌, ◌≤◌, inl, inr, Bool, true, false, ◌&&◌, List, [], ◌∷◌, take, map, Option, Some, None, refl, ap, sym, subst, ◌∙◌, arith}
+use Rattle.std.proofs.lemmas.Grind.{common_steps}
 use Rattle.std.specs.Prelude.{slice_get, is_none}
 use Rattle.std.proofs.lemmas.Bool.{cases_lt}
 use Rattle.std.proofs.lemmas.List.{take-map}
@@ -47,15 +48,7 @@ found_before es n t text None rest h = λ position entry e is. elim (cases_lt po
   | inl less ↦ h position entry (get_before es n position less ∙ e) is
   | inr le ↦ absurd (not_typed entry.step_type t (rest position entry le e) is)
 ]
-found_before es n t text (Some found) rest h =
-    let within : found.entry < n = get_taken es n found.entry h.entry h.position in
-    record {
-      entry = h.entry;
-      position = sym (get_before es n found.entry within) ∙ h.position;
-      is_type = h.is_type;
-      fields = h.fields;
-      first = λ earlier other less e is. h.first earlier other less (get_before es n earlier (omega arith) ∙ e) is;
-    }
+found_before es n t text (Some found) rest h = grind (arith, common_steps, get_taken, get_before)
 
 pub typed_found : (entries : List Entry) (typed : ℕ) (t : StepType) (text : List ℕ) (found : Option FoundValue) → are_for_each_from typed entries ≡ true → IsFoundOf (map entry_value (take typed entries)) (Some t) text found → IsFoundOf (map entry_value entries) (Some t) text found
 typed_found entries typed t text found all h =
@@ -64,28 +57,13 @@ typed_found entries typed t text found all h =
 
 -- an entry before a position whose ends a text has
 candidate_before : (es : LibraryValue) (n : ℕ) (step_type : Option StepType) (text : List ℕ) → HasCandidate (take n es) step_type text → HasCandidate es step_type text
-candidate_before es n step_type text h = record {
-  position = h.position;
-  entry = h.entry;
-  stands = sym (get_before es n h.position (get_taken es n h.position h.entry h.stands)) ∙ h.stands;
-  is_type = h.is_type;
-  prefix = h.prefix;
-  back = h.back;
-}
+candidate_before es n step_type text h = grind (arith, common_steps, get_before, get_taken)
 
 pub typed_candidate : (entries : List Entry) (typed : ℕ) (t : StepType) (text : List ℕ) → HasCandidate (map entry_value (take typed entries)) (Some t) text → HasCandidate (map entry_value entries) (Some t) text
 typed_candidate entries typed t text h = candidate_before (map entry_value entries) typed (Some t) text (subst (λ es. HasCandidate es (Some t) text) (sym (take-map entry_value typed entries)) h)
 
 table_candidate_before : (es : LibraryValue) (n : ℕ) (step_type : Option StepType) (text : List ℕ) → HasTableCandidate (take n es) step_type text → HasTableCandidate es step_type text
-table_candidate_before es n step_type text h = record {
-  position = h.position;
-  entry = h.entry;
-  stands = sym (get_before es n h.position (get_taken es n h.position h.entry h.stands)) ∙ h.stands;
-  is_type = h.is_type;
-  prefix = h.prefix;
-  back = h.back;
-  table = h.table;
-}
+table_candidate_before es n step_type text h = grind (arith, common_steps, get_before, get_taken)
 
 pub typed_table_candidate : (entries : List Entry) (typed : ℕ) (t : StepType) (text : List ℕ) → HasTableCandidate (map entry_value (take typed entries)) (Some t) text → HasTableCandidate (map entry_value entries) (Some t) text
 typed_table_candidate entries typed t text h = table_candidate_before (map entry_value entries) typed (Some t) text (subst (λ es. HasTableCandidate es (Some t) text) (sym (take-map entry_value typed entries)) h)

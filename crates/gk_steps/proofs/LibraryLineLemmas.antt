@@ -1,12 +1,11 @@
 -- One line of a step library.
-use Rattle.std.proofs.Common.{◌≡◌, ℕ, zero, suc, ◌+◌, ◌-◌, ◌<◌, ◌≤◌, Bool, true, false, cond, ◌&&◌, nat_eq, List, [], ◌∷◌, ◌++◌, length, take, drop, get_or, codes, Option, Some, None, refl, ap, sym, subst, ◌∙◌, arith}
-use Rattle.std.proofs.Common.{Bor}
+use Rattle.std.proofs.Common.{◌≡◌, ℕ, zero, suc, ◌+◌, ◌-◌, ◌<◌, ◌≤◌, Bool, true, false, ◌&&◌, nat_eq, List, [], ◌∷◌, ◌++◌, length, take, drop, get_or, codes, Option, Some, None, refl, ap, sym, subst, ◌∙◌, arith, Bor, length-drop}
+use Rattle.std.proofs.lemmas.Grind.{common_steps}
 use Rattle.std.specs.Prelude.{is_some, IsSome, slice_get, Result, Ok, Err, IfErr, IsErrAnd}
 use Rattle.std.specs.List.{AllByRecursion, list_all}
 use Rattle.std.specs.Str.{IsUtf8, IsCharBoundary}
 use Rattle.std.proofs.lemmas.Bool.Decides.{nat_tests}
 use Rattle.std.proofs.lemmas.List.{take_all, drop_all}
-use Rattle.std.proofs.Common.{length-drop}
 use Rattle.std.proofs.lemmas.Str.{IsCharBoundary-after_ascii, IsCharBoundary-before_ascii}
 use Rattle.gk_gherkin.specs.declared.feature.StepType.{StepType}
 use Rattle.gk_gherkin.specs.Lines.{LineValue}
@@ -25,14 +24,10 @@ use Rattle.gk_steps.proofs.SpellingLemmas.{pattern_begins}
 
 -- the last arrow
 arrow_not_here : (b : ℕ) (bs : List ℕ) (o : Option Sides) → o ≡ None → begins (b ∷ bs) (codes "=>") ≡ false → into_sides (b ∷ bs) o ≡ None
-arrow_not_here b bs o e f =
-    let nothing : into_sides (b ∷ bs) None ≡ None = ap (λ v. cond v (let s : Option Sides = Some (record { pattern = []; action = drop 1 bs }) in s) None) f in
-    ap (into_sides (b ∷ bs)) e ∙ nothing
+arrow_not_here b bs o e f = grind (arith, common_steps)
 
 arrow_here : (b : ℕ) (bs : List ℕ) (o : Option Sides) → o ≡ None → begins (b ∷ bs) (codes "=>") ≡ true → into_sides (b ∷ bs) o ≡ Some (record { pattern = []; action = drop 1 bs })
-arrow_here b bs o e f =
-    let here : into_sides (b ∷ bs) None ≡ Some (record { pattern = []; action = drop 1 bs }) = ap (λ v. cond v (let s : Option Sides = Some (record { pattern = []; action = drop 1 bs }) in s) None) f in
-    ap (into_sides (b ∷ bs)) e ∙ here
+arrow_here b bs o e f = grind (arith, common_steps)
 
 pub arrow_none : (text : List ℕ) (i : ℕ) → i < length text → last_arrow (drop (suc i) text) ≡ None → begins (drop i text) (codes "=>") ≡ false → last_arrow (drop i text) ≡ None
 unfolding last_arrow
@@ -44,10 +39,7 @@ pub arrow_some : (text : List ℕ) (i : ℕ) → i < length text → last_arrow 
 unfolding last_arrow
 arrow_some [] i l h e = absurd (omega arith)
 arrow_some (b ∷ bs) zero l h e = arrow_here b bs (last_arrow bs) h e
-arrow_some (b ∷ bs) (suc i) l h e =
-    let more : last_arrow bs ≡ Some (record { pattern = take i bs; action = drop (i + 2) bs }) = arrow_some bs i (omega arith) h e in
-    let there : suc (i + 2) ≡ suc i + 2 = omega arith in
-    ap (into_sides (b ∷ bs)) more ∙ ap (λ (k : ℕ). let s : Option Sides = Some (record { pattern = b ∷ take i bs; action = drop k (b ∷ bs) }) in s) there
+arrow_some (b ∷ bs) (suc i) l h e = grind (arith, common_steps, arrow_some bs i (omega arith) h e)
 
 -- tests
 and_so : (a b : Bool) → (a && b) ≡ true → (a ≡ true) × (b ≡ true)
@@ -74,17 +66,9 @@ same_kind_so Plain Decimal e = let bad : ⊥ = cc in absurd bad
 same_kind_so Decimal Plain e = let bad : ⊥ = cc in absurd bad
 same_kind_so Decimal Decimal e = refl
 
-same_kind_test : (a : FieldKind) → is_same_kind a a ≡ true
-same_kind_test Plain = refl
-same_kind_test Decimal = refl
-
 kind_so : (o : Option FieldKind) (kind : FieldKind) → is_none_or_kind o kind ≡ true → (k : FieldKind) → o ≡ Some k → k ≡ kind
 kind_so None kind e k is = let bad : ⊥ = cc in absurd bad
 kind_so (Some other) kind e k is = let same : other ≡ k = cc in sym same ∙ same_kind_so other kind e
-
-kind_test : (o : Option FieldKind) (kind : FieldKind) → ((k : FieldKind) → o ≡ Some k → k ≡ kind) → is_none_or_kind o kind ≡ true
-kind_test None kind h = refl
-kind_test (Some other) kind h = ap (is_same_kind other) (sym (h other refl)) ∙ same_kind_test other
 
 pub kinds_so : (ps : List PieceValue) (names : List (List ℕ)) → list_all (λ name. is_none_or_kind (field_kind ps name) (kind_of_field name)) names ≡ true
     → AllByRecursion (λ name. (kind : FieldKind) → field_kind ps name ≡ Some kind → kind ≡ kind_of_field name) names
@@ -96,8 +80,7 @@ kinds_so ps (name ∷ names) e =
 kinds_test : (ps : List PieceValue) (names : List (List ℕ)) → AllByRecursion (λ name. (kind : FieldKind) → field_kind ps name ≡ Some kind → kind ≡ kind_of_field name) names
     → list_all (λ name. is_none_or_kind (field_kind ps name) (kind_of_field name)) names ≡ true
 kinds_test ps [] h = refl
-kinds_test ps (name ∷ names) h =
-    and_both (is_none_or_kind (field_kind ps name) (kind_of_field name)) (list_all (λ n. is_none_or_kind (field_kind ps n) (kind_of_field n)) names) (kind_test (field_kind ps name) (kind_of_field name) h.0) (kinds_test ps names h.1)
+kinds_test ps (name ∷ names) h = grind (arith, common_steps, kinds_test ps names h.1)
 
 -- a test of borrowed words
 pub words_pass : (p : List ℕ → Bool) (words : List (Bor (List ℕ))) → list_all (λ word. p word.now) words ≡ list_all p (words_said words)
@@ -173,18 +156,7 @@ none_matches (e ∷ es) step_type text h = (λ same. h 0 e refl same, none_match
 
 pub spells_entry : (earlier : LibraryValue) (line : LineValue) (step_type : Option StepType) (text name : List ℕ) (ps : List PieceValue) (action : Action) → IsEntryText line step_type text name → SpellsPattern text ps → FitsAction name ps action → NoneFound earlier step_type text
     → SpellsEntry earlier line (record { step_type = step_type; pattern = ps; action = action })
-spells_entry earlier line step_type text name ps action c s a none = record {
-  sides = record { pattern = text; action = name };
-  row = a.row;
-  is_type = c.is_type;
-  is_cut = c.is_cut;
-  is_pattern = s;
-  is_action = a.is_action;
-  action = a.action_is;
-  needs = a.needs;
-  kinds = a.kinds;
-  unambiguous = none_matches earlier step_type text none;
-}
+spells_entry earlier line step_type text name ps action c s a none = grind (arith, common_steps, none_matches)
 
 -- the arrow at a position of the loop
 pub arrow_end : (text : List ℕ) (n : ℕ) → length text ≤ n → last_arrow (drop n text) ≡ None
@@ -197,9 +169,7 @@ none_at text n some within h e =
     arrow_none text (n - 1) (omega arith) (subst (λ (k : ℕ). last_arrow (drop k text) ≡ None) next h) e
 
 pub some_at : (text : List ℕ) (n : ℕ) → 0 < n → n ≤ length text → last_arrow (drop n text) ≡ None → begins (drop (n - 1) text) (codes "=>") ≡ true → last_arrow text ≡ Some (record { pattern = take (n - 1) text; action = drop (n - 1 + 2) text })
-some_at text n some within h e =
-    let next : n ≡ suc (n - 1) = omega arith in
-    arrow_some text (n - 1) (omega arith) (subst (λ (k : ℕ). last_arrow (drop k text) ≡ None) next h) e
+some_at text n some within h e = grind (arith, common_steps, arrow_some)
 
 pub record HasArrowBytes (text : List ℕ) (p : ℕ) : Type 0 where
   pub within : p + 1 < length text
@@ -218,15 +188,9 @@ two_bytes b c cs e =
 pub arrow_bytes : (text : List ℕ) (p : ℕ) → begins (drop p text) (codes "=>") ≡ true → HasArrowBytes text p
 arrow_bytes [] zero e = let bad : ⊥ = cc in absurd bad
 arrow_bytes [] (suc p) e = let bad : ⊥ = cc in absurd bad
-arrow_bytes (b ∷ []) zero e = let bad : false ≡ true = sym (and_no (nat_eq 61 b)) ∙ e in let no : ⊥ = cc in absurd no where
-  and_no : (v : Bool) → (v && false) ≡ false
-  and_no true = refl
-  and_no false = refl
+arrow_bytes (b ∷ []) zero e = grind (arith, common_steps)
 arrow_bytes (b ∷ c ∷ cs) zero e = let h = two_bytes b c cs e in record { within = omega arith; first = h.0; second = h.1 }
-arrow_bytes (b ∷ bs) (suc p) e =
-    let more = arrow_bytes bs p e in
-    let next : suc p + 1 ≡ suc (p + 1) = omega arith in
-    record { within = omega (arith, more.within); first = more.first; second = subst (λ (k : ℕ). get_or (b ∷ bs) k 0 < 128) (sym next) more.second }
+arrow_bytes (b ∷ bs) (suc p) e = grind (arith, common_steps, arrow_bytes bs p e)
 
 pub arrow_boundary : (text : List ℕ) (p : ℕ) → begins (drop p text) (codes "=>") ≡ true → IsCharBoundary text p
 arrow_boundary text p e = let h = arrow_bytes text p e in IsCharBoundary-before_ascii text p (omega (arith, h.within)) h.first
@@ -239,11 +203,7 @@ arrow_after text p u e =
 
 pub sides_from : (text bytes first second : List ℕ) (p : ℕ) → bytes ≡ text → first ≡ take (p - 0) text → second ≡ drop (p + 2) text → last_arrow bytes ≡ Some (record { pattern = take p bytes; action = drop (p + 2) bytes })
     → ◌≡◌ {A = Option Sides} (Some (record { pattern = first; action = second })) (last_arrow text)
-sides_from text bytes first second p same a b e =
-    let whole : p - 0 ≡ p = omega arith in
-    let pattern : first ≡ take p bytes = a ∙ ap (λ (k : ℕ). take k text) whole ∙ ap (take p) (sym same) in
-    let action : second ≡ drop (p + 2) bytes = b ∙ ap (drop (p + 2)) (sym same) in
-    ap (λ (x : List ℕ). let s : Option Sides = Some (record { pattern = x; action = second }) in s) pattern ∙ ap (λ (x : List ℕ). let s : Option Sides = Some (record { pattern = take p bytes; action = x }) in s) action ∙ sym e ∙ ap last_arrow same
+sides_from text bytes first second p same a b e = grind (arith, common_steps)
 
 pub whole_rest : (xs : List ℕ) (p : ℕ) → take (length xs - p) (drop p xs) ≡ drop p xs
 whole_rest xs p = take_all (length xs - p) (drop p xs) (omega (arith, length-drop p xs))

@@ -1,10 +1,11 @@
 -- How far a line of a library is good before its fault, and that no line has two faults.
 use Rattle.std.proofs.Common.{◌≡◌, ℕ, zero, suc, ◌<◌, ◌≤◌, inl, inr, List, [], ◌∷◌, ◌++◌, Option, Some, None, ap, sym, subst, ◌∙◌, arith}
+use Rattle.std.proofs.lemmas.Grind.{common_steps}
 use Rattle.std.proofs.Math.Nat.{eq-or-lt_of_le}
 use Rattle.gk_gherkin.specs.declared.feature.StepType.{StepType}
 use Rattle.gk_gherkin.specs.Lines.{LineValue}
-use Rattle.gk_steps.specs.Pattern.{PieceValue, SpellsPattern}
-use Rattle.gk_steps.specs.Matching.{Matches, MatchesNot}
+use Rattle.gk_steps.specs.Pattern.{PieceValue}
+use Rattle.gk_steps.specs.Matching.{MatchesNot}
 use Rattle.gk_steps.specs.Action.{ActionRowValue, action_row}
 use Rattle.gk_steps.specs.Finding.{EntryValue, LibraryValue}
 use Rattle.gk_steps.specs.LibraryFile.{Sides, type_of, sides_of, HasNeededFields, HasRightKinds, NoneMatches, SpellsEntry, HasPattern, IsBadType, IsBadPattern, IsUnknownAction, IsMissingField, IsOtherKind, IsAmbiguous}
@@ -97,23 +98,14 @@ record IsSame (line : LineValue) (ps : List PieceValue) (row : ActionRowValue) (
   pub rows : h.row ≡ row
 
 same_action : (line : LineValue) (step_type : Option StepType) (sides : Sides) (ps : List PieceValue) (row : ActionRowValue) → HasPattern line step_type sides ps → action_row sides.action ≡ Some row → (h : HasAction line) → IsSame line ps row h
-same_action line step_type sides ps row g a h =
-    let same : sides ≡ h.sides = sides_same line step_type sides h.sides ps g h.good.is_cut in
-    record {
-      pieces = spelling h.sides.pattern h.ps ps h.good.is_pattern (subst (λ (s : Sides). SpellsPattern s.pattern ps) same g.is_pattern);
-      rows = some_same h.row row (sym h.is_action ∙ ap (λ (s : Sides). action_row s.action) (sym same) ∙ a);
-    }
+same_action line step_type sides ps row g a h = grind (arith, common_steps, sides_same, spelling, some_same)
 
 none_there : (before : LibraryValue) (x : EntryValue) (after : LibraryValue) (step_type : Option StepType) (text : List ℕ) → NoneMatches (before ++ x ∷ after) step_type text → x.step_type ≡ step_type → MatchesNot x.pattern text
 none_there [] x after step_type text h = h.0
 none_there (b ∷ before) x after step_type text h = none_there before x after step_type text h.1
 
 unambiguous : (earlier : LibraryValue) (line : LineValue) → IsAmbiguous earlier line → (e : EntryValue) → SpellsEntry earlier line e → ⊥
-unambiguous earlier line f e s =
-    let sides = sides_same line f.step_type f.sides s.sides f.ps f.good s.is_cut in
-    let types : e.step_type ≡ f.step_type = some_same e.step_type f.step_type (sym s.is_type ∙ f.good.is_type) in
-    let none : NoneMatches (f.before ++ f.entry ∷ f.after) e.step_type s.sides.pattern = subst (λ (q : LibraryValue). NoneMatches q e.step_type s.sides.pattern) f.whole s.unambiguous in
-    none_there f.before f.entry f.after e.step_type s.sides.pattern none (f.same ∙ sym types) f.spans (subst (λ (x : Sides). Matches f.entry.pattern x.pattern f.spans) sides f.matches)
+unambiguous earlier line f e s = grind (arith, common_steps, sides_same, some_same, none_there)
 
 denied : (k : ℕ) (earlier : LibraryValue) (line : LineValue) → FaultAfter k earlier line → Reaches (suc k) earlier line → ⊥
 denied zero earlier line f r = some_not r.0 (sym r.1 ∙ f)
@@ -136,6 +128,4 @@ never_both : (k m : ℕ) (earlier : LibraryValue) (line : LineValue) → FaultAf
 never_both k m earlier line f g under = denied k earlier line f (less m (suc k) earlier line (omega arith) (reached m earlier line g))
 
 pub same_stage : (k m : ℕ) (earlier : LibraryValue) (line : LineValue) → FaultAfter k earlier line → FaultAfter m earlier line → k ≡ m
-same_stage k m earlier line f g =
-    let not_more : m ≤ k = omega (arith, never_both k m earlier line f g) in
-    elim (eq-or-lt_of_le not_more) [ inl e ↦ sym e | inr under ↦ absurd (never_both m k earlier line g f under) ]
+same_stage k m earlier line f g = grind (arith, common_steps, never_both, eq-or-lt_of_le)

@@ -1,5 +1,6 @@
 -- The ends of a text that a pattern matches.
 use Rattle.std.proofs.Common.{◌≡◌, ℕ, zero, suc, ◌+◌, ◌-◌, ◌<◌, ◌≤◌, refl, get_or, Bool, true, false, List, [], ◌∷◌, ◌++◌, length, take, drop, map, nat_eq, Option, Some, ap, sym, subst, ◌∙◌, arith, length-append, append_assoc}
+use Rattle.std.proofs.lemmas.Grind.{common_steps}
 use Rattle.std.specs.Prelude.{slice_get, MatchBool}
 use Rattle.std.specs.List.{starts_with, ends_with}
 use Rattle.std.proofs.Math.Seq.{drop-append_seam}
@@ -18,9 +19,7 @@ ends_so text back h =
     (take k text, sym (take-append-drop k text) ∙ ap (λ b. take k text ++ b) (sym ((bytes_eq-Decides back (drop k text)).0 h)))
 
 ends_itself : (prefix back : List ℕ) → ends_with nat_eq (prefix ++ back) back ≡ true
-ends_itself prefix back =
-    let size : length (prefix ++ back) - length back ≡ length prefix = omega (arith, length-append prefix back) in
-    (bytes_eq-Decides back (drop (length (prefix ++ back) - length back) (prefix ++ back))).1 (sym (ap (λ k. drop k (prefix ++ back)) size ∙ drop-append_seam prefix back))
+ends_itself prefix back = grind (arith, common_steps, length-append, bytes_eq-Decides, drop-append_seam)
 
 pub ends_match : (b : Bool) (text back : List ℕ) → b ≡ ends_with nat_eq text back → MatchBool b ((prefix : List ℕ) × (text ≡ prefix ++ back)) ((prefix : List ℕ) → text ≡ prefix ++ back → ⊥)
 ends_match true text back e = ends_so text back (sym e)
@@ -78,15 +77,7 @@ no_test true h = absurd (h refl)
 no_test false h = refl
 
 pub last_of_first_differs : (bytes first : List ℕ) → 0 < length first → length first ≤ length bytes → (get_or bytes (length first - 1) 0 ≡ get_or first (length first - 1) 0 → ⊥) → starts_with nat_eq bytes first ≡ false
-last_of_first_differs bytes first some fits differs = no_test (starts_with nat_eq bytes first) (λ is.
-    let same : first ≡ take (length first) bytes = (bytes_eq-Decides first (take (length first) bytes)).0 is in
-    let at_end : length first - 1 < length first = omega arith in
-    differs (sym (get_or-take (length first) bytes (length first - 1) 0 at_end) ∙ ap (λ t. get_or t (length first - 1) 0) (sym same)))
+last_of_first_differs bytes first some fits differs = grind (arith, common_steps, no_test, nat_eq, bytes_eq-Decides, get_or-take)
 
 pub last_differs : (bytes last : List ℕ) → 0 < length bytes → 0 < length last → (get_or bytes (length bytes - 1) 0 ≡ get_or last (length last - 1) 0 → ⊥) → ends_with nat_eq bytes last ≡ false
-last_differs bytes last some any differs = no_test (ends_with nat_eq bytes last) (λ is.
-    let k = length bytes - length last in
-    let same : last ≡ drop k bytes = (bytes_eq-Decides last (drop k bytes)).0 is in
-    let size : length last ≡ length bytes - k = ap length same ∙ length-drop k bytes in
-    let position : k + (length last - 1) ≡ length bytes - 1 = omega arith in
-    differs (ap (λ i. get_or bytes i 0) (sym position) ∙ sym (get_or-drop k bytes (length last - 1) 0) ∙ ap (λ t. get_or t (length last - 1) 0) (sym same)))
+last_differs bytes last some any differs = grind (arith, common_steps, no_test, nat_eq, bytes_eq-Decides, length-drop, get_or-drop)

@@ -1,5 +1,6 @@
 -- Matches of a pattern, taken apart at its first piece; and that the preferred one is unique.
 use Rattle.std.proofs.Common.{◌≡◌, ℕ, inl, inr, List, [], ◌∷◌, ◌++◌, length, take, drop, Option, Some, None, refl, ap, sym, ◌∙◌, arith}
+use Rattle.std.proofs.lemmas.Grind.{common_steps}
 use Rattle.std.proofs.Math.Seq.{take-append_seam, drop-append_seam}
 use Rattle.gk_steps.specs.declared.pattern.FieldKind.TheVariants.{Plain, Decimal}
 use Rattle.gk_steps.specs.Pattern.{PieceValue, Literal, FieldPiece}
@@ -52,10 +53,7 @@ not_both (FieldPiece name Decimal ∷ ps) (x ∷ xs) (y ∷ ys) (inr h) (inl k) 
 not_both (FieldPiece name kind ∷ ps) (x ∷ xs) (y ∷ ys) (inr h) (inr k) = not_both ps xs ys h.1 k.1
 
 pub one_best : (ps : List PieceValue) (text : List ℕ) (a b : List (List ℕ)) → IsBestMatch ps text a → IsBestMatch ps text b → a ≡ b
-one_best ps text a b h k = elim (h.best b k.matches) [
-  | inl e ↦ sym e
-  | inr p ↦ elim (k.best a h.matches) [ inl e ↦ e | inr q ↦ absurd (not_both ps a b p q) ]
-]
+one_best ps text a b h k = grind (arith, common_steps, not_both)
 
 -- what a pattern finds in a text is determined
 pub one_result : (ps : List PieceValue) (text : List ℕ) (a b : Option (List FieldValue)) → IsMatchResult ps text a → IsMatchResult ps text b → a ≡ b

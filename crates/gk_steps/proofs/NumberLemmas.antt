@@ -1,12 +1,13 @@
 -- Numbers from their digits: a zero or a sign in prefix.
 use Rattle.std.proofs.Common.{◌≡◌, ℕ, zero, suc, cond, ◌==◌, ◌+◌, ◌-◌, ◌<◌, ◌≤◌, inl, inr, Bool, true, false, List, [], ◌∷◌, length, take, drop, get_or, Option, Some, None, ap, sym, subst, ◌∙◌, arith}
+use Rattle.std.proofs.lemmas.Grind.{common_steps}
 use Rattle.std.specs.Prelude.{FitsSigned, IsUtf8}
 use Rattle.std.specs.Int.{w64}
 use lib.IntN.{pos, neg_ℤ}
 use Rattle.std.specs.Str.Parse.{AllDigits, IsNumeral, digits_value}
 use Rattle.std.proofs.Math.Nat.{eq-or-lt_of_le}
 use Rattle.std.proofs.lemmas.Bool.Decides.{eqb_tells}
-use Rattle.std.proofs.lemmas.List.{drop_more, get_or-take, get_or-drop}
+use Rattle.std.proofs.lemmas.List.{drop_more}
 use Rattle.gk_steps.specs.declared.pattern.FieldKind.TheVariants.{Decimal}
 use Rattle.gk_steps.specs.Pattern.{FieldPiece}
 use Rattle.gk_steps.specs.Matching.{IsSpan}
@@ -29,23 +30,11 @@ part_prefix text boundaries c d h l within next =
 
 -- digits take something
 digits_before : (most : ℕ) (text boundaries : List ℕ) (below : List Bool) (c d : ℕ) → IsDigitsTo most text boundaries below c d → d < c
-digits_before most text boundaries below c d s = elim (eq-or-lt_of_le s.within) [
-  | inr less ↦ less
-  | inl same ↦ let none : length (part text boundaries c d) ≡ 0 = ap (λ k. length (part text boundaries c k)) same ∙ ap length (part_none text boundaries c) in absurd (omega (arith, s.numeral.0))
-]
+digits_before most text boundaries below c d s = grind (arith, common_steps)
 
 -- a leading zero
 pub zero_below : (most : ℕ) (text boundaries : List ℕ) (below : List Bool) (c : ℕ) → AreBoundaries text boundaries → c + 1 < length boundaries → get_or boundaries c 0 ≡ get_or boundaries (c + 1) 0 + 1 → get_or text (get_or boundaries (c + 1) 0) 0 ≡ 48 → get_or below c false ≡ true → (d : ℕ) × IsDigitsTo most text boundaries below (c + 1) d
-zero_below most text boundaries below c h l next is here =
-    let one : part text boundaries (c + 1) c ≡ 48 ∷ [] = part_prefix text boundaries c c h l (omega arith) next ∙ ap (λ b. b ∷ part text boundaries c c) is ∙ ap (λ x. 48 ∷ x) (part_none text boundaries c) in (
-      c,
-      record {
-        within = omega arith;
-        rest = here;
-        numeral = subst (IsNumeral 10) (sym one) (omega arith, (omega arith, tt));
-        value = let none : digits_value 10 (part text boundaries (c + 1) c) ≡ 0 = ap (digits_value 10) one in omega arith;
-      },
-    )
+zero_below most text boundaries below c h l next is here = grind (arith, common_steps, part_prefix, part_none)
 
 pub zero_after : (most : ℕ) (text boundaries : List ℕ) (below : List Bool) (c d : ℕ) → AreBoundaries text boundaries → c + 1 < length boundaries → get_or boundaries c 0 ≡ get_or boundaries (c + 1) 0 + 1 → get_or text (get_or boundaries (c + 1) 0) 0 ≡ 48 → IsDigitsTo most text boundaries below c d → IsDigitsTo most text boundaries below (c + 1) d
 zero_after most text boundaries below c d h l next is s =
@@ -96,18 +85,8 @@ digits_minus x h small = (h, small_negative (digits_value 10 x) small)
 abbrev bare : Bool → Bool → List ℕ → List ℕ
 bare minus plus x = cond minus (drop 1 x) (drop (cond plus 1 0) x)
 
-abbrev SpanBy : Bool → Bool → List ℕ → Type 0
-SpanBy minus plus x = IsNumeral 10 (bare minus plus x) × FitsSigned w64 (cond minus (neg_ℤ (pos (digits_value 10 (bare minus plus x)))) (pos (digits_value 10 (bare minus plus x))))
-
 bare_digits : (x : List ℕ) → (get_or x 0 0 == 45) ≡ false → (get_or x 0 0 == 43) ≡ false → IsSpan Decimal x → IsNumeral 10 x × (digits_value 10 x ≤ 9223372036854775807)
-bare_digits x m p h =
-    let s : SpanBy false false x = subst (λ b. SpanBy false b x) p (subst (λ b. SpanBy b (get_or x 0 0 == 43) x) m h) in
-    let small : digits_value 10 x < 9223372036854775808 = s.1.sfits in (s.0, omega arith)
-
-digits_bare : (x : List ℕ) → (get_or x 0 0 == 45) ≡ false → (get_or x 0 0 == 43) ≡ false → IsNumeral 10 x → digits_value 10 x ≤ 9223372036854775807 → IsSpan Decimal x
-digits_bare x m p h small =
-    let s : SpanBy false false x = (h, record { sfits = let less : digits_value 10 x < 9223372036854775808 = omega arith in less }) in
-    subst (λ b. SpanBy b (get_or x 0 0 == 43) x) (sym m) (subst (λ b. SpanBy false b x) (sym p) s)
+bare_digits x m p h = grind (arith, common_steps)
 
 -- what the code knows at a column, from the column after
 pub zero_rest : (most : ℕ) (text boundaries : List ℕ) (below : List Bool) (c : ℕ) (b : Bool) → AreBoundaries text boundaries → c + 1 < length boundaries → get_or boundaries c 0 ≡ get_or boundaries (c + 1) 0 + 1 → get_or text (get_or boundaries (c + 1) 0) 0 ≡ 48 → get_or below c false ≡ false → HasDigits most text boundaries below c b → HasDigits most text boundaries below (c + 1) b
@@ -141,11 +120,7 @@ pub record IsSignAt (sign : ℕ) (text : List ℕ) (boundaries : List ℕ) (c : 
   pub is : get_or text (get_or boundaries (c + 1) 0) 0 ≡ sign
 
 signed_to : (sign most : ℕ) (text boundaries : List ℕ) (below : List Bool) (c d : ℕ) → IsSign sign most → AreBoundaries text boundaries → IsSignAt sign text boundaries c → IsDigitsTo most text boundaries below c d → IsAdvanceTo (FieldPiece [] Decimal) text boundaries below (c + 1) d
-signed_to sign most text boundaries below c d k h a s = record {
-  within = let w = s.within in omega arith;
-  rest = s.rest;
-  takes = subst (IsSpan Decimal) (sym (signed_part text boundaries below c d sign h a.known a.next a.is s.within)) (k.span (part text boundaries c d) s.numeral s.value);
-}
+signed_to sign most text boundaries below c d k h a s = grind (arith, common_steps, signed_part)
 
 signed_from : (sign most : ℕ) (text boundaries : List ℕ) (below : List Bool) (c d : ℕ) → IsSign sign most → AreBoundaries text boundaries → IsSignAt sign text boundaries c → IsAdvanceTo (FieldPiece [] Decimal) text boundaries below (c + 1) d → IsDigitsTo most text boundaries below c d
 signed_from sign most text boundaries below c d k h a s =
@@ -180,19 +155,10 @@ step_signed sign most text boundaries below (suc c) o k u h some l is best =
     (longest_step most text boundaries below c (c + 1) o (λ d s. signed_to sign most text boundaries below c d k h at s) (λ d s. signed_from sign most text boundaries below c d k h at s) from)
 
 first_byte : (text boundaries : List ℕ) (c d : ℕ) → AreBoundaries text boundaries → c < length boundaries → d < c → get_or (part text boundaries c d) 0 0 ≡ get_or text (get_or boundaries c 0) 0
-first_byte text boundaries c d h l less =
-    let up = h.falling d c less l in
-    let same : get_or boundaries c 0 + 0 ≡ get_or boundaries c 0 = omega arith in
-    get_or-take (get_or boundaries d 0 - get_or boundaries c 0) (drop (get_or boundaries c 0) text) 0 0 (omega arith) ∙ get_or-drop (get_or boundaries c 0) text 0 0 ∙ ap (λ k. get_or text k 0) same
+first_byte text boundaries c d h l less = grind (arith, common_steps)
 
 bare_to : (text boundaries : List ℕ) (below : List Bool) (c d : ℕ) → AreBoundaries text boundaries → c < length boundaries → (get_or text (get_or boundaries c 0) 0 == 45) ≡ false → (get_or text (get_or boundaries c 0) 0 == 43) ≡ false → IsDigitsTo 9223372036854775807 text boundaries below c d → IsAdvanceTo (FieldPiece [] Decimal) text boundaries below c d
-bare_to text boundaries below c d h l m p s =
-    let first = first_byte text boundaries c d h l (digits_before 9223372036854775807 text boundaries below c d s) in
-    record {
-      within = s.within;
-      rest = s.rest;
-      takes = digits_bare (part text boundaries c d) (ap (λ k. k == 45) first ∙ m) (ap (λ k. k == 43) first ∙ p) s.numeral s.value;
-    }
+bare_to text boundaries below c d h l m p s = grind (arith, common_steps)
 
 bare_from : (text boundaries : List ℕ) (below : List Bool) (c d : ℕ) → AreBoundaries text boundaries → c < length boundaries → (get_or text (get_or boundaries c 0) 0 == 45) ≡ false → (get_or text (get_or boundaries c 0) 0 == 43) ≡ false → IsAdvanceTo (FieldPiece [] Decimal) text boundaries below c d → IsDigitsTo 9223372036854775807 text boundaries below c d
 bare_from text boundaries below c d h l m p s =

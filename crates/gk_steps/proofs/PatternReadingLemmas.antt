@@ -1,7 +1,7 @@
 -- The computed pieces of a text are those that it spells.
-use Rattle.std.proofs.Common.{◌≡◌, ℕ, Bool, true, false, cond, ◌&&◌, List, [], ◌∷◌, ◌++◌, flat_map, IsTrue, Some, None, refl, ap, sym, subst, ◌∙◌, arith, append_assoc}
+use Rattle.std.proofs.Common.{◌≡◌, ℕ, Bool, true, false, cond, ◌&&◌, List, [], ◌∷◌, ◌++◌, flat_map, IsTrue, Some, None, refl, ap, sym, ◌∙◌, arith, append_assoc}
+use Rattle.std.proofs.lemmas.Grind.{common_steps}
 use Rattle.std.specs.Prelude.{nat_eq}
-use Rattle.std.proofs.Common.{eq-eqb}
 use Rattle.std.specs.List.{AllByRecursion, list_all}
 use Rattle.std.specs.Str.{bytes_eq}
 use Rattle.std.proofs.lemmas.Slice.Eq.{bytes_eq-Decides}
@@ -27,18 +27,12 @@ after_bytes [] ps = ps
 after_bytes (b ∷ bs) ps = after_byte b (after_bytes bs ps)
 
 one_byte : (v : Bool) (b : ℕ) (rest : List ℕ) → is_brace b ≡ v → pieces_from Outside (cond v (b ∷ b ∷ []) (b ∷ []) ++ rest) ≡ after_byte b (pieces_from Outside rest)
-one_byte true b rest e =
-    let same : nat_eq b b ≡ true = eq-eqb b b refl in
-    ap (λ v. cond v (pieces_from (AfterBrace b) (b ∷ rest)) (after_byte b (pieces_from Outside (b ∷ rest)))) e
-    ∙ ap (λ v. cond v (after_byte b (pieces_from Outside rest)) (pieces_from (InName (b ∷ [])) rest)) same
+one_byte true b rest e = grind (arith, common_steps)
 one_byte false b rest e = ap (λ v. cond v (pieces_from (AfterBrace b) rest) (after_byte b (pieces_from Outside rest))) e
 
 literal : (text rest : List ℕ) → pieces_from Outside (flat_map spelled_literal text ++ rest) ≡ after_bytes text (pieces_from Outside rest)
 literal [] rest = refl
-literal (b ∷ bs) rest =
-    ap (pieces_from Outside) (append_assoc (spelled_literal b) (flat_map spelled_literal bs) rest)
-    ∙ one_byte (is_brace b) b (flat_map spelled_literal bs ++ rest) refl
-    ∙ ap (after_byte b) (literal bs rest)
+literal (b ∷ bs) rest = grind (arith, common_steps, literal bs rest)
 
 -- a literal before pieces that begin with none is one piece
 one_piece : (b : ℕ) (bs : List ℕ) (ps : List PieceValue) → AreLongestRuns (Literal (b ∷ bs) ∷ ps) → after_bytes (b ∷ bs) ps ≡ Literal (b ∷ bs) ∷ ps
@@ -51,10 +45,7 @@ one_piece b (c ∷ bs) (FieldPiece name kind ∷ ps) runs = ap (after_byte b) (o
 
 -- the pieces behind a name
 name_more : (name before rest : List ℕ) → list_all is_name_byte name ≡ true → pieces_from (InName before) (name ++ rest) ≡ pieces_from (InName (before ++ name)) rest
-name_more [] before rest h = ap (λ n. pieces_from (InName n) rest) (sym (all before)) where
-  all : (bs : List ℕ) → bs ++ [] ≡ bs
-  all [] = refl
-  all (b ∷ bs) = ap (λ (l : List ℕ). b ∷ l) (all bs)
+name_more [] before rest h = grind (arith, common_steps)
 name_more (b ∷ name) before rest h =
     let parts = and_so (is_name_byte b) (list_all is_name_byte name) h in
     ap (λ v. cond v (pieces_from (InName (before ++ b ∷ [])) (name ++ rest)) (cond (nat_eq b 125) (FieldPiece before Plain ∷ pieces_from Outside (name ++ rest)) (pieces_from (AfterColon before) (name ++ rest)))) parts.0
@@ -70,13 +61,7 @@ not_open b h = grind (arith, nat_tests)
 
 field : (name : List ℕ) (kind : FieldKind) (rest : List ℕ) → is_field_name name ≡ true → pieces_from Outside (spelled_piece (FieldPiece name kind) ++ rest) ≡ FieldPiece name kind ∷ pieces_from Outside rest
 field [] kind rest h = let bad : ⊥ = cc in absurd bad
-field (b ∷ name) kind rest h =
-    let parts = and_so (is_name_letter b) (list_all is_name_byte name) h in
-    let more : List ℕ = name ++ (field_tail kind ++ rest) in
-    ap (pieces_from Outside) (field_text (b ∷ name) kind rest)
-    ∙ ap (λ v. cond v (after_byte b (pieces_from Outside more)) (pieces_from (InName (b ∷ [])) more)) (not_open b parts.0)
-    ∙ name_more name (b ∷ []) (field_tail kind ++ rest) parts.1
-    ∙ tail (b ∷ name) kind rest
+field (b ∷ name) kind rest h = grind (arith, common_steps, and_so, field_text, not_open, name_more, tail)
 
 -- the pieces of their own spellings
 pub all_pieces : (ps : List PieceValue) → AllByRecursion (λ name. IsTrue (is_field_name name)) (field_names ps) → AreLongestRuns ps → pieces_from Outside (flat_map spelled_piece ps) ≡ ps
@@ -84,16 +69,10 @@ all_pieces [] names runs = refl
 all_pieces (Literal [] ∷ []) names runs = absurd (omega (arith, runs.0))
 all_pieces (Literal [] ∷ Literal text ∷ ps) names runs = absurd runs
 all_pieces (Literal [] ∷ FieldPiece name kind ∷ ps) names runs = absurd (omega (arith, runs.0))
-all_pieces (Literal (b ∷ bs) ∷ []) names runs =
-    literal (b ∷ bs) [] ∙ one_piece b bs [] runs
+all_pieces (Literal (b ∷ bs) ∷ []) names runs = grind (arith, common_steps, literal, one_piece)
 all_pieces (Literal (b ∷ bs) ∷ Literal text ∷ ps) names runs = absurd runs
-all_pieces (Literal (b ∷ bs) ∷ FieldPiece name kind ∷ ps) names runs =
-    literal (b ∷ bs) (flat_map spelled_piece (FieldPiece name kind ∷ ps))
-    ∙ ap (after_bytes (b ∷ bs)) (all_pieces (FieldPiece name kind ∷ ps) names runs.1)
-    ∙ one_piece b bs (FieldPiece name kind ∷ ps) runs
-all_pieces (FieldPiece name kind ∷ ps) names runs =
-    field name kind (flat_map spelled_piece ps) names.0
-    ∙ ap (λ (q : List PieceValue). FieldPiece name kind ∷ q) (all_pieces ps names.1 runs)
+all_pieces (Literal (b ∷ bs) ∷ FieldPiece name kind ∷ ps) names runs = grind (arith, common_steps, literal, flat_map, all_pieces (FieldPiece name kind ∷ ps) names runs.1, one_piece)
+all_pieces (FieldPiece name kind ∷ ps) names runs = grind (arith, common_steps, field, flat_map, all_pieces ps names.1 runs)
 
 -- the tests say what they test
 names_test : (names : List (List ℕ)) → AllByRecursion (λ name. IsTrue (is_field_name name)) names → list_all is_field_name names ≡ true
@@ -125,10 +104,7 @@ runs_so (Literal (b ∷ bs) ∷ FieldPiece name kind ∷ ps) e = (omega arith, r
 runs_so (FieldPiece name kind ∷ ps) e = runs_so ps e
 
 pub pattern_test : (text : List ℕ) (ps : List PieceValue) → SpellsPattern text ps → spells_pattern text ps ≡ true
-pattern_test text ps s =
-    and_both (bytes_eq (flat_map spelled_piece ps) text) _ ((bytes_eq-Decides (flat_map spelled_piece ps) text).1 (sym s.spelled))
-    (and_both (list_all is_field_name (field_names ps)) _ (names_test (field_names ps) s.names)
-    (and_both (are_longest_runs ps) (is_pattern ps) (runs_test ps s.runs) (spells_test text ps s)))
+pattern_test text ps s = grind (arith, common_steps, and_both, flat_map, bytes_eq-Decides, names_test, runs_test, spells_test)
 
 pub pattern_so : (text : List ℕ) (ps : List PieceValue) → spells_pattern text ps ≡ true → SpellsPattern text ps
 pattern_so text ps e =
@@ -140,10 +116,7 @@ pattern_so text ps e =
 
 pub computed : (text : List ℕ) (ps : List PieceValue) → SpellsPattern text ps → pieces_of text ≡ Some ps
 unfolding pieces_of
-computed text ps s =
-    let same : pieces_from Outside text ≡ ps = ap (pieces_from Outside) s.spelled ∙ all_pieces ps s.names s.runs in
-    let test : spells_pattern text (pieces_from Outside text) ≡ true = ap (spells_pattern text) same ∙ pattern_test text ps s in
-    ap (λ v. cond v (Some (pieces_from Outside text)) None) test ∙ ap Some same
+computed text ps s = grind (arith, common_steps, all_pieces, pattern_test)
 
 some_so : (v : Bool) (qs ps : List PieceValue) → cond v (Some qs) None ≡ Some ps → (v ≡ true) × (qs ≡ ps)
 some_so true qs ps e = (refl, cc)
@@ -151,6 +124,4 @@ some_so false qs ps e = let bad : ⊥ = cc in absurd bad
 
 pub spelled : (text : List ℕ) (ps : List PieceValue) → pieces_of text ≡ Some ps → SpellsPattern text ps
 unfolding pieces_of
-spelled text ps e =
-    let parts = some_so (spells_pattern text (pieces_from Outside text)) (pieces_from Outside text) ps e in
-    subst (SpellsPattern text) parts.1 (pattern_so text (pieces_from Outside text) parts.0)
+spelled text ps e = grind (arith, common_steps, some_so, pattern_so)

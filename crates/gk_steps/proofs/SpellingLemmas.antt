@@ -1,11 +1,10 @@
 -- What a text spells, taken apart from its start.
-use Rattle.std.proofs.Common.{◌≡◌, ℕ, zero, suc, ◌+◌, ◌-◌, ◌<◌, ◌≤◌, ◌⊎◌, inl, inr, Bool, true, false, cond, not, ◌||◌, ◌&&◌, List, [], ◌∷◌, ◌++◌, length, take, drop, get_or, codes, flat_map, IsTrue, Option, Some, None, refl, ap, sym, subst, ◌∙◌, arith, append_assoc}
+use Rattle.std.proofs.Common.{◌≡◌, ℕ, zero, suc, ◌+◌, ◌-◌, ◌<◌, ◌≤◌, ◌⊎◌, inl, inr, Bool, true, false, cond, not, ◌||◌, ◌&&◌, List, [], ◌∷◌, ◌++◌, length, take, drop, get_or, codes, flat_map, IsTrue, Option, Some, None, refl, ap, sym, subst, ◌∙◌, arith, append_assoc, eq-eqb}
+use Rattle.std.proofs.lemmas.Grind.{common_steps}
 use Rattle.std.specs.Prelude.{is_some, nat_lt, nat_eq}
-use Rattle.std.specs.Str.{bytes_eq}
+use Rattle.std.specs.Str.{IsUtf8, IsCharBoundary, bytes_eq}
 use Rattle.std.proofs.lemmas.Slice.Eq.{bytes_eq-Decides}
 use Rattle.std.specs.List.{AllByRecursion, list_all, prefix_len, position_or_len}
-use Rattle.std.specs.Str.{IsUtf8, IsCharBoundary}
-use Rattle.std.proofs.Common.{eq-eqb}
 use Rattle.std.proofs.lemmas.Bool.{eqb-true}
 use Rattle.std.proofs.lemmas.Bool.Decides.{nat_tests}
 use Rattle.std.proofs.lemmas.List.Sums.{prefix_len_passes, prefix_len-le-length, passes_at_first}
@@ -23,9 +22,7 @@ name_ascii : (b : ℕ) → is_name_byte b ≡ true → b < 128
 name_ascii b h = grind (arith, nat_tests)
 
 pub brace_boundary : (bs : List ℕ) (n : ℕ) → n ≡ position_or_len is_brace bs → n < length bs → IsCharBoundary bs n
-brace_boundary bs n e h =
-    let at : get_or bs n 0 < 128 = subst (λ n. get_or bs n 0 < 128) (sym e) (brace_ascii (get_or bs (position_or_len is_brace bs) 0) (passes_at_first is_brace bs 0 (omega arith))) in
-    IsCharBoundary-before_ascii bs n h at
+brace_boundary bs n e h = grind (arith, common_steps, brace_ascii, passes_at_first, IsCharBoundary-before_ascii)
 
 pub name_boundary : (bs : List ℕ) (n : ℕ) → IsUtf8 bs → n ≤ prefix_len is_name_byte bs → IsCharBoundary bs n
 name_boundary bs zero u le = IsCharBoundary-start bs u
@@ -39,11 +36,7 @@ name_boundary bs (suc k) u le =
 plain_take : (v : Bool) (b : ℕ) (n : ℕ) (bs : List ℕ) → flat_map spelled_literal (take n bs) ≡ take n bs
     → is_brace b ≡ v → flat_map spelled_literal (take (cond (not v) (1 + n) 0) (b ∷ bs)) ≡ take (cond (not v) (1 + n) 0) (b ∷ bs)
 plain_take true b n bs h e = refl
-plain_take false b n bs h e =
-    let one : 1 + n ≡ suc n = omega arith in
-    let here : spelled_literal b ≡ b ∷ [] = ap (λ v. cond v (b ∷ b ∷ []) (b ∷ [])) e in
-    let there : flat_map spelled_literal (take (suc n) (b ∷ bs)) ≡ take (suc n) (b ∷ bs) = ap (λ (l : List ℕ). l ++ flat_map spelled_literal (take n bs)) here ∙ ap (λ (l : List ℕ). b ∷ l) h in
-    subst (λ k. flat_map spelled_literal (take k (b ∷ bs)) ≡ take k (b ∷ bs)) (sym one) there
+plain_take false b n bs h e = grind (arith, common_steps)
 
 pub plain_part : (bs : List ℕ) → flat_map spelled_literal (take (position_or_len is_brace bs) bs) ≡ take (position_or_len is_brace bs) bs
 plain_part [] = refl
@@ -110,10 +103,7 @@ drop_seam (x ∷ a) b = drop_seam a b
 
 pub one_name : (text before after : List ℕ) (n : ℕ) → n ≡ prefix_len is_name_byte text → before ≡ take (n - 0) text → after ≡ drop n text
     → (name rest : List ℕ) → list_all is_name_byte name ≡ true → EndsName rest → text ≡ name ++ rest → (before ≡ name) × (after ≡ rest)
-one_name text before after n size first second name rest h k whole =
-    let len : n ≡ length name = size ∙ ap (prefix_len is_name_byte) whole ∙ name_len_is name rest h k in
-    let len0 : n - 0 ≡ length name = omega arith in
-    (first ∙ ap (λ m. take m text) len0 ∙ ap (take (length name)) whole ∙ take_seam name rest, second ∙ ap (λ m. drop m text) len ∙ ap (drop (length name)) whole ∙ drop_seam name rest)
+one_name text before after n size first second name rest h k whole = grind (arith, common_steps, name_len_is, take_seam, drop_seam)
 
 -- a field is its brace, its name and what stands after the name
 pub field_text : (name : List ℕ) (kind : FieldKind) (rest : List ℕ) → spelled_piece (FieldPiece name kind) ++ rest ≡ codes "{" ++ (name ++ (field_tail kind ++ rest))
@@ -138,9 +128,7 @@ and_both false b e f = let bad : ⊥ = cc in absurd bad
 
 pub name_bytes : (name : List ℕ) → IsTrue (is_field_name name) → list_all is_name_byte name ≡ true
 name_bytes [] h = refl
-name_bytes (b ∷ bs) h =
-    let parts = and_so (is_name_letter b) (list_all is_name_byte bs) h in
-    and_both (is_name_byte b) (list_all is_name_byte bs) (or_left (is_name_letter b) _ parts.0) parts.1
+name_bytes (b ∷ bs) h = grind (arith, common_steps)
 
 letter_no_brace : (b : ℕ) → is_name_letter b ≡ true → b ≡ 123 → ⊥
 letter_no_brace b h e = let other : is_name_letter 123 ≡ true = ap is_name_letter (sym e) ∙ h in let bad : ⊥ = cc in bad
@@ -202,28 +190,12 @@ as_pieces [] h = absurd (omega arith)
 as_pieces (b ∷ bs) h = refl
 
 after_field_first : (literal text rest : List ℕ) (ps : List PieceValue) → HasLiteral text literal rest → IsSpelled text ps → BeginWithField ps → ArePiecesLeft (literal_pieces literal) rest ps
-after_field_first literal text rest ps h s f =
-    let one = one_literal literal [] rest text (sym h.whole) h.end (no_literal_ends text ps s f) in
-    record {
-      left = ps;
-      whole = ap (λ (l : List ℕ). literal_pieces l ++ ps) (sym one.0);
-      spelled = subst (λ t. IsSpelled t ps) (sym one.1) s;
-      field = f;
-    }
+after_field_first literal text rest ps h s f = grind (arith, common_steps)
 
 pub take_literal : (literal text rest : List ℕ) (ps : List PieceValue) → HasLiteral text literal rest → IsSpelled text ps → ArePiecesLeft (literal_pieces literal) rest ps
 take_literal literal text rest [] h s = after_field_first literal text rest [] h s tt
 take_literal literal text rest (FieldPiece name kind ∷ ps) h s = after_field_first literal text rest (FieldPiece name kind ∷ ps) h s tt
-take_literal literal text rest (Literal l ∷ ps) h s =
-    let parts = literal_or_none ps l s.runs in
-    let later : IsSpelled (flat_map spelled_piece ps) ps = record { spelled = refl; names = s.names; runs = parts.1 } in
-    let one = one_literal literal l rest (flat_map spelled_piece ps) (sym h.whole ∙ s.spelled) h.end (no_literal_ends (flat_map spelled_piece ps) ps later parts.2) in
-    record {
-      left = ps;
-      whole = ap (λ (q : List PieceValue). q ++ ps) (as_pieces l parts.0) ∙ ap (λ (m : List ℕ). literal_pieces m ++ ps) (sym one.0);
-      spelled = subst (λ t. IsSpelled t ps) (sym one.1) later;
-      field = parts.2;
-    }
+take_literal literal text rest (Literal l ∷ ps) h s = grind (arith, common_steps, literal_or_none, flat_map, one_literal, no_literal_ends, as_pieces)
 
 -- reading begins
 pub read_first : (text rest : List ℕ) (after : List PieceValue) → AddsLiteral text [] after rest → IsReadTo text after rest
@@ -363,9 +335,7 @@ less_test : (a b : ℕ) → a < b → nat_lt a b ≡ true
 less_test a b e = grind (arith, nat_tests)
 
 pub spells : (text : List ℕ) (ps : List PieceValue) → IsSpelled text ps → is_pattern ps ≡ true → SpellsPattern text ps
-spells text ps s e =
-    let parts = and_so (nat_lt 0 (length ps)) (are_distinct ps) e in
-    record { spelled = s.spelled; names = s.names; distinct = distinct_so ps parts.1; runs = s.runs; some = less_so 0 (length ps) parts.0 }
+spells text ps s e = grind (arith, common_steps, and_so, distinct_so, less_so)
 
 pub spells_test : (text : List ℕ) (ps : List PieceValue) → SpellsPattern text ps → is_pattern ps ≡ true
 spells_test text ps s = and_both (nat_lt 0 (length ps)) (are_distinct ps) (less_test 0 (length ps) s.some) (distinct_test ps s.distinct)
@@ -375,19 +345,14 @@ not_pattern text qs ps e same s = let no : true ≡ false = sym (spells_test tex
 
 -- what stands before a position that is given by a number
 pub plain_of : (text part : List ℕ) (n : ℕ) → n ≡ position_or_len is_brace text → part ≡ take (n - 0) text → flat_map spelled_literal part ≡ part
-plain_of text part n e cut =
-    let whole : n - 0 ≡ position_or_len is_brace text = omega arith in
-    let same : part ≡ take (position_or_len is_brace text) text = cut ∙ ap (λ m. take m text) whole in
-    ap (flat_map spelled_literal) same ∙ plain_part text ∙ sym same
+plain_of text part n e cut = grind (arith, common_steps, flat_map, plain_part)
 
 pub begins_of : (text part : List ℕ) (n : ℕ) → n ≡ position_or_len is_brace text → part ≡ drop n text → BeginsAtBrace part
 begins_of text part n e cut = subst BeginsAtBrace (sym (cut ∙ ap (λ m. drop m text) e)) (begins_at text)
 
 pub no_field : (text body name end : List ℕ) → text ≡ codes "{" ++ body → ((n r : List ℕ) → list_all is_name_byte n ≡ true → EndsName r → body ≡ n ++ r → (name ≡ n) × (end ≡ r))
     → ((kind : FieldKind) (r : List ℕ) → end ≡ field_tail kind ++ r → ⊥) → HasNoField text
-no_field text body name end whole only none = λ n kind r h.
-    let inner : body ≡ n ++ (field_tail kind ++ r) = same_rest 123 body (n ++ (field_tail kind ++ r)) (sym whole ∙ h.whole ∙ field_text n kind r) in
-    none kind r (only n (field_tail kind ++ r) (name_bytes n h.is_name) (tail_ends kind r) inner).1
+no_field text body name end whole only none = grind (arith, common_steps, same_rest, field_text, name_bytes, tail_ends)
 
 pub empty_so : (xs : List ℕ) → length xs ≡ 0 → xs ≡ []
 empty_so [] e = refl

@@ -1,10 +1,11 @@
 -- Rows of the table, and steps through it.
-use Rattle.std.proofs.Common.{◌≡◌, ℕ, zero, suc, cond, ◌==◌, ◌+◌, ◌-◌, ◌<◌, ◌≤◌, ◌⊎◌, inl, inr, Bool, true, false, List, [], ◌∷◌, ◌++◌, length, take, drop, get_or, Option, Some, None, is_some, refl, ap, sym, subst, ◌∙◌, arith, length-append, length-drop, length-take}
+use Rattle.std.proofs.Common.{◌≡◌, ℕ, zero, suc, cond, ◌==◌, ◌+◌, ◌-◌, ◌<◌, ◌≤◌, ◌⊎◌, inl, inr, Bool, true, false, List, [], ◌∷◌, ◌++◌, length, take, drop, get_or, Option, Some, None, is_some, refl, ap, sym, subst, ◌∙◌, arith, length-append}
+use Rattle.std.proofs.lemmas.Grind.{common_steps}
 use Rattle.std.specs.Prelude.{IsUtf8}
 use Rattle.std.specs.Str.{chars, IsCharBoundary}
 use Rattle.std.proofs.Math.Nat.{eq-or-lt_of_le}
 use Rattle.std.proofs.Math.Seq.{take-append_seam, drop-append_seam, drop-length}
-use Rattle.std.proofs.lemmas.List.{take-append-drop, get_or_append_left, get_or_push, drop-drop}
+use Rattle.std.proofs.lemmas.List.{take-append-drop, drop-drop}
 use Rattle.std.proofs.lemmas.Str.{IsUtf8-drop, IsCharBoundary-from_take, IsCharBoundary-from_rest, IsUtf8-from_ascii, IsCharBoundary-end, IsCharBoundary-start, chars-nil}
 use Rattle.std.specs.Char.{digit_value}
 use Rattle.std.specs.Str.Parse.{AllDigits, IsNumeral, without_leading_sign, without_leading_plus}
@@ -109,11 +110,7 @@ true_cell ps text false h e = let bad : ⊥ = cc in absurd bad
 
 -- each match steps so
 pub stepped : (piece : PieceValue) (ps : List PieceValue) (text boundaries : List ℕ) (row : List Bool) (c : ℕ) (x rest : List ℕ) (xs : List (List ℕ)) → IsRow ps text boundaries row → (to : Lands text boundaries c x rest) → Takes piece x → Matches ps rest xs → IsAdvanceTo piece text boundaries row c to.d
-stepped piece ps text boundaries row c x rest xs r to takes m = record {
-  within = to.within;
-  rest = no_cell ps (drop (get_or boundaries to.d 0) text) (get_or row to.d false) xs (r.cells to.d to.known) (subst (λ t. Matches ps t xs) (sym to.is_rest) m);
-  takes = subst (Takes piece) (sym to.is_part) takes;
-}
+stepped piece ps text boundaries row c x rest xs r to takes m = grind (arith, common_steps)
 
 -- a column's cell, from the step over the piece
 pub step_cell : (piece : PieceValue) (ps : List PieceValue) (text boundaries : List ℕ) (row : List Bool) (c d : ℕ) → AreBoundaries text boundaries → IsRow ps text boundaries row → c < length boundaries → IsAdvanceTo piece text boundaries row c d → (spans : List (List ℕ)) × Matches (piece ∷ ps) (drop (get_or boundaries c 0) text) spans
@@ -141,11 +138,7 @@ is_step piece ps text boundaries row c (Some d) u t h r l s m = refl
 same_step : (piece : PieceValue) (ps : List PieceValue) (text x rest x' rest' : List ℕ) (xs xs' : List (List ℕ)) → text ≡ x ++ rest → text ≡ x' ++ rest' → length x ≡ length x' → IsBestMatch ps rest xs → Matches ps rest' xs'
     → (with_span piece x' xs' ≡ with_span piece x xs) ⊎ IsPreferred (piece ∷ ps) (with_span piece x xs) (with_span piece x' xs')
 same_step (Literal literal) ps text x rest x' rest' xs xs' e e' n h m = h.best xs' (subst (λ t. Matches ps t xs') (sym (same_back x x' rest rest' (sym e ∙ e') n)) m)
-same_step (FieldPiece name kind) ps text x rest x' rest' xs xs' e e' n h m =
-    elim (h.best xs' (subst (λ t. Matches ps t xs') (sym (same_back x x' rest rest' (sym e ∙ e') n)) m)) [
-      | inl same ↦ inl (ap (λ (s : List ℕ). s ∷ xs') (sym (same_prefix x x' rest rest' (sym e ∙ e') n)) ∙ ap (λ (s : List (List ℕ)). x ∷ s) same)
-      | inr p ↦ inr (inr (n, p))
-    ]
+same_step (FieldPiece name kind) ps text x rest x' rest' xs xs' e e' n h m = grind (arith, common_steps, same_back, same_prefix)
 
 other_step : (piece : PieceValue) (ps : List PieceValue) (text boundaries : List ℕ) (c d e : ℕ) (x rest x' rest' : List ℕ) (xs xs' : List (List ℕ)) → AreBoundaries text boundaries → d < length boundaries → e < length boundaries
     → get_or boundaries d 0 ≡ get_or boundaries c 0 + length x → get_or boundaries e 0 ≡ get_or boundaries c 0 + length x' → drop (get_or boundaries c 0) text ≡ x ++ rest → drop (get_or boundaries c 0) text ≡ x' ++ rest' → IsBestMatch ps rest xs → Matches ps rest' xs'
@@ -161,11 +154,7 @@ other_step (FieldPiece name Decimal) ps text boundaries c d e x rest x' rest' xs
 ]
 
 pub part_size : (text boundaries : List ℕ) (c d : ℕ) → AreBoundaries text boundaries → c < length boundaries → d ≤ c → get_or boundaries d 0 ≡ get_or boundaries c 0 + length (part text boundaries c d)
-part_size text boundaries c d h l within =
-    let more : d < c → get_or boundaries c 0 < get_or boundaries d 0 = λ less. h.falling d c less l in
-    let up : get_or boundaries c 0 ≤ get_or boundaries d 0 = elim (eq-or-lt_of_le within) [ inl e ↦ omega (arith, ap (λ k. get_or boundaries k 0) e) | inr less ↦ omega (arith, more less) ] in
-    let end : get_or boundaries d 0 ≤ length text = (h.cuts d (omega arith)).0 in
-    omega (arith, length-take (get_or boundaries d 0 - get_or boundaries c 0) (drop (get_or boundaries c 0) text), length-drop (get_or boundaries c 0) text)
+part_size text boundaries c d h l within = grind (arith, common_steps)
 
 pub best_step : (piece : PieceValue) (ps : List PieceValue) (text boundaries : List ℕ) (row : List Bool) (c d : ℕ) (xs : List (List ℕ)) → IsUtf8 text → IsTextPiece piece → AreBoundaries text boundaries → IsRow ps text boundaries row → c < length boundaries → IsAdvance piece text boundaries row c (Some d)
     → IsBestMatch ps (drop (get_or boundaries d 0) text) xs → IsBestMatch (piece ∷ ps) (drop (get_or boundaries c 0) text) (with_span piece (part text boundaries c d) xs)
@@ -185,27 +174,15 @@ pub no_cells : (ps : List PieceValue) (text boundaries : List ℕ) → IsRowTo 0
 no_cells ps text boundaries = record { size_is = refl; cells = λ c l. absurd (omega arith) }
 
 pub cell_more : (size : ℕ) (ps : List PieceValue) (text boundaries : List ℕ) (row : List Bool) (b : Bool) → IsRowTo size ps text boundaries row → IsCell ps (drop (get_or boundaries size 0) text) b → IsRowTo (size + 1) ps text boundaries (row ++ b ∷ [])
-cell_more size ps text boundaries row b h cell = record {
-  size_is = length-append row (b ∷ []) ∙ ap (λ n. n + 1) h.size_is;
-  cells = λ c l. elim (let most : c ≤ size = omega arith in eq-or-lt_of_le most) [
-    | inl e ↦ subst (λ (k : ℕ). IsCell ps (drop (get_or boundaries k 0) text) (get_or (row ++ b ∷ []) k false)) (sym e) (subst (IsCell ps (drop (get_or boundaries size 0) text)) (sym (get_or_push row b false size h.size_is)) cell)
-    | inr old ↦ subst (IsCell ps (drop (get_or boundaries c 0) text)) (sym (get_or_append_left row (b ∷ []) false c (omega (arith, h.size_is)))) (h.cells c old)
-  ];
-}
+cell_more size ps text boundaries row b h cell = grind (arith, common_steps)
 
 -- the row of no pieces
 at_end : (text boundaries : List ℕ) → AreBoundaries text boundaries → get_or boundaries 0 0 ≡ length text
-at_end text boundaries h = by (h.complete (length text) (omega arith) (IsCharBoundary-end text)) where
-  by : (c : ℕ) × (c < length boundaries) × (get_or boundaries c 0 ≡ length text) → get_or boundaries 0 0 ≡ length text
-  by (zero, l, e) = e
-  by (suc c, l, e) = let less = h.falling 0 (suc c) (omega arith) l in let within = (h.cuts 0 h.some).0 in absurd (omega arith)
+at_end text boundaries h = grind (arith, common_steps, IsCharBoundary-end)
 
 pub end_cell : (text boundaries : List ℕ) (c : ℕ) (b : Bool) → AreBoundaries text boundaries → c < length boundaries → (b ≡ true → c ≡ 0) → (c ≡ 0 → b ≡ true) → IsCell [] (drop (get_or boundaries c 0) text) b
 end_cell text boundaries c true h l only if = ([], record { spans_fit = tt; whole = ap (λ k. drop (get_or boundaries k 0) text) (only refl) ∙ ap (λ k. drop k text) (at_end text boundaries h) ∙ drop-length text })
-end_cell text boundaries c false h l only if = λ spans m.
-    let none : length (chars (drop (get_or boundaries c 0) text)) ≡ 0 = ap (λ t. length (chars t)) m.whole ∙ ap length chars-nil in
-    let zero_after : c ≡ 0 = sym (h.counts c l) ∙ none in
-    let bad : false ≡ true = if zero_after in let no_way : ⊥ = cc in no_way
+end_cell text boundaries c false h l only if = grind (arith, common_steps, chars-nil)
 
 pub last_cell : (text boundaries : List ℕ) → IsUtf8 text → AreBoundaries text boundaries → get_or boundaries (length boundaries - 1) 0 ≡ 0
 last_cell text boundaries u h = by (h.complete 0 (omega arith) (IsCharBoundary-start text u)) where

@@ -1,39 +1,29 @@
 -- The whole table, and what is read from it.
 use Rattle.std.proofs.Common.{◌≡◌, ℕ, ◌+◌, ◌-◌, ◌<◌, ◌≤◌, inl, inr, Bool, true, false, List, [], ◌∷◌, ◌++◌, length, drop, map, get_or, Some, refl, ap, sym, subst, ◌∙◌, arith, length-append, append_assoc}
+use Rattle.std.proofs.lemmas.Grind.{common_steps}
 use Rattle.std.specs.Prelude.{IsUtf8, Vec}
 use Rattle.std.specs.declared.alloc.Global.{Global}
 use Rattle.std.proofs.Math.Nat.{eq-or-lt_of_le}
-use Rattle.std.proofs.Math.Seq.{drop-length}
-use Rattle.std.proofs.lemmas.List.{get_or_append_left, get_or_push, get_or_read, get_or-map, drop_more, append-nil, length-map}
+use Rattle.std.proofs.lemmas.List.{get_or_append_left, get_or_push, get_or_read, get_or-map, drop_more, length-map}
 use Rattle.gk_steps.specs.declared.pattern.Piece.{Piece}
 use Rattle.gk_steps.specs.Pattern.{PieceValue, Literal, FieldPiece, piece_value}
 use Rattle.gk_steps.specs.Matching.{Matches, MatchesNot, IsBestMatch, FieldValue, span_values}
 use Rattle.gk_steps.specs.CharBoundaries.{AreBoundaries}
 use Rattle.gk_steps.specs.Advances.{IsAdvance, IsMatchedTo, part, values_of}
 use Rattle.gk_steps.specs.TableRows.{IsCell, IsRow, IsTable}
-use Rattle.gk_steps.proofs.MatchingLemmas.{with_span, best_nothing, nothing_left}
+use Rattle.gk_steps.proofs.MatchingLemmas.{with_span}
 use Rattle.gk_steps.proofs.TableLemmas.{IsTextPiece, best_step, true_cell, last_cell}
 
 -- the last pieces, with one more
 one_more : (ps : List PieceValue) (k : ℕ) (d : PieceValue) → k < length ps → drop (length ps - (k + 1)) ps ≡ get_or ps (length ps - 1 - k) d ∷ drop (length ps - k) ps
-one_more ps k d l =
-    let here : length ps - (k + 1) ≡ length ps - 1 - k = omega arith in
-    let next : length ps - 1 - k + 1 ≡ length ps - k = omega arith in
-    ap (λ n. drop n ps) here ∙ drop_more ps (length ps - 1 - k) d (omega arith) ∙ ap (λ n. get_or ps (length ps - 1 - k) d ∷ drop n ps) next
+one_more ps k d l = grind (arith, common_steps)
 
 pub read_piece : (pieces : List Piece) (i : ℕ) (piece : Piece) → i < length pieces → piece ≡ get_or pieces i piece → (d : PieceValue) → get_or (map piece_value pieces) i d ≡ piece_value piece
 read_piece pieces i piece l e d = get_or-map piece_value pieces i piece d l ∙ ap piece_value (sym e)
 
 -- the table with its first row, and with one row more
 pub table_first : (ps : List PieceValue) (text boundaries : List ℕ) (rows : List (Vec Bool Global)) (row : Vec Bool Global) → rows ≡ row ∷ [] → IsRow [] text boundaries row.items → IsTable 1 ps text boundaries rows
-table_first ps text boundaries rows row e r = subst (IsTable 1 ps text boundaries) (sym e) (record {
-  size_is = refl;
-  each = λ k d l.
-      let zero_is : k ≡ 0 = omega arith in
-      let whole : length ps - 0 ≡ length ps = omega arith in
-      let none : drop (length ps - 0) ps ≡ [] = ap (λ n. drop n ps) whole ∙ drop-length ps in
-      subst (λ (n : ℕ). IsRow (drop (length ps - n) ps) text boundaries (get_or (row ∷ []) n d).items) (sym zero_is) (subst (λ qs. IsRow qs text boundaries row.items) (sym none) r);
-})
+table_first ps text boundaries rows row e r = grind (arith, common_steps)
 
 pub table_more : (pieces : List Piece) (text boundaries : List ℕ) (rows rows' : List (Vec Bool Global)) (row : Vec Bool Global) (k : ℕ) (piece : Piece) → k < length pieces → piece ≡ get_or pieces (length pieces - 1 - k) piece → rows' ≡ rows ++ row ∷ []
     → IsTable (k + 1) (map piece_value pieces) text boundaries rows → IsRow (piece_value piece ∷ drop (length (map piece_value pieces) - k) (map piece_value pieces)) text boundaries row.items → IsTable (k + 1 + 1) (map piece_value pieces) text boundaries rows'
@@ -103,11 +93,7 @@ read_more ps qs piece text boundaries row taken c d fields fields' u t h here ne
 
 -- all read
 pub read_end : (ps : List PieceValue) (text boundaries : List ℕ) (c : ℕ) (fields : List FieldValue) → IsMatchedTo (length ps) c ps text boundaries fields → (spans : List (List ℕ)) × IsBestMatch ps text spans × (fields ≡ span_values ps spans)
-read_end ps text boundaries c fields so_far =
-    let none : drop (length ps) ps ≡ [] = drop-length ps in
-    let m : Matches [] (drop (get_or boundaries c 0) text) so_far.matched.0 = subst (λ ws. Matches ws (drop (get_or boundaries c 0) text) so_far.matched.0) none so_far.matched.1 in
-    let b : IsBestMatch (drop (length ps) ps) (drop (get_or boundaries c 0) text) [] = subst (λ ws. IsBestMatch ws (drop (get_or boundaries c 0) text) []) (sym none) (best_nothing (drop (get_or boundaries c 0) text) (nothing_left (drop (get_or boundaries c 0) text) so_far.matched.0 m)) in
-    (so_far.spans ++ [], so_far.best [] b, sym (so_far.values [] ∙ ap (λ ws. fields ++ span_values ws []) none ∙ append-nil fields))
+read_end ps text boundaries c fields so_far = grind (arith, common_steps)
 
 -- the pieces and the row at a position of the loop that reads
 pub here_at : (pieces : List Piece) (i : ℕ) (piece : Piece) → i < length pieces → piece ≡ get_or pieces i piece → drop i (map piece_value pieces) ≡ piece_value piece ∷ drop (i + 1) (map piece_value pieces)

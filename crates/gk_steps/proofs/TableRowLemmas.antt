@@ -1,5 +1,6 @@
 -- A row with one cell more, as the code fills it.
 use Rattle.std.proofs.Common.{◌≡◌, ℕ, ◌==◌, ◌+◌, ◌<◌, ◌≤◌, inl, inr, Bool, true, false, List, [], ◌∷◌, ◌++◌, length, drop, get_or, Option, is_some, ap, sym, subst, ◌∙◌, arith, length-append}
+use Rattle.std.proofs.lemmas.Grind.{common_steps}
 use Rattle.std.specs.Prelude.{IsUtf8, Result, Ok, Err, IfOk}
 use Rattle.std.proofs.Math.Nat.{eq-or-lt_of_le}
 use Rattle.std.proofs.lemmas.Bool.{eqb-true, eq-eqb}
@@ -30,13 +31,7 @@ pub any_kept : (row : List Bool) (c : ℕ) → IsAnyBefore row c true → IsAnyB
 any_kept row c h = (h.0, omega (arith, h.1), h.2)
 
 pub plain_more : (size : ℕ) (below row row' : List Bool) (b : Bool) → row' ≡ row ++ b ∷ [] → IsPlainRow size below row → IsAnyBefore below size b → IsPlainRow (size + 1) below row'
-plain_more size below row row' b e h any = subst (IsPlainRow (size + 1) below) (sym e) (record {
-  size_is = length-append row (b ∷ []) ∙ ap (λ n. n + 1) h.size_is;
-  cells = λ c l. elim (let most : c ≤ size = omega arith in eq-or-lt_of_le most) [
-    | inl same ↦ subst (λ (k : ℕ). IsAnyBefore below k (get_or (row ++ b ∷ []) k false)) (sym same) (subst (IsAnyBefore below size) (sym (get_or_push row b false size h.size_is)) any)
-    | inr old ↦ subst (IsAnyBefore below c) (sym (get_or_append_left row (b ∷ []) false c (omega (arith, h.size_is)))) (h.cells c old)
-  ];
-})
+plain_more size below row row' b e h any = grind (arith, common_steps)
 
 plain_cell : (name : List ℕ) (ps : List PieceValue) (text boundaries : List ℕ) (below : List Bool) (c : ℕ) (b : Bool) → IsUtf8 text → AreBoundaries text boundaries → IsRow ps text boundaries below → c < length boundaries → IsAnyBefore below c b → IsCell (FieldPiece name Plain ∷ ps) (drop (get_or boundaries c 0) text) b
 plain_cell name ps text boundaries below c true u h r l any = step_cell (FieldPiece name Plain) ps text boundaries below c any.0 h r l (plain_takes name text boundaries below c any.0 u h l any.1 any.2)
@@ -44,10 +39,7 @@ plain_cell name ps text boundaries below c false u h r l any = no_step_cell (Fie
     let is_false = any d (before (FieldPiece name Plain) text boundaries below c d h l s s.takes.1) in let is_true = s.rest in let bad : ⊥ = cc in bad)
 
 pub plain_row : (name : List ℕ) (ps : List PieceValue) (text boundaries : List ℕ) (below row : List Bool) → IsUtf8 text → AreBoundaries text boundaries → IsRow ps text boundaries below → IsPlainRow (length below) below row → IsRow (FieldPiece name Plain ∷ ps) text boundaries row
-plain_row name ps text boundaries below row u h r p = record {
-  size_is = p.size_is ∙ r.size_is;
-  cells = λ c l. plain_cell name ps text boundaries below c (get_or row c false) u h r l (p.cells c (omega (arith, r.size_is)));
-}
+plain_row name ps text boundaries below row u h r p = grind (arith, common_steps, plain_cell)
 
 pub if_ok : {T E : Type 0} (r : Result T E) (P Q : T → Type 0) → ((x : T) → P x → Q x) → IfOk r P → IfOk r Q
 if_ok (Ok x) P Q f h = f x h

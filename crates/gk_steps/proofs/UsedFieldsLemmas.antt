@@ -1,6 +1,7 @@
 -- The first fields of the names that actions use.
-use Rattle.std.proofs.Common.{◌≡◌, ℕ, ◌++◌, Bool, true, false, List, [], ◌∷◌, if◌then◌else◌, Option, Some, None, refl, ap, sym, subst, ◌∙◌}
-use Rattle.std.specs.Prelude.{codes, slice_get, option_and_then}
+use Rattle.std.proofs.Common.{◌≡◌, ℕ, ◌++◌, Bool, true, false, List, [], ◌∷◌, if◌then◌else◌, Option, Some, None, refl, ap, subst, ◌∙◌, arith}
+use Rattle.std.proofs.lemmas.Grind.{common_steps}
+use Rattle.std.specs.Prelude.{slice_get}
 use Rattle.std.specs.Option.{option_or}
 use Rattle.std.specs.Str.{bytes_eq}
 use Rattle.gk_steps.specs.declared.pattern.FieldKind.{FieldKind}
@@ -45,16 +46,7 @@ or_both : {x y a b : Option FieldValue} → x ≡ a → y ≡ b → option_or x 
 or_both {y = y} {a = a} e f = ap (λ o. option_or o y) e ∙ ap (option_or a) f
 
 pub joined_first : (ps qs : List PieceValue) (fs gs : List FieldValue) (old later new : FirstFields) → AreJoined old later new → KeepsFirst ps old fs → KeepsFirst qs later gs → KeepsFirst (ps ++ qs) new (fs ++ gs)
-joined_first ps qs fs gs old later new is h k = record {
-  fit = kinds_more ps qs fs gs h.fit k.fit;
-  first = record {
-    name = is.name ∙ or_both h.first.name k.first.name ∙ sym (named_more (codes "name") ps qs fs gs h.fit);
-    to = is.to ∙ or_both h.first.to k.first.to ∙ sym (named_more (codes "to") ps qs fs gs h.fit);
-    step = is.step ∙ or_both h.first.step k.first.step ∙ sym (named_more (codes "step") ps qs fs gs h.fit);
-    number = is.number ∙ or_both h.first.number k.first.number ∙ sym (named_more (codes "n") ps qs fs gs h.fit);
-    text = is.text ∙ or_both h.first.text k.first.text ∙ sym (named_more (codes "text") ps qs fs gs h.fit);
-  };
-}
+joined_first ps qs fs gs old later new is h k = grind (arith, common_steps, kinds_more, or_both, named_more)
 
 -- with a literal, and with a field
 or_nothing : (o : Option FieldValue) → option_or o None ≡ o
@@ -65,48 +57,18 @@ or_none : (n : List ℕ) (ps : List PieceValue) (fs : List FieldValue) (literal 
 or_none n ps fs literal h = named_more n ps (Literal literal ∷ []) fs [] h ∙ or_nothing (field_named n ps fs)
 
 pub with_literal : (ps : List PieceValue) (fs : List FieldValue) (literal : List ℕ) (firsts : FirstFields) → KeepsFirst ps firsts fs → KeepsFirst (ps ++ Literal literal ∷ []) firsts (fs ++ [])
-with_literal ps fs literal firsts h = record {
-  fit = kinds_more ps (Literal literal ∷ []) fs [] h.fit tt;
-  first = record {
-    name = h.first.name ∙ sym (or_none (codes "name") ps fs literal h.fit);
-    to = h.first.to ∙ sym (or_none (codes "to") ps fs literal h.fit);
-    step = h.first.step ∙ sym (or_none (codes "step") ps fs literal h.fit);
-    number = h.first.number ∙ sym (or_none (codes "n") ps fs literal h.fit);
-    text = h.first.text ∙ sym (or_none (codes "text") ps fs literal h.fit);
-  };
-}
+with_literal ps fs literal firsts h = grind (arith, common_steps, kinds_more, or_none)
 
 one_kind : (name span : List ℕ) (kind : FieldKind) → HaveKindsOf (FieldPiece name kind ∷ []) (span_value kind span ∷ [])
 one_kind name span Plain = tt
 one_kind name span Decimal = tt
 
 pub with_named : (ps : List PieceValue) (fs : List FieldValue) (name span : List ℕ) (kind : FieldKind) (old new : FirstFields) → IsAdded name (span_value kind span) old new → KeepsFirst ps old fs → KeepsFirst (ps ++ FieldPiece name kind ∷ []) new (fs ++ span_value kind span ∷ [])
-with_named ps fs name span kind old new is h =
-    let f = span_value kind span in
-    let p = FieldPiece name kind in
-    record {
-      fit = kinds_more ps (p ∷ []) fs (f ∷ []) h.fit (one_kind name span kind);
-      first = record {
-        name = is.name ∙ or_both h.first.name refl ∙ sym (named_more (codes "name") ps (p ∷ []) fs (f ∷ []) h.fit);
-        to = is.to ∙ or_both h.first.to refl ∙ sym (named_more (codes "to") ps (p ∷ []) fs (f ∷ []) h.fit);
-        step = is.step ∙ or_both h.first.step refl ∙ sym (named_more (codes "step") ps (p ∷ []) fs (f ∷ []) h.fit);
-        number = is.number ∙ or_both h.first.number refl ∙ sym (named_more (codes "n") ps (p ∷ []) fs (f ∷ []) h.fit);
-        text = is.text ∙ or_both h.first.text refl ∙ sym (named_more (codes "text") ps (p ∷ []) fs (f ∷ []) h.fit);
-      };
-    }
+with_named ps fs name span kind old new is h = grind (arith, common_steps, kinds_more, one_kind, or_both, named_more)
 
 -- what a step's action works with, where there is a hit
-named_in : (library : LibraryValue) (f : FoundValue) (e : EntryValue) (n : List ℕ) → slice_get library f.entry ≡ Some e → field_named n e.pattern f.fields ≡ field_of library f n
-named_in library f e n stands = ap (option_and_then (λ (x : EntryValue). field_named n x.pattern f.fields)) (sym stands)
-
 first_in : (library : LibraryValue) (f : FoundValue) (e : EntryValue) (firsts : FirstFields) → slice_get library f.entry ≡ Some e → AreFirst (λ n. field_named n e.pattern f.fields) firsts → AreFirst (field_of library f) firsts
-first_in library f e firsts stands h = record {
-  name = h.name ∙ named_in library f e (codes "name") stands;
-  to = h.to ∙ named_in library f e (codes "to") stands;
-  step = h.step ∙ named_in library f e (codes "step") stands;
-  number = h.number ∙ named_in library f e (codes "n") stands;
-  text = h.text ∙ named_in library f e (codes "text") stands;
-}
+first_in library f e firsts stands h = grind (arith, common_steps)
 
 pub use_some : (library : LibraryValue) (o : Option FoundValue) (hit : Hit FirstFields) (u : FoundUse) → IsHit KeepsFirst library (Some hit) o → ((fields : List FieldValue) → u.action ≡ action_of library (found_at hit.entry fields)) → ((f : FoundValue) → AreFirst (field_of library f) hit.kept → HasUsedFields library f u.fields) → IsUseOf library o (Some u)
 use_some library None hit u is action fields = absurd is

@@ -31,7 +31,7 @@ IsKeptResult keeps ps text kept = (fields : Option (List FieldValue)) × AreKept
 abbrev pub KeepsRest : {K : Type 0} → (List PieceValue → K → List FieldValue → Type 0) → List PieceValue → List FieldValue → List PieceValue → List ℕ → Option K → Type 0
 KeepsRest keeps done before left rest kept = (fields : Option (List FieldValue)) × AreKept (keeps (done ++ left)) kept fields × FindsRest before left rest fields
 
--- What is kept of the result of every pattern in every text, if these pieces and this rest are left after the pieces and fields of which `old` was kept.
+-- For all pieces and fields that `old` keeps: what is kept of the result, if these pieces and this rest are left after them.
 abbrev pub KeepsMore : {K : Type 0} → (List PieceValue → K → List FieldValue → Type 0) → K → List PieceValue → List ℕ → Option K → Type 0
 KeepsMore keeps old left rest kept = (done : List PieceValue) (before : List FieldValue) → keeps done old before → KeepsRest keeps done before left rest kept
 
@@ -40,7 +40,7 @@ pub record Hit (K : Type 0) : Type 0 where
   pub entry : ℕ
   pub kept : K
 
--- The hit of the entry at a position, if there is one.
+-- A hit at this position, with what was kept, if there is a position.
 abbrev pub hit_of : {K : Type 0} → K → Option ℕ → Option (Hit K)
 hit_of kept None = None
 hit_of kept (Some entry) = Some (record { entry = entry; kept = kept })

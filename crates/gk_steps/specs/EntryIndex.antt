@@ -1,11 +1,12 @@
 -- How an index lists the entries of a library by the literals at their patterns' ends, and which entries it passes over.
-use Rattle.std.specs.Prelude.{◌≡◌, ◌⊎◌, ◌+◌, ◌*◌, ◌%◌, ◌<◌, ◌≤◌, nat_lt, ℕ, zero, suc, Bool, true, List, [], ◌∷◌, length, take, slice_get, Vec, Option, Some, None, IfSome, if◌then◌else◌}
+use Rattle.std.specs.Prelude.{◌≡◌, ◌⊎◌, ◌+◌, ◌*◌, ◌%◌, ◌^◌, ◌<◌, ◌≤◌, nat_lt, nat_eq, ℕ, Bool, true, List, [], ◌∷◌, length, take, slice_get, Vec, Option, Some, None, if◌then◌else◌}
+use Rattle.std.specs.Option.{option_map_or}
+use Rattle.std.specs.HashMap.{HashMap, get}
 use Rattle.std.specs.Int.{w64, from_le_bytes}
 use Rattle.std.specs.declared.alloc.Global.{Global}
 use Rattle.gk_steps.specs.declared.library.Entry.{Entry}
 use Rattle.gk_steps.specs.declared.library.LibraryBuilder.{LibraryBuilder}
 use Rattle.gk_steps.specs.declared.entry_index.Index.{Index}
-use Rattle.gk_steps.specs.declared.entry_index.Keyed.{Keyed}
 use Rattle.gk_steps.specs.declared.entry_index.Head.{Head}
 use Rattle.gk_steps.specs.declared.entry_index.IndexedEntries.{IndexedEntries}
 use Rattle.gk_steps.specs.Pattern.{PieceValue, Literal, FieldPiece, pattern_value}
@@ -27,6 +28,14 @@ last_literal [] = []
 last_literal (p ∷ []) = literal_of p
 last_literal (p ∷ q ∷ ps) = last_literal (q ∷ ps)
 
+-- The length of the literal that a pattern begins with.
+abbrev pub first_length : List PieceValue → ℕ
+first_length ps = length (first_literal ps)
+
+-- The length of the literal that a pattern ends with.
+abbrev pub last_length : List PieceValue → ℕ
+last_length ps = length (last_literal ps)
+
 -- The word of a text: its first 8 bytes as one number; none if it is shorter.
 abbrev pub word_of : List ℕ → Option ℕ
 word_of text = if nat_lt (length text) 8 then None else Some (from_le_bytes w64 (take 8 text))
@@ -35,14 +44,10 @@ word_of text = if nat_lt (length text) 8 then None else Some (from_le_bytes w64 
 abbrev pub head_of : List PieceValue → Option ℕ
 head_of ps = word_of (first_literal ps)
 
--- A key extended by one byte.
-abbrev pub key_more : ℕ → ℕ → ℕ
-key_more key byte = (key * 33 + byte) % 16777216
-
 -- A key extended by some bytes.
 abbrev pub key_over : ℕ → List ℕ → ℕ
 key_over key [] = key
-key_over key (b ∷ bs) = key_over (key_more key b) bs
+key_over key (b ∷ bs) = key_over ((key * 33 % 2 ^ 64 + b) % 2 ^ 64) bs
 
 -- The key of the literal that a pattern begins with.
 abbrev pub first_key : List PieceValue → ℕ
@@ -52,52 +57,38 @@ first_key ps = key_over 0 (first_literal ps)
 abbrev pub ends_key : List PieceValue → ℕ
 ends_key ps = key_over (first_key ps) (last_literal ps)
 
--- A number with its key.
-abbrev pub keyed : ℕ → ℕ → Keyed
-keyed key number = record { key = key; number = number }
+-- What a map has under a key; empty if it has nothing there.
+abbrev pub items_under : {X S : Type 0} → HashMap ℕ (Vec X Global) S → ℕ → List X
+items_under {X = X} map key = option_map_or (λ (v : Vec X Global). v.items) (get nat_eq map key) []
 
--- A number is in a bucket, with its key.
-abbrev pub IsAmong : Keyed → List Keyed → Type 0
-IsAmong n bucket = (k : ℕ) × (slice_get bucket k ≡ Some n)
-
--- A number is in a bucket under a key.
-abbrev pub IsUnder : ℕ → ℕ → List Keyed → Type 0
-IsUnder key number bucket = IsAmong (keyed key number) bucket
-
--- The bucket with this number; empty if there is none.
-abbrev pub bucket_at : List (Vec Keyed Global) → ℕ → List Keyed
-bucket_at [] k = []
-bucket_at (b ∷ bs) zero = b.items
-bucket_at (b ∷ bs) (suc k) = bucket_at bs k
-
--- The bucket of a key; empty if there is none.
-abbrev pub bucket_of : List (Vec Keyed Global) → ℕ → List Keyed
-bucket_of buckets key = bucket_at buckets (key % length buckets)
+-- A number is among some.
+abbrev pub IsAmong : ℕ → List ℕ → Type 0
+IsAmong n numbers = (k : ℕ) × (slice_get numbers k ≡ Some n)
 
 -- A length is marked.
 abbrev pub IsMarked : ℕ → List Bool → Type 0
 IsMarked size marks = slice_get marks size ≡ Some true
 
--- An index lists a pattern at a position. It marks the length of the first literal, has the length of the last literal under the key of the first, and has the position under the key of both.
+-- An index lists a pattern at a position. It marks the length of the first literal, marks that of the last literal under the key of the first, and has the position under the key of both.
 pub record Lists (index : Index) (position : ℕ) (ps : List PieceValue) : Type 0 where
-  pub first : IsMarked (length (first_literal ps)) index.firsts.items
-  pub last : IsUnder (first_key ps) (length (last_literal ps)) (bucket_of index.lasts.items (first_key ps))
-  pub listed : IsUnder (ends_key ps) position (bucket_of index.positions.items (ends_key ps))
+  pub first : IsMarked (first_length ps) index.firsts.items
+  pub last : IsMarked (last_length ps) (items_under index.lasts (first_key ps))
+  pub listed : IsAmong position (items_under index.positions (ends_key ps))
 
--- An index has buckets.
-pub record HasBuckets (index : Index) : Type 0 where
-  pub lasts : 0 < length index.lasts.items
-  pub positions : 0 < length index.positions.items
-
--- An index that has buckets lists each of these entries at its position. The statement is doubly negated, so that it is a fact that a type can keep.
+-- An index lists each of these entries whose position is below the number of entries that it lists. The statement is doubly negated, so that it is a fact that a type can keep.
 abbrev pub AreListed : Index → List Entry → Type 0
-AreListed index entries = 0 < length index.positions.items → (position : ℕ) (entry : Entry) → slice_get entries position ≡ Some entry → (Lists index position (pattern_value entry.pattern) → ⊥) → ⊥
+AreListed index entries = (position : ℕ) (entry : Entry) → position < index.listed → slice_get entries position ≡ Some entry → (Lists index position (pattern_value entry.pattern) → ⊥) → ⊥
 
--- The least position from `from` on that a bucket has under a key, or `most` if none is less.
-pub record IsLeastFrom (bucket : List Keyed) (key from most result : ℕ) : Type 0 where
+-- An index lists the first of these entries, and knows how many.
+pub record IsIndexOf (index : Index) (entries : List Entry) : Type 0 where
+  pub within : index.listed ≤ length entries
+  pub listed : AreListed index entries
+
+-- The least of these positions from `from` on, or `most` if none is less.
+pub record IsLeastFrom (positions : List ℕ) (from most result : ℕ) : Type 0 where
   pub low : from ≤ most → from ≤ result
   pub high : result ≤ most
-  pub least : (position : ℕ) → IsUnder key position bucket → from ≤ position → result ≤ position
+  pub least : (position : ℕ) → IsAmong position positions → from ≤ position → result ≤ position
 
 -- No listed pattern of this kind matches at a position between two.
 pub record Skips (IsKind : List PieceValue → Type 0) (index : Index) (from most : ℕ) (text : List ℕ) (result : ℕ) : Type 0 where
@@ -111,19 +102,15 @@ CanStand first last size = (first + last ≤ size) ⊎ (last ≡ size)
 
 -- Patterns whose first literal has this length and key.
 abbrev pub HasFirst : ℕ → ℕ → List PieceValue → Type 0
-HasFirst first key ps = (first ≡ length (first_literal ps)) × (key ≡ first_key ps)
+HasFirst first key ps = (first ≡ first_length ps) × (key ≡ first_key ps)
 
 -- Patterns whose first literal has this key, and whose last literal has this length.
 abbrev pub HasEnds : ℕ → ℕ → List PieceValue → Type 0
-HasEnds key last ps = (key ≡ first_key ps) × (last ≡ length (last_literal ps))
+HasEnds key last ps = (key ≡ first_key ps) × (last ≡ last_length ps)
 
--- Patterns whose first literal has this length and key, and whose last literal's length is under that key among the first `count` of these.
-abbrev pub HasEndsAmong : ℕ → ℕ → List Keyed → ℕ → List PieceValue → Type 0
-HasEndsAmong first key lasts count ps = (first ≡ length (first_literal ps)) × (key ≡ first_key ps) × (k : ℕ) × (k < count) × (slice_get lasts k ≡ Some (keyed key (length (last_literal ps))))
-
--- Patterns whose first literal is shorter than this length.
-abbrev pub IsShorter : ℕ → List PieceValue → Type 0
-IsShorter size ps = length (first_literal ps) < size
+-- Patterns of a kind for which some length is less than this one.
+abbrev pub IsShorter : (List PieceValue → Type 0) → (List PieceValue → ℕ) → ℕ → List PieceValue → Type 0
+IsShorter IsKind length_of size ps = IsKind ps × (length_of ps < size)
 
 -- Every pattern.
 abbrev pub IsAny : List PieceValue → Type 0
@@ -158,14 +145,14 @@ AreHeads heads entries = (position other word : ℕ) (head : Head) (entry : Entr
 abbrev pub AreSingle : List Head → Type 0
 AreSingle heads = (position : ℕ) (head : Head) → slice_get heads position ≡ Some head → head.more ≡ 0
 
--- The heads of these entries are theirs, and their index, if there is one, lists them.
+-- The heads of these entries are theirs, and their index lists the first of them.
 pub record IsIndexed (indexed : IndexedEntries) : Type 0 where
   pub heads : AreHeads indexed.heads.now indexed.entries.now
-  pub index : IfSome indexed.index (λ i. AreListed i.now indexed.entries.now)
+  pub index : AreListed indexed.index.now indexed.entries.now
 
--- The entries read so far have their heads, and their index lists them.
+-- The entries read so far have their heads and their index.
 pub record HasIndex (builder : LibraryBuilder) : Type 0 where
   pub size : length builder.heads.items ≡ length builder.entries.items
   pub heads : AreHeads builder.heads.items builder.entries.items
   pub single : AreSingle builder.heads.items
-  pub index : AreListed builder.index builder.entries.items
+  pub index : IsIndexOf builder.index builder.entries.items

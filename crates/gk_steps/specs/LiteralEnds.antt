@@ -23,9 +23,10 @@ abbrev pub FitsStart : List PieceValue → List ℕ → Type 0
 FitsStart (Literal literal ∷ ps) text = BeginsWith text literal
 FitsStart _ text = Unit {0}
 
--- These pieces and this rest are left after the literal that a pattern and a text begin with, or they are all pieces and the whole text.
+-- Proof machinery: these pieces and this rest are left after the literal that a pattern begins with; if it begins with none, they are all pieces and the whole text.
 abbrev pub IsAfterStart : List PieceValue → List ℕ → List PieceValue → List ℕ → Type 0
-IsAfterStart ps text left rest = ((left ≡ ps) × (rest ≡ text)) ⊎ ((literal : List ℕ) × (ps ≡ Literal literal ∷ left) × (text ≡ literal ++ rest))
+IsAfterStart (Literal literal ∷ ps) text left rest = (left ≡ ps) × (text ≡ literal ++ rest)
+IsAfterStart ps text left rest = (left ≡ ps) × (rest ≡ text)
 
 -- What the last piece of a pattern requires of the text's end: a literal ends the text, a field requires nothing.
 abbrev pub EndsWithPiece : PieceValue → List ℕ → Type 0

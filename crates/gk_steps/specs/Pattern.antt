@@ -79,7 +79,7 @@ AreLongestRuns (Literal text ∷ Literal text' ∷ ps) = ⊥
 AreLongestRuns (Literal text ∷ ps) = (0 < length text) × AreLongestRuns ps
 AreLongestRuns (FieldPiece name kind ∷ ps) = AreLongestRuns ps
 
--- A text spells these pieces: it is their spellings, joined. The literals are the longest runs, the names are valid and none occurs twice, and there is at least one piece. (behave's documentation: step parameters; which names there are is this project's profile)
+-- A text spells these pieces: it is their spellings, joined. The literals are the longest runs, the names are valid and none occurs twice, and there is at least one piece. (behave's documentation: step parameters; which names are valid is this project's profile)
 pub record SpellsPattern (text : List ℕ) (ps : List PieceValue) : Type 0 where
   pub spelled : text ≡ flat_map spelled_piece ps
   pub names : AllByRecursion (λ name. IsTrue (is_field_name name)) (field_names ps)

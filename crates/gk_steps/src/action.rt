@@ -200,6 +200,7 @@ fn row_in(rows: &[ActionRow], name: &str) -> Option<ActionRow>
 }
 
 /// Returns the row of the action of this name, or `None` if no action has it.
+#[tactic(auto, using(std::proofs::lemmas::Grind::common_steps), unfolding(crate::specs::Action::action_row))]
 pub fn row_named(name: &str) -> Option<ActionRow>
     ensures { option_map action_row_value result ≡ action_row name.now }
 {

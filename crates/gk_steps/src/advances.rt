@@ -85,6 +85,7 @@ fn decimal_advance(text: &str, boundaries: &[usize], below: &[bool], column: usi
 }
 
 /// Returns the preferred advance over a piece.
+#[tactic(auto, using(std::proofs::lemmas::Grind::common_steps, crate::proofs::AdvanceLemmas::plain_is, crate::proofs::AdvanceLemmas::named, crate::proofs::AdvanceLemmas::field_piece))]
 pub(crate) fn advance(
     piece: &Piece,
     text: &str,

@@ -23,7 +23,7 @@ pub(crate) trait Captures<'t>: Drop {
     /// Whether keeping a field may take memory.
     ghost allocates: { Type 0 };
 
-    /// Returns what is kept of no fields. Doesn't allocate.
+    /// Returns what is kept of no pieces, or of a literal alone. Doesn't allocate.
     fn empty(alloc: Global) -> Self
         ensures none { keeps [] result [] }
         ensures literal { (text : List ℕ) → keeps (Literal text ∷ []) result [] };
@@ -46,6 +46,7 @@ pub(crate) trait Captures<'t>: Drop {
 
 /// Returns the value of a field that took a span.
 #[inline(always)]
+#[tactic(auto, using(crate::proofs::DecimalLemmas::number_some, crate::proofs::DecimalLemmas::some_number))]
 pub(crate) fn capture_of<'t>(kind: FieldKind, span: &'t str) -> Capture<'t>
     requires { IsSpan kind span.now }
     ensures { capture_value result ≡ span_value kind span.now }

@@ -1,10 +1,9 @@
 //! An index over the literals at the ends of patterns.
-ghost use Rattle.std.specs.Prelude.{◌≡◌, ◌<◌, ℕ, List, length, take, false, IsTrue, IfOk, IfSome, OnOk};
-ghost use Rattle.gk_steps.specs.declared.entry_index.Keyed.{Keyed};
+ghost use Rattle.std.specs.Prelude.{◌≡◌, ℕ, List, take, true, false, Option, Some, None, IsTrue, OnOk};
 ghost use Rattle.gk_steps.specs.Pattern.{PieceValue, piece_value, pieces_said};
 ghost use Rattle.gk_steps.specs.EntryIndex as spec;
-ghost use Rattle.gk_steps.specs.EntryIndex.{IsAmong, IsMarked, bucket_of, HasBuckets, Lists, AreListed};
-ghost use Rattle.gk_steps.specs.EntryIndex.{IsUnder, IsLeastFrom, Skips, HasFirst, HasEnds};
+ghost use Rattle.gk_steps.specs.EntryIndex.{IsAmong, IsMarked, items_under, Lists, IsIndexOf};
+ghost use Rattle.gk_steps.specs.EntryIndex.{IsLeastFrom, Skips, HasFirst, HasEnds};
 ghost use Rattle.gk_steps.specs.EntryIndex.{IsAny, CanStand, SkipsEntries, IsIndexed};
 ghost use Rattle.gk_steps.specs.EntryIndex.{IsOther, PassesHeads, AreHeads};
 ghost use Rattle.gk_steps.specs.declared.library.Entry.{Entry};
@@ -12,13 +11,7 @@ ghost use Rattle.gk_steps.specs.declared.library.Entry.{Entry};
 use crate::library::Entry;
 use crate::pattern::Piece;
 use std::alloc::{AllocError, Global};
-
-/// A number under a key.
-#[derive(Clone, Copy, Debug)]
-pub(crate) struct Keyed {
-    pub key: usize,
-    pub number: usize,
-}
+use std::collections::HashMap;
 
 /// The word at the head of an entry's pattern, if it has one, and the number of entries after it that are known to have
 /// the same. A search passes over all of these at once.
@@ -34,12 +27,14 @@ pub(crate) struct Head {
 /// first one.
 #[derive(Debug, Drop)]
 pub(crate) struct Index {
+    /// The number of entries that are listed, which are the first ones.
+    pub listed: usize,
     /// For each length, whether a first literal has it.
     pub firsts: Vec<bool>,
-    /// The lengths of last literals, in the buckets of their first literals' keys.
-    pub lasts: Vec<Vec<Keyed>>,
-    /// The positions of entries, in the buckets of both literals' keys.
-    pub positions: Vec<Vec<Keyed>>,
+    /// The same for the last literals, by the keys of their first literals.
+    pub lasts: HashMap<u64, Vec<bool>>,
+    /// The positions of entries, by the keys of both literals.
+    pub positions: HashMap<u64, Vec<usize>>,
 }
 
 // Returns the text of a literal, or an empty text for a field.
@@ -63,6 +58,7 @@ fn first_literal(pieces: &[Piece]) -> &str
 }
 
 // Returns the literal that a pattern ends with, or an empty text if there is none.
+#[tactic(auto, using(crate::proofs::EntryIndexLemmas::last_is))]
 fn last_literal(pieces: &[Piece]) -> &str
     ensures { result.now ≡ spec.last_literal (pieces_said pieces.now) }
 {
@@ -180,24 +176,14 @@ pub(crate) fn count_equal(heads: &mut [Head])
     }
 }
 
-// Extends a key by one byte.
-fn key_more(key: usize, byte: u8) -> usize
-    requires { key < 16777216 }
-    ensures key { result ≡ spec.key_more key byte }
-    ensures small { result < 16777216 }
-{
-    (key * 33 + byte as usize) % 16777216
-}
-
 // Extends a key by some bytes.
-fn key_over(key: usize, bytes: &[u8]) -> usize
-    requires { key < 16777216 }
-    ensures key { result ≡ spec.key_over key bytes.now }
-    ensures small { result < 16777216 }
+fn key_over(key: u64, bytes: &[u8]) -> u64
+    ensures { result ≡ spec.key_over key bytes.now }
 {
     let mut over = key;
     for position in 0..bytes.len() {
-        over = key_more(over, bytes[position]);
+        let byte = u64::from(bytes[position]);
+        over = over.wrapping_mul(33).wrapping_add(byte);
     }
     over
 }
@@ -215,129 +201,76 @@ fn mark(marks: &mut Vec<bool>, size: usize) -> Result<(), AllocError>
     Ok(())
 }
 
-// Returns the bucket of a key; empty if there are no buckets.
-fn bucket_of(buckets: &[Vec<Keyed>], key: usize) -> &[Keyed]
-    ensures { result.now ≡ spec.bucket_of buckets.now key }
+// Marks a length under a key.
+fn mark_under(marks: &mut HashMap<u64, Vec<bool>>, key: u64, size: usize) -> Result<(), AllocError>
+    ensures kept { OnOk result ((k n : ℕ)
+        → IsMarked n (items_under marks.old k) → IsMarked n (items_under marks.new k)) }
+    ensures added { OnOk result (IsMarked size (items_under marks.new key)) }
 {
-    if buckets.is_empty() {
-        return &[];
-    }
-    &buckets[key % buckets.len()]
+    mark(marks.entry(key)?.or_default(), size)
 }
 
-// Returns whether a number is in a bucket under a key.
-fn is_under(bucket: &[Keyed], key: usize, number: usize) -> bool
-    ensures { IsTrue result → IsUnder key number bucket.now }
+// Adds a position under a key.
+fn push_under(
+    positions: &mut HashMap<u64, Vec<usize>>,
+    key: u64,
+    position: usize,
+) -> Result<(), AllocError>
+    ensures kept { OnOk result ((k n : ℕ)
+        → IsAmong n (items_under positions.old k) → IsAmong n (items_under positions.new k)) }
+    ensures added { OnOk result (IsAmong position (items_under positions.new key)) }
 {
-    for position in 0..bucket.len() {
-        let other = bucket[position];
-        if other.key == key && other.number == number {
-            return true;
-        }
-    }
-    false
-}
-
-// Adds a number to the bucket of a key.
-fn add_number(buckets: &mut Vec<Vec<Keyed>>, key: usize, number: usize) -> Result<(), AllocError>
-    requires { 0 < length buckets.old.items }
-    ensures size { OnOk result (length buckets.new.items ≡ length buckets.old.items) }
-    ensures kept { OnOk result ((k : ℕ) (n : Keyed)
-        → IsAmong n (bucket_of buckets.old.items k) → IsAmong n (bucket_of buckets.new.items k)) }
-    ensures added { OnOk result (IsUnder key number (bucket_of buckets.new.items key)) }
-{
-    let slot = key % buckets.len();
-    let bucket = &mut buckets[slot];
-    bucket.push(Keyed { key, number })?;
+    positions.entry(key)?.or_default().push(position)?;
     Ok(())
 }
 
-// Adds a number to the bucket of a key, unless it is already there under that key.
-fn add_once(buckets: &mut Vec<Vec<Keyed>>, key: usize, number: usize) -> Result<(), AllocError>
-    requires { 0 < length buckets.old.items }
-    ensures size { OnOk result (length buckets.new.items ≡ length buckets.old.items) }
-    ensures kept { OnOk result ((k : ℕ) (n : Keyed)
-        → IsAmong n (bucket_of buckets.old.items k) → IsAmong n (bucket_of buckets.new.items k)) }
-    ensures added { OnOk result (IsUnder key number (bucket_of buckets.new.items key)) }
+// Returns what a map has under a key; empty if it has nothing there.
+fn items_under<T>(map: &HashMap<u64, Vec<T>>, key: u64) -> &[T]
+    ensures { result.now ≡ spec.items_under map.now key }
 {
-    if !is_under(bucket_of(buckets, key), key, number) {
-        add_number(buckets, key, number)?;
+    match map.get(&key) {
+        Some(items) => items.as_slice(),
+        None => &[],
     }
-    Ok(())
 }
 
-// Returns the least position from `from` on that a bucket has under a key, or `most` if none is less.
-fn least_from(bucket: &[Keyed], key: usize, from: usize, most: usize) -> usize
-    ensures { IsLeastFrom bucket.now key from most result }
+// Returns the least of these positions from `from` on, or `most` if none is less.
+fn least_from(positions: &[usize], from: usize, most: usize) -> usize
+    ensures { IsLeastFrom positions.now from most result }
 {
     let mut least = most;
-    for k in 0..bucket.len() {
-        let position = bucket[k];
-        if position.key == key && from <= position.number && position.number < least {
-            least = position.number;
+    for k in 0..positions.len() {
+        let position = positions[k];
+        if from <= position && position < least {
+            least = position;
         }
     }
     least
 }
 
-// Returns whether the length of a last literal is listed under a key, and a text of this size has room for it beside a
-// first literal of this length. There is no room if the two would overlap, unless the last literal is the whole text.
-fn can_end(last: Keyed, first: usize, key: usize, size: usize) -> bool
-    ensures { result ≡ false → last.key ≡ key → CanStand first last.number size → ⊥ }
+// Returns whether the length of a last literal is marked, and a text of this size has room for it beside a first
+// literal of this length. There is no room if the two would overlap, unless the last literal is the whole text.
+fn can_end(marked: bool, first: usize, last: usize, size: usize) -> bool
+    ensures { result ≡ false → marked ≡ true → CanStand first last size → ⊥ }
 {
-    last.key == key && (last.number == size || (last.number <= size && first <= size - last.number))
-}
-
-// Returns `size` empty buckets.
-fn empty_buckets(alloc: Global, size: usize) -> Result<Vec<Vec<Keyed>>, AllocError>
-    ensures { IfOk result (λ buckets. length buckets.items ≡ size) }
-{
-    let mut buckets = Vec::new(alloc);
-    for _ in 0..size {
-        buckets.push(Vec::new(alloc))?;
-    }
-    Ok(buckets)
+    marked && (last == size || (last <= size && first <= size - last))
 }
 
 impl Index {
-    /// Returns an index that lists nothing and isn't used for lookups. Doesn't allocate.
+    /// Returns an index that lists nothing. Doesn't allocate.
     pub(crate) fn new(alloc: Global) -> Index
-        ensures { length result.positions.items ≡ 0 }
+        ensures { result.listed ≡ 0 }
     {
         Index {
+            listed: 0,
             firsts: Vec::new(alloc),
-            lasts: Vec::new(alloc),
-            positions: Vec::new(alloc),
+            lasts: HashMap::new(alloc),
+            positions: HashMap::new(alloc),
         }
     }
 
-    /// Returns the index if it is used for lookups, and `None` if it has no buckets.
-    pub(crate) fn into_asked(self) -> Option<Index>
-        ensures { IfSome result (λ i. i ≡ self) }
-    {
-        if self.positions.is_empty() {
-            None
-        } else {
-            Some(self)
-        }
-    }
-
-    /// Returns whether there are at least as many buckets as entries, with one more entry at this position.
-    pub(crate) fn has_room(&self, position: usize) -> bool
-        ensures { IsTrue result → HasBuckets self.now }
-    {
-        position < self.lasts.len() && position < self.positions.len()
-    }
-
-    /// Lists a pattern at a position.
-    pub(crate) fn add(
-        &mut self,
-        alloc: Global,
-        position: usize,
-        pieces: &[Piece],
-    ) -> Result<(), AllocError>
-        requires { HasBuckets self.old }
-        ensures some { OnOk result (HasBuckets self.new) }
+    // Lists a pattern at a position.
+    fn add(&mut self, position: usize, pieces: &[Piece]) -> Result<(), AllocError>
         ensures kept { OnOk result ((p : ℕ) (ps : List PieceValue)
             → Lists self.old p ps → Lists self.new p ps) }
         ensures added { OnOk result (Lists self.new position (pieces_said pieces.now)) }
@@ -346,71 +279,63 @@ impl Index {
         let last = last_literal(pieces);
         let key = key_over(0, first.as_bytes());
         mark(&mut self.firsts, first.len())?;
-        add_once(&mut self.lasts, key, last.len())?;
-        add_number(
-            &mut self.positions,
-            key_over(key, last.as_bytes()),
-            position,
-        )
+        mark_under(&mut self.lasts, key, last.len())?;
+        let ends = key_over(key, last.as_bytes());
+        push_under(&mut self.positions, ends, position)?;
+        Ok(())
     }
 
-    /// Returns the index of some entries, with room for more.
-    pub(crate) fn of(alloc: Global, entries: &[Entry]) -> Result<Index, AllocError>
-        ensures { IfOk result (λ i. AreListed i entries.now) }
+    /// Lists the entries that aren't listed yet, once there are more than 64.
+    pub(crate) fn grow(&mut self, entries: &[Entry]) -> Result<(), AllocError>
+        requires { IsIndexOf self.old entries.now }
+        ensures { OnOk result (IsIndexOf self.new entries.now) }
     {
-        let size = entries.len().saturating_mul(2).saturating_add(1);
-        let mut index = Index {
-            firsts: Vec::new(alloc),
-            lasts: empty_buckets(alloc, size)?,
-            positions: empty_buckets(alloc, size)?,
-        };
-        for position in 0..entries.len() {
-            index.add(alloc, position, &entries[position].pattern.pieces)?;
+        while 64 < entries.len() && self.listed < entries.len() {
+            let position = self.listed;
+            self.add(position, &entries[position].pattern.pieces)?;
+            self.listed = position + 1;
         }
-        Ok(index)
+        Ok(())
     }
 
     // Returns the least position from `from` on that the index lists for a text, or `most` if none is less. The first
     // literal has this key, and the last literal has this length.
-    fn next_by_ends(&self, key: usize, last: usize, from: usize, most: usize, text: &str) -> usize
-        requires { key < 16777216 }
+    fn next_by_ends(&self, key: u64, last: usize, from: usize, most: usize, text: &str) -> usize
         ensures { Skips (HasEnds key last) self.now from most text.now result }
     {
         let bytes = text.as_bytes();
         if bytes.len() < last {
             return most;
         }
-        let key = key_over(key, &bytes[bytes.len() - last..]);
-        least_from(bucket_of(&self.positions, key), key, from, most)
+        let ends = key_over(key, &bytes[bytes.len() - last..]);
+        least_from(items_under(&self.positions, ends), from, most)
     }
 
     // Returns the least position from `from` on that the index lists for a text, or `most` if none is less. The first
     // literal has this length and key.
-    fn next_by_first(&self, first: usize, key: usize, from: usize, most: usize, text: &str) -> usize
-        requires { key < 16777216 }
+    fn next_by_first(&self, first: usize, key: u64, from: usize, most: usize, text: &str) -> usize
         ensures { Skips (HasFirst first key) self.now from most text.now result }
     {
         let size = text.as_bytes().len();
-        let lasts = bucket_of(&self.lasts, key);
+        let lasts = items_under(&self.lasts, key);
         let mut least = most;
-        for k in 0..lasts.len() {
-            let last = lasts[k];
-            if can_end(last, first, key, size) {
-                least = self.next_by_ends(key, last.number, from, least, text);
+        for last in 0..lasts.len() {
+            if can_end(lasts[last], first, last, size) {
+                least = self.next_by_ends(key, last, from, least, text);
             }
         }
         least
     }
 
     /// Returns the least position from `from` on that the index lists for a text, or `most` if none is less.
-    // Kept out of line, so that the search of a short library, which has no index, stays small.
+    // Kept out of line, so that the search of a short library, whose index lists nothing, stays small.
     #[inline(never)]
     pub(crate) fn next(&self, from: usize, most: usize, text: &str) -> usize
         ensures { Skips IsAny self.now from most text.now result }
     {
         let bytes = text.as_bytes();
         let mut least = most;
-        let mut key: usize = 0;
+        let mut key: u64 = 0;
         let mut size: usize = 0;
         for first in 0..self.firsts.len() {
             if bytes.len() < first {
@@ -426,12 +351,12 @@ impl Index {
     }
 }
 
-/// Entries, with their heads and with their index if there is one. An entry without a head is always tried.
+/// Entries, with their heads and with their index. An entry without a head is always tried.
 #[derive(Clone, Copy, Debug)]
 pub(crate) struct IndexedEntries<'a> {
     pub entries: &'a [Entry],
     pub heads: &'a [Head],
-    pub index: Option<&'a Index>,
+    pub index: &'a Index,
 }
 
 impl IndexedEntries<'_> {
@@ -442,15 +367,10 @@ impl IndexedEntries<'_> {
         requires { IsIndexed self.now }
         ensures { SkipsEntries self.now.entries.now from text.now result }
     {
-        match self.index {
-            Some(index) => {
-                if tries < 8 && from < self.entries.len() && !index.positions.is_empty() {
-                    index.next(from, self.entries.len(), text)
-                } else {
-                    from
-                }
-            }
-            None => from,
+        if tries < 8 && from < self.index.listed {
+            self.index.next(from, self.index.listed, text)
+        } else {
+            from
         }
     }
 

@@ -40,7 +40,8 @@ fn is_same(a: Option<StepType>, b: Option<StepType>) -> bool
 }
 
 // Searches the entries of one type for a text. Returns the position of the entry, and replaces what was kept by what is
-// kept of its field values. An entry whose ends don't fit the text is passed over here, before a match begins.
+// kept of its field values. What is kept is unspecified if no entry is found, or after an error. An entry whose ends
+// don't fit the text is passed over here, before a match begins.
 #[inline(always)]
 pub(crate) fn find_of<'t, K: Captures<'t>>(
     cells: &mut Cells,
@@ -94,8 +95,8 @@ fn found_of(entry: Option<usize>, fields: Vec<Field>) -> Option<Found>
 
 impl Library {
     /// Returns the position of the entry that a step finds, and replaces what was kept by what is kept of its field
-    /// values. Counts the cells that it fills: at most one whole table for each entry of its type and of type `step`.
-    /// Every lookup of a step uses this call.
+    /// values. What is kept is unspecified if no entry is found, or after an error. Counts the cells that it fills: at
+    /// most one whole table for each entry of its type and of type `step`. Every lookup of a step uses this call.
     #[inline(always)]
     pub(crate) fn search<'t, K: Captures<'t>>(
         &self,

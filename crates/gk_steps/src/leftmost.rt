@@ -20,6 +20,7 @@ pub(crate) enum PieceEnd {
 
 // Returns whether a literal occurs at a position that is a character boundary.
 #[inline(always)]
+#[tactic(auto, using(std::proofs::lemmas::Grind::common_steps, crate::proofs::LeftmostLemmas::stands, crate::proofs::LeftmostLemmas::match_not, crate::proofs::LeftmostLemmas::compared))]
 fn stands_at(literal: &str, text: &str, position: usize) -> bool
     requires { position ≤ length text.now }
     ensures { MatchBool result (CanStandAt literal.now text.now position)

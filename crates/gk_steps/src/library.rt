@@ -1,5 +1,5 @@
 //! Step libraries.
-ghost use Rattle.std.specs.Prelude.{◌≡◌, ◌≤◌, ◌++◌, ◌∷◌, [], length, take, IsTrue, IfSome, OnOk};
+ghost use Rattle.std.specs.Prelude.{◌≡◌, ◌≤◌, ◌++◌, ◌∷◌, [], length, take, IsTrue, OnOk};
 ghost use Rattle.std.proofs.Props.{props};
 ghost use Rattle.gk_steps.specs.Library.{IsTypedEnd, are_for_each_from, is_for_one_before};
 ghost use Rattle.gk_steps.specs.EntryIndex.{AreHeads, AreListed, HasIndex, IsIndexed};
@@ -29,11 +29,11 @@ pub struct Library {
     // The heads of the first entries; none if the library was not read from lines. An entry whose head is another word
     // than that of a text is passed over.
     heads: Vec<Head>,
-    // Which entries may match a text. A short library and one that was not read from lines have no index.
-    index: Option<Index>,
+    // Which entries may match a text. It lists none if the library is short or was not read from lines.
+    index: Index,
     ghost typed_end: { IsTypedEnd typed entries.items } by { Prim.hlevel props },
     ghost headed: { AreHeads heads.items entries.items } by { Prim.hlevel props },
-    ghost listed: { IfSome index (λ i. AreListed i entries.items) } by { Prim.hlevel props },
+    ghost listed: { AreListed index entries.items } by { Prim.hlevel props },
 }
 
 // Returns the number of entries up to and including the last one for steps of one type.
@@ -70,43 +70,20 @@ impl LibraryBuilder {
         }
     }
 
-    // Appends an entry, and lists it. The index is made once there are many entries, and made again with more room when
-    // it is full.
-    fn push_listed(&mut self, alloc: Global, entry: Entry) -> Result<(), AllocError>
-        requires { AreListed self.old.index self.old.entries.items }
-        ensures items { OnOk result
-            (self.new.entries.items ≡ self.old.entries.items ++ entry ∷ []) }
-        ensures indexed { OnOk result (AreListed self.new.index self.new.entries.items) }
-        ensures heads { self.new.heads ≡ self.old.heads }
-    {
-        let position = self.entries.len();
-        if self.index.has_room(position) {
-            self.index.add(alloc, position, &entry.pattern.pieces)?;
-            self.entries.push(entry)?;
-        } else {
-            self.entries.push(entry)?;
-            self.index = if position < 64 {
-                Index::new(alloc)
-            } else {
-                Index::of(alloc, &self.entries)?
-            };
-        }
-        Ok(())
-    }
-
-    /// Appends an entry and its head.
-    pub(crate) fn push(&mut self, alloc: Global, entry: Entry) -> Result<(), AllocError>
+    /// Appends an entry and its head, and lists it.
+    pub(crate) fn push(&mut self, entry: Entry) -> Result<(), AllocError>
         requires { HasIndex self.old }
         ensures items { OnOk result
             (self.new.entries.items ≡ self.old.entries.items ++ entry ∷ []) }
         ensures indexed { OnOk result (HasIndex self.new) }
     {
         let head = head_of(&entry.pattern.pieces);
-        self.push_listed(alloc, entry)?;
         self.heads.push(Head {
             word: head,
             more: 0,
         })?;
+        self.entries.push(entry)?;
+        self.index.grow(&self.entries)?;
         Ok(())
     }
 
@@ -119,7 +96,7 @@ impl LibraryBuilder {
         IndexedEntries {
             entries: &self.entries,
             heads: &self.heads,
-            index: Some(&self.index),
+            index: &self.index,
         }
     }
 }
@@ -132,9 +109,9 @@ impl Library {
         let typed = typed_len(&entries);
         Library {
             heads: Vec::new(*entries.allocator()),
+            index: Index::new(*entries.allocator()),
             entries,
             typed,
-            index: None,
         }
     }
 
@@ -150,7 +127,7 @@ impl Library {
             entries: builder.entries,
             typed,
             heads,
-            index: builder.index.into_asked(),
+            index: builder.index,
         }
     }
 
@@ -162,7 +139,7 @@ impl Library {
         IndexedEntries {
             entries: &self.entries,
             heads: &self.heads,
-            index: self.index.as_ref(),
+            index: &self.index,
         }
     }
 
@@ -175,7 +152,7 @@ impl Library {
         IndexedEntries {
             entries: &self.entries[..size],
             heads: heads_before(&self.heads, size),
-            index: self.index.as_ref(),
+            index: &self.index,
         }
     }
 }

@@ -31,6 +31,7 @@ fn lines_fault(fault: ReadFault) -> LibraryFault
 }
 
 // Adds the entry that a line spells.
+#[tactic(auto, using(std::proofs::lemmas::Grind::common_steps, crate::proofs::LibraryLineLemmas::memory_fault, crate::proofs::LibraryLineLemmas::entry_needs))]
 fn add_entry(
     builder: &mut LibraryBuilder,
     alloc: Global,
@@ -45,7 +46,7 @@ fn add_entry(
 {
     match read_entry(alloc, &builder.indexed(), line) {
         Ok(entry) => {
-            builder.push(alloc, entry)?;
+            builder.push(entry)?;
             Ok(())
         }
         Err(fault) => Err(fault),
@@ -103,6 +104,7 @@ fn read_entries(alloc: Global, text: &str) -> Result<LibraryBuilder, LibraryFaul
 /// requires that the first line that isn't ignored has a type, an `=>` and a pattern's text that begins with a piece:
 /// no other file asks for memory. A refusal returns nothing of what was read before it.
 /// (behave's documentation: step implementations)
+#[tactic(auto, using(std::proofs::lemmas::Grind::common_steps, crate::proofs::LibraryFileLemmas::file_only, crate::proofs::LibraryFileLemmas::file_memory, crate::proofs::LibraryFileLemmas::file_fault))]
 pub fn read_library(alloc: Global, bytes: &[u8]) -> Result<Library, LibraryFault>
     // What is returned is what the lines say.
     ensures found { IfOk result (λ l.

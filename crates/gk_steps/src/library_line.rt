@@ -247,6 +247,7 @@ fn entry_from(
 }
 
 /// Returns the entry that a line spells after earlier ones.
+#[tactic(auto, using(crate::proofs::LibraryLineLemmas::cut_fault))]
 pub(crate) fn read_entry(
     alloc: Global,
     earlier: &IndexedEntries<'_>,

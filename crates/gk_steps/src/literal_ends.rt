@@ -36,6 +36,7 @@ fn ends_with_bytes(bytes: &[u8], last: &[u8]) -> bool
 }
 
 /// Returns whether a text ends with another.
+#[tactic(auto, using(std::proofs::lemmas::Grind::common_steps, crate::proofs::LiteralEndLemmas::ends_match))]
 pub(crate) fn ends_with(text: &str, back: &str) -> bool
     ensures { MatchBool result (EndsWith text.now back.now) (EndsNotWith text.now back.now) }
 {
@@ -44,6 +45,7 @@ pub(crate) fn ends_with(text: &str, back: &str) -> bool
 
 /// Returns whether a text begins with another.
 #[inline(always)]
+#[tactic(auto, using(std::proofs::lemmas::Grind::common_steps, crate::proofs::LiteralEndLemmas::begins_match))]
 pub(crate) fn begins_with(text: &str, start: &str) -> bool
     ensures { MatchBool result (BeginsWith text.now start.now) (BeginsNotWith text.now start.now) }
 {

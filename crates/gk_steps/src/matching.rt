@@ -1,14 +1,14 @@
 //! Matching a text by a table.
-ghost use Rattle.std.specs.Prelude.{◌≡◌, ◌⊎◌, ◌<◌, ◌≤◌, ◌+◌, ◌*◌, ℕ, List, length};
+ghost use Rattle.std.specs.Prelude.{◌≡◌, ◌⊎◌, ◌<◌, ◌≤◌, ◌+◌, ◌*◌, ◌++◌, ◌∷◌, [], ℕ, List, length};
 ghost use Rattle.std.specs.Prelude.{false, IfOk, IfErr, OnOk, IsTrue, Some};
 ghost use Rattle.std.specs.Str.{chars};
-ghost use Rattle.gk_steps.specs.Pattern.{pieces_said, pattern_value};
+ghost use Rattle.gk_steps.specs.Pattern.{Literal, piece_value, pieces_said, pattern_value};
 ghost use Rattle.gk_steps.specs.Matching.{Matches, IsMatchResult};
 ghost use Rattle.gk_steps.specs.Matching.{fields_said};
 ghost use Rattle.gk_steps.specs.CharBoundaries.{AreBoundaries};
 ghost use Rattle.gk_steps.specs.TableRows.{IsWholeTable};
 ghost use Rattle.gk_steps.specs.Captures.{IsKeptResult, KeepsMore, kept_if};
-ghost use Rattle.gk_steps.specs.LiteralEnds.{FitsStart, FitsEnd};
+ghost use Rattle.gk_steps.specs.LiteralEnds.{EndsWith, FitsStart, FitsEnd};
 ghost use Rattle.gk_steps.specs.Finding.{MayNeedTable};
 ghost use Rattle.gk_steps.specs.FilledCells.{GoesOnBy, table_cells};
 
@@ -168,7 +168,7 @@ fn match_rest<'t, K: Captures<'t>>(
 }
 
 // Matches pieces from the left, and adds to what is kept so far. A table is made for the pieces from the first one whose
-// share depends on the pieces after it. What is kept is unspecified if there is no match.
+// share depends on the pieces after it. What is kept is unspecified if there is no match, or after an error.
 // Kept out of line, so that an entry that is passed over costs little.
 #[inline(never)]
 fn match_from_left<'t, K: Captures<'t>>(
@@ -201,9 +201,40 @@ fn match_from_left<'t, K: Captures<'t>>(
     Ok(rest.is_empty())
 }
 
-/// Matches pieces that fit the ends of a text, and replaces what was kept. The literal at their beginning isn't compared
+// Matches pieces and the literal after them, which ends the text if it isn't longer, and adds to what is kept so far.
+#[inline(always)]
+fn match_before<'t, K: Captures<'t>>(
+    cells: &mut Cells,
+    alloc: Global,
+    kept: &mut K,
+    pieces: &[Piece],
+    last: &Piece,
+    literal: &str,
+    text: &'t str,
+) -> Result<bool, AllocError>
+    requires last { piece_value last.now ≡ Literal literal.now }
+    requires ends { length literal.now ≤ length text.now → EndsWith text.now literal.now }
+    ensures found { IfOk result (λ found. KeepsMore K.keeps kept.old
+        (pieces_said pieces.now ++ Literal literal.now ∷ []) text.now (kept_if found kept.new)) }
+    ensures table { IfErr result (λ e. K.allocates ⊎ MayNeedTable (pieces_said pieces.now)) }
+    ensures most { cells.new.filled
+        ≤ cells.old.filled + table_cells (pieces_said pieces.now) text.now }
+    ensures least { cells.old.filled ≤ cells.new.filled }
+{
+    if text.len() < literal.len() {
+        return Ok(false);
+    }
+    let size = text.len() - literal.len();
+    if !match_from_left(cells, alloc, kept, pieces, &text[..size])? {
+        return Ok(false);
+    }
+    kept.add(alloc, last, &text[size..])?;
+    Ok(true)
+}
+
+/// Matches pieces that fit the ends of a text, and replaces what was kept. The literals at their ends aren't compared
 /// again. A table is made only for the pieces from the first one whose share depends on the pieces after it. What is
-/// kept is unspecified if there is no match.
+/// kept is unspecified if there is no match, or after an error.
 #[inline(always)]
 pub(crate) fn match_fitting<'t, K: Captures<'t>>(
     cells: &mut Cells,
@@ -212,7 +243,8 @@ pub(crate) fn match_fitting<'t, K: Captures<'t>>(
     pieces: &[Piece],
     text: &'t str,
 ) -> Result<bool, AllocError>
-    requires { FitsStart (pieces_said pieces.now) text.now }
+    requires start { FitsStart (pieces_said pieces.now) text.now }
+    requires back { FitsEnd (pieces_said pieces.now) text.now }
     ensures found { IfOk result (λ found.
         IsKeptResult K.keeps (pieces_said pieces.now) text.now (kept_if found kept.new)) }
     ensures table { IfErr result (λ e. K.allocates ⊎ MayNeedTable (pieces_said pieces.now)) }
@@ -222,6 +254,11 @@ pub(crate) fn match_fitting<'t, K: Captures<'t>>(
 {
     *kept = K::empty(alloc);
     let (left, rest) = after_start(pieces, text);
+    if let Some((last, middle)) = left.split_last() {
+        if let Piece::Literal(literal) = last {
+            return match_before(cells, alloc, kept, middle, last, literal, rest);
+        }
+    }
     match_from_left(cells, alloc, kept, left, rest)
 }
 

@@ -76,6 +76,7 @@ fn name_len(text: &[u8]) -> usize
 }
 
 // Returns the text before the first brace, and the rest.
+#[tactic(auto, using(std::proofs::lemmas::Grind::common_steps, crate::proofs::SpellingLemmas::brace_boundary, crate::proofs::SpellingLemmas::plain_of, crate::proofs::SpellingLemmas::begins_of))]
 fn plain_run<'a>(text: &'a str) -> (&'a str, &'a str)
     ensures whole { text.entry.now ≡ result.0.now ++ result.1.now }
     ensures plain { flat_map spelled_literal result.0.now ≡ result.0.now }
@@ -166,6 +167,7 @@ fn field_at<'a>(text: &'a str) -> Option<(&'a str, FieldKind, &'a str)>
 }
 
 // Adds the literal that a text begins with, unless it is empty, and returns the rest.
+#[tactic(auto, using(crate::proofs::FindingLemmas::of_fault, crate::proofs::SpellingLemmas::literal_begins))]
 fn push_literal<'a>(
     pieces: &mut Vec<Piece>,
     alloc: Global,
@@ -185,6 +187,7 @@ fn push_literal<'a>(
 }
 
 // Adds the field that a text begins with, and returns the rest, or `None` if there is no field.
+#[tactic(auto, using(crate::proofs::FindingLemmas::of_fault, crate::proofs::SpellingLemmas::field_begins))]
 fn push_field<'a>(
     pieces: &mut Vec<Piece>,
     alloc: Global,
@@ -267,6 +270,7 @@ fn is_pattern(pieces: &[Piece]) -> bool
 /// `BadPattern` comes only if the text spells no pattern: the text is empty, or has a lone `{` or `}`, any other text in
 /// braces, or a name that occurs twice. `Memory` comes only if a growth was refused, and only if the text begins with a
 /// literal or a field: any other text asks for no memory. (behave's documentation: step parameters)
+#[tactic(auto, using(std::proofs::lemmas::Grind::common_steps, crate::proofs::SpellingLemmas::not_pattern, crate::proofs::SpellingLemmas::spelled_of, crate::proofs::SpellingLemmas::spells))]
 pub fn read_pattern(alloc: Global, text: &str) -> Result<Pattern, PatternFault>
     // What is returned is what the text spells.
     ensures found { IfOk result (λ p. SpellsPattern text.now (pattern_value p)) }

@@ -1,11 +1,12 @@
 -- What a listing says.
 use Rattle.std.specs.Global.{Vec}
 use Rattle.std.proofs.Common.{Result, Ok, Err, IfOk, ◌≡◌, ℕ, zero, suc, ◌+◌, ◌<◌, Bool, true, false, ◌||◌, cond, List, [], ◌∷◌, map, take, length, Option, Some, None, option_map, String, string_bytes, bytes_eq, refl, ap, sym, ◌∙◌, arith}
+use Rattle.std.proofs.lemmas.Grind.{common_steps}
 use Rattle.std.specs.Map.{lookup}
 use Rattle.std.specs.BTreeMap.{BTreeMap, is_at, get_by_text}
 use Rattle.std.specs.BTreeMap as tree
 use Rattle.std.specs.String.{string_cmp}
-use Rattle.std.specs.Ordering.{nat_cmp, is_eq}
+use Rattle.std.specs.Ordering.{nat_cmp}
 use Rattle.std.specs.Cmp.Lexicographic.{slice_cmp}
 use Rattle.std.specs.Cmp.{eq_by_cmp_equiv}
 use Rattle.std.specs.Option.{option_or}
@@ -31,9 +32,7 @@ chosen f false x o = refl
 
 find_entries : {Y Z : Type 0} (es : List (String Y × String Z)) (name : List ℕ) → find (slice_cmp nat_cmp) name (map bytes_of_entry es) ≡ option_map string_bytes (lookup (is_at (λ k. slice_cmp nat_cmp name (string_bytes k))) es)
 find_entries [] name = refl
-find_entries (e ∷ es) name =
-    ap (λ o. cond (is_eq (slice_cmp nat_cmp name (string_bytes e.0))) (Some (string_bytes e.1)) o) (find_entries es name)
-    ∙ chosen string_bytes (is_eq (slice_cmp nat_cmp name (string_bytes e.0))) e.1 (lookup (is_at (λ k. slice_cmp nat_cmp name (string_bytes k))) es)
+find_entries (e ∷ es) name = grind (arith, common_steps, string_bytes, find_entries es name, chosen)
 
 get-texts_of : {Y Z : Type 0} (m : BTreeMap (String Y) (String Z)) (name : List ℕ) → finite.get (texts_of m.entries) name ≡ option_map string_bytes (get_by_text m name)
 get-texts_of m name = get-from_entries nat_list_cmp_total (map bytes_of_entry m.entries) name ∙ find_entries m.entries name
@@ -61,14 +60,7 @@ ListsFirst there s i m = (q : List ℕ) → finite.get (texts_of m.entries) q �
 named_next : (q : List ℕ) (s : List Slot) (i : ℕ) → i < length s → is_named q (take (i + 1) s) ≡ (bytes_eq q (name_at s i) || is_named q (take i s))
 named_next q [] i lt = absurd (omega arith)
 named_next q (w ∷ s) zero lt = refl
-named_next q (w ∷ s) (suc i) lt =
-    let e : suc i + 1 ≡ suc (i + 1) = omega arith in
-    ap (λ n. is_named q (take n (w ∷ s))) e ∙ ap (λ b. bytes_eq q w.0 || b) (named_next q s i (omega arith)) ∙ swap (bytes_eq q w.0) (bytes_eq q (name_at s i)) (is_named q (take i s))
-  where
-    swap : (a b c : Bool) → (a || (b || c)) ≡ (b || (a || c))
-    swap true true c = refl
-    swap true false c = refl
-    swap false b c = refl
+named_next q (w ∷ s) (suc i) lt = grind (arith, common_steps, bytes_eq, named_next q s i (omega arith))
 
 -- a name with its text, if it has one
 pub put_notes : {Y Z : Type 0} (m n : BTreeMap (String Y) (String Z)) (name : String Y) (text : String Z) (a b : List ℕ) → string_bytes name ≡ a → string_bytes text ≡ b → tree.Updates string_cmp m n name (Some text) → Notes a (Some b) m n
@@ -109,11 +101,7 @@ see_laid zero q s = refl
 see_laid (suc d) q s = refl
 
 all_listed : {Y Z : Type 0} (there : Map) (s : List Slot) (i : ℕ) (m : BTreeMap (String Y) (String Z)) → i ≡ length s → ((q : List ℕ) → IsMissing q s → there q ≡ None) → ListsFirst there s i m → (q : List ℕ) → finite.get (texts_of m.entries) q ≡ there q
-all_listed there s i m all none first = λ q. first q ∙ ap (λ t. cond (is_named q t) (there q) None) (ap (λ n. take n s) all ∙ take-length s) ∙ by (is_named q s) q refl
-  where
-    by : (b : Bool) (q : List ℕ) → is_named q s ≡ b → cond b (there q) None ≡ there q
-    by true q e = refl
-    by false q e = sym (none q (missing q s e))
+all_listed there s i m all none first = grind (arith, common_steps, take-length, missing)
 
 listed : {Y Z E : Type 0} (there : Map) (m : BTreeMap (String Y) (String Z)) (r : Result (Vec (String Y × String Z)) E) → ((q : List ℕ) → finite.get (texts_of m.entries) q ≡ there q) → IfOk r (λ pairs. AreEntries m pairs.items) → IfOk r (λ pairs. Lists there pairs.items)
 listed there m (Ok pairs) h e = record { texts = λ q. ap (λ es. finite.get (texts_of es) q) e.same ∙ h q; ascending = e.ascending }

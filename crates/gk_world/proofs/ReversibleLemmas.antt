@@ -1,5 +1,6 @@
 -- What the undos of a sandbox are on its contents.
 use Rattle.std.proofs.Common.{◌≡◌, ℕ, zero, suc, ◌+◌, List, [], ◌∷◌, ◌++◌, length, drop, refl, sym, ap, subst, ◌∙◌, arith}
+use Rattle.std.proofs.lemmas.Grind.{common_steps}
 use Rattle.gk_world.specs.Journal.{rewound, FitAll}
 use Rattle.gk_world.proofs.JournalLemmas.{rewound-append, FitAll-drop}
 use Rattle.gk_world.specs.declared.world.World.{World}
@@ -28,20 +29,12 @@ seen_undos-append w (u ∷ us) vs = λ i. seen_undo (rewound-append undone us vs
 -- names still differ after undos
 differ_rewound : (us : List WorldUndo) (w : World) → NamesDiffer w → NamesDiffer (rewound undone us w)
 differ_rewound [] w n = n
-differ_rewound (u ∷ us) w n = by u (rewound undone us w) (differ_rewound us w n)
-  where
-    by : (u : WorldUndo) (w : World) → NamesDiffer w → NamesDiffer (undone u w)
-    by (File u) w n = record { files = differ_undone u w.files n.files; env = n.env; values = n.values }
-    by (Env u) w n = record { files = n.files; env = differ_undone u w.env n.env; values = n.values }
-    by (Value u) w n = record { files = n.files; env = n.env; values = differ_undone u w.values n.values }
+differ_rewound (u ∷ us) w n = grind (arith, common_steps, differ_rewound us w n, differ_undone)
 
 -- many undos, on the contents
 pub contents_rewound : (d : ℕ) (us : List WorldUndo) (w : World) → NamesDiffer w → FitAll undone Fits us w → contents_of d (rewound undone us w) ≡ rewind (seen_undos w us) (contents_of d w)
 contents_rewound d [] w n h = refl
-contents_rewound d (u ∷ us) w n h =
-    let t : World = rewound undone us w in
-    contents_undone d u t (differ_rewound us w n) h.1
-    ∙ ap (contents.undone (seen_undo t u)) (contents_rewound d us w n h.0)
+contents_rewound d (u ∷ us) w n h = grind (arith, common_steps, contents_undone, differ_rewound, contents_rewound d us w n h.0)
 
 drop-seen_undos : (k : ℕ) (w : World) (us : List WorldUndo) → seen_undos w (drop k us) ≡ drop k (seen_undos w us)
 drop-seen_undos zero w us = refl
@@ -50,9 +43,7 @@ drop-seen_undos (suc k) w (u ∷ us) = drop-seen_undos k w us
 
 -- layers that weren't open have no values
 without_values : (i d : ℕ) (t : World) → IsClear d t → contents_of (i + d) t ≡ with_layers i (contents_of d t)
-without_values zero d t clear =
-    let e : 0 + d ≡ d = omega arith in
-    ap (λ n. contents_of n t) e
+without_values zero d t clear = grind (arith, common_steps)
 without_values (suc i) d t clear =
     let e : suc i + d ≡ suc (i + d) = omega arith in
     ap (λ n. contents_of n t) e

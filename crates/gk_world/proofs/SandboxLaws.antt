@@ -1,34 +1,19 @@
 -- What changes and ended layers leave of the layers further out, and what changes are to the plain state.
-use Rattle.std.proofs.Common.{◌≡◌, ℕ, ◌<◌, List, [], ◌∷◌, length, get_or, refl, sym, ap, ◌∙◌, arith}
+use Rattle.std.proofs.Common.{◌≡◌, ℕ, ◌<◌, List, [], ◌∷◌, length, refl, ◌∙◌, arith}
+use Rattle.std.proofs.lemmas.Grind.{common_steps}
 use Rattle.std.specs.FinMap as finite
 use Rattle.gk_world.specs.State.{Texts, Contents, with_text, without, laid, own_of, outer_of, state_of}
 use Rattle.gk_world.specs.Sandbox.{SandboxValue, LeadsTo, done, change, layer, LayersGiveBack, ChangesAreOfState, with_value, without_value}
 use Rattle.gk_world.proofs.StateLemmas.{inserted, removed}
 
-abbrev rest_of : {A : Type 0} → List A → List A
-rest_of [] = []
-rest_of (x ∷ xs) = xs
-
 -- changes and ended layers leave what the ends of the open layers give
 kept : {s t : SandboxValue} → LeadsTo s t → (t.saved ≡ s.saved) × (t.starts ≡ s.starts)
 kept done = (refl, refl)
 kept (change b w) = let r = kept w in (r.0 ∙ b.layers, r.1 ∙ b.starts)
-kept (layer w e v) =
-    let inner = kept w in
-    let after = kept v in
-    (after.0 ∙ ap rest_of (sym e.given_back ∙ inner.0), after.1 ∙ ap rest_of (sym e.forgotten ∙ inner.1))
+kept (layer w e v) = grind (arith, common_steps, kept w, kept v)
 
 pub give_back : LayersGiveBack
-give_back s t u w e =
-    let inner = kept w in
-    let saved : u.now ∷ u.saved ≡ s.now ∷ s.saved = sym e.given_back ∙ inner.0 in
-    let starts : length u.entries ∷ u.starts ≡ length s.entries ∷ s.starts = sym e.forgotten ∙ inner.1 in
-    record {
-      contents = ap (λ l. get_or l 0 s.now) saved;
-      saved = ap rest_of saved;
-      starts = ap rest_of starts;
-      recorded = ap (λ l. get_or l 0 0) starts;
-    }
+give_back s t u w e = grind (arith, common_steps, kept)
 
 -- ---- the plain state
 set_own : (f e : Texts) (vs : List Texts) (name text : List ℕ) → 0 < length vs → let c : Contents = record { files = f; env = e; values = vs } in state_of (with_value c name text) ≡ record (state_of c) { own = with_text (state_of c).own name text }

@@ -1,5 +1,6 @@
 -- How a sandbox keeps what is seen of it.
-use Rattle.std.proofs.Common.{◌≡◌, ◌≢◌, ◌⊎◌, inl, inr, ℕ, zero, suc, ◌+◌, ◌-◌, ◌<◌, ◌≤◌, None, Result, Ok, Err, OnOk, OnErr, IfErr, List, [], ◌∷◌, ◌++◌, length, drop, take, set, get_or, get_or-set_other, get_or-set_same, refl, sym, ap, subst, ◌∙◌, arith}
+use Rattle.std.proofs.Common.{◌≡◌, ◌⊎◌, inl, inr, ℕ, zero, suc, ◌+◌, ◌-◌, ◌<◌, ◌≤◌, None, Result, Ok, Err, OnOk, OnErr, IfErr, List, [], ◌∷◌, ◌++◌, length, drop, take, set, get_or, get_or-set_other, get_or-set_same, refl, sym, ap, subst, ◌∙◌, arith}
+use Rattle.std.proofs.lemmas.Grind.{common_steps}
 use Rattle.std.proofs.lemmas.List.{length-take-le, length-append, take-append-drop}
 use Rattle.std.specs.List.{AllByRecursion}
 use Rattle.std.proofs.Math.Seq.{drop-length}
@@ -76,14 +77,10 @@ new_sound w us files env values none = record {
 -- ---- a layer begins
 open_starts-set : (d i : ℕ) (starts : List ℕ) (n : ℕ) → d ≤ i → open_starts d (set starts i n) ≡ open_starts d starts
 open_starts-set zero i starts n le = refl
-open_starts-set (suc d) i starts n le =
-    let ne : d ≢ i = omega arith in
-    λ k. get_or-set_other starts i d n 0 ne k ∷ open_starts-set d i starts n (omega arith) k
+open_starts-set (suc d) i starts n le = grind (arith, common_steps, get_or-set_other, open_starts-set d i starts n (omega arith))
 
 marked : (d : ℕ) (starts : List ℕ) (n : ℕ) → d < length starts → open_starts (d + 1) (set starts d n) ≡ n ∷ open_starts d starts
-marked d starts n lt =
-    let one : d + 1 ≡ suc d = omega arith in
-    ap (λ d'. open_starts d' (set starts d n)) one ∙ (λ k. get_or-set_same starts d n 0 lt k ∷ open_starts-set d d starts n (omega arith) k)
+marked d starts n lt = grind (arith, common_steps, get_or-set_same, open_starts-set)
 
 module _ (w : World) (us : List WorldUndo) (ms : List ℕ) (h : IsSound w us ms) where
   nothing_since : rewound undone (drop (length us) us) w ≡ w
@@ -274,24 +271,11 @@ module _ {A : Type 0} (c : WorldChange) (w : World) (us : List WorldUndo) (ms : 
 
 -- what is said of values in the innermost layer
 pub delete_refusal_is : (w : World) (us : List WorldUndo) (ms : List ℕ) (v : SandboxValue) → value_of w us ms ≡ v → (d : ℕ) → d ≡ depth v → (name : List ℕ) → delete_refusal (state_at d w.values) name ≡ delete_refusal (state_of v.now) name
-delete_refusal_is w us ms v is d e name =
-    ap (λ d. delete_refusal (state_at d w.values) name) (e ∙ marks_are w us ms v is)
-    ∙ ap (λ (v : SandboxValue). delete_refusal (state_of v.now) name) is
+delete_refusal_is w us ms v is d e name = grind (arith, common_steps, marks_are)
 
 pub layer_is : (w : World) (us : List WorldUndo) (ms : List ℕ) (v : SandboxValue) → value_of w us ms ≡ v → IsSound w us ms → (d : ℕ) → d ≡ depth v → 0 < depth v → IsLayer d
 layer_is w us ms v is h d e lt = record { from = omega (arith, e, lt); to = omega (arith, e, marks_are w us ms v is, h.room) }
 
 -- each open layer has a map of values
 pub values_are : (w : World) (us : List WorldUndo) (ms : List ℕ) (v : SandboxValue) → value_of w us ms ≡ v → length v.now.values ≡ depth v
-values_are w us ms v is =
-    sym (ap (λ (v : SandboxValue). length v.now.values) is)
-    ∙ length-layers_of (length ms) w.values
-    ∙ sym (marks_are w us ms v is)
-
-none_recorded : (ms : List ℕ) (n : ℕ) (us : List WorldUndo) (w : World) → AreStarts ms n us w → length ms ≡ 0 → n ≡ 0
-none_recorded [] n us w h e = h
-none_recorded (m ∷ ms) n us w h e = absurd (omega arith)
-
--- with no layer open nothing is recorded
-pub unrecorded : (w : World) (us : List WorldUndo) (ms : List ℕ) (v : SandboxValue) → value_of w us ms ≡ v → IsSound w us ms → depth v ≡ 0 → length v.entries ≡ 0
-unrecorded w us ms v is h e = sym (recorded_is w us ms v is) ∙ none_recorded ms (length us) us w h.ordered (sym (marks_are w us ms v is) ∙ e)
+values_are w us ms v is = grind (arith, common_steps, length-layers_of, marks_are)

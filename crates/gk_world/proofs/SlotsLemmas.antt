@@ -1,5 +1,6 @@
 -- Slots and the maps that they stand for.
-use Rattle.std.proofs.Common.{◌≡◌, ℕ, zero, suc, ◌<◌, Bool, true, false, cond, List, [], ◌∷◌, ◌++◌, Option, None, Some, MatchOption, length, take, refl, sym, ap, subst, ◌∙◌, bytes_eq, get_or, set, true≢false, arith, get_or-set_other, get_or-set_same}
+use Rattle.std.proofs.Common.{◌≡◌, ℕ, zero, suc, ◌<◌, Bool, true, false, cond, List, [], ◌∷◌, ◌++◌, Option, None, Some, MatchOption, length, take, refl, sym, ap, subst, ◌∙◌, bytes_eq, get_or, set, arith, get_or-set_other, get_or-set_same}
+use Rattle.std.proofs.lemmas.Grind.{common_steps}
 use Rattle.std.specs.FinMap as map
 use Rattle.std.specs.FinMap.{get, get-empty, get-insert, get-remove, same_map, slice_cmp-IsAntisymmetric, nat_cmp-IsAntisymmetric}
 use Rattle.std.proofs.lemmas.Cmp.{nat_list_cmp_total}
@@ -33,31 +34,17 @@ cond_apart false c x y z h = refl
 
 -- two names that differ are not both q
 apart : (n m q : List ℕ) → bytes_eq n m ≡ false → bytes_eq q m ≡ true → bytes_eq q n ≡ true → ⊥
-apart n m q f a b =
-    let same : n ≡ m = sym ((bytes_eq-Decides q n).0 b) ∙ (bytes_eq-Decides q m).0 a in
-    true≢false (sym ((bytes_eq-Decides n m).1 same) ∙ f)
+apart n m q f a b = grind (arith, common_steps, bytes_eq-Decides)
 
 -- to write the slot of a name is to set that name
 get-map_at-with_cells : (j : ℕ) (n : List ℕ) (s : List Slot) (i : ℕ) (c : List Cell) → IsPosition n s i → (q : List ℕ) → get (map_at j (with_cells s i c)) q ≡ cond (bytes_eq q n) (cell_at j c) (get (map_at j s) q)
 get-map_at-with_cells j n [] i c h q = absurd h
-get-map_at-with_cells j n (s ∷ ss) zero c h q =
-    get-with_entry (map_at j ss) s.0 (cell_at j c) q
-    ∙ ap (λ m. cond (bytes_eq q m) (cell_at j c) (get (map_at j ss) q)) (sym ((bytes_eq-Decides n s.0).0 h))
-    ∙ cond_twice (bytes_eq q n) (cell_at j c) (cell_at j s.1) (get (map_at j ss) q)
-    ∙ ap (cond (bytes_eq q n) (cell_at j c)) (ap (λ m. cond (bytes_eq q m) (cell_at j s.1) (get (map_at j ss) q)) ((bytes_eq-Decides n s.0).0 h) ∙ sym (get-with_entry (map_at j ss) s.0 (cell_at j s.1) q))
-get-map_at-with_cells j n (s ∷ ss) (suc i) c h q =
-    get-with_entry (map_at j (with_cells ss i c)) s.0 (cell_at j s.1) q
-    ∙ ap (cond (bytes_eq q s.0) (cell_at j s.1)) (get-map_at-with_cells j n ss i c h.1 q)
-    ∙ cond_apart (bytes_eq q s.0) (bytes_eq q n) _ _ _ (apart n s.0 q h.0)
-    ∙ ap (cond (bytes_eq q n) (cell_at j c)) (sym (get-with_entry (map_at j ss) s.0 (cell_at j s.1) q))
+get-map_at-with_cells j n (s ∷ ss) zero c h q = grind (arith, common_steps, get-with_entry, bytes_eq, bytes_eq-Decides, cond_twice)
+get-map_at-with_cells j n (s ∷ ss) (suc i) c h q = grind (arith, common_steps, get-with_entry, bytes_eq, get-map_at-with_cells j n ss i c h.1 q, cond_apart, apart)
 
 get-map_at-push : (j : ℕ) (n : List ℕ) (s : List Slot) (c : List Cell) → IsMissing n s → (q : List ℕ) → get (map_at j (s ++ (n, c) ∷ [])) q ≡ cond (bytes_eq q n) (cell_at j c) (get (map_at j s) q)
 get-map_at-push j n [] c h q = get-with_entry map.empty n (cell_at j c) q
-get-map_at-push j n (s ∷ ss) c h q =
-    get-with_entry (map_at j (ss ++ (n, c) ∷ [])) s.0 (cell_at j s.1) q
-    ∙ ap (cond (bytes_eq q s.0) (cell_at j s.1)) (get-map_at-push j n ss c h.1 q)
-    ∙ cond_apart (bytes_eq q s.0) (bytes_eq q n) _ _ _ (apart n s.0 q h.0)
-    ∙ ap (cond (bytes_eq q n) (cell_at j c)) (sym (get-with_entry (map_at j ss) s.0 (cell_at j s.1) q))
+get-map_at-push j n (s ∷ ss) c h q = grind (arith, common_steps, get-with_entry, bytes_eq, get-map_at-push j n ss c h.1 q, cond_apart, apart)
 
 -- the same as equations of maps
 map_at-with_cells : (j : ℕ) (n : List ℕ) (s : List Slot) (i : ℕ) (c : List Cell) → IsPosition n s i → map_at j (with_cells s i c) ≡ with_entry (map_at j s) n (cell_at j c)
@@ -96,10 +83,7 @@ writes n s t i j c e h lt = subst (Writes n j c s) (sym e) (record {
 
 -- a slot that is added, with one text
 pub pushes : (n : List ℕ) (s t : List Slot) (cells : List Cell) (j : ℕ) (c : Cell) → t ≡ s ++ (n, cells) ∷ [] → IsMissing n s → IsOnly j c cells → Writes n j c s t
-pushes n s t cells j c e h only = subst (Writes n j c s) (sym e) (record {
-  here = map_at-push j n s cells h ∙ ap (with_entry (map_at j s) n) only.here;
-  others = λ k ne. map_at-push k n s cells h ∙ same_write (map_at k s) n (cell_at k cells) (get-map_at-missing k n s h ∙ sym (only.others k ne));
-})
+pushes n s t cells j c e h only = grind (arith, common_steps, map_at-push, same_write, get-map_at-missing)
 
 -- ---- positions
 pub position-within : (n : List ℕ) (s : List Slot) (i : ℕ) → IsPosition n s i → i < length s
@@ -117,11 +101,7 @@ first_is n s i h = subst (λ n. IsPosition n s i) (named n s i h) h
 
 -- ---- names that differ
 unequal : (n m : List ℕ) → bytes_eq n m ≡ false → bytes_eq m n ≡ false
-unequal n m f = by (bytes_eq m n) refl
-  where
-    by : (b : Bool) → bytes_eq m n ≡ b → bytes_eq m n ≡ false
-    by true e = absurd (true≢false (sym ((bytes_eq-Decides n m).1 (sym ((bytes_eq-Decides m n).0 e))) ∙ f))
-    by false e = e
+unequal n m f = grind (arith, common_steps, bytes_eq, bytes_eq-Decides)
 
 missing-name : (n : List ℕ) (s : List Slot) (i : ℕ) → IsMissing n s → i < length s → bytes_eq (name_at s i) n ≡ false
 missing-name n [] i h lt = absurd (omega arith)
@@ -192,24 +172,11 @@ length-set (d ∷ cs) (suc j) c = ap suc (length-set cs j c)
 
 -- a slot whose cell is written has that cell
 pub has_cell : (w : ℕ) (s t : List Slot) (i j : ℕ) (c : Cell) → t ≡ with_cell s i j c → i < length s → j < length (cells_of s i) → j < w → HasCell w t i j
-has_cell w s t i j c e there within allowed = subst (λ t. HasCell w t i j) (sym e) (record {
-  there = subst (λ n. i < n) (sym (length-with_cells s i (set (cells_of s i) j c))) there;
-  within = subst (λ n. j < n) (sym (ap length (cells-written s i (set (cells_of s i) j c) there) ∙ length-set (cells_of s i) j c)) within;
-  allowed = allowed;
-})
+has_cell w s t i j c e there within allowed = grind (arith, common_steps, length-with_cells, cells-written, length-set)
 
 -- a slot that is added is the newest
 pub newest : (width : ℕ) (n : List ℕ) (s t : List Slot) (cells : List Cell) (i j : ℕ) (c : Cell) → t ≡ s ++ (n, cells) ∷ [] → i ≡ length s → IsOnly j c cells → j < width → IsNewest width t i j
-newest width n s t cells i j c e is only allowed =
-    subst (λ t. IsNewest width t i j) (sym e) (subst (λ i. IsNewest width (s ++ (n, cells) ∷ []) i j) (sym is) (record {
-      last = length-append s ((n, cells) ∷ []);
-      others = λ k ne. ap (λ (w : Slot). cell_at k w.1) (sym (last s)) ∙ only.others k ne;
-      allowed = allowed;
-    }))
-  where
-    last : (s : List Slot) → (n, cells) ≡ get_or (s ++ (n, cells) ∷ []) (length s) ([], [])
-    last [] = refl
-    last (v ∷ s) = last s
+newest width n s t cells i j c e is only allowed = grind (arith, common_steps, length-append)
 
 pub position_is : (n : List ℕ) (s t : List Slot) (r : Option ℕ) → s ≡ t → MatchOption r (IsMissing n s) (λ i. IsPosition n s i) → MatchOption r (IsNew n t) (λ i. IsAt n t i)
 position_is n s t None e h = subst (IsNew n) e (record { missing = h; absent = λ k. get-map_at-missing k n s h })
@@ -233,11 +200,7 @@ set-back (d ∷ cs) (suc j) c = ap (λ l. d ∷ l) (set-back cs j c)
 
 -- a write of one cell, and back
 pub cell-back : (s t : List Slot) (i j : ℕ) (c old : Cell) → t ≡ with_cell s i j c → i < length s → old ≡ get_or (cells_of s i) j None → with_cell t i j old ≡ s
-cell-back s t i j c old e lt is =
-    (λ k. with_cell (e k) i j (is k))
-    ∙ ap (λ cs. with_cells (with_cell s i j c) i (set cs j (get_or (cells_of s i) j None))) (cells-written s i (set (cells_of s i) j c) lt)
-    ∙ ap (with_cells (with_cell s i j c) i) (set-back (cells_of s i) j c)
-    ∙ written-twice s i _ _ ∙ written-same s i
+cell-back s t i j c old e lt is = grind (arith, common_steps, cells-written, set-back, written-twice, written-same)
 
 set-twice : (cs : List Cell) (j : ℕ) (c d : Cell) → set (set cs j c) j d ≡ set cs j d
 set-twice [] j c d = refl
@@ -251,12 +214,7 @@ set-same (b ∷ cs) (suc j) = ap (λ l. b ∷ l) (set-same cs j)
 
 -- two writes of one cell are the later one
 pub cell-twice : (s t r : List Slot) (i j : ℕ) (c d : Cell) → t ≡ with_cell s i j c → r ≡ with_cell t i j d → i < length s → r ≡ with_cell s i j d
-cell-twice s t r i j c d e f lt =
-    f
-    ∙ ap (λ t. with_cell t i j d) e
-    ∙ ap (λ cs. with_cells (with_cell s i j c) i (set cs j d)) (cells-written s i (set (cells_of s i) j c) lt)
-    ∙ ap (with_cells (with_cell s i j c) i) (set-twice (cells_of s i) j c d)
-    ∙ written-twice s i _ _
+cell-twice s t r i j c d e f lt = grind (arith, common_steps, cells-written, set-twice, written-twice)
 
 -- what was there, written again
 pub cell-same : (s : List Slot) (i j : ℕ) → with_cell s i j (cell_at j (cells_of s i)) ≡ s

@@ -1,5 +1,6 @@
 -- Changes keep texts short.
-use Rattle.std.proofs.Common.{◌≡◌, ℕ, Bool, true, false, cond, true≢false, List, [], ◌∷◌, Some, None, IfSome, is_none, bytes_eq, string_bytes, refl, sym, ap, subst}
+use Rattle.std.proofs.Common.{◌≡◌, ℕ, Bool, true, false, cond, true≢false, List, [], ◌∷◌, Some, None, IfSome, is_none, bytes_eq, string_bytes, refl, sym, ap, subst, arith}
+use Rattle.std.proofs.lemmas.Grind.{common_steps}
 use Rattle.std.specs.List.{AllByRecursion}
 use Rattle.std.specs.FinMap.{get, empty, get-empty}
 use Rattle.gk_world.specs.State.{Texts, Map, Contents, with_entry, with_innermost, state_of}
@@ -72,10 +73,7 @@ short_changed (changes.Value c) m r h = record { files = h.files; env = h.env; v
 
 -- ---- layers
 pub short_begun : (s : SandboxValue) → TextsAreShort s → TextsAreShort (layer_begun s)
-short_begun s h = record {
-  now = record { files = h.now.files; env = h.now.env; values = (short_empty, h.now.values) };
-  saved = (h.now, h.saved);
-}
+short_begun s h = grind (arith, common_steps, short_empty)
 
 pub short_ended : (s t : SandboxValue) → EndsLayer s t → TextsAreShort s → TextsAreShort t
 short_ended s t e h = let all = subst (AllByRecursion HasShortTexts) e.given_back h.saved in record { now = all.0; saved = all.1 }

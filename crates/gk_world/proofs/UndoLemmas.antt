@@ -1,8 +1,9 @@
 -- What undos are on maps.
-use Rattle.std.proofs.Common.{◌≡◌, ◌≢◌, ℕ, zero, suc, ◌+◌, ◌<◌, ◌==◌, Bool, true, false, cond, List, [], ◌∷◌, ◌++◌, get_or, take, length, None, option_map, string_bytes, bytes_eq, refl, sym, ap, ◌∙◌, subst, true≢false, arith}
+use Rattle.std.proofs.Common.{◌≡◌, ℕ, zero, suc, ◌+◌, ◌<◌, Bool, true, false, cond, List, [], ◌∷◌, ◌++◌, get_or, take, length, None, option_map, string_bytes, bytes_eq, refl, sym, ap, ◌∙◌, arith}
+use Rattle.std.proofs.lemmas.Grind.{common_steps}
 use Rattle.std.proofs.lemmas.Bool.Decides.{Decides-eqb}
 use Rattle.std.specs.FinMap as map
-use Rattle.gk_world.specs.Cells.{Slot, Cell, cell_at}
+use Rattle.gk_world.specs.Cells.{Slot, Cell}
 use Rattle.gk_world.specs.declared.slots.SlotUndo.{SlotUndo}
 use Rattle.gk_world.specs.declared.slots.SlotUndo.TheVariants.{Restore, Created, Cut}
 use Rattle.gk_world.specs.State.{Texts, with_entry}
@@ -28,15 +29,7 @@ taken_back m n c none = same_texts _ _ (λ q. by (bytes_eq q n) q refl ∙ sym (
 pub undo_writes : (w : ℕ) (u : SlotUndo) (s : List Slot) → NamesDiffer s → Fits w u s → Undoes u s (undone u s)
 undo_writes w (Restore position cell old) s d h = writes (name_at s position) s _ position cell (option_map string_bytes old) refl (first_of s position d h.there) h.within
 undo_writes w (Cut position cell kept) s d h = writes (name_at s position) s _ position cell (old_of s (Cut position cell kept)) refl (first_of s position d h.has.there) h.has.within
-undo_writes w (Created position cell) s d h =
-    let within : position < length s = omega (arith, h.last) in
-    let x : Slot = get_or s position ([], []) in
-    let before : List Slot = take position s in
-    let e : (k : ℕ) → map_at k s ≡ with_entry (map_at k before) x.0 (cell_at k x.1) = λ k. ap (map_at k) (last_off s position h.last) ∙ map_at-push k x.0 before x.1 (missing_before s position d within) in
-    record {
-      here = taken_back (map_at cell before) x.0 (cell_at cell x.1) (get-map_at-missing cell x.0 before (missing_before s position d within)) ∙ ap (λ m. with_entry m x.0 None) (sym (e cell));
-      others = λ k ne. sym (e k ∙ same_write (map_at k before) x.0 (cell_at k x.1) (get-map_at-missing k x.0 before (missing_before s position d within) ∙ sym (h.others k ne)));
-    }
+undo_writes w (Created position cell) s d h = grind (arith, common_steps, last_off, map_at-push, missing_before, taken_back, get-map_at-missing, same_write)
 
 pub length-layers_of : (d : ℕ) (s : List Slot) → length (layers_of d s) ≡ d
 length-layers_of zero s = refl
@@ -49,17 +42,7 @@ layers_same (suc d) s t h = λ i. h d (omega arith) i ∷ layers_same d s t (λ 
 -- a write into one layer's cells
 pub layers_put : (d j : ℕ) (n : List ℕ) (c : Cell) (s t : List Slot) → Writes n j c s t → layers_of d t ≡ with_values (suc j) (λ m. with_entry m n c) (layers_of d s)
 layers_put zero j n c s t h = refl
-layers_put (suc d) j n c s t h = by (layers_put d j n c s t h) (suc j == suc (length (layers_of d s))) refl
-  where
-    by : layers_of d t ≡ with_values (suc j) (λ m. with_entry m n c) (layers_of d s) → (b : Bool) → (suc j == suc (length (layers_of d s))) ≡ b → map_at d t ∷ layers_of d t ≡ cond b (with_entry (map_at d s) n c ∷ layers_of d s) (map_at d s ∷ with_values (suc j) (λ m. with_entry m n c) (layers_of d s))
-    by rest true e =
-        let same : suc j ≡ suc (length (layers_of d s)) = (Decides-eqb (suc j) (suc (length (layers_of d s)))).0 e in
-        let is : j ≡ d = omega (arith, length-layers_of d s) in
-        let here : map_at d t ≡ with_entry (map_at d s) n c = subst (λ k. map_at k t ≡ with_entry (map_at k s) n c) is h.here in
-        λ i. here i ∷ layers_same d s t (λ k lt. h.others k (omega arith)) i
-    by rest false e =
-        let ne : d ≢ j = λ q. true≢false (sym ((Decides-eqb (suc j) (suc (length (layers_of d s)))).1 (omega (arith, length-layers_of d s))) ∙ e) in
-        λ i. h.others d ne i ∷ rest i
+layers_put (suc d) j n c s t h = grind (arith, common_steps, layers_put d j n c s t h, Decides-eqb, length-layers_of, layers_same)
 
 -- names still differ after an undo
 pub differ_undone : (u : SlotUndo) (s : List Slot) → NamesDiffer s → NamesDiffer (undone u s)
@@ -75,6 +58,4 @@ cell_within w (Cut position cell kept) s h = h.has.allowed
 
 -- where there is one cell alone, an undo sets its name to the old text
 pub map_undone : (u : SlotUndo) (s : List Slot) → NamesDiffer s → Fits 1 u s → map_at 0 (undone u s) ≡ with_entry (map_at 0 s) (name_of s u) (old_of s u)
-map_undone u s d h =
-    let e : cell_of u ≡ 0 = omega (arith, cell_within 1 u s h) in
-    subst (λ k. map_at k (undone u s) ≡ with_entry (map_at k s) (name_of s u) (old_of s u)) e (undo_writes 1 u s d h).here
+map_undone u s d h = grind (arith, common_steps, cell_within, undo_writes)

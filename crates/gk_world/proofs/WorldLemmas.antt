@@ -1,5 +1,6 @@
 -- What changes of the world are on its contents.
 use Rattle.std.proofs.Common.{◌≡◌, ℕ, zero, suc, ◌-◌, ◌<◌, ◌≤◌, List, ◌∷◌, None, refl, sym, ap, subst, ◌∙◌, arith}
+use Rattle.std.proofs.lemmas.Grind.{common_steps}
 use Rattle.gk_world.specs.Cells.{Slot, Cell}
 use Rattle.gk_world.specs.declared.refusals.WorldFault.{WorldFault}
 use Rattle.gk_world.specs.State.{layers, state_of, with_entry, with_innermost}
@@ -21,10 +22,7 @@ layers_same (suc d) s t h = λ i. h d (omega arith) i ∷ layers_same d s t (λ 
 -- a write into the innermost layer
 layers_written : (d : ℕ) (n : List ℕ) (c : Cell) (s t : List Slot) → 0 < d → Writes n (d - 1) c s t → layers_of d t ≡ with_innermost (λ v. with_entry v n c) (layers_of d s)
 layers_written zero n c s t lt w = absurd (omega arith)
-layers_written (suc d) n c s t lt w =
-    let e : suc d - 1 ≡ d = omega arith in
-    let here : Writes n d c s t = subst (λ j. Writes n j c s t) e w in
-    λ i. here.here i ∷ layers_same d s t (λ k less. here.others k (omega arith)) i
+layers_written (suc d) n c s t lt w = grind (arith, common_steps, layers_same)
 
 -- the contents have the change's outcome
 pub contents_changed : (c : WorldChange) (d : ℕ) (v w : World) → IsHere c d → Steps c v w → contents_of d w ≡ changed c (contents_of d v)
@@ -50,16 +48,10 @@ contents_refuse (changes.Value c) d v e here h = subst (λ r. IsFault r e) (valu
 pub clear_still : (c : WorldChange) (d : ℕ) (v w : World) → IsHere c d → Steps c v w → IsClear d v → IsClear d w
 clear_still (changes.File c) d v w here h clear = λ k le. ap (map_at k) h.2 ∙ clear k le
 clear_still (changes.Env c) d v w here h clear = λ k le. ap (map_at k) h.2 ∙ clear k le
-clear_still (changes.Value c) d v w here h clear = λ k le.
-    let lt : 0 < d = here.1 in
-    let e : value.layer_of c ≡ d = here.0 in
-    h.0.done.others k (omega arith) ∙ clear k le
+clear_still (changes.Value c) d v w here h clear = grind (arith, common_steps)
 
 -- a change of the innermost layer can be asked for
 pub here_applies : (c : WorldChange) (d : ℕ) → IsHere c d → d ≤ layers → CanApply c
 here_applies (changes.File c) d here le = tt
 here_applies (changes.Env c) d here le = tt
-here_applies (changes.Value c) d here le =
-    let e : value.layer_of c ≡ d = here.0 in
-    let lt : 0 < d = here.1 in
-    record { from = omega arith; to = omega arith }
+here_applies (changes.Value c) d here le = grind (arith, common_steps)

@@ -14,6 +14,7 @@ pub struct Listing {
 }
 
 /// Inserts a name with its text, if it has one.
+#[tactic(auto, using(crate::proofs::ListingLemmas::put_notes))]
 pub fn note(
     alloc: Global,
     texts: &mut BTreeMap<String, String>,

@@ -75,6 +75,7 @@ impl Sandbox {
     }
 
     /// Returns the number of open layers. It doesn't allocate.
+    #[tactic(auto, using(crate::proofs::SandboxLemmas::depth_is))]
     pub fn depth(&self) -> usize
         ensures { result ≡ depth self.now }
     {
@@ -82,6 +83,7 @@ impl Sandbox {
     }
 
     /// Returns the number of changes recorded in the open layers. It doesn't allocate.
+    #[tactic(auto, using(crate::proofs::SandboxLemmas::recorded_is))]
     pub fn recorded(&self) -> usize
         ensures { result ≡ length self.now.entries }
     {
@@ -90,6 +92,7 @@ impl Sandbox {
 
     /// Shows that undoing the changes recorded since an open layer began leads back to what its end restores. Each open
     /// layer has a map of values, and nothing is recorded if no layer is open.
+    #[tactic(auto, using(crate::proofs::SandboxLemmas::values_are, crate::proofs::ReversibleLemmas::undos_give_back))]
     pub fn undos_give_back(&self)
         ensures undos { UndosGiveBack self.now }
         ensures values { length self.now.now.values ≡ depth self.now }
@@ -239,6 +242,7 @@ impl Sandbox {
     /// `OtherLayer` (only outer layers have it). A refusal changes nothing; `Memory` is returned only if there is no
     /// other reason.
     /// (behave's documentation: context layers)
+    #[tactic(auto, using(std::proofs::lemmas::Result::err_from_is_err_and, crate::proofs::SandboxLemmas::delete_refusal_is, crate::proofs::SandboxLemmas::layer_is))]
     pub fn delete_value(&mut self, name: &str) -> Result<(), WorldFault>
         requires { 0 < depth self.old }
         ensures ok { OnOk result (DeletesValue self.old name.now self.new) }

@@ -49,6 +49,7 @@ impl<C: Cells> Slots<C> {
     }
 
     /// Returns the position of a name's row, if it has one.
+    #[tactic(auto, using(crate::proofs::RowsLemmas::found_at))]
     fn position(&self, name: &str) -> Option<usize>
         ensures { MatchOption result (IsNew name.now self.now) (λ i. IsAt name.now self.now i) }
     {

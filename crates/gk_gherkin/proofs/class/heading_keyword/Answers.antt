@@ -1,4 +1,5 @@
-use Rattle.std.proofs.Common.{ap, ◌∙◌}
+use Rattle.std.proofs.Common.{ap, ◌∙◌, arith}
+use Rattle.std.proofs.lemmas.Grind.{common_steps}
 use Rattle.std.specs.List.{before_first}
 use Rattle.gk_gherkin.specs.Class.{is_colon, heading_keyword}
 use Rattle.gk_gherkin.proofs.ClassWords.{at_colon, no_colon}
@@ -11,5 +12,4 @@ returns-in-Some c =
 
 pub returns-in-None : goal.returns-in-None
 unfolding heading_keyword
-returns-in-None c =
-    (no_colon c.trim-text.result.now _ c.split_once.ensures.cases c.in-None.is).0 ∙ ap (before_first is_colon) c.trim-text.ensures
+returns-in-None c = grind (arith, common_steps, no_colon)

@@ -1,4 +1,5 @@
-use Rattle.std.proofs.Common.{rules, ◌≡◌, ◌++◌, ◌∙◌, ℕ, List, ap, sym, Ok}
+use Rattle.std.proofs.Common.{rules, ◌≡◌, ◌++◌, ◌∙◌, ℕ, List, ap, arith}
+use Rattle.std.proofs.lemmas.Grind.{common_steps}
 use Rattle.std.specs.String.{string_bytes}
 use Rattle.gk_gherkin.specs.Class.{fence_text}
 use Rattle.gk_gherkin.specs.DocStrings.{fences_read}
@@ -17,7 +18,4 @@ fences-preserved c =
     )
 
 pub returns-in-None : goal.returns-in-None
-returns-in-None c =
-    let whole : string_bytes c.push_str-in-None.new.self ≡ string_bytes c.fences.text ++ c.fences.rest.now = search rules in
-    ap Ok (last_piece (string_bytes c.fences.text) (string_bytes c.push_str-in-None.new.self) c.fences.rest.now _ whole
-    (ap (λ (t : List ℕ). string_bytes c.fences.text ++ t) (sym (missed_fence c.args.fence c.fences.rest.now c.escaped_fence.result.now _ c.escaped_fence.ensures c.split_once.ensures.cases c.in-None.is)) ∙ c.fences.invariant.1))
+returns-in-None c = grind (arith, common_steps, last_piece, missed_fence)

@@ -1,6 +1,6 @@
 use Rattle.std.proofs.Common.{◌∙◌, ap, get_or, Some}
 use Rattle.gk_gherkin.specs.declared.hooks.Hook.{Hook}
-use Rattle.gk_gherkin.proofs.HookIndexed.{any_err, got_at, has_some, listed_next, only_next}
+use Rattle.gk_gherkin.proofs.HookIndexed.{got_at, listed_next, only_next}
 use Rattle.gk_gherkin.proofs.hook_index.index_of.Goals as goal
 
 pub loop-position-preserved : goal.loop-position-preserved
@@ -13,6 +13,3 @@ loop-position-preserved c =
       listed_next c.loop-position.index c.add.new.self hooks k hook at c.add.ensures.kept c.in_ok-add.ensures.added c.loop-position.invariant.0,
       only_next c.loop-position.index c.add.new.self hooks k hook at c.in_ok-add.ensures.last c.add.ensures.others c.loop-position.invariant.1,
     )
-
-pub returns-in_err-add-clause-memory : goal.returns-in_err-add-clause-memory
-returns-in_err-add-clause-memory c = any_err c.from_residual.result (has_some c.args.hooks.now c.loop-position.position c.loop-position-test.true)

@@ -1,21 +1,16 @@
-use Rattle.std.proofs.Common.{◌≡◌, ◌+◌, ℕ, map, length, List, Bor, ap, sym, refl, ◌∙◌, arith}
+use Rattle.std.proofs.Common.{length, ap, ◌∙◌, arith}
+use Rattle.std.proofs.lemmas.Grind.{common_steps}
 use Rattle.std.proofs.lemmas.Iterator.Splits.{YieldsList-from_lines}
 use Rattle.std.proofs.lemmas.Iterator.Consumers.{YieldsList-turn, YieldsList-end}
 use Rattle.std.proofs.lemmas.Result.{err_from_is_err_and}
 use Rattle.std.specs.Str.Lines.{lines}
 use Rattle.std.proofs.lemmas.List.{map_push, length_push, length-map}
-use Rattle.gk_gherkin.specs.Lines.{line_value, line_at, numbered_from}
+use Rattle.gk_gherkin.specs.Lines.{numbered_from}
 use Rattle.gk_gherkin.proofs.LineNumbering.{numbered_from-push, numbered_from-some}
 use Rattle.gk_gherkin.proofs.lines.lines_from.Goals as goal
 
 pub loop-part-preserved : goal.loop-part-preserved
-loop-part-preserved c =
-    let texts : List (List ℕ) = map {A = Bor (List ℕ)} (λ x. x.now) c.loop-part.yielded in
-    let here : 1 + length texts ≡ c.loop-part.number = omega (arith, length-map {A = Bor (List ℕ)} {B = List ℕ} c.loop-part.yielded (λ x. x.now)) in
-    let made : line_value c.in_ok-line_from.field-0 ≡ line_at (1 + length texts) c.in-Some.part.now = c.in_ok-line_from.ensures.ok ∙ ap (λ (m : ℕ). line_at m c.in-Some.part.now) (sym here) in (
-      rw (c.in_ok-push.ensures.items, map_push line_value c.loop-part.lines.items c.in_ok-line_from.field-0, map_push {X = Bor (List ℕ)} {Y = List ℕ} (λ x. x.now) c.loop-part.yielded c.in-Some.part, numbered_from-push 1 texts c.in-Some.part.now, c.loop-part.invariant.0, made) refl,
-      omega (arith, length_push c.loop-part.yielded c.in-Some.part),
-    )
+loop-part-preserved c = grind (arith, common_steps, length-map, map_push, numbered_from-push, length_push)
 
 pub returns-clause-ok : goal.returns-clause-ok
 returns-clause-ok c =

@@ -1,16 +1,14 @@
-use Rattle.std.proofs.Common.{rules, ◌≡◌, ◌+◌, length, ap, sym, ◌∙◌, subst, arith}
+use Rattle.std.proofs.Common.{rules, ap, sym, ◌∙◌, subst, arith}
+use Rattle.std.proofs.lemmas.Grind.{common_steps}
 use Rattle.std.proofs.lemmas.Result.{err_from_is_err_and}
 use Rattle.std.specs.Str.Lines.{lines}
 use Rattle.gk_gherkin.specs.Results.{Fails}
-use Rattle.gk_gherkin.specs.Lines.{LineValue, numbered_from}
+use Rattle.gk_gherkin.specs.Lines.{LineValue}
 use Rattle.gk_gherkin.specs.Reading as spec
 use Rattle.gk_gherkin.specs.Reading.Views.{state_value}
 use Rattle.gk_gherkin.proofs.FirstLines.{no_lines}
 use Rattle.gk_gherkin.proofs.ReadingLoop.{rest_of_run, ends, is_done, needed_here, needed_later, needed_at_end}
 use Rattle.gk_gherkin.proofs.reading.run.Goals as goal
-
-pub borrowed_line-requires : goal.borrowed_line-requires
-borrowed_line-requires g c = omega (arith, c.requires, c.lines.invariant.within, c.first_line.ensures.within)
 
 pub returns-in_err-next_line-clause-says : goal.returns-in_err-next_line-clause-says
 returns-in_err-next_line-clause-says g c =
@@ -43,15 +41,7 @@ lines-preserved g c =
     }
 
 pub returns-clause-says : goal.returns-clause-says
-returns-clause-says g c =
-    let readers = g.P.FileReader.readers in
-    let s = state_value (g.P.FileReader.value c.lines.reader) c.lines.doc_string in
-    let none : length c.lines.rest.now ≡ 0 = search rules in
-    is_done (spec.step readers) s c.lines.number (lines c.lines.rest.now) _ (no_lines c.lines.rest.now none) c.lines.invariant.so_far
+returns-clause-says g c = grind (arith, common_steps, is_done, no_lines)
 
 pub returns-clause-end : goal.returns-clause-end
-returns-clause-end g c = λ h.
-    let readers = g.P.FileReader.readers in
-    let s = state_value (g.P.FileReader.value c.lines.reader) c.lines.doc_string in
-    let none : length c.lines.rest.now ≡ 0 = search rules in
-    c.lines.invariant.needs (needed_at_end (spec.step readers) (spec.NeedsIn readers) (spec.NeedsAtEnd readers) s c.lines.number (lines c.lines.rest.now) (no_lines c.lines.rest.now none) h)
+returns-clause-end g c = grind (arith, common_steps, needed_at_end, no_lines)

@@ -1,4 +1,5 @@
-use Rattle.std.proofs.Common.{◌≡◌, ◌<◌, ◌≤◌, ◌∙◌, length, get_or, vec_len, ap, Ok, arith}
+use Rattle.std.proofs.Common.{◌<◌, ◌≤◌, ◌∙◌, length, vec_len, ap, Ok, arith}
+use Rattle.std.proofs.lemmas.Grind.{common_steps}
 use Rattle.std.proofs.lemmas.Bool.Decides.{nat_tests}
 use Rattle.std.proofs.lemmas.List.{length-map}
 use Rattle.std.specs.String.{string_bytes}
@@ -9,10 +10,7 @@ use Rattle.gk_gherkin.proofs.RowParts.{all_cells, some_are_some, none_are_none}
 use Rattle.gk_gherkin.proofs.rows.cells_in.Goals as goal
 
 pub range_from-rest-requires : goal.range_from-rest-requires
-range_from-rest-requires c =
-    let below : c.part_len-end.result < length c.parts.rest.now = omega (arith, ap length c.as_bytes.ensures.value) in
-    let bar : get_or c.parts.rest.now c.part_len-end.result 0 ≡ 124 = rw c.as_bytes.ensures.value at c.part_len-end.ensures.bar below in
-    λ _. after_bar c.parts.rest.now c.part_len-end.result c.parts.invariant.0 below bar
+range_from-rest-requires c = grind (arith, common_steps, after_bar)
 
 pub returns-then-is_empty : goal.returns-then-is_empty
 returns-then-is_empty c =

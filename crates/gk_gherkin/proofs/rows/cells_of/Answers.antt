@@ -1,12 +1,12 @@
-use Rattle.std.proofs.Common.{◌∙◌, ap, sym, Ok, arith}
+use Rattle.std.proofs.Common.{◌∙◌, ap, Ok, arith}
+use Rattle.std.proofs.lemmas.Grind.{common_steps}
 use Rattle.std.proofs.lemmas.Str.Pattern.{strip_prefix_char}
 use Rattle.gk_gherkin.specs.Lines.{borrowed_value}
 use Rattle.gk_gherkin.proofs.RowParts.{row_cells, no_row}
 use Rattle.gk_gherkin.proofs.rows.cells_of.Goals as goal
 
 pub returns-in-Some : goal.returns-in-Some
-returns-in-Some c =
-    rw (row_cells (borrowed_value c.args.line.now) c.in-Some.text.now (sym c.trim.ensures ∙ rw c.in-Some.is at (strip_prefix_char 124 c.trim.result.now _ c.strip_prefix.ensures.cases (omega arith)))) c.cells_in.ensures
+returns-in-Some c = grind (arith, common_steps, row_cells, strip_prefix_char)
 
 pub returns-in-None : goal.returns-in-None
 returns-in-None c =

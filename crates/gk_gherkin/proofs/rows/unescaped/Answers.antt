@@ -1,4 +1,5 @@
-use Rattle.std.proofs.Common.{rules, ◌≡◌, ◌++◌, ◌∙◌, ℕ, List, ap, sym, Ok}
+use Rattle.std.proofs.Common.{rules, ◌≡◌, ◌++◌, ◌∙◌, ℕ, List, ap, arith}
+use Rattle.std.proofs.lemmas.Grind.{common_steps}
 use Rattle.std.specs.String.{string_bytes}
 use Rattle.gk_gherkin.specs.Rows.{unescaped}
 use Rattle.gk_gherkin.proofs.RowParts.{to_escape, no_escape_left}
@@ -16,7 +17,4 @@ escapes-preserved c =
     )
 
 pub returns-in-None : goal.returns-in-None
-returns-in-None c =
-    let whole : string_bytes c.push_str-in-None.new.self ≡ string_bytes c.escapes.cell ++ c.escapes.rest.now = search rules in
-    ap Ok (last_piece (string_bytes c.escapes.cell) (string_bytes c.push_str-in-None.new.self) c.escapes.rest.now _ whole
-    (ap (λ (t : List ℕ). string_bytes c.escapes.cell ++ t) (sym (no_escape_left c.escapes.rest.now _ c.split_once.ensures.cases c.in-None.is)) ∙ c.escapes.invariant.1))
+returns-in-None c = grind (arith, common_steps, last_piece, no_escape_left)

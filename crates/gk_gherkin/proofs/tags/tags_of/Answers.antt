@@ -1,4 +1,5 @@
-use Rattle.std.proofs.Common.{inl, inr, ◌≡◌, ◌≤◌, ◌<◌, ◌-◌, ◌∙◌, ◌++◌, ◌∷◌, [], ℕ, List, length, take, drop, ap, sym, Ok, arith}
+use Rattle.std.proofs.Common.{inl, inr, ◌≡◌, ◌<◌, ◌-◌, ◌∙◌, ◌++◌, ◌∷◌, [], ℕ, List, length, take, drop, ap, sym, Ok, arith}
+use Rattle.std.proofs.lemmas.Grind.{common_steps}
 use Rattle.std.specs.List.{position_or_len, prefix_len}
 use Rattle.gk_gherkin.specs.Lines.{borrowed_value}
 use Rattle.gk_gherkin.specs.Text.{is_blank, trim_front}
@@ -11,24 +12,13 @@ use Rattle.gk_gherkin.proofs.TagWords.{onto_tags, tags_by, starts, no_blank_left
 use Rattle.gk_gherkin.proofs.tags.tags_of.Goals as goal
 
 pub words-init : goal.words-init
-words-init c = (
-  c.trim_front-rest.utf8,
-  starts (borrowed_value c.args.line.now) c.trim_front-rest.result.now (texts c.new-tags.result.items) c.trim_front-rest.ensures (ap texts c.new-tags.ensures.items),
-  ap (prefix_len is_blank) c.trim_front-rest.ensures ∙ no_blank_left c.args.line.now.text.now,
-  inr c.trim_front-rest.ensures,
-)
+words-init c = grind (arith, common_steps, starts, no_blank_left)
 
 pub range-word-requires-clause-end_boundary : goal.range-word-requires-clause-end_boundary
-range-word-requires-clause-end_boundary c =
-    let position = c.first_blank-end.ensures.value ∙ ap (position_or_len is_blank) c.as_bytes.ensures.value in
-    let within : c.first_blank-end.result ≤ length c.words.rest.now = omega (arith, ap length c.as_bytes.ensures.value) in
-    (within, λ below. (before_first_blank c.words.rest.now c.first_blank-end.result position below).1 below)
+range-word-requires-clause-end_boundary c = grind (arith, common_steps, before_first_blank)
 
 pub range_from-requires : goal.range_from-requires
-range_from-requires c =
-    let position = c.first_blank-end.ensures.value ∙ ap (position_or_len is_blank) c.as_bytes.ensures.value in
-    let within : c.first_blank-end.result ≤ length c.words.rest.now = omega (arith, ap length c.as_bytes.ensures.value) in
-    λ _. (within, λ below. (before_first_blank c.words.rest.now c.first_blank-end.result position below).1 below)
+range_from-requires c = grind (arith, common_steps, before_first_blank)
 
 pub returns-then-not-is_tag-clause-says : goal.returns-then-not-is_tag-clause-says
 returns-then-not-is_tag-clause-says c =

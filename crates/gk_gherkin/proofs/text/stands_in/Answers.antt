@@ -1,3 +1,5 @@
+use Rattle.std.proofs.Common.{arith}
+use Rattle.std.proofs.lemmas.Grind.{common_steps}
 use Rattle.std.proofs.lemmas.Bool.Decides.{same_from_decides}
 use Rattle.std.proofs.lemmas.Str.Pattern.{contains_text}
 use Rattle.gk_gherkin.specs.Text as spec
@@ -5,5 +7,4 @@ use Rattle.gk_gherkin.proofs.StandsIn.{stands_from, stands_to}
 use Rattle.gk_gherkin.proofs.text.stands_in.Goals as goal
 
 pub returns : goal.returns
-returns c = let h = contains_text c.contains.result c.args.text.now c.args.whole.now c.contains.ensures.cases in
-    same_from_decides c.contains.result (spec.stands_in c.args.text.now c.args.whole.now) (h.0, h.1) (stands_to c.args.whole.now c.args.text.now, stands_from c.args.whole.now c.args.text.now)
+returns c = grind (arith, common_steps, contains_text, same_from_decides, stands_to, stands_from)

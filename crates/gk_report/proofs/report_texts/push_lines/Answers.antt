@@ -1,5 +1,5 @@
-use Rattle.std.proofs.Common.{◌++◌, ◌∷◌, [], List, ℕ, rules, ap, sym, ◌∙◌, arith}
-use Rattle.std.specs.String.{string_bytes}
+use Rattle.std.proofs.Common.{◌∷◌, [], rules, ap, ◌∙◌, arith}
+use Rattle.std.proofs.lemmas.Grind.{common_steps}
 use Rattle.gk_report.specs.ReportTexts.{one_line}
 use Rattle.gk_report.proofs.PushLemmas.{cut, uncut, pushed, one_line_to, one_line_end, one_line_feed}
 use Rattle.gk_report.proofs.report_texts.push_lines.Goals as goal
@@ -11,6 +11,4 @@ loop-line-preserved c =
     (search rules, pushed _ (92 ∷ 110 ∷ []) _ c.in_ok-push_str-2.ensures.bytes (one_line_feed c.in-Some.after.now) (pushed _ _ _ c.in_ok-push_str.ensures.bytes e c.loop-line.invariant.1))
 
 pub returns : goal.returns
-returns c =
-    let e = one_line_end c.loop-line.rest.now (uncut 10 c.loop-line.rest.now c.split_once.result c.split_once.ensures.cases (omega arith) c.in_default.is) in
-    c.in_ok-push_str-3.ensures.bytes ∙ ap (λ (bs : List ℕ). string_bytes c.loop-line.out ++ bs) (sym e) ∙ c.loop-line.invariant.1
+returns c = grind (arith, common_steps, one_line_end, uncut)

@@ -8,7 +8,7 @@ use Rattle.gk_select.specs.declared.case.Case.{Case}
 use Rattle.gk_select.specs.Case.{CaseValue, case_value}
 use Rattle.gk_select.specs.Choice.{chosen_by}
 use Rattle.gk_run.specs.Chosen.{head_value, members_of}
-use Rattle.gk_request.specs.Inputs.{head_of, member_by}
+use Rattle.gk_request.specs.Inputs.{head_of}
 use Rattle.gk_request.proofs.InputsLemmas.{members_chosen, chosen_again, rules_said}
 use Rattle.gk_request.proofs.inputs.chosen_of.Goals as goal
 

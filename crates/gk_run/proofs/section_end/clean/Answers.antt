@@ -8,8 +8,7 @@ use Rattle.gk_run.specs.declared.ending.Ending.TheVariants as endings
 use Rattle.gk_run.specs.declared.cleanups.Cleanup.{Cleanup}
 use Rattle.gk_run.specs.declared.results.Mark.TheVariants.{Acted}
 use Rattle.gk_run.specs.declared.results.Outcome.{Outcome}
-use Rattle.gk_run.specs.Acting.{CleanupValue}
-use Rattle.gk_run.specs.Acting.{cleanup_value}
+use Rattle.gk_run.specs.Acting.{CleanupValue, cleanup_value}
 use Rattle.gk_run.specs.SectionHooks.{clean_each, cleaned}
 use Rattle.gk_run.specs.Ending.{ending_of, worse}
 use Rattle.gk_run.proofs.Nothing.{nothing_in}

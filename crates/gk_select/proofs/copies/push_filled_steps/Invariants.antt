@@ -1,7 +1,6 @@
 use Rattle.std.proofs.Common.{◌≡◌, ◌++◌, map, take}
 use Rattle.gk_gherkin.specs.Feature.{texts, step_value}
-use Rattle.gk_select.specs.Filling.{filled}
-use Rattle.gk_select.specs.Filling.{filled_step}
+use Rattle.gk_select.specs.Filling.{filled, filled_step}
 use Rattle.gk_select.proofs.copies.push_filled_steps.Given as goal
 
 abbrev pub invariant-loop-step : goal.invariant-loop-step

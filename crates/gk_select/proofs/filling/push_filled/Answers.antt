@@ -1,5 +1,5 @@
-use Rattle.std.proofs.Common.{◌++◌, List, ℕ, rules, ap, sym, ◌∙◌, arith}
-use Rattle.std.specs.String.{string_bytes}
+use Rattle.std.proofs.Common.{rules, ap, ◌∙◌, arith}
+use Rattle.std.proofs.lemmas.Grind.{common_steps}
 use Rattle.gk_gherkin.specs.Feature.{texts}
 use Rattle.gk_select.specs.Filling.{filled}
 use Rattle.gk_select.proofs.FilledPieces.{fills_piece, fills_end}
@@ -13,6 +13,4 @@ loop-piece-preserved c =
     (search rules, pushed _ _ _ c.in_ok-push_piece.ensures e c.loop-piece.invariant.1)
 
 pub returns : goal.returns
-returns c =
-    let e = fills_end c.args.columns.now (texts c.args.row.now) c.loop-piece.rest.now (uncut 62 c.loop-piece.rest.now c.split_once.result c.split_once.ensures.cases (omega arith) c.in_default.is) in
-    if_ok c.push_str.result _ c.push_str.ensures.bytes (ap (λ (bs : List ℕ). string_bytes c.loop-piece.filled ++ bs) (sym e) ∙ c.loop-piece.invariant.1)
+returns c = grind (arith, common_steps, fills_end, uncut, if_ok)

@@ -1,4 +1,5 @@
 use Rattle.std.proofs.Common.{◌++◌, ◌∷◌, [], List, ℕ, rules, ap, refl, ◌∙◌, arith}
+use Rattle.std.proofs.lemmas.Grind.{common_steps}
 use Rattle.std.specs.String.{string_bytes}
 use Rattle.gk_gherkin.specs.Feature.{texts}
 use Rattle.gk_select.proofs.FillingLoops.{cut, uncut, at_placeholder, at_other, at_end, no_cell, some_cell, pushed, if_ok}
@@ -17,6 +18,4 @@ loop-before-preserved c =
     (search rules, pushed _ (60 ∷ []) _ (c.in_ok-push.ensures.bytes ∙ ap (λ (bs : List ℕ). string_bytes c.push_str.new.self ++ bs) (c.push.ensures.ascii (omega arith))) refl (pushed _ _ _ c.in_ok-push_str.ensures.bytes e c.loop-before.invariant.1))
 
 pub returns : goal.returns
-returns c =
-    let e = at_end c.args.columns.now (texts c.args.row.now) c.loop-before.rest.now (uncut 60 c.loop-before.rest.now c.split_once.result c.split_once.ensures.cases (omega arith) c.in_default.is) in
-    if_ok c.push-2.result _ c.push-2.ensures.bytes (ap (λ (bs : List ℕ). string_bytes c.push_str-2.new.self ++ bs) (c.push-2.ensures.ascii (omega arith)) ∙ pushed _ c.loop-before.rest.now (62 ∷ []) c.in_ok-push_str-2.ensures.bytes e c.loop-before.invariant.1)
+returns c = grind (arith, common_steps, at_end, uncut, if_ok, pushed)

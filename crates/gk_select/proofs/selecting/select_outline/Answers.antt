@@ -1,4 +1,5 @@
 use Rattle.std.proofs.Common.{◌<◌, length, arith}
+use Rattle.std.proofs.lemmas.Grind.{common_steps}
 use Rattle.gk_gherkin.specs.Feature.{examples_value, scenario_value}
 use Rattle.gk_select.specs.Inherited.{inherited_value}
 use Rattle.gk_select.specs.Selecting.{examples_selected}
@@ -13,9 +14,4 @@ loop-examples-preserved c =
     c.loop-examples.examples-index c.examples-item.result items.ensures.value less c.examples-item.is c.loop-examples.selected.items c.select_examples.new.selected.items _ c.in_ok-select_examples.ensures.chosen c.loop-examples.invariant
 
 pub returns-in_err-select_examples-clause-memory : goal.returns-in_err-select_examples-clause-memory
-returns-in_err-select_examples-clause-memory c =
-    let items = c.deref-examples-items in
-    let less : c.loop-examples.examples-index < length items.result.now = omega (arith, c.loop-examples.auto.examples-index-end, c.loop-examples-test.true) in
-    if_err c.from_residual.result
-    (some_part (examples_selected c.args.choice.now (inherited_value c.args.inherited.now) (scenario_value c.args.scenario.now)) examples_value items.result.now c.args.scenario.now.examples.items
-    c.loop-examples.examples-index c.examples-item.result items.ensures.value less c.examples-item.is c.in_err-select_examples.ensures.memory)
+returns-in_err-select_examples-clause-memory c = grind (arith, common_steps, if_err, some_part)

@@ -1,4 +1,5 @@
-use Rattle.std.proofs.Common.{◌≡◌, ◌⊎◌, ◌≤◌, ◌<◌, length, map, List, ap, subst, arith}
+use Rattle.std.proofs.Common.{◌≡◌, ◌⊎◌, ◌≤◌, map, List, subst, arith}
+use Rattle.std.proofs.lemmas.Grind.{common_steps}
 use Rattle.std.proofs.lemmas.List.{length-map}
 use Rattle.std.proofs.lemmas.Result.{err_from_is_err_and}
 use Rattle.gk_select.specs.declared.select_fault.SelectFault.TheVariants.{BadTagText, Memory}
@@ -16,9 +17,4 @@ returns-in_err-check_words-clause-fault c =
     (subst (λ (ws : List Word). (fault ≡ Memory) ⊎ ((fault ≡ BadTagText) × ((x : Expression) → spelling x ≡ map word_value ws → depth x ≤ depth_limit → ⊥))) c.deref.ensures.value c.in_err-check_words.ensures.fault))
 
 pub returns-in_err-check_words-clause-memory : goal.returns-in_err-check_words-clause-memory
-returns-in_err-check_words-clause-memory c =
-    let p = err_from_is_err_and c.from_residual-in_err-check_words.result c.from_residual-in_err-check_words.ensures.1 in
-    λ is_memory.
-    let some : 0 < length c.deref.result.now = c.in_err-check_words.ensures.memory (cc (is_memory, p.1, p.2)) in
-    let same = ap length c.deref.ensures.value in
-    (c.requires, first_word_said c.args.text.now (map word_value c.in_ok-words.words.items) c.in_ok-words.ensures.found (omega (arith, some, same, length-map c.in_ok-words.words.items word_value)))
+returns-in_err-check_words-clause-memory c = grind (arith, common_steps, err_from_is_err_and, first_word_said, length-map)

@@ -1,4 +1,5 @@
-use Rattle.std.proofs.Common.{◌≡◌, ◌-◌, ℕ, length, map, take, Option, IsSome, refl, ap, sym, subst, ◌∙◌, arith}
+use Rattle.std.proofs.Common.{◌≡◌, ◌-◌, ℕ, map, take, Option, IsSome, refl, ap, sym, subst, ◌∙◌, arith}
+use Rattle.std.proofs.lemmas.Grind.{common_steps}
 use Rattle.std.proofs.lemmas.Bool.Decides.{nat_tests}
 use Rattle.std.proofs.lemmas.Result.{err_from_is_err_and}
 use Rattle.gk_select.specs.TagWords.{WordValue, word_value}
@@ -6,9 +7,7 @@ use Rattle.gk_select.proofs.TagTextWords.{ends, word_fails, word_needs_memory, w
 use Rattle.gk_select.proofs.tag_words.words_of.Goals as goal
 
 pub returns-clause-found : goal.returns-clause-found
-returns-clause-found c =
-    let none : length c.words.rest.now ≡ 0 = grind (arith, nat_tests, c.is_empty.ensures, c.words-test.false) in
-    ends c.args.text.now (map word_value c.words.words.items) c.words.rest.now c.words.invariant.1 none
+returns-clause-found c = grind (arith, common_steps, nat_tests, ends)
 
 pub returns-in_err-word_said-clause-fault : goal.returns-in_err-word_said-clause-fault
 returns-in_err-word_said-clause-fault c =
@@ -20,13 +19,7 @@ returns-in_err-word_said-clause-fault c =
     c.if-not-is_blank.true (c.range.ensures.value ∙ ap (λ (k : ℕ). take k c.words.rest.now) all) c.words.invariant.1 c.in_err-word_said.field-0.0 c.in_err-word_said.ensures)
 
 pub returns-in_err-word_said-clause-memory : goal.returns-in_err-word_said-clause-memory
-returns-in_err-word_said-clause-memory c =
-    let p = err_from_is_err_and c.from_residual.result c.from_residual.ensures.1 in
-    let n = c.word_end-end.result in
-    let all : n - 0 ≡ n = omega arith in
-    λ is_memory. word_lacks_memory c.args.text.now (map word_value c.words.words.items) c.words.rest.now c.as_bytes.result.now c.as_bytes-in-words.result.now c.range.result.now n c.is_blank.result
-    (record { bytes_are = c.as_bytes.ensures.value; again_are = c.as_bytes-in-words.ensures.value; cut = c.word_end-end.ensures.word; tested = c.is_blank.ensures })
-    c.if-not-is_blank.true (c.range.ensures.value ∙ ap (λ (k : ℕ). take k c.words.rest.now) all) c.words.invariant.1 c.in_err-word_said.field-0.0 c.in_err-word_said.ensures (cc (is_memory, p.1, p.2))
+returns-in_err-word_said-clause-memory c = grind (arith, common_steps, err_from_is_err_and, word_lacks_memory)
 
 pub returns-in_err-push-clause-memory : goal.returns-in_err-push-clause-memory
 returns-in_err-push-clause-memory c =

@@ -1,4 +1,5 @@
-use Rattle.std.proofs.Common.{◌≡◌, ◌≤◌, ℕ, List, length, refl, sym, subst, ◌∙◌}
+use Rattle.std.proofs.Common.{◌≡◌, ◌≤◌, ℕ, List, length, refl, sym, subst, ◌∙◌, arith}
+use Rattle.std.proofs.lemmas.Grind.{common_steps}
 use Rattle.gk_gherkin.specs.Lines.{limit, lines_of, IsText}
 use Rattle.gk_steps.specs.Finding.{library_value}
 use Rattle.gk_steps.specs.LibraryFile.{ReadsLibrary}
@@ -9,9 +10,7 @@ use Rattle.gk_steps.proofs.default_file.default_library.Goals as goal
 
 pub returns-in-Ok-clause-read : goal.returns-in-Ok-clause-read
 unfolding default_text
-returns-in-Ok-clause-read c =
-    let same : c.as_bytes.result.now ≡ default_text = c.as_bytes.ensures.value ∙ refl in
-    subst (λ (t : List ℕ). ReadsLibrary (lines_of t) (library_value c.in-Ok.library)) same c.in-Ok.ensures.found.1
+returns-in-Ok-clause-read c = grind (arith, common_steps)
 
 pub returns-in-Ok-clause-entries : goal.returns-in-Ok-clause-entries
 unfolding default_text

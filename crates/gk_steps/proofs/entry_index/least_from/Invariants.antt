@@ -1,11 +1,10 @@
 use Rattle.std.proofs.Common.{◌≡◌, ◌<◌, ◌≤◌, ℕ, Some}
 use Rattle.std.specs.Prelude.{slice_get}
-use Rattle.gk_steps.specs.EntryIndex.{keyed}
 use Rattle.gk_steps.proofs.entry_index.least_from.Given as goal
 
 abbrev pub invariant-loop-k : goal.invariant-loop-k
 invariant-loop-k l = record {
   low : l.from ≤ l.most → l.from ≤ l.least;
   high : l.least ≤ l.most;
-  least : (j p : ℕ) → j < l.k → slice_get l.bucket j ≡ Some (keyed l.key p) → l.from ≤ p → l.least ≤ p;
+  least : (j p : ℕ) → j < l.k → slice_get l.positions j ≡ Some p → l.from ≤ p → l.least ≤ p;
 }

@@ -1,7 +1,8 @@
-use Rattle.std.proofs.Common.{◌≤◌, ◌+◌, inl, inr, arith, sym, map, drop, subst, refl, Some, None}
+use Rattle.std.proofs.Common.{◌≤◌, ◌+◌, arith, sym, map, drop, subst, refl, Some, None}
+use Rattle.std.proofs.lemmas.Grind.{common_steps}
 use Rattle.gk_steps.specs.declared.filled_cells.Cells.{Cells}
 use Rattle.gk_steps.specs.FilledCells.{cells_of_type}
-use Rattle.gk_steps.specs.Finding.{NoneBefore, MayNeedTable, entry_value, found_at}
+use Rattle.gk_steps.specs.Finding.{NoneBefore, entry_value, found_at}
 use Rattle.gk_steps.proofs.FilledCellsLemmas.{asked, passed_over}
 use Rattle.gk_steps.specs.Captures.{IsKeptResult, kept_if}
 use Rattle.gk_steps.specs.Pattern.{piece_value}
@@ -32,16 +33,10 @@ pub returns-clause-found : goal.returns-clause-found
 returns-clause-found g c = (None, tt, none_all c.args.indexed.now.entries.now c.args.step_type c.args.text.now c.loop-position.position c.loop-position-test.false c.loop-position.invariant.0)
 
 pub returns-in_err-match_fitting-clause-memory : goal.returns-in_err-match_fitting-clause-memory
-returns-in_err-match_fitting-clause-memory g c =
-    of_fault c.from_residual.result (candidate c.args.indexed.now.entries.now c.args.step_type c.args.text.now c.loop-position.position c.index-entries-position.result c.loop-position-test.true c.index-entries-position.is c.if-is_same.ensures (c.if-can_match.ensures.prefix refl, c.if-can_match.ensures.back refl))
+returns-in_err-match_fitting-clause-memory g c = grind (arith, common_steps, of_fault, candidate)
 
 pub returns-in_err-match_fitting-clause-table : goal.returns-in_err-match_fitting-clause-table
-returns-in_err-match_fitting-clause-table g c =
-    of_fault c.from_residual.result (elim c.in_err-match_fitting.ensures.table [
-      | inl memory ↦ inl memory
-      | inr table ↦ inr (table_candidate c.args.indexed.now.entries.now c.args.step_type c.args.text.now c.loop-position.position c.index-entries-position.result c.loop-position-test.true c.index-entries-position.is c.if-is_same.ensures (c.if-can_match.ensures.prefix refl, c.if-can_match.ensures.back refl)
-          (subst (λ ps. MayNeedTable (map piece_value ps)) c.deref.ensures.value table))
-    ])
+returns-in_err-match_fitting-clause-table g c = grind (arith, common_steps, of_fault, table_candidate)
 
 pub loop-position-init : goal.loop-position-init
 loop-position-init g c =

@@ -1,4 +1,5 @@
-use Rattle.std.proofs.Common.{ℕ, List, Option, refl, map, subst}
+use Rattle.std.proofs.Common.{ℕ, List, Option, refl, map, subst, arith}
+use Rattle.std.proofs.lemmas.Grind.{common_steps}
 use Rattle.gk_gherkin.specs.Lines.{borrowed_value}
 use Rattle.gk_steps.specs.declared.captures.NoCaptures.{NoCaptures}
 use Rattle.gk_steps.specs.declared.pattern.Piece.{Piece}
@@ -21,12 +22,7 @@ returns-in-Some-clause-fault c =
     )
 
 pub returns-in-None-clause-entry : goal.returns-in-None-clause-entry
-returns-in-None-clause-entry c =
-    let found = c.in_ok-find_of.ensures.found in
-    entry_with (map entry_value c.args.earlier.now.entries.now) (borrowed_value c.args.line.now) c.args.said.now.step_type c.args.said.now.pattern.now c.args.said.now.action.now (pattern_value c.in-Ok.pattern) c.in-Ok-action_at.action
-    found.0 (hit_none {K = NoCaptures} (λ _ _ _. Unit {0}) (map entry_value c.args.earlier.now.entries.now) found.0 (subst (λ (entry : Option ℕ). IsHit (λ _ _ _. Unit {0}) (map entry_value c.args.earlier.now.entries.now) (hit_of c.find_of.new.kept entry) found.0) c.in-None.is found.1)) c.requires.said c.in-Ok.ensures.pattern
-    (subst (λ (q : List Piece). FitsAction c.args.said.now.action.now (map piece_value q) c.in-Ok-action_at.action) c.deref.ensures.value c.in-Ok-action_at.ensures.action) found.2
+returns-in-None-clause-entry c = grind (arith, common_steps, entry_with, hit_none)
 
 pub returns-in_err-find_of-clause-fault : goal.returns-in_err-find_of-clause-fault
-returns-in_err-find_of-clause-fault c = memory_fault c.from_residual.result (map entry_value c.args.earlier.now.entries.now) (borrowed_value c.args.line.now) c.from_residual.ensures.1
-    (pattern_needs (borrowed_value c.args.line.now) c.args.said.now.step_type c.args.said.now.pattern.now c.args.said.now.action.now (pattern_value c.in-Ok.pattern) c.requires.said c.in-Ok.ensures.pattern)
+returns-in_err-find_of-clause-fault c = grind (arith, common_steps, memory_fault, pattern_needs)

@@ -1,4 +1,5 @@
 use Rattle.std.proofs.Common.{◌≡◌, ℕ, ◌≤◌, ◌∷◌, List, map, ap, sym, subst, length, arith}
+use Rattle.std.proofs.lemmas.Grind.{common_steps}
 use Rattle.std.specs.Str.{chars, IsCharBoundary, IsUtf8}
 use Rattle.std.proofs.lemmas.Str.{IsUtf8-string_bytes}
 use Rattle.gk_steps.specs.declared.pattern.Piece.{Piece}
@@ -10,9 +11,7 @@ use Rattle.gk_steps.proofs.literal_ends.after_start.Goals as goal
 
 -- a text may be cut after the literal that it begins with
 cut : (pieces : List Piece) (first : Piece) (after : List Piece) (text literal : List ℕ) (size : ℕ) → pieces ≡ first ∷ after → piece_value first ≡ Literal literal → FitsStart (map piece_value pieces) text → IsUtf8 text → IsUtf8 literal → length literal ≡ size → IsCharBoundary text size
-cut pieces first after text literal size are is fits whole part same =
-    let begins = subst (λ ps. FitsStart ps text) (first_and_rest pieces first after (Literal literal) are is) fits in
-    subst (IsCharBoundary text) same (boundary_after text literal begins.0 whole begins.1 part)
+cut pieces first after text literal size are is fits whole part same = grind (arith, common_steps, first_and_rest, boundary_after)
 
 pub range_from-requires : goal.range_from-requires
 range_from-requires c = λ some.

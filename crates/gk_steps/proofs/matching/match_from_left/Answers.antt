@@ -1,11 +1,11 @@
-use Rattle.std.proofs.Common.{rules, inl, inr, ◌≡◌, ◌∷◌, ◌++◌, ◌-◌, length, drop, None, [], take, map, refl, ap, subst, sym, ◌∙◌, arith}
+use Rattle.std.proofs.Common.{rules, ◌≡◌, ◌∷◌, ◌++◌, ◌-◌, length, drop, None, [], take, map, refl, ap, subst, sym, ◌∙◌, arith}
+use Rattle.std.proofs.lemmas.Grind.{common_steps}
 use Rattle.std.specs.Str.{chars}
 use Rattle.std.proofs.lemmas.List.{append-nil, append_assoc}
 use Rattle.gk_steps.specs.Pattern.{piece_value}
 use Rattle.gk_steps.specs.Matching.{MatchesNot}
 use Rattle.gk_steps.specs.Advances.{values_of}
 use Rattle.gk_steps.specs.Leftmost.{FindsRest}
-use Rattle.gk_steps.specs.Finding.{MayNeedTable}
 use Rattle.gk_steps.proofs.FindingLemmas.{of_fault}
 use Rattle.gk_steps.proofs.LeftmostLemmas.{none_left, finds_more, table_after}
 use Rattle.gk_steps.proofs.FilledCellsLemmas.{fewer_chars}
@@ -49,9 +49,7 @@ returns-in-Nowhere-clause-found g c = λ done before is.
     (None, tt, so_far.2 None (λ ps text known. known None none))
 
 pub returns-in-Unknown-clause-table : goal.returns-in-Unknown-clause-table
-returns-in-Unknown-clause-table g c =
-    let here : MayNeedTable (map piece_value c.pieces.left.now) = subst MayNeedTable (sym (ap (map piece_value) c.in-Some.ensures.cases.0)) (inl c.in-Unknown.ensures) in
-    of_fault c.match_rest.result (inr (table_after c.pieces.invariant.1.0 (map piece_value c.pieces.left.now) (map piece_value c.args.pieces.now) c.pieces.invariant.1.1 here))
+returns-in-Unknown-clause-table g c = grind (arith, common_steps, of_fault, table_after)
 
 pub returns-clause-found : goal.returns-clause-found
 returns-clause-found g c = λ done before is.

@@ -1,4 +1,5 @@
-use Rattle.std.proofs.Common.{map, subst}
+use Rattle.std.proofs.Common.{map, subst, arith}
+use Rattle.std.proofs.lemmas.Grind.{common_steps}
 use Rattle.gk_steps.specs.Pattern.{piece_value}
 use Rattle.gk_steps.specs.Captures.{IsKeptResult}
 use Rattle.gk_steps.proofs.CaptureLemmas.{rest_some, rest_none}
@@ -22,8 +23,7 @@ returns-in-Some-clause-found g c = λ done before is. rest_some g.K.Captures.kee
     (subst (IsKeptResult g.K.Captures.keeps (map piece_value c.args.left.now) c.args.rest.now) c.in-Some.is c.in_ok-later.ensures.found)
 
 pub returns-clause-found : goal.returns-clause-found
-returns-clause-found g c = λ done before is. rest_none g.K.Captures.keeps done before (map piece_value c.args.left.now) c.args.rest.now
-    (subst (IsKeptResult g.K.Captures.keeps (map piece_value c.args.left.now) c.args.rest.now) c.in-None.is c.in_ok-later.ensures.found)
+returns-clause-found g c = grind (arith, common_steps, rest_none)
 
 pub returns-in-Some-clause-filled : goal.returns-in-Some-clause-filled
 returns-in-Some-clause-filled g c = rest_filled c.args.left.now c.args.rest.now c.in_ok-boundaries.boundaries.items c.deref.result.now c.args.cells.now.filled c.match_pieces.new.cells.filled c.utf8.rest c.in_ok-boundaries.ensures c.deref.ensures.value c.in_ok-later.ensures.filled

@@ -1,18 +1,15 @@
 use Rattle.std.proofs.Common.{◌≡◌, ap, ◌∙◌, arith}
+use Rattle.std.proofs.lemmas.Grind.{common_steps}
 use Rattle.std.specs.List.{prefix_len}
 use Rattle.gk_steps.specs.Pattern.{is_name_byte}
 use Rattle.gk_steps.proofs.SpellingLemmas.{name_boundary, one_name}
 use Rattle.gk_steps.proofs.spelling.name_run.Goals as goal
 
 pub range-requires-clause-end_boundary : goal.range-requires-clause-end_boundary
-range-requires-clause-end_boundary c =
-    let size : c.name_len-end.result ≡ prefix_len is_name_byte c.args.text.now = c.name_len-end.ensures.value ∙ ap (prefix_len is_name_byte) c.as_bytes.ensures.value in
-    name_boundary c.args.text.now c.name_len-end.result c.utf8.text (omega arith)
+range-requires-clause-end_boundary c = grind (arith, common_steps, name_boundary)
 
 pub range_from-requires : goal.range_from-requires
-range_from-requires c =
-    let size : c.name_len-end.result ≡ prefix_len is_name_byte c.args.text.now = c.name_len-end.ensures.value ∙ ap (prefix_len is_name_byte) c.as_bytes.ensures.value in
-    let b = name_boundary c.args.text.now c.name_len-end.result c.utf8.text (omega arith) in λ some. b
+range_from-requires c = grind (arith, common_steps, name_boundary)
 
 pub returns-clause-only : goal.returns-clause-only
 returns-clause-only c =

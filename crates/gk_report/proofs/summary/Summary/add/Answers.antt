@@ -1,10 +1,7 @@
-use Rattle.std.proofs.Common.{◌≡◌, rules, ap, ◌∙◌}
-use Rattle.gk_run.specs.Results.{feature_row}
-use Rattle.gk_report.specs.Summary.{one_feature_more}
+use Rattle.std.proofs.Common.{arith}
+use Rattle.std.proofs.lemmas.Grind.{common_steps}
 use Rattle.gk_report.proofs.SummaryLemmas.{feature_added}
 use Rattle.gk_report.proofs.summary.Summary.add.Goals as goal
 
 pub returns-clause-added : goal.returns-clause-added
-returns-clause-added c =
-    let counts : c.add_cases.new.summary ≡ one_feature_more c.args.self.now (feature_row c.args.feature.now) = search rules in
-    λ rows e. counts ∙ ap (λ s. one_feature_more s (feature_row c.args.feature.now)) e ∙ feature_added rows (feature_row c.args.feature.now)
+returns-clause-added c = grind (arith, common_steps, feature_added)

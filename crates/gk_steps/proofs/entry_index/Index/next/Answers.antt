@@ -1,5 +1,5 @@
 use Rattle.std.proofs.Common.{◌≡◌, ◌∙◌, ◌+◌, ◌<◌, ℕ, ◌-◌, ap, take, drop, length, subst, sym, arith}
-use Rattle.gk_steps.specs.EntryIndex.{key_over, Skips, IsShorter}
+use Rattle.gk_steps.specs.EntryIndex.{key_over, Skips, IsAny, IsShorter, first_length}
 use Rattle.gk_steps.proofs.EntryIndexLemmas.{key_between, first_more, first_unmarked, first_short, first_all}
 use Rattle.gk_steps.proofs.entry_index.Index.next.Goals as goal
 use Rattle.gk_steps.proofs.entry_index.Index.next.Goals.{then-index, else-index}
@@ -18,20 +18,18 @@ loop-first-preserved c =
     elim c.if-index.branch [
       | then-index w ↦
           let key : w.key_over-key.result ≡ key_over 0 (take first bytes) =
-          w.key_over-key.ensures.key ∙ ap (λ k. key_over k (take (first - c.loop-first.size) (drop c.loop-first.size bytes))) c.loop-first.invariant.key
+          w.key_over-key.ensures ∙ ap (λ k. key_over k (take (first - c.loop-first.size) (drop c.loop-first.size bytes))) c.loop-first.invariant.key
           ∙ key_between 0 bytes c.loop-first.size first c.loop-first.invariant.within c.if-bytes-first.false in
           record {
             key = rw (w.key-is, w.size-is) key;
-            small = rw (w.key-is) w.key_over-key.ensures.small;
             within = omega (arith, w.size-is);
-            skips = subst (λ (n : ℕ). Skips (IsShorter (first + 1)) index c.args.from c.args.most c.args.text.now n) (sym w.least-is)
+            skips = subst (λ (n : ℕ). Skips (IsShorter IsAny first_length (first + 1)) index c.args.from c.args.most c.args.text.now n) (sym w.least-is)
                 (first_more index first w.key_over-key.result c.args.from c.args.most c.loop-first.least w.next_by_first-least.result c.args.text.now (key ∙ ap (λ t. key_over 0 (take first t)) c.as_bytes-bytes.ensures.value) c.loop-first.invariant.skips w.next_by_first-least.ensures);
           }
       | else-index w ↦ record {
         key = rw (w.key-is, w.size-is) c.loop-first.invariant.key;
-        small = rw (w.key-is) c.loop-first.invariant.small;
         within = omega (arith, w.size-is);
-        skips = subst (λ (n : ℕ). Skips (IsShorter (first + 1)) index c.args.from c.args.most c.args.text.now n) (sym w.least-is)
+        skips = subst (λ (n : ℕ). Skips (IsShorter IsAny first_length (first + 1)) index c.args.from c.args.most c.args.text.now n) (sym w.least-is)
             (first_unmarked index c.index.result.now first c.args.from c.args.most c.loop-first.least c.args.text.now less c.index.ensures w.if-index.false c.loop-first.invariant.skips);
       }
     ]

@@ -1,7 +1,6 @@
 use Rattle.std.proofs.Common.{◌∙◌, ◌-◌, ap, drop, length, arith}
 use Rattle.std.proofs.lemmas.List.{take_rest}
-use Rattle.gk_steps.specs.EntryIndex.{bucket_of}
-use Rattle.gk_steps.proofs.EntryIndexLemmas.{ends_short, ends_bucket}
+use Rattle.gk_steps.proofs.EntryIndexLemmas.{ends_short, ends_under}
 use Rattle.gk_steps.proofs.entry_index.Index.next_by_ends.Goals as goal
 
 pub returns-then-bytes-last : goal.returns-then-bytes-last
@@ -12,6 +11,6 @@ returns-then-bytes-last c =
 pub returns : goal.returns
 returns c =
     let bytes = c.as_bytes-bytes.result.now in
-    ends_bucket c.args.self.now c.args.key c.args.last c.args.from c.args.most c.least_from.result c.args.text.now _ c.bucket_of.result.now c.key_over-key.result
-    (take_rest bytes (length bytes - c.args.last) ∙ ap (λ t. drop (length t - c.args.last) t) c.as_bytes-bytes.ensures.value) c.key_over-key.ensures.key
-    (c.bucket_of.ensures ∙ ap (λ bs. bucket_of bs c.key_over-key.result) c.deref.ensures.value) c.least_from.ensures
+    ends_under c.args.self.now c.args.key c.args.last c.args.from c.args.most c.least_from.result c.args.text.now _ c.items_under.result.now c.key_over-ends.result
+    (take_rest bytes (length bytes - c.args.last) ∙ ap (λ t. drop (length t - c.args.last) t) c.as_bytes-bytes.ensures.value) c.key_over-ends.ensures
+    c.items_under.ensures c.least_from.ensures

@@ -1,5 +1,5 @@
-use Rattle.gk_steps.specs.EntryIndex.{Skips, HasEndsAmong}
+use Rattle.gk_steps.specs.EntryIndex.{Skips, IsShorter, HasFirst, last_length}
 use Rattle.gk_steps.proofs.entry_index.Index.next_by_first.Given as goal
 
-abbrev pub invariant-loop-k : goal.invariant-loop-k
-invariant-loop-k l = Skips (HasEndsAmong l.first l.key l.lasts l.k) l.self l.from l.most l.text l.least
+abbrev pub invariant-loop-last : goal.invariant-loop-last
+invariant-loop-last l = Skips (IsShorter (HasFirst l.first l.key) last_length l.last) l.self l.from l.most l.text l.least

@@ -3,7 +3,7 @@ use Rattle.std.specs.Prelude.{IsTrue}
 use Rattle.gk_steps.specs.declared.entry_index.Head.{Head}
 use Rattle.gk_steps.specs.EntryIndex.{AreHeads}
 use Rattle.gk_steps.specs.Library.{are_for_each_from, is_for_one_before}
-use Rattle.gk_steps.proofs.EntryIndexLemmas.{if_asked, written_back}
+use Rattle.gk_steps.proofs.EntryIndexLemmas.{written_back}
 use Rattle.gk_steps.proofs.library.Library.built.Goals as goal
 
 pub invariant_of-result : goal.invariant_of-result
@@ -19,5 +19,5 @@ invariant_of-result c =
       };
       headed = subst (λ (hs : List Head). AreHeads hs entries) (sym (written_back c.args.builder.heads.len c.count_equal.new.heads heads (omega (arith, c.count_equal.auto.heads, ap length c.deref_mut.ensures.value)) (omega (arith, c.args.builder.heads.ok.0))))
           (c.count_equal.ensures entries (subst (λ (hs : List Head). AreHeads hs entries) (sym c.deref_mut.ensures.value) c.requires.heads));
-      listed = if_asked c.into_asked.result c.args.builder.index c.args.builder.entries.items c.into_asked.ensures c.requires.index;
+      listed = c.requires.index.listed;
     }

@@ -1,5 +1,6 @@
-use Rattle.std.proofs.Common.{arith, inl, inr, map, subst, Some, None}
-use Rattle.gk_steps.specs.Finding.{HasCandidate, HasCandidateFor, HasTableCandidate, HasTableCandidateFor, entry_value, library_value}
+use Rattle.std.proofs.Common.{arith, map, subst, Some}
+use Rattle.std.proofs.lemmas.Grind.{common_steps}
+use Rattle.gk_steps.specs.Finding.{entry_value, library_value}
 use Rattle.gk_steps.specs.Captures.{HitsWhatIsFound, hit_of}
 use Rattle.gk_steps.proofs.LibraryLemmas.{typed_candidate, typed_table_candidate}
 use Rattle.gk_steps.proofs.FindingLemmas.{of_fault, either_more}
@@ -29,34 +30,19 @@ returns-clause-found g c =
     c.search_any-2.ensures.found
 
 pub returns-in_err-entry-clause-memory : goal.returns-in_err-entry-clause-memory
-returns-in_err-entry-clause-memory g c =
-    let known : HasCandidateFor (library_value c.args.self.now) c.args.step_type c.args.text.now = inl (typed_candidate c.args.self.now.entries.items c.args.self.now.typed c.args.step_type c.args.text.now
-    (subst (λ es. HasCandidate (map entry_value es) (Some c.args.step_type) c.args.text.now) c.indexed-typed.ensures.entries c.in_err-entry.ensures.memory)) in
-    of_fault c.from_residual.result known
+returns-in_err-entry-clause-memory g c = grind (arith, common_steps, typed_candidate, of_fault)
 
 pub returns-in_err-entry-clause-most : goal.returns-in_err-entry-clause-most
-returns-in_err-entry-clause-most g c =
-    let typed = typed_cells c.args.self.now.entries.items c.indexed-typed.result.entries.now c.args.self.now.typed (Some c.args.step_type) c.args.text.now c.indexed-typed.ensures.entries in
-    omega (arith, typed, c.find_of.ensures.most)
+returns-in_err-entry-clause-most g c = grind (arith, common_steps, typed_cells)
 
 pub returns-in-Some-clause-most : goal.returns-in-Some-clause-most
-returns-in-Some-clause-most g c =
-    let typed = typed_cells c.args.self.now.entries.items c.indexed-typed.result.entries.now c.args.self.now.typed (Some c.args.step_type) c.args.text.now c.indexed-typed.ensures.entries in
-    omega (arith, typed, c.find_of.ensures.most)
+returns-in-Some-clause-most g c = grind (arith, common_steps, typed_cells)
 
 pub returns-clause-most : goal.returns-clause-most
-returns-clause-most g c =
-    let typed = typed_cells c.args.self.now.entries.items c.indexed-typed.result.entries.now c.args.self.now.typed (Some c.args.step_type) c.args.text.now c.indexed-typed.ensures.entries in
-    omega (arith, typed, c.find_of.ensures.most, c.search_any-2.ensures.most)
+returns-clause-most g c = grind (arith, common_steps, typed_cells)
 
 pub returns-in_err-entry-clause-table : goal.returns-in_err-entry-clause-table
-returns-in_err-entry-clause-table g c =
-    of_fault c.from_residual.result (elim c.in_err-entry.ensures.table [
-      | inl memory ↦ inl memory
-      | inr table ↦ inr (inl (typed_table_candidate c.args.self.now.entries.items c.args.self.now.typed c.args.step_type c.args.text.now
-          (subst (λ es. HasTableCandidate (map entry_value es) (Some c.args.step_type) c.args.text.now) c.indexed-typed.ensures.entries table)))
-    ])
+returns-in_err-entry-clause-table g c = grind (arith, common_steps, of_fault, typed_table_candidate)
 
 pub returns-clause-table : goal.returns-clause-table
-returns-clause-table g c =
-    either_more c.search_any-2.result g.K.Captures.allocates (HasTableCandidate (library_value c.args.self.now) None c.args.text.now) (HasTableCandidateFor (library_value c.args.self.now) c.args.step_type c.args.text.now) (λ table. inr table) c.search_any-2.ensures.table
+returns-clause-table g c = grind (arith, common_steps, either_more)

@@ -1,4 +1,5 @@
-use Rattle.std.proofs.Common.{length, ◌≤◌, arith}
+use Rattle.std.proofs.Common.{arith}
+use Rattle.std.proofs.lemmas.Grind.{common_steps}
 use Rattle.gk_world.proofs.JournalLemmas.{popped, rewound_on, rewound-before, FitAll-before, settled}
 use Rattle.gk_world.proofs.journal.Journal.rewind.Goals as goal
 
@@ -12,13 +13,7 @@ loop-self-preserved g c =
     rewound_on g.T.Reversible.undone g.T.Reversible.fits _ _ c.args.count c.loop-self.self-inside.entries.items c.pop.new.self.items c.pop.result c.unwrap-undo.result _ _ c.loop-self.invariant c.pop.ensures.items c.unwrap-undo.ensures (omega arith) c.undo.ensures.slots
 
 pub returns-clause-same : goal.returns-clause-same
-returns-clause-same g c =
-    let within : c.args.count ≤ length c.args.self.now = c.requires.count in
-    let d = settled g.T.Reversible.undone c.self.inside.entries.items c.args.self.now c.loop-self.self-inside.entries.items c.args.count (g.T.Reversible.slots c.args.on.now) (g.T.Reversible.slots c.loop-self.on) c.self.view_is c.loop-self.invariant.within (omega arith) c.loop-self.invariant.older c.loop-self.invariant.same in
-    λ k le. rewound-before g.T.Reversible.undone c.args.self.now c.loop-self.self-inside.entries.items k c.args.count _ _ le within d.0 d.1
+returns-clause-same g c = grind (arith, common_steps, settled, rewound-before)
 
 pub returns-clause-older : goal.returns-clause-older
-returns-clause-older g c =
-    let within : c.args.count ≤ length c.args.self.now = c.requires.count in
-    let d = settled g.T.Reversible.undone c.self.inside.entries.items c.args.self.now c.loop-self.self-inside.entries.items c.args.count (g.T.Reversible.slots c.args.on.now) (g.T.Reversible.slots c.loop-self.on) c.self.view_is c.loop-self.invariant.within (omega arith) c.loop-self.invariant.older c.loop-self.invariant.same in
-    λ k le h. FitAll-before g.T.Reversible.undone g.T.Reversible.fits c.args.self.now c.loop-self.self-inside.entries.items k c.args.count _ _ le within d.0 d.1 h
+returns-clause-older g c = grind (arith, common_steps, settled, FitAll-before)

@@ -1,4 +1,5 @@
 use Rattle.std.proofs.Common.{arith}
+use Rattle.std.proofs.lemmas.Grind.{common_steps}
 use Rattle.gk_world.proofs.SandboxLemmas.{depth_is, begun_sound, begun_value}
 use Rattle.gk_world.proofs.sandbox.Sandbox.begin.Goals as goal
 
@@ -17,6 +18,4 @@ invariant_of-self c =
     begun_sound i.world i.journal i.depth c.len.result i.starts c.args.self.now c.self.view_is c.requires (omega arith) c.len.ensures c.self.invariant
 
 pub returns-clause-ok : goal.returns-clause-ok
-returns-clause-ok c =
-    let i = c.self.inside in
-    begun_value i.world i.journal i.depth c.len.result i.starts c.args.self.now c.self.view_is c.requires (omega arith) c.len.ensures c.self.invariant
+returns-clause-ok c = grind (arith, common_steps, begun_value)

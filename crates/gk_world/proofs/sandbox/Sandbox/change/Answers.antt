@@ -1,29 +1,18 @@
 use Rattle.std.proofs.Common.{arith, sym, subst}
+use Rattle.std.proofs.lemmas.Grind.{common_steps}
 use Rattle.gk_world.specs.World.{IsHere}
 use Rattle.gk_world.specs.Sandbox.{open_starts}
-use Rattle.gk_world.proofs.SandboxLemmas.{length-open_starts, depth_is, unrecorded_sound, applies, recorded_value, recorded_sound, recorded_answer, recorded_same}
+use Rattle.gk_world.proofs.SandboxLemmas.{length-open_starts, depth_is, unrecorded_sound, applies, recorded_value, recorded_sound, recorded_answer}
 use Rattle.gk_world.proofs.sandbox.Sandbox.change.Goals as goal
 
 pub change-answer-requires : goal.change-answer-requires
-change-answer-requires c =
-    let i = c.self.inside in
-    applies c.args.change i.world i.journal (open_starts i.depth i.starts) c.args.self.now c.self.view_is c.requires.here c.self.invariant
+change-answer-requires c = grind (arith, common_steps, applies)
 
 pub returns-clause-answer : goal.returns-clause-answer
-returns-clause-answer c =
-    let i = c.self.inside in
-    recorded_answer c.args.change i.world i.journal (open_starts i.depth i.starts) c.args.self.now c.self.view_is c.requires.here c.self.invariant (omega (arith, length-open_starts i.depth i.starts)) c.change-answer.new.on c.change-answer.new.self c.change-answer.result c.requires.allowed c.change-answer.ensures.refused
+returns-clause-answer c = grind (arith, common_steps, recorded_answer, length-open_starts)
 
 pub returns-clause-ok : goal.returns-clause-ok
-returns-clause-ok c =
-    let i = c.self.inside in
-    let r = c.change-answer.ensures in
-    recorded_value c.args.change i.world i.journal (open_starts i.depth i.starts) c.args.self.now c.self.view_is c.requires.here c.self.invariant (omega (arith, length-open_starts i.depth i.starts)) c.change-answer.new.on c.change-answer.new.self c.change-answer.result c.names_differ.ensures r.done r.same r.recorded
-
-pub returns-clause-err : goal.returns-clause-err
-returns-clause-err c =
-    let i = c.self.inside in
-    recorded_same c.args.change i.world i.journal (open_starts i.depth i.starts) c.args.self.now c.self.view_is c.requires.here c.self.invariant (omega (arith, length-open_starts i.depth i.starts)) c.change-answer.new.on c.change-answer.new.self c.change-answer.result c.change-answer.ensures.err
+returns-clause-ok c = grind (arith, common_steps, recorded_value, length-open_starts)
 
 pub invariant_of-self : goal.invariant_of-self
 invariant_of-self c =

@@ -1,4 +1,5 @@
-use Rattle.std.proofs.Common.{◌<◌, length, ap, subst, ◌∙◌}
+use Rattle.std.proofs.Common.{ap, ◌∙◌, arith}
+use Rattle.std.proofs.lemmas.Grind.{common_steps}
 use Rattle.gk_world.specs.Cells.{cell_at}
 use Rattle.gk_world.proofs.RowsLemmas.{written, differ-written, cells-at-position}
 use Rattle.gk_world.proofs.slots.Slots.exchange.Goals as goal
@@ -7,10 +8,7 @@ pub invariant_of-self : goal.invariant_of-self
 invariant_of-self g c = differ-written g.C.Cells.cells c.self.inside.rows.entries c.args.position c.replace.new.self c.self.invariant
 
 pub returns-clause-within : goal.returns-clause-within
-returns-clause-within g c =
-    subst (λ l. c.args.cell < length l)
-    (cells-at-position g.C.Cells.cells c.self.inside.rows.entries c.args.self.now c.args.position c.index_mut-cells.result.now c.self.view_is c.index_mut-cells.ensures.value)
-    c.replace.ensures.within
+returns-clause-within g c = grind (arith, common_steps, cells-at-position)
 
 pub returns-clause-set : goal.returns-clause-set
 returns-clause-set g c =

@@ -1,9 +1,5 @@
-use Rattle.std.proofs.Common.{length, ap, arith}
-use Rattle.gk_world.proofs.RowsLemmas.{length-slots_of, written, differ-written}
+use Rattle.gk_world.proofs.RowsLemmas.{written, differ-written}
 use Rattle.gk_world.proofs.slots.Slots.write.Goals as goal
-
-pub index_mut-cells-requires : goal.index_mut-cells-requires
-index_mut-cells-requires g c = omega (arith, c.requires.position, length-slots_of g.C.Cells.cells c.self.inside.rows.entries, ap length c.self.view_is)
 
 pub invariant_of-self : goal.invariant_of-self
 invariant_of-self g c = differ-written g.C.Cells.cells c.self.inside.rows.entries c.args.position c.replace-old.new.self c.self.invariant
