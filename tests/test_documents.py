@@ -270,7 +270,7 @@ def broken_comments(path):
 
 def shared_modules():
     """The modules that have the name of a module of another crate. Each crate may have its laws, and what its calls return."""
-    modules = shape.files(r"crates/\w+/(src|specs|proofs)/(?!(lib|main|tests|Lib|laws|Results)[.])\w+[.](rt|antt)")
+    modules = shape.files(r"crates/\w+/(src|specs|proofs)/(?!(lib|main|tests|Lib|Common|laws|Results)[.])\w+[.](rt|antt)")
     counts = collections.Counter(it.split("/", 2)[2] for it in modules)
     return (it for it in modules if counts[it.split("/", 2)[2]] > 1)
 

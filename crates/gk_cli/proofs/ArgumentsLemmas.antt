@@ -1,57 +1,14 @@
 -- The command that reads the arguments, and what its matches hold.
-use Rattle.std.proofs.Common.{◌≡◌, ◌≢◌, ◌⊎◌, ◌∙◌, ◌<◌, ◌≤◌, ◌&&◌, ◌||◌, ◌==◌, ◌+◌, ◌++◌, ap, ap₂, sym, subst, refl, inl, inr, arith, zero, suc, ℕ, Bool, true, false, not, List, [], ◌∷◌, length, map, codes, drop, drop-cons, fold, take, is_some, get_or, Option, Some, None, Result, Ok, Err}
-use Rattle.std.specs.Prelude.{IsOk, cond, find, if◌then◌else◌, option_map, unwrap_or, IsErrAnd}
-use Rattle.std.specs.Option.{option_map_or}
-use Rattle.std.specs.List.{All, after_first, before_first, slice_index_or, list_all}
-use Rattle.std.specs.Str.{bytes_eq}
-use Rattle.std.specs.Str.Parse.{ParsesBool, ParsesUnsigned}
-use Rattle.std.specs.Borrow.{Bor}
-use Rattle.std.specs.Prelude.{String, string_bytes}
-use Rattle.std.specs.declared.alloc.Global.{Global}
-use Rattle.std.proofs.lemmas.List.{append-nil, append_assoc, drop_all, get_or-map, length-map, map-append, map_push, take-append-drop, take_all}
-use Rattle.std.proofs.lemmas.List.Elements.{All-nil, All-map, All-push}
-use Rattle.std.proofs.lemmas.Bool.Decides.{nat_tests}
-use Rattle.std.proofs.lemmas.Grind.{common_steps}
-use Rattle.std.proofs.lemmas.Slice.Eq.{bytes_eq-Decides}
-use Rattle.clap.specs.Words.{Accepts, AddsArg, App, BuildsOrBreaks, BuildsTo, HasKind, HasMatchesOf, IsAmong, IsParsed, IsParsedFrom, IsPlainArg, IsUnsignedIn, Kinds, ReadsOne, Rule, Text, app_of, args_of, fault_of, first_value, found_of, groups_of, has_subcommand, is_broken, is_present, is_simple, is_simple_and_free, kind_of, matched_of, matches_of, new_app, raw_values, rows_of, rule_of, with_rule}
-use Rattle.clap.specs.Facts.{Entry, EntryPasses, IsFilledEntry, PassesArg, ValuesPass, least_values, parser_of_value, unwrap_or_range}
-use Rattle.clap.specs.Walk.{action_of, is_append, is_empty, is_simple_arg, row_of}
-use Rattle.clap.specs.Kinds.{or_else}
-use Rattle.clap.specs.Simple.{app_of_fields, built, is_buildable}
-use Rattle.clap.specs.declared.builder.action.ArgAction.TheVariants.{Set}
-use Rattle.clap.specs.declared.builder.arg.Arg.{Arg}
-use Rattle.clap.specs.declared.builder.command.Command.{Command}
-use Rattle.clap.specs.declared.builder.command.Command.TheOpen.{Command-F}
+use Rattle.gk_cli.proofs.Common.{◌≡◌, ◌≢◌, ◌⊎◌, ◌∙◌, ◌<◌, ◌≤◌, ◌&&◌, ◌||◌, ◌==◌, ◌+◌, ◌++◌, ap, ap₂, sym, subst, refl, inl, inr, arith, zero, suc, ℕ, Bool, true, false, not, List, [], ◌∷◌, length, map, codes, drop, drop-cons, fold, take, is_some, get_or, Option, Some, None, Result, Ok, Err, IsOk, find, if◌then◌else◌, option_map, unwrap_or, IsErrAnd, option_map_or, All, after_first, before_first, slice_index_or, list_all, bytes_eq, ParsesBool, ParsesUnsigned, Bor, String, string_bytes, Global, append-nil, drop_all, get_or-map, length-map, map-append, map_push, take-append-drop, take_all, All-nil, All-map, All-push, common_steps, bytes_eq-Decides, Accepts, AddsArg, App, BuildsOrBreaks, BuildsTo, HasKind, HasMatchesOf, IsAmong, IsParsed, IsParsedFrom, IsUnsignedIn, Kinds, ReadsOne, Rule, Text, app_of, args_of, fault_of, first_value, found_of, groups_of, has_subcommand, is_broken, is_simple, is_simple_and_free, kind_of, matched_of, matches_of, new_app, raw_values, rows_of, rule_of, with_rule, Entry, EntryPasses, IsFilledEntry, PassesArg, ValuesPass, least_values, parser_of_value, unwrap_or_range, action_of, is_append, is_simple_arg, row_of, or_else, app_of_fields, built, Set, Arg, Command, Command-F, ValueParser, Unsigned, ArgMatches, Found, MatchedArg, added_plain, entry_by_id, present_has_entry, required_present, first_value-rows, Error, ErrorKind, ArgumentConflict, InvalidValue, HasRule, IsAskedBy, IsCommand, IsFaultBy, IsFirstWithout, IsLineNumber, PairValue, SaysArguments, SaysMatches, SaysPair, command, split_at_equals, faults_in, format_asked, found_in, has_equals, is_format, line_number, values_of, is_clash, is_given, with_version, option_value, rule_of_option, Words, WordsFault, Usage, Env, File, OptionRow}
 use Rattle.clap.specs.declared.builder.command.Command.TheViews.{out-Command as fields_of}
-use Rattle.clap.specs.declared.builder.value_parser.ValueParser.{ValueParser}
-use Rattle.clap.specs.declared.builder.value_parser.ValueParser.TheVariants.{Unsigned}
-use Rattle.clap.specs.declared.parser.matches.ArgMatches.{ArgMatches}
-use Rattle.clap.specs.declared.parser.matches.Found.{Found}
-use Rattle.clap.specs.declared.parser.matches.MatchedArg.{MatchedArg}
-use Rattle.clap.proofs.CallerLemmas.{added_plain, entry_by_id, present_has_entry, required_present}
-use Rattle.clap.proofs.CutLemmas.{list_any-at}
-use Rattle.clap.proofs.WalkLemmas.{first_value-rows}
-use Rattle.clap.specs.declared.error.Error.{Error}
-use Rattle.clap.specs.declared.error.kind.ErrorKind.{ErrorKind}
-use Rattle.clap.specs.declared.error.kind.ErrorKind.TheVariants.{ArgumentConflict, InvalidValue}
-use Rattle.gk_cli.specs.Arguments.{HasRule, IsAskedBy, IsCommand, IsFaultBy, IsFirstWithout, IsLineNumber, PairValue, SaysArguments, SaysMatches, SaysPair, command, split_at_equals, faults_in, files_rule, format_asked, found_in, has_equals, is_format, line_number, values_of, is_clash, is_given, with_version}
-use Rattle.gk_cli.specs.OptionTable.{option_value, rule_of_option}
-use Rattle.gk_cli.specs.declared.arguments.Words.{Words}
-use Rattle.gk_cli.specs.declared.arguments.WordsFault.{WordsFault}
-use Rattle.gk_cli.specs.declared.arguments.WordsFault.TheVariants.{Usage, Env, File, Memory}
-use Rattle.gk_cli.specs.declared.option_table.OptionRow.{OptionRow}
+use Rattle.gk_cli.specs.declared.arguments.WordsFault.TheVariants.{Memory}
 
 -- ---- the command
 
 -- a new command
 pub begins : (name : Text) (c : Command) → app_of c ≡ new_app name → args_of c ≡ [] → groups_of c ≡ []
     → (fields_of c).has_globals ≡ false → (fields_of c).subcommand_negates_reqs ≡ false → IsCommand (new_app name) c
-begins name c app args groups local demands = record {
-  app = app;
-  plain = (subst (All IsPlainArg) (sym args) (All-nil IsPlainArg), groups);
-  local = local;
-  demands = demands;
-}
+begins name c app args groups local demands = grind (arith, common_steps)
 
 -- an argument is added
 pub adds : (a : App) (r : Rule) (old new : Command) (x : Arg) → IsCommand a old → HasRule r x → AddsArg old x new → IsCommand (with_rule a r) new
@@ -66,47 +23,23 @@ adds a r old new x is has added = record {
 pub texts_apart : (a : App) (old new : Command) (f : Command-F Command) → IsCommand a old → fields_of new ≡ f
     → app_of_fields f ≡ app_of_fields (fields_of old) → f.args ≡ (fields_of old).args → f.groups ≡ (fields_of old).groups
     → f.has_globals ≡ (fields_of old).has_globals → f.subcommand_negates_reqs ≡ (fields_of old).subcommand_negates_reqs → IsCommand a new
-texts_apart a old new f is with app args groups globals negates = record {
-  app = ap app_of_fields with ∙ (app ∙ is.app);
-  plain = (
-    subst (All IsPlainArg) (sym (ap (λ (g : Command-F Command). g.args.items) with ∙ ap (λ v. v.items) args)) is.plain.0,
-    ap (λ (g : Command-F Command). g.groups.items) with ∙ (ap (λ v. v.items) groups ∙ is.plain.1),
-  );
-  local = ap (λ (g : Command-F Command). g.has_globals) with ∙ (globals ∙ is.local);
-  demands = ap (λ (g : Command-F Command). g.subcommand_negates_reqs) with ∙ (negates ∙ is.demands);
-}
+texts_apart a old new f is with app args groups globals negates = grind (arith, common_steps)
 
 -- the version changes nothing else
 pub versioned : (a : App) (old new : Command) (text : Bor Text) → IsCommand a old → fields_of new ≡ record (fields_of old) { version = Some text } → IsCommand (with_version a) new
-versioned a old new text is with = record {
-  app = ap app_of_fields with ∙ ap with_version is.app;
-  plain = (
-    subst (All IsPlainArg) (sym (ap (λ (g : Command-F Command). g.args.items) with)) is.plain.0,
-    ap (λ (g : Command-F Command). g.groups.items) with ∙ is.plain.1,
-  );
-  local = ap (λ (g : Command-F Command). g.has_globals) with ∙ is.local;
-  demands = ap (λ (g : Command-F Command). g.subcommand_negates_reqs) with ∙ is.demands;
-}
+versioned a old new text is with = grind (arith, common_steps)
 
 -- the option of one row more is added
 pub one_rule_more : (app : App) (rows : List OptionRow) (i : ℕ) (row : OptionRow) → i < length rows
     → fold with_rule (with_rule app (rule_of_option (option_value (get_or rows i row)))) (map rule_of_option (map option_value (drop (i + 1) rows))) ≡ fold with_rule app (map rule_of_option (map option_value (drop i rows)))
-one_rule_more app rows i row lt =
-    let split : drop i rows ≡ get_or rows i row ∷ drop (i + 1) rows = grind (arith, common_steps) in
-    ap (λ (rs : List OptionRow). fold with_rule app (map rule_of_option (map option_value rs))) (sym split)
+one_rule_more app rows i row lt = grind (arith, common_steps)
 
 -- the command as clap returns it: as it was, or built
 abbrev MayBeBuilt : Command → Type 0
 MayBeBuilt c = (app_of c ≡ command) ⊎ (app_of c ≡ built command)
 
 may_be_built : (old new : Command) → IsCommand command old → BuildsOrBreaks old new → (is_broken new ≡ true → ⊥) → MayBeBuilt new
-may_be_built old new is after whole = elim after [
-  | inl broken ↦ absurd (whole broken)
-  | inr h ↦ elim h.2 [
-    | inl same ↦ inl (same ∙ is.app)
-    | inr full ↦ inr (full (ap is_buildable is.app) ∙ ap built is.app)
-  ]
-]
+may_be_built old new is after whole = grind (arith, common_steps)
 
 -- ---- tests on its arguments
 
@@ -135,20 +68,10 @@ abbrev files_test : Rule → Bool
 files_test r = not (bytes_eq r.id (codes "files")) || (r.is_simple && ((unwrap_or_range r.range).start_inclusive == 1 && is_append (action_of r)))
 
 no_delimiter : (a : Arg) → is_simple_arg a ≡ true → is_some a.val_delim ≡ false
-no_delimiter a h = go (is_empty a.overrides.items) (is_empty a.default_vals_ifs.items) (is_empty a.groups.items) (is_some a.val_delim) _ h
-  where
-    go : (x y z d rest : Bool) → (x && (y && (z && (not d && rest)))) ≡ true → d ≡ false
-    go true true true false rest h = refl
-    go true true true true rest h = cc
-    go true true false d rest h = cc
-    go true false z d rest h = cc
-    go false y z d rest h = cc
+no_delimiter a h = grind (arith, common_steps)
 
 one_least : (a : Arg) → (least_values a == 1) ≡ true → least_values a ≡ 1
-one_least a h = go (least_values a) h
-  where
-    go : (n : ℕ) → (n == 1) ≡ true → n ≡ 1
-    go n h = grind (arith, nat_tests)
+one_least a h = grind (arith, common_steps)
 
 -- a use of the files gives at least one value, without a delimiter, and adds it
 abbrev IsFilesArg : Arg → Type 0
@@ -165,29 +88,7 @@ named_files c left k x lt at same =
 -- an entry of the files has a value
 has_values : (c : Command) (e : Entry) → MayBeBuilt c → groups_of c ≡ [] → bytes_eq e.0.now (codes "files") ≡ true
     → IsFilledEntry c e → 0 < length e.1.vals.items
-has_values c e left groups same filled =
-    let id : e.0.now ≡ codes "files" = (bytes_eq-Decides _ _).0 same in
-    elim filled [
-      | inl h ↦ elim h.1 [
-        | inl none ↦ absurd cc
-        | inr some ↦
-            let bad : 0 < 0 = rw groups at some in
-            absurd (omega arith)
-      ]
-      | inr (inl h) ↦ h
-      | inr (inr (inl h)) ↦
-          let a = named_files c left h.1.0 h.1.1 h.1.2 h.1.3 (rw id at h.1.4.0) in
-          let bad : false ≡ true = rw h.1.4.1 at a.2 in
-          absurd cc
-      | inr (inr (inr h)) ↦
-          let a = named_files c left h.0 h.1 h.2 h.3 (rw id at h.4.0) in
-          elim h.4.1 [
-            | inl least ↦ absurd (omega (arith, a.0, least))
-            | inr some ↦
-                let bad : false ≡ true = sym a.1 ∙ some in
-                absurd cc
-          ]
-    ]
+has_values c e left groups same filled = grind (arith, common_steps, bytes_eq-Decides, named_files)
 
 first_rule : (x : Arg) (xs : List Arg) (r : Rule) (rs : List Rule) → map rule_of (x ∷ xs) ≡ r ∷ rs → rule_of x ≡ r
 first_rule x xs r rs e = cc
@@ -198,13 +99,7 @@ first_arg (x ∷ xs) r rs h = (x, first_rule x xs r rs h, refl, omega arith)
 
 -- the files were given
 given_files : (old : Command) (m : ArgMatches) → IsCommand command old → IsParsedFrom old m → is_some (matched_of (found_of m) (codes "files")) ≡ true
-given_files old m is p =
-    let first = first_arg (args_of old) files_rule _ (ap (λ (a : App). a.top.rules) is.app) in
-    let a = first.0 in
-    let required : (slice_index_or (args_of old) 0 a).required ≡ true = ap (λ (x : Arg). x.required) first.2 ∙ ap (λ (r : Rule). r.required) first.1 in
-    let id : (slice_index_or (args_of old) 0 a).id.now ≡ codes "files" = ap (λ (x : Arg). x.id.now) first.2 ∙ ap (λ (r : Rule). r.id) first.1 in
-    let present = required_present old m p is.plain is.local is.demands 0 a first.3 required in
-    present_has_entry (found_of m) (codes "files") (subst (λ id. is_present (found_of m) id ≡ true) id present)
+given_files old m is p = grind (arith, common_steps, first_arg, required_present, present_has_entry)
 
 -- ---- what the matches hold
 
@@ -212,29 +107,16 @@ given_files old m is p =
 all_rows : (xs : List Entry) (id : Text) → option_map (λ r. r.values) (find (λ r. bytes_eq r.id id) (map row_of xs))
     ≡ option_map raw_values (option_map (λ e. e.1) (find (λ e. bytes_eq e.0.now id) xs))
 all_rows [] id = refl
-all_rows (x ∷ xs) id = go (bytes_eq x.0.now id) (all_rows xs id)
-  where
-    go : (b : Bool) → option_map (λ r. r.values) (find (λ r. bytes_eq r.id id) (map row_of xs))
-        ≡ option_map raw_values (option_map (λ e. e.1) (find (λ e. bytes_eq e.0.now id) xs))
-        → option_map (λ r. r.values) (cond b (Some (row_of x)) (find (λ r. bytes_eq r.id id) (map row_of xs)))
-        ≡ option_map raw_values (option_map (λ e. e.1) (cond b (Some x) (find (λ e. bytes_eq e.0.now id) xs)))
-    go true e = refl
-    go false e = e
+all_rows (x ∷ xs) id = grind (arith, common_steps, all_rows xs id)
 
 -- the values of a name, by its entry
 pub values_are : (f : Found) (id : Text) → values_of id (rows_of f) ≡ unwrap_or (option_map raw_values (matched_of f id)) []
 values_are f id = ap (λ o. unwrap_or o []) (all_rows f.entries.items id)
 
--- the values of a getter's answer, or none
-pub read_out : (o : Option (Bor (List (Bor Text)))) (d r : Bor (List (Bor Text))) → r ≡ unwrap_or o d → d.now ≡ []
-    → map (λ v. v.now) r.now ≡ unwrap_or (option_map (λ s. map (λ v. v.now) s.now) o) []
-read_out None d r e none = ap (λ (b : Bor (List (Bor Text))). map (λ v. v.now) b.now) e ∙ ap (map (λ v. v.now)) none
-read_out (Some x) d r e none = ap (λ (b : Bor (List (Bor Text))). map (λ v. v.now) b.now) e
-
 -- and so the values that the code takes
 pub taken : (f : Found) (id : Text) (o : Option (Bor (List (Bor Text)))) (d r : Bor (List (Bor Text))) → r ≡ unwrap_or o d → d.now ≡ []
     → option_map (λ s. map (λ v. v.now) s.now) o ≡ option_map raw_values (matched_of f id) → map (λ v. v.now) r.now ≡ values_of id (rows_of f)
-taken f id o d r e none got = read_out o d r e none ∙ ap (λ x. unwrap_or x []) got ∙ sym (values_are f id)
+taken f id o d r e none got = grind (arith, common_steps, values_are)
 
 -- ---- the flags and the format
 
@@ -243,11 +125,7 @@ spelled : (t : Text) → t ≡ codes "true" → true ≡ bytes_eq t (codes "true
 spelled t e = sym ((bytes_eq-Decides t (codes "true")).1 e)
 
 unspelled : (t : Text) → (t ≡ codes "true" → ⊥) → false ≡ bytes_eq t (codes "true")
-unspelled t other = go (bytes_eq t (codes "true")) refl
-  where
-    go : (b : Bool) → bytes_eq t (codes "true") ≡ b → false ≡ b
-    go true e = absurd (other ((bytes_eq-Decides t (codes "true")).0 e))
-    go false e = refl
+unspelled t other = grind (arith, common_steps, bytes_eq-Decides)
 
 -- what a flag reads as
 pub flag_read : (E : Type 0) (o : Option Text) (r : Option Bool) (b : Bool) → (o ≡ None → r ≡ None)
@@ -262,22 +140,13 @@ flag_read E (Some t) r b none some is = is ∙ go r (some t refl)
     go None reads = unspelled t reads.1.0
 
 -- the name of the format
-name_read : (o : Option (Bor Text)) (d r : Bor Text) → r ≡ unwrap_or o d → r.now ≡ unwrap_or (option_map (λ s. s.now) o) d.now
-name_read None d r e = ap (λ (b : Bor Text). b.now) e
-name_read (Some x) d r e = ap (λ (b : Bor Text). b.now) e
-
 pub format_read : (f : Found) (o : Option (Bor Text)) (d r : Bor Text) → r ≡ unwrap_or o d → d.now ≡ codes "plain"
     → option_map (λ s. s.now) o ≡ first_value f (codes "format") → r.now ≡ format_asked (rows_of f)
-format_read f o d r e plain got =
-    name_read o d r e ∙ ap₂ unwrap_or (got ∙ first_value-rows f (codes "format")) plain
+format_read f o d r e plain got = grind (arith, common_steps, first_value-rows)
 
 -- a text that is there, and its place in the matches
 pub some_read : (f : Found) (name : Text) (o : Option (Bor Text)) (b : Bool) → b ≡ is_some o → option_map (λ s. s.now) o ≡ first_value f name → b ≡ is_given name (rows_of f)
-some_read f name o b is got = is ∙ go o ∙ ap is_some (got ∙ first_value-rows f name)
-  where
-    go : (o : Option (Bor Text)) → is_some o ≡ is_some (option_map (λ s. s.now) o)
-    go None = refl
-    go (Some x) = refl
+some_read f name o b is got = grind (arith, common_steps, is_some, first_value-rows)
 
 -- ---- the lines
 
@@ -289,14 +158,7 @@ abbrev line_test : Rule → Bool
 line_test r = not (bytes_eq r.id (codes "line")) || is_line_parser (parser_of_value r.parser)
 
 within : (low high : ℕ) (text : Text) → ((low == 1) && (high == 4294967295)) ≡ true → IsUnsignedIn low high text → IsLineNumber text
-within low high text test h =
-    let tests = both (low == 1) (high == 4294967295) test in
-    let least : low ≡ 1 = is low 1 tests.0 in
-    let most : high ≡ 4294967295 = is high 4294967295 tests.1 in
-    subst (λ n. IsUnsignedIn 1 n text) most (subst (λ n. IsUnsignedIn n high text) least h)
-  where
-    is : (a b : ℕ) → (a == b) ≡ true → a ≡ b
-    is a b h = grind (arith, nat_tests)
+within low high text test h = grind (arith, common_steps)
 
 accepts_line : (ignore : Bool) (p : ValueParser) (text : Text) → is_line_parser p ≡ true → Accepts ignore p text → IsLineNumber text
 accepts_line ignore (Unsigned low high) text test h = within low high text test h
@@ -342,12 +204,9 @@ positive : (texts : List Text) → All IsLineNumber texts → All (λ n. 1 ≤ n
 positive texts h = All-map (λ n. 1 ≤ n) line_number texts (λ k d lt. (h k d lt).2)
 
 -- the number of a text that was accepted is read
-pub not_refused : (text : Text) {E : Type 0} (e : E) → IsLineNumber text → ParsesUnsigned 32 10 text (Err e) → ⊥
-not_refused text e h refused = refused (h.0, omega (arith, h.3))
-
 pub is_accepted : (text : Text) {E : Type 0} (r : Result ℕ E) → IsLineNumber text → ParsesUnsigned 32 10 text r → IsOk r
 is_accepted text (Ok n) h parsed = refl
-is_accepted text (Err e) h parsed = absurd (not_refused text e h parsed)
+is_accepted text (Err e) h parsed = grind (arith, common_steps)
 
 pub number_read : (text : Text) {E : Type 0} (r : Result ℕ E) (n : ℕ) → ParsesUnsigned 32 10 text r → r ≡ Ok n → n ≡ line_number text
 number_read text r n parsed same = (subst (ParsesUnsigned 32 10 text) same parsed).1
@@ -370,29 +229,17 @@ holds_of_one_more P texts i d lt before here =
 pub one_number_more : (done more : List ℕ) (n : ℕ) (texts : List (Bor Text)) (i : ℕ) (d : Bor Text) → i < length texts → more ≡ done ++ n ∷ [] → n ≡ line_number (get_or texts i d).now
     → (all : List ℕ) → done ++ map line_number (map (λ t. t.now) (drop i texts)) ≡ all
     → more ++ map line_number (map (λ t. t.now) (drop (i + 1) texts)) ≡ all
-one_number_more done more n texts i d lt grown same all before =
-    let split : drop i texts ≡ get_or texts i d ∷ drop (i + 1) texts = grind (arith, common_steps) in
-    let rest = map line_number (map (λ (t : Bor Text). t.now) (drop (i + 1) texts)) in
-    ap (λ l. l ++ rest) grown ∙ append_assoc done (n ∷ []) rest ∙ ap (λ x. done ++ x ∷ rest) same
-    ∙ ap (λ l. done ++ map line_number (map (λ (t : Bor Text). t.now) l)) (sym split) ∙ before
+one_number_more done more n texts i d lt grown same all before = grind (arith, common_steps)
 
 -- a text that was split at its first `=`
 pub split_there : (text name value : Text) (variable : String Global × String Global) → text ≡ name ++ 61 ∷ value → string_bytes variable.0 ≡ before_first (λ b. b == 61) text → string_bytes variable.1 ≡ after_first (λ b. b == 61) text
     → SaysPair text (Some variable)
-split_there text name value variable whole before after =
-    (subst (λ t. has_equals t ≡ true) (sym whole) (list_any-at 61 name value), alike before after)
-  where
-    alike : {a a' b b' : Text} → a ≡ a' → b ≡ b' → let one : PairValue = record { name = a; text = b } in let other : PairValue = record { name = a'; text = b' } in one ≡ other
-    alike e f = cc
+split_there text name value variable whole before after = grind (arith, common_steps)
 
 pub one_pair_more : {X : Type 0} (f : X → PairValue) (done more : List X) (v : X) (texts : List (Bor Text)) (i : ℕ) (d : Bor Text) → i < length texts → more ≡ done ++ v ∷ [] → f v ≡ split_at_equals (get_or texts i d).now
     → (all : List PairValue) → map f done ++ map split_at_equals (map (λ t. t.now) (drop i texts)) ≡ all
     → map f more ++ map split_at_equals (map (λ t. t.now) (drop (i + 1) texts)) ≡ all
-one_pair_more f done more v texts i d lt grown same all before =
-    let split : drop i texts ≡ get_or texts i d ∷ drop (i + 1) texts = grind (arith, common_steps) in
-    let rest = map split_at_equals (map (λ (t : Bor Text). t.now) (drop (i + 1) texts)) in
-    ap (λ l. map f l ++ rest) grown ∙ ap (λ l. l ++ rest) (map_push f done v) ∙ append_assoc (map f done) (f v ∷ []) rest
-    ∙ ap (λ x. map f done ++ x ∷ rest) same ∙ ap (λ l. map f done ++ map split_at_equals (map (λ (t : Bor Text). t.now) l)) (sym split) ∙ before
+one_pair_more f done more v texts i d lt grown same all before = grind (arith, common_steps)
 
 -- the first text without an `=`
 pub first_without : (texts : List (Bor Text)) (i : ℕ) (d : Bor Text) → i < length texts → All (λ text. has_equals text ≡ true) (map (λ t. t.now) (take i texts)) → has_equals (get_or texts i d).now ≡ false

@@ -1,16 +1,5 @@
 -- What a whole run that is explained says.
-use Rattle.std.proofs.Common.{◌≡◌, ℕ, List, inl, inr}
-use Rattle.gk_select.specs.ExampleRows.{ExampleRowValue}
-use Rattle.gk_world.specs.State.{Contents}
-use Rattle.gk_run.specs.OpenSection.{Run}
-use Rattle.gk_run.specs.Chosen.{ChosenValue}
-use Rattle.gk_request.specs.declared.run_fault.RunFault.{RunFault}
-use Rattle.gk_cli.specs.Writing.{Device, StopsBy}
-use Rattle.gk_explain.specs.declared.explainer.Explainer.{Explainer}
-use Rattle.gk_explain.specs.Explanation.{nothing_said}
-use Rattle.gk_explain.specs.Explainer.{said, Hears}
-use Rattle.gk_cli.specs.ToldRun.{IsToldUpTo}
-use Rattle.gk_cli.specs.ExplainedRun.{Explains, Closes, IsExplainedUpTo}
+use Rattle.gk_cli.proofs.Common.{◌≡◌, ℕ, List, inl, inr, ExampleRowValue, Contents, Run, ChosenValue, RunFault, Device, StopsBy, Explainer, nothing_said, said, Hears, IsToldUpTo, Explains, Closes, IsExplainedUpTo}
 
 -- What was told to an explainer that had said nothing is explained.
 pub told_up_to : (run : Run) (hooks : List ℕ) (rows : List (List ExampleRowValue)) (contents : Contents) (features : List ChosenValue) (first : Explainer) (old new : Device) (fault : RunFault) → said first ≡ nothing_said run.library hooks rows →

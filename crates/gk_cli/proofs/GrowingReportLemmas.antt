@@ -1,53 +1,13 @@
 -- Bytes that are written piece by piece, and the report that they make up.
-use Rattle.std.specs.List.{FoldsTo}
-use Rattle.std.proofs.Common.{◌≡◌, ◌≢◌, ◌≤◌, ◌+◌, ℕ, zero, suc, Bool, true, false, ◌&&◌, List, [], ◌∷◌, ◌++◌, length, take, Option, Some, None, refl, ap, ap₂, sym, subst, ◌∙◌, append_assoc, arith, inl, inr}
-use Rattle.std.specs.Io.KnownBytes.{Appends}
-use Rattle.std.proofs.KnownBytes.{Appends-trans}
-use Rattle.std.proofs.lemmas.List.{append-nil, length-append}
-use Rattle.gk_world.specs.State.{Contents, State, state_of}
-use Rattle.gk_steps.specs.Finding.{LibraryValue}
+use Rattle.gk_cli.proofs.Common.{FoldsTo, ◌≡◌, ◌≢◌, ◌+◌, ℕ, zero, suc, Bool, true, false, ◌&&◌, List, [], ◌∷◌, ◌++◌, length, take, refl, ap, ap₂, sym, subst, ◌∙◌, append_assoc, arith, inl, inr, Appends, Appends-trans, append-nil, length-append, Contents, State, state_of, LibraryValue, FeatureRow, Results, Run, ChosenValue, AreDryFeatures, has_passed, Event, ended_in, Judged, uncut, plain_results, DryRunsAreJudged, UnfinishedDryRunsAreJudged, Style, head, parts, parts_from, tail, report, is_empty, ReportsGrowByParts, status, summary_of, IsPiece, GrowingReport, RunFault, Read, Library, Hooks, Select, Write, Memory, one_more, IsReported, Device, IsUntouched, IsWritten, StopsBy, IsStopped, style_of, prints_nothing, results_with, Stays, AddsPart, ClosesByTail, CountingReporter, stays, stays_begun, reporter_of, counts_of, TellsFeature, TellsDryFeature, TellsFeatures, TellsFirst, IsWholeText, IsTextSoFar, IsToldRun, IsToldUpTo, AreTold, AreToldUpTo, IsClosed, StopsClosing, IsWhole, IsPrefix, common_steps}
 use Rattle.gk_run.specs.declared.results.Status.TheVariants as statuses
-use Rattle.gk_run.specs.Results.{FeatureRow, Results}
-use Rattle.gk_run.specs.OpenSection.{Run}
-use Rattle.gk_run.specs.Chosen.{ChosenValue}
-use Rattle.gk_run.specs.DryRun.{AreDryFeatures}
-use Rattle.gk_run.specs.Ending.{has_passed}
-use Rattle.gk_run.specs.Events.{Event, ended_in, Told, tells, happens, has_ended}
-use Rattle.gk_run.specs.Judged.{Judged, uncut, plain_results, DryRunsAreJudged, UnfinishedDryRunsAreJudged}
-use Rattle.gk_report.specs.declared.report.Style.{Style}
-use Rattle.gk_report.specs.Report.{head, parts, parts_from, tail, report, is_empty, ReportsGrowByParts}
-use Rattle.gk_report.specs.Summary.{status, summary_of}
-use Rattle.gk_report.specs.PartPieces.{IsPiece}
-use Rattle.gk_cli.specs.declared.growing_report.GrowingReport.{GrowingReport}
-use Rattle.gk_request.specs.declared.run_fault.RunFault.{RunFault}
-use Rattle.gk_request.specs.declared.run_fault.RunFault.TheVariants.{Read, Library, Hooks, Select, Write, Memory}
-use Rattle.gk_request.specs.Counted.{one_more}
-use Rattle.gk_cli.specs.Suite.{IsReported}
-use Rattle.gk_cli.specs.Writing.{Device, IsUntouched, IsWritten, StopsBy, IsStopped}
-use Rattle.gk_cli.specs.GrowingReport.{style_of, prints_nothing, results_with, Stays, AddsPart, ClosesByTail}
-use Rattle.gk_cli.specs.declared.told_run.CountingReporter.{CountingReporter}
-use Rattle.gk_cli.specs.ToldRun.{stays, stays_begun, reporter_of, counts_of, TellsFeature, TellsDryFeature, TellsFeatures, TellsFirst, IsWholeText, IsTextSoFar, IsToldRun, IsToldUpTo, AreTold, AreToldUpTo, IsClosed, StopsClosing}
-use Rattle.gk_cli.specs.WrittenRun.{IsWhole, IsPrefix}
-
-appends_none : (x : Option (List ℕ)) → Appends x x []
-appends_none None = tt
-appends_none (Some xs) = sym (append-nil xs)
 
 -- A writer that isn't called is untouched.
 pub untouched : (d : Device) → IsUntouched d d
-untouched d = record { written = appends_none d.bytes; calls = refl; flushes = refl; failures = refl; idle = refl }
-
-pub written_none : (d : Device) → IsWritten d d []
-written_none d = record { written = appends_none d.bytes; calls = omega arith; busy = refl; quiet = refl; unflushed = refl }
+untouched d = grind (arith, common_steps)
 
 pub written_more : (a b d : Device) (xs ys : List ℕ) → IsWritten a b xs → IsWritten b d ys → IsWritten a d (xs ++ ys)
-written_more a b d xs ys p q = record {
-  written = Appends-trans a.bytes b.bytes d.bytes xs ys p.written q.written;
-  calls = let n = length-append xs ys in let f = p.calls in let s = q.calls in omega arith;
-  busy = q.busy ∙ p.busy;
-  quiet = q.quiet ∙ p.quiet;
-  unflushed = q.unflushed ∙ p.unflushed;
-}
+written_more a b d xs ys p q = grind (arith, common_steps)
 
 take_after_at : (m n : ℕ) (xs ys : List ℕ) → m ≡ length xs + n → take m (xs ++ ys) ≡ xs ++ take n ys
 take_after_at m n [] ys h = let e : m ≡ n = omega (arith, h) in ap (λ (k : ℕ). take k ys) e
@@ -57,14 +17,9 @@ take_after_at (suc m) n (x ∷ xs) ys h = ap (λ (zs : List ℕ). x ∷ zs) (tak
 take_after : (xs ys : List ℕ) (n : ℕ) → take (length xs + n) (xs ++ ys) ≡ xs ++ take n ys
 take_after xs ys n = take_after_at (length xs + n) n xs ys refl
 
-take_within : (xs ys : List ℕ) (n : ℕ) → n ≤ length xs → take n (xs ++ ys) ≡ take n xs
-take_within xs ys zero le = refl
-take_within [] ys (suc n) le = absurd (omega (arith, le))
-take_within (x ∷ xs) ys (suc n) le = ap (λ (zs : List ℕ). x ∷ zs) (take_within xs ys n (omega (arith, le)))
-
 take_whole : (xs ys : List ℕ) → take (length xs) (xs ++ ys) ≡ xs
 take_whole [] ys = refl
-take_whole (x ∷ xs) ys = ap (λ (zs : List ℕ). x ∷ zs) (take_whole xs ys)
+take_whole (x ∷ xs) ys = grind (arith, common_steps)
 
 stops_after : (a b d : Device) (fault : RunFault) → b.failures ≡ a.failures → b.idle ≡ a.idle → StopsBy b d fault → StopsBy a d fault
 stops_after a b d (Read input why) quiet busy h = h
@@ -104,15 +59,7 @@ stopped_here a b xs p = subst (λ ys. IsStopped a b ys Memory) (append-nil xs) (
 
 -- What stops in a prefix stops in the whole.
 pub stopped_within : (a b : Device) (xs ys whole : List ℕ) (fault : RunFault) → whole ≡ xs ++ ys → IsStopped a b xs fault → IsStopped a b whole fault
-stopped_within a b xs ys whole fault is q =
-    let n = q.written.0 in
-    subst (λ zs. IsStopped a b zs fault) (sym is)
-    (record {
-      written = (n, (let e = length-append xs ys in let le = q.written.1 in omega arith), subst (Appends a.bytes b.bytes) (sym (take_within xs ys n q.written.1)) q.written.2);
-      calls = let e = length-append xs ys in let f = q.calls in omega arith;
-      why = q.why;
-      unflushed = q.unflushed;
-    })
+stopped_within a b xs ys whole fault is q = grind (arith, common_steps)
 
 -- ---- the pieces of a part
 
@@ -138,7 +85,7 @@ not_empty (x ∷ xs) ys some = refl
 
 -- No piece was written.
 pub none_written : (d : Device) (first : Bool) (whole left : List ℕ) → left ≡ whole → IsWrittenUpTo d d first first whole left
-none_written d first whole left e = record { done = []; written = written_none d; split = e; is_first = both_true first }
+none_written d first whole left e = grind (arith, common_steps, both_true)
 
 -- One piece more was written.
 pub piece_written : (old mid new : Device) (first still : Bool) (whole left text later : List ℕ) → IsWrittenUpTo old mid first still whole left → IsPiece left text later → IsWritten mid new text →
@@ -171,18 +118,9 @@ none_changed R same g (x ∷ xs) h told = none_changed R same told.0 xs h told.2
 events_stay : (g : GrowingReport) (events : List Event) (h : GrowingReport) → FoldsTo Stays g events h → h ≡ g
 events_stay = none_changed Stays (λ g x h is. is)
 
-told_stays : (g : GrowingReport) (x : Told) (h : GrowingReport) → tells Stays Stays g x h → h ≡ g
-told_stays g (happens event) h is = is
-told_stays g (has_ended ended) h is = is
-
 -- A feature that was told adds its part.
 pub adds_part : (run : Run) (now : State) (is_open : Bool) (f : ChosenValue) (row : FeatureRow) (text : List ℕ) (g h : GrowingReport) → TellsFeature Stays Stays Stays AddsPart run now is_open f row text g h → AddsPart g row text h
-adds_part run now is_open f row text g h t =
-    let heard = t.told.1.heard in
-    subst (λ (x : GrowingReport). AddsPart x row text h) (none_changed (tells Stays Stays) told_stays t.begun _ t.heard heard ∙ t.start) t.added
-
-pub adds_dry_part : (is_open : Bool) (f : ChosenValue) (row : FeatureRow) (text : List ℕ) (g h : GrowingReport) → TellsDryFeature Stays AddsPart is_open f row text g h → AddsPart g row text h
-adds_dry_part is_open f row text g h t = subst (λ (x : GrowingReport). AddsPart x row text h) t.start t.added
+adds_part run now is_open f row text g h t = grind (arith, common_steps, none_changed)
 
 -- Features that were told add their parts.
 pub adds_parts : (told : Bool → ChosenValue → FeatureRow → List ℕ → GrowingReport → GrowingReport → Type 0) (next : Bool → FeatureRow → Bool) →
@@ -191,12 +129,7 @@ pub adds_parts : (told : Bool → ChosenValue → FeatureRow → List ℕ → Gr
 adds_parts told next adds b [] [] text g h (none, same) = (none, ap style_of (sym same))
 adds_parts told next adds b [] (row ∷ rows) text g h none = absurd none
 adds_parts told next adds b (f ∷ fs) [] text g h none = absurd none
-adds_parts told next adds b (f ∷ fs) (row ∷ rows) text g h (this, later, between, is, one, more) =
-    let part = adds b f row this g between one in
-    let rest = adds_parts told next adds (next b row) fs rows later between h more in
-    let first = part.first ∙ ap (λ (xs : List ℕ). g.is_first && is_empty xs) part.is in
-    let others = rest.0 ∙ ap (λ (s : Style). parts_from s between.is_first rows) part.style ∙ ap (λ (b : Bool). parts_from g.style b rows) first in
-    (is ∙ ap₂ (λ (xs ys : List ℕ). xs ++ ys) part.is others, rest.1 ∙ part.style)
+adds_parts told next adds b (f ∷ fs) (row ∷ rows) text g h (this, later, between, is, one, more) = grind (arith, common_steps, adds_parts told next adds (next b row) fs rows later between h more)
 
 -- Those of a new report are all parts.
 new_parts : (style : Style) (first : GrowingReport) (rows : List FeatureRow) (text : List ℕ) → style_of first ≡ style → prints_nothing first ≡ true → text ≡ parts_from first.style first.is_first rows → text ≡ parts style rows
@@ -234,8 +167,7 @@ text_so_far law run contents features first text style styles none (inr (results
 
 reported : (style : Style) (old there new : Device) (text : List ℕ) (results : Results) (answer : ℕ) → IsWritten old there (head style) → IsWritten there new text → head style ++ text ≡ report style results → answer ≡ status results →
     IsReported style old new answer results
-reported style old there new text results answer headed written is returned =
-    record { written = subst (IsWritten old new) is (written_more old there new (head style) text headed written); returned = returned }
+reported style old there new text results answer headed written is returned = grind (arith, common_steps, written_more)
 
 -- The head wasn't written whole.
 pub head_stopped : (run : Run) (contents : Contents) (features : List ChosenValue) (style : Style) (old new : Device) (fault : RunFault) → IsStopped old new (head style) fault → IsPrefix run contents features style old new fault
@@ -259,9 +191,7 @@ run_stopped law run contents features first style old there new fault styles non
 -- The parts of a dry run that was told.
 dry_parts : (library : LibraryValue) (features : List ChosenValue) (rows : List FeatureRow) (so_far : CountingReporter GrowingReport) (text : List ℕ) (last : GrowingReport) (style : Style) → style_of (reporter_of so_far) ≡ style → prints_nothing (reporter_of so_far) ≡ true →
     TellsFeatures (TellsDryFeature Stays AddsPart) stays_begun true features rows text so_far.reporter last → (text ≡ parts style rows) × (last.style ≡ style)
-dry_parts library features rows so_far text last style styles none told =
-    let all = adds_parts (TellsDryFeature Stays AddsPart) stays_begun adds_dry_part true features rows text so_far.reporter last told in
-    (new_parts style so_far.reporter rows text styles none all.0, all.1 ∙ styles)
+dry_parts library features rows so_far text last style styles none told = grind (arith, common_steps, adds_parts, new_parts)
 
 -- A dry run that was told whole has its report written.
 pub dry_reported : DryRunsAreJudged → (run : Run) → run.dry_run ≡ true → (contents : Contents) (features : List ChosenValue) (so_far end : CountingReporter GrowingReport) (style : Style) (old headed there new : Device) (answer : ℕ) →

@@ -1,3 +1,4 @@
+pub mod Common
 pub mod ArgumentsLemmas
 pub mod GrowingReportLemmas
 pub mod SuiteLemmas

@@ -1,14 +1,6 @@
 -- What is written for a suite, in a mode that is known.
-use Rattle.std.proofs.Common.{◌≡◌, ℕ, Bool, List, Result, IfErr, IfOk, subst, sym}
-use Rattle.gk_world.specs.State.{Contents}
-use Rattle.gk_cli.specs.declared.arguments.Mode.{Mode}
-use Rattle.gk_request.specs.declared.run_fault.RunFault.{RunFault}
+use Rattle.gk_cli.proofs.Common.{◌≡◌, ℕ, Bool, List, Result, IfErr, IfOk, subst, sym, Contents, Mode, RunFault, Request, FilesValue, IsLinted, AreLeft, IsWrittenAs, LintedInPart, SaysFaultAs, SaysFaultBy, Device, IsStopped}
 use Rattle.gk_request.specs.declared.run_fault.RunFault.TheVariants as faults
-use Rattle.gk_request.specs.Request.{Request, FilesValue}
-use Rattle.gk_findings.specs.LintedSuite.{IsLinted}
-use Rattle.gk_cli.specs.Modes.{AreLeft, IsWrittenAs, LintedInPart, SaysFaultAs}
-use Rattle.gk_cli.specs.Suite.{SaysFaultBy}
-use Rattle.gk_cli.specs.Writing.{Device, IsStopped}
 use Rattle.gk_cli.proofs.SuiteLemmas.{cut_says}
 
 pub in_mode : (mode known : Mode) (files : FilesValue) (r : Request) (c : Contents) (old new : Device) (result : Result ℕ RunFault) → mode ≡ known → IfOk result (IsWrittenAs known files r c old new) → IfOk result (IsWrittenAs mode files r c old new)

@@ -1,35 +1,6 @@
 -- The results of inputs that read stand in file order.
-use Rattle.std.proofs.Common.{◌≡◌, ℕ, ◌<◌, Bool, true, false, cond, List, [], ◌∷◌, length, map, get_or, ◌&&◌, Option, Some, None, refl, ap, sym, subst, ◌∙◌, arith, inl, inr}
-use Rattle.std.proofs.lemmas.Bool.{cases_Bool}
-use Rattle.std.proofs.lemmas.List.{get_or-map, length-map}
-use Rattle.std.proofs.lemmas.Simd.{map-map}
-use Rattle.std.specs.List.{AllByRecursion}
-use Rattle.std.specs.List.Sorted.{IsNonDecreasingBy}
-use Rattle.gk_gherkin.specs.Lines.{lines_of}
-use Rattle.gk_gherkin.specs.Feature.{RuleValue, FeatureValue}
-use Rattle.gk_gherkin.specs.Grammar.{Reads}
-use Rattle.gk_select.specs.Case.{CaseValue}
-use Rattle.gk_select.specs.Choice.{is_chosen}
-use Rattle.gk_select.specs.Expansion.{cases}
-use Rattle.gk_select.specs.FileOrder.{CasesAreInFileOrder}
-use Rattle.gk_select.specs.RuleOrder.{FallIntoRules}
-use Rattle.gk_steps.specs.Finding.{LibraryValue}
-use Rattle.gk_world.specs.State.{State, Contents, state_of}
-use Rattle.gk_run.specs.Events.{result_of}
+use Rattle.gk_cli.proofs.Common.{◌≡◌, ℕ, ◌<◌, Bool, true, false, cond, List, [], ◌∷◌, length, map, get_or, ◌&&◌, Option, Some, None, refl, ap, sym, subst, ◌∙◌, arith, get_or-map, length-map, map-map, AllByRecursion, IsNonDecreasingBy, lines_of, RuleValue, FeatureValue, Reads, CaseValue, is_chosen, cases, CasesAreInFileOrder, FallIntoRules, LibraryValue, State, Contents, result_of, Run, first_or, without_first, stays_open, HeadValue, MemberValue, ChosenValue, CasesFallIntoRules, dry_cases_of, dry_feature_of, dry_features_of, dry_rules_of, FeatureCuts, uncut_feature, feature_of, features_of, StandsInFileOrder, ResultsStandInFileOrder, Cuts, results_of, CaseRow, RuleRow, FeatureRow, Results, Cut, AreInFileOrder, RowsAreInFileOrder, JudgedRowsAreInFileOrder, member_by, head_of, chosen_of, with_reading, AreRead, SourceValue, run_with, common_steps}
 use Rattle.gk_run.specs.declared.section.Level.TheVariants as levels
-use Rattle.gk_run.specs.OpenSection.{happened_in, section_state, Run}
-use Rattle.gk_run.specs.Running.{first_or, without_first, stays_open}
-use Rattle.gk_run.specs.Chosen.{HeadValue, MemberValue, ChosenValue, CasesFallIntoRules}
-use Rattle.gk_run.specs.DryRun.{dry_case_of, dry_cases_of, dry_feature_of, dry_features_of, dry_rules_of}
-use Rattle.gk_run.specs.Features.{FeatureCuts, uncut_feature, feature_of, features_of, StandsInFileOrder, ResultsStandInFileOrder}
-use Rattle.gk_run.specs.Judged.{Cuts, dry_results, results_from, results_of}
-use Rattle.gk_run.specs.Results.{CaseRow, RuleRow, FeatureRow, Results}
-use Rattle.gk_run.specs.Section.{Cut, before_passed, nowhere}
-use Rattle.gk_report.specs.RuleGroups.{AreInFileOrder}
-use Rattle.gk_cli.specs.RowOrder.{RowsAreInFileOrder, JudgedRowsAreInFileOrder}
-use Rattle.gk_request.specs.Inputs.{member_by, head_of, chosen_of, with_reading, AreRead}
-use Rattle.gk_request.specs.Source.{SourceValue}
-use Rattle.gk_cli.specs.Suite.{run_with}
 
 -- Two lists with the same numbers rise alike.
 number_at : {A B : Type 0} (n : A → ℕ) (m : B → ℕ) (xs : List A) (ys : List B) (i : ℕ) (d : A) (e : B) → map n xs ≡ map m ys → i < length xs → i < length ys → n (get_or xs i d) ≡ m (get_or ys i e)
@@ -39,7 +10,7 @@ as_long : {A B : Type 0} (n : A → ℕ) (m : B → ℕ) (xs : List A) (ys : Lis
 as_long n m xs ys same = sym (length-map xs n) ∙ ap (λ (ns : List ℕ). length ns) same ∙ length-map ys m
 
 rise_alike : {A B : Type 0} (n : A → ℕ) (m : B → ℕ) (xs : List A) (ys : List B) → map n xs ≡ map m ys → IsNonDecreasingBy m ys → IsNonDecreasingBy n xs
-rise_alike n m xs [] same up i j d le lt = absurd (omega (arith, lt, as_long n m xs [] same))
+rise_alike n m xs [] same up i j d le lt = grind (arith, common_steps)
 rise_alike n m xs (y ∷ ys) same up i j d le lt =
     let long = as_long n m xs (y ∷ ys) same in
     let within : j < length (y ∷ ys) = omega (arith, lt, long) in
@@ -75,8 +46,7 @@ reading_ordered ordered falls chooses s (Some f) others reads o = (chosen_ordere
 
 read_ordered : CasesAreInFileOrder → CasesFall → (chooses : CaseValue → Bool) (sources : List SourceValue) (features : List ChosenValue) → AreRead chooses sources features → AllByRecursion IsOrdered features
 read_ordered ordered falls chooses [] features read = subst (AllByRecursion IsOrdered) (sym read) tt
-read_ordered ordered falls chooses (s ∷ ss) features read =
-    subst (AllByRecursion IsOrdered) (sym read.6) (reading_ordered ordered falls chooses s read.0 read.1 read.3 (read_ordered ordered falls chooses ss read.1 read.5))
+read_ordered ordered falls chooses (s ∷ ss) features read = grind (arith, common_steps, reading_ordered, read_ordered ordered falls chooses ss read.1 read.5)
 
 -- Results that stand in file order have lines that rise.
 abbrev IsRow : FeatureRow → Type 0
@@ -95,17 +65,9 @@ rows_ordered stand run outside is_open cuts (f ∷ fs) o =
     (row_ordered f row o.0 (stand run outside is_open (first_or uncut_feature cuts) f o.0.falls), rows_ordered stand run outside (is_open && stays_open run row.status) (without_first cuts) fs o.1)
 
 -- In a dry run too there is a result for each rule and each case.
-dry_case_line : (library : LibraryValue) (cut : Cut) (m : MemberValue) → (let row = dry_case_of library cut m in row.line) ≡ m.scenario.line
-dry_case_line library cut m = elim (cases_Bool m.selected) [
-  | inl t ↦ rw t refl
-  | inr f ↦ rw f refl
-]
-
 dry_case_lines : (library : LibraryValue) (cuts : List Cut) (ms : List MemberValue) → map (λ (c : CaseRow). c.line) (dry_cases_of library cuts ms) ≡ map (λ (m : MemberValue). m.scenario.line) ms
 dry_case_lines library cuts [] = refl
-dry_case_lines library cuts (m ∷ ms) =
-    ap (λ (line : ℕ). line ∷ map (λ (c : CaseRow). c.line) (dry_cases_of library (without_first cuts) ms)) (dry_case_line library (first_or nowhere cuts) m)
-    ∙ ap (λ (lines : List ℕ). m.scenario.line ∷ lines) (dry_case_lines library (without_first cuts) ms)
+dry_case_lines library cuts (m ∷ ms) = grind (arith, common_steps, dry_case_lines library (without_first cuts) ms)
 
 dry_rule_lines : (heads : List HeadValue) → map (λ (r : RuleRow). r.line) (dry_rules_of heads) ≡ map (λ (head : HeadValue). head.line) heads
 dry_rule_lines [] = refl
@@ -122,11 +84,7 @@ either_ordered true x y this that = this
 either_ordered false x y this that = that
 
 results_ordered : ResultsStandInFileOrder → (run : Run) (contents : Contents) (cuts : Cuts) (fs : List ChosenValue) → AllByRecursion IsOrdered fs → (let results = results_of run contents cuts fs in RowsAreInFileOrder results.features)
-results_ordered stand run contents cuts fs o =
-    let start = state_of contents in
-    let is_open = true && before_passed (happened_in run levels.Run [] start true cuts.own) in
-    either_ordered run.dry_run (dry_results run cuts fs) (results_from run start cuts fs) (dry_rows_ordered run.library cuts.features fs o)
-    (rows_ordered stand run (section_state run levels.Run [] start) is_open cuts.features fs o)
+results_ordered stand run contents cuts fs o = grind (arith, common_steps, either_ordered, dry_rows_ordered, rows_ordered)
 
 pub judged_in_order : CasesAreInFileOrder → CasesFall → ResultsStandInFileOrder → JudgedRowsAreInFileOrder
 judged_in_order ordered falls stand r contents results judged =

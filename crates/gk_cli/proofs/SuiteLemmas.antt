@@ -1,34 +1,6 @@
 -- Features, one after another, and what their status says of them.
-use Rattle.std.proofs.Common.{◌≡◌, ◌≢◌, ℕ, Bool, true, false, cond, ◌&&◌, ◌||◌, List, [], ◌∷◌, Result, Ok, Err, IfOk, IfErr, ◌++◌, map, take, drop, refl, ap, sym, subst, ◌∙◌, inl, inr, length, arith}
-use Rattle.std.specs.List.{AllByRecursion, list_any}
-use Rattle.std.proofs.lemmas.Bool.{true≢false}
-use Rattle.std.proofs.lemmas.List.{append-nil, drop_all, take_all}
-use Rattle.std.proofs.lemmas.List.Folds.{list_any-append}
-use Rattle.gk_world.specs.State.{Contents, State, state_of}
-use Rattle.gk_world.specs.Sandbox.{SandboxValue, IsSame}
-use Rattle.gk_run.specs.declared.results.Status.{Status}
+use Rattle.gk_cli.proofs.Common.{◌≡◌, ◌≢◌, ℕ, Bool, true, false, cond, ◌&&◌, ◌||◌, List, [], ◌∷◌, Result, Ok, Err, IfOk, IfErr, ◌++◌, map, take, drop, refl, ap, sym, subst, ◌∙◌, inl, inr, length, arith, AllByRecursion, list_any, true≢false, append-nil, drop_all, take_all, list_any-append, Contents, State, state_of, SandboxValue, IsSame, Status, CaseRow, FeatureRow, RuleRow, Results, is_memory, is_failed, is_undefined, section_now, result_of, Run, IsBegun, ChosenValue, case_statuses, first_or, without_first, stays_open, FeatureCuts, uncut_feature, rule_statuses, verdict_by, feature_verdict, feature_of, features_of, Cuts, dry_results, results_from, Judged, plain_results, is_memory_case, is_memory_feature, is_memory_rule, has_memory, OneList, AreFeatures, FinishedRunsAreJudged, IsFinished, IsKept, IsStarted, SuiteValue, opens_features, dry_features_of, LibraryValue, feature_statuses, scenario_statuses, step_statuses, status, RunFault, Read, Library, Hooks, Select, Write, Memory, Inputs, AreInputs, InputsAreUnique, Request, AreLeftAt, IsUnread, SourceValue, without_bytes, IsReported, JudgedReport, OnlyReport, AreJudged, ReportedInPart, SaysFaultBy, run_with, Device, IsUntouched, IsWritten, StopsBy, UsesWriter, IsWhole, IsPrefix, common_steps}
 use Rattle.gk_run.specs.declared.section.Level.TheVariants as levels
-use Rattle.gk_run.specs.Results.{CaseRow, FeatureRow, RuleRow, Results, is_memory, is_failed, is_undefined, is_untested, is_passed}
-use Rattle.gk_run.specs.Events.{SectionNow, section_now, result_of}
-use Rattle.gk_run.specs.Section.{happened, before_passed}
-use Rattle.gk_run.specs.OpenSection.{Run, IsBegun, section_state, section_events}
-use Rattle.gk_run.specs.Chosen.{ChosenValue}
-use Rattle.gk_run.specs.Running.{case_statuses, first_or, without_first, stays_open}
-use Rattle.gk_run.specs.Features.{FeatureCuts, uncut_feature, rule_statuses, verdict_by, feature_verdict, feature_of, features_of}
-use Rattle.gk_run.specs.Judged.{Cuts, dry_results, results_from, Judged, plain_results, is_memory_case, is_memory_feature, is_memory_rule, has_memory, OneList}
-use Rattle.gk_run.specs.OpenRun.{AreFeatures, FinishedRunsAreJudged, IsFinished, IsKept, IsStarted, SuiteValue, opens_features}
-use Rattle.gk_run.specs.DryRun.{dry_features_of}
-use Rattle.gk_steps.specs.Finding.{LibraryValue}
-use Rattle.gk_report.specs.Summary.{feature_statuses, scenario_statuses, step_statuses, status}
-use Rattle.gk_request.specs.declared.run_fault.RunFault.{RunFault}
-use Rattle.gk_request.specs.declared.run_fault.RunFault.TheVariants.{Read, Library, Hooks, Select, Write, Memory}
-use Rattle.gk_request.specs.Inputs.{Inputs, AreInputs, InputsAreUnique}
-use Rattle.gk_request.specs.Request.{Request, AreLeftAt}
-use Rattle.gk_request.specs.RunFault.{IsUnread}
-use Rattle.gk_request.specs.Source.{SourceValue, without_bytes}
-use Rattle.gk_cli.specs.Suite.{IsReported, JudgedReport, OnlyReport, AreJudged, ReportedInPart, SaysFaultBy, run_with}
-use Rattle.gk_cli.specs.Writing.{Device, IsUntouched, IsWritten, StopsBy, UsesWriter}
-use Rattle.gk_cli.specs.WrittenRun.{IsWhole, IsPrefix}
 
 -- A list without length.
 pub nothing_in : {A : Type 0} (xs : List A) → length xs ≡ 0 → xs ≡ []
@@ -49,10 +21,7 @@ same_through a b d p q = record { contents = q.contents ∙ p.contents; saved = 
 
 -- A run that was begun is so still after features that leave the sandbox as it was.
 pub begun_still : (run : Run) (old started without_first : SandboxValue) (suite left : SuiteValue) → (start : IsStarted run old started suite) → IsKept suite left → IsSame started without_first → IsBegun run levels.Run [] (state_of old.now) start.opened.first left.before (section_now without_first left.cleanups)
-begun_still run old started without_first suite left start kept same =
-    let begins = start.opened.begins in
-    let section : Contents → SectionNow = λ x. record { state = state_of x; cleanups = suite.cleanups } in
-    subst (λ (x : SuiteValue). IsBegun run levels.Run [] (state_of old.now) start.opened.first x.before (section_now without_first x.cleanups)) (sym kept) (record { so_far = begins.so_far; ends = begins.ends; leaves = ap section same.contents ∙ begins.leaves })
+begun_still run old started without_first suite left start kept same = grind (arith, common_steps)
 
 -- A run that was begun, whose features were run, and that was finished.
 pub judged_by : FinishedRunsAreJudged → (run : Run) (old started without_first : SandboxValue) (suite left : SuiteValue) (around : Status) (features : List ChosenValue) (rows : List FeatureRow) →
@@ -80,9 +49,7 @@ either_verdicts true x y p q = p
 either_verdicts false x y p q = q
 
 run_verdicts : (run : Run) (start : State) (cuts : Cuts) (fs : List ChosenValue) → (let r : Results = results_from run start cuts fs in AllByRecursion HasVerdict r.features)
-run_verdicts run start cuts fs =
-    let events = happened cuts.own (section_events run levels.Run [] start) in
-    all_verdicts run (section_state run levels.Run [] start) (before_passed events) cuts.features fs
+run_verdicts run start cuts fs = grind (arith, common_steps, all_verdicts)
 
 or_left : (a b : Bool) → (a || b) ≡ false → a ≡ false
 or_left false b h = refl
@@ -112,13 +79,7 @@ or_assoc true b c = refl
 or_assoc false b c = refl
 
 memory_feature : (row : FeatureRow) → HasVerdict row → is_memory row.status ≡ false → is_memory_feature row ≡ false
-memory_feature row verdict none =
-    let arounds = row.around ∷ rule_statuses row.rules in
-    let statuses = case_statuses row.cases in
-    ap (λ b. is_memory row.around || (list_any is_memory_rule row.rules || b)) (memory_cases row.cases)
-    ∙ ap (λ b. is_memory row.around || (b || list_any is_memory statuses)) (memory_rules row.rules)
-    ∙ or_assoc (is_memory row.around) (list_any is_memory (rule_statuses row.rules)) (list_any is_memory statuses)
-    ∙ memory_verdict (list_any is_memory arounds || list_any is_memory statuses) (list_any is_failed arounds || list_any is_failed statuses) (list_any is_untested statuses) (list_any is_passed statuses) (ap is_memory (sym verdict) ∙ none)
+memory_feature row verdict none = grind (arith, common_steps, memory_cases, memory_rules, or_assoc, memory_verdict)
 
 memory_features : (rows : List FeatureRow) → AllByRecursion HasVerdict rows → list_any is_memory (feature_statuses rows) ≡ false → list_any is_memory_feature rows ≡ false
 memory_features [] all none = refl

@@ -1,33 +1,8 @@
 -- Features that are told to a reporter one after another, and what is written of them.
-use Rattle.std.specs.List.{FoldsTo}
-use Rattle.std.proofs.Common.{◌≡◌, ℕ, Bool, true, false, List, [], ◌∷◌, ◌++◌, inl, inr, refl, ap, sym, subst, ◌∙◌, append_assoc}
-use Rattle.std.proofs.lemmas.List.{append-nil}
-use Rattle.gk_world.specs.State.{Contents, State, state_of}
-use Rattle.gk_world.specs.Sandbox.{SandboxValue, IsSame}
-use Rattle.gk_steps.specs.Finding.{LibraryValue}
-use Rattle.gk_run.specs.declared.ending.Ending.{Ending}
+use Rattle.gk_cli.proofs.Common.{FoldsTo, ◌≡◌, ℕ, Bool, true, List, [], ◌∷◌, ◌++◌, inl, inr, refl, ap, sym, subst, ◌∙◌, append_assoc, arith, append-nil, Contents, State, state_of, SandboxValue, IsSame, LibraryValue, Status, FeatureRow, Results, Run, IsEndTold, ChosenValue, dry_features_of, AreDryFeatures, FeatureCuts, features_of, Judged, BeginsJudged, result_of, Event, AreFeatures, FinishedRunsAreJudged, IsFinishTold, IsKept, IsStarted, SuiteValue, opens_features, summary_of, RunFault, Memory, CountingReporter, Device, IsWritten, IsStopped, results_with, StopsAdding, stays, TellsFeatures, TellsFirst, IsToldRun, IsToldUpTo, TellsNext, EndsNext, IsNextResult, IsDryResult, AreTold, AreToldUpTo, IsClosed, StopsClosing, stays_begun, common_steps}
 use Rattle.gk_run.specs.declared.ending.Ending.TheVariants as endings
-use Rattle.gk_run.specs.declared.results.Status.{Status}
 use Rattle.gk_run.specs.declared.section.Level.TheVariants as levels
-use Rattle.gk_run.specs.Results.{FeatureRow, Results}
-use Rattle.gk_run.specs.OpenSection.{Run, IsEndTold}
-use Rattle.gk_run.specs.Chosen.{ChosenValue}
-use Rattle.gk_run.specs.DryRun.{dry_features_of, AreDryFeatures}
-use Rattle.gk_run.specs.Ending.{has_passed, is_memory_ending}
-use Rattle.gk_run.specs.Features.{FeatureCuts, features_of}
-use Rattle.gk_run.specs.Judged.{Judged, BeginsJudged}
-use Rattle.gk_run.specs.Events.{result_of, Event, SoFar, SectionNow, left_by, section_now}
-use Rattle.gk_run.specs.OpenRun.{AreFeatures, FinishedRunsAreJudged, IsFinishTold, IsKept, IsStarted, SuiteValue, opens_features}
-use Rattle.gk_run.specs.SectionHooks.{before_events, entered}
-use Rattle.gk_report.specs.Summary.{summary_of}
-use Rattle.gk_request.specs.declared.run_fault.RunFault.{RunFault}
-use Rattle.gk_request.specs.declared.run_fault.RunFault.TheVariants.{Memory}
-use Rattle.gk_cli.specs.declared.told_run.CountingReporter.{CountingReporter}
-use Rattle.gk_cli.specs.Writing.{Device, IsWritten, IsStopped}
-use Rattle.gk_cli.specs.GrowingReport.{results_with}
-use Rattle.gk_cli.specs.Reporter.{StopsAdding}
-use Rattle.gk_cli.specs.ToldRun.{stays, TellsFeatures, TellsFirst, IsToldRun, IsToldUpTo, TellsNext, EndsNext, IsNextResult, IsDryResult, AreTold, AreToldUpTo, IsClosed, StopsClosing, stays_begun}
-use Rattle.gk_cli.proofs.GrowingReportLemmas.{written_none, written_more, stopped_after, stopped_here}
+use Rattle.gk_cli.proofs.GrowingReportLemmas.{written_more, stopped_after, stopped_here}
 use Rattle.gk_cli.proofs.SuiteLemmas.{judged_by, begun_still}
 
 -- However the features that come next are cut, all have cuts with these rows before the others.
@@ -93,12 +68,7 @@ ToldSoFar {S} tells next first_open first done rows text is_open told =
 told_next : {S : Type 0} (tells : Bool → ChosenValue → FeatureRow → List ℕ → S → S → Type 0) (next : Bool → FeatureRow → Bool) (first_open : Bool) (first : S) (done : List ChosenValue) (rows : List FeatureRow) (text : List ℕ) (is_open : Bool) (told : S)
     (f : ChosenValue) (row : FeatureRow) (this : List ℕ) (here : S) → tells is_open f row this told here →
     ToldSoFar tells next first_open first done rows text is_open told → ToldSoFar tells next first_open first (done ++ f ∷ []) (rows ++ row ∷ []) (text ++ this) (next is_open row) here
-told_next tells next first_open first done rows text is_open told f row this here one held left more later end h =
-    let all : TellsFeatures tells next first_open (done ++ f ∷ left) (rows ++ row ∷ more) (text ++ (this ++ later)) first end =
-    held (f ∷ left) (row ∷ more) (this ++ later) end (this, later, here, refl, one, h) in
-    subst (λ fs. TellsFeatures tells next first_open fs ((rows ++ row ∷ []) ++ more) ((text ++ this) ++ later) first end) (sym (append_assoc done (f ∷ []) left))
-    (subst (λ rs. TellsFeatures tells next first_open (done ++ f ∷ left) rs ((text ++ this) ++ later) first end) (sym (append_assoc rows (row ∷ []) more))
-    (subst (λ ts. TellsFeatures tells next first_open (done ++ f ∷ left) (rows ++ row ∷ more) ts first end) (sym (append_assoc text this later)) all))
+told_next tells next first_open first done rows text is_open told f row this here one held left more later end h = grind (arith, common_steps)
 
 told_last : {S : Type 0} (tells : Bool → ChosenValue → FeatureRow → List ℕ → S → S → Type 0) (next : Bool → FeatureRow → Bool) (first_open : Bool) (first : S) (done : List ChosenValue) (rows : List FeatureRow) (text : List ℕ) (is_open : Bool) (told : S) →
     ToldSoFar tells next first_open first done rows text is_open told → TellsFeatures tells next first_open done rows text first told
@@ -120,8 +90,7 @@ pub record Telling {R : Type 0} (tells : Bool → ChosenValue → FeatureRow →
 
 pub telling_first : {R : Type 0} (tells : Bool → ChosenValue → FeatureRow → List ℕ → R → R → Type 0) (next : Bool → FeatureRow → Bool) (Rows : List ChosenValue → List FeatureRow → Bool → Type 0) (first_open : Bool) (all : List ChosenValue) (old : Device) (so_far : CountingReporter R) →
     Rows [] [] first_open → Telling tells next Rows first_open all old so_far all first_open old so_far
-telling_first tells next Rows first_open all old so_far none =
-    record { done = []; rows = []; text = []; whole = refl; are = none; told = λ left more later end h. h; written = written_none old; counted = λ e. e }
+telling_first tells next Rows first_open all old so_far none = grind (arith, common_steps)
 
 pub telling_next : {R : Type 0} (tells : Bool → ChosenValue → FeatureRow → List ℕ → R → R → Type 0) (next : Bool → FeatureRow → Bool) (Rows : List ChosenValue → List FeatureRow → Bool → Type 0) (Result : FeatureRow → Type 0) (first_open : Bool) (all : List ChosenValue) (old : Device) (so_far : CountingReporter R)
     (f : ChosenValue) (left : List ChosenValue) (is_open still : Bool) (there : Device) (h : CountingReporter R) (new : Device) (grown : CountingReporter R) →
@@ -201,30 +170,11 @@ TellingDryRun tells library all old so_far left there grown = Telling tells stay
 
 -- ---- the run around its features
 
--- A section whose before list passed whole stands where the list leaves it.
-passed_section : (ended : Ending) (all first : List Event) (start now : SectionNow) → SoFar false (is_memory_ending ended) all [] first → now ≡ left_by start first → has_passed ended ≡ true → now ≡ left_by start all
-passed_section endings.Passed all first start now told is passed = is ∙ ap (left_by start) (sym (told ∙ append-nil first))
-passed_section endings.Failed all first start now told is passed = absurd cc
-passed_section endings.Skipped all first start now told is passed = absurd cc
-passed_section endings.Memory all first start now told is passed = absurd cc
-
 -- The beginning of a run and its features were told.
 pub first_told : {S : Type 0} (hears : S → Event → S → Type 0) (tells : Run → State → Bool → ChosenValue → FeatureRow → List ℕ → S → S → Type 0) (run : Run) (old started : SandboxValue) (suite : SuiteValue) (first begun : S) (features : List ChosenValue) (rows : List FeatureRow) (text : List ℕ) (told : S) →
     (start : IsStarted run old started suite) → FoldsTo hears first start.opened.first begun →
     TellsFeatures (tells run (state_of started.now)) (stays run) (opens_features suite) features rows text begun told → TellsFirst hears tells run (state_of old.now) start.opened.first features rows text first told
-first_told hears tells run old started suite first begun features rows text told start opening told_so =
-    let outside = state_of old.now in
-    let events = start.opened.first in
-    let begins = start.opened.begins in
-    let all = before_events run.library run.hooks levels.Run [] outside in
-    record {
-      begun = begun;
-      opens = subst (λ (e : Ending). SoFar false (is_memory_ending e) all [] events) begins.ends begins.so_far;
-      start = opening;
-      state = state_of started.now;
-      from = λ passed. ap (λ (x : SectionNow). x.state) (passed_section suite.before all events (entered outside) (section_now started suite.cleanups) begins.so_far begins.leaves (ap has_passed begins.ends ∙ passed));
-      told = subst (λ b. TellsFeatures (tells run (state_of started.now)) (stays run) b features rows text begun told) (start.opens ∙ ap has_passed begins.ends) told_so;
-    }
+first_told hears tells run old started suite first begun features rows text told start opening told_so = grind (arith, common_steps)
 
 -- What is known of a run whose features were told and that was finished.
 pub record IsRunTold {S : Type 0} (hears : S → Event → S → Type 0) (tells : Run → State → Bool → ChosenValue → FeatureRow → List ℕ → S → S → Type 0) (run : Run) (contents : Contents) (opening : List Event) (features : List ChosenValue) (rows : List FeatureRow) (around : Status) (parts : List ℕ) (first told last : S) : Type 0 where

@@ -144,6 +144,7 @@ fn arg_of<'a>(alloc: Global, row: &OptionRow) -> Arg<'a>
 }
 
 // Makes the command without its options.
+#[tactic(auto, using(crate::proofs::ArgumentsLemmas::begins, crate::proofs::ArgumentsLemmas::adds, crate::proofs::ArgumentsLemmas::texts_apart, crate::proofs::ArgumentsLemmas::versioned))]
 fn command_of_files<'a>(alloc: Global) -> Result<Command<'a>, AllocError>
     ensures { IfOk result (IsCommand spec.command_of_files) }
 {
@@ -174,6 +175,7 @@ fn command_of<'a>(alloc: Global) -> Result<Command<'a>, AllocError>
 }
 
 // Returns the values of an option, or the files, in order.
+#[tactic(auto, using(crate::proofs::ArgumentsLemmas::taken))]
 fn values_of<'a>(matches: &'a ArgMatches, name: &str) -> &'a [&'a str]
     ensures { map (λ text. text.now) result.now
         ≡ spec.values_of name.now (rows_of (found_of matches.now)) }
@@ -192,6 +194,7 @@ fn copied(alloc: Global, texts: &[&str]) -> Result<Vec<String>, AllocError>
     Ok(copies)
 }
 
+#[tactic(auto, using(crate::proofs::ArgumentsLemmas::is_accepted, crate::proofs::ArgumentsLemmas::line_at, crate::proofs::ArgumentsLemmas::number_read, crate::proofs::ArgumentsLemmas::one_number_more))]
 fn numbers(alloc: Global, texts: &[&str]) -> Result<Vec<u32>, AllocError>
     requires { All IsLineNumber (map (λ text. text.now) texts.now) }
     ensures { IfOk result (λ numbers. numbers.items

@@ -123,6 +123,7 @@ fn status_of(text: &str) -> u8
 }
 
 // Reads the request, runs nothing, and writes the findings.
+#[tactic(auto, using(crate::proofs::ModesLemmas::part_of_lint))]
 fn lint_suite<S: FeatureSource, W: Write>(
     alloc: Global,
     options: &Options,
@@ -182,6 +183,7 @@ fn lint_suite<S: FeatureSource, W: Write>(
 /// Each source of a run drops its bytes as soon as its feature is read, before the next one is read. So the bytes of
 /// sources that own them, and what is made of the bytes, are never all held at once. Sources after one that doesn't read
 /// keep theirs. The names stay, so a caller can name the source of a fault. With `Findings` all files stay as they were.
+#[tactic(auto, using(crate::proofs::ModesLemmas::fault_in_mode, crate::proofs::ModesLemmas::in_mode, crate::proofs::ModesLemmas::left_in_mode, gk_request::proofs::ResultLemmas::if_ok_both))]
 pub fn write_suite<S: FeatureSource, W: Write>(
     alloc: Global,
     sandbox: &mut Sandbox,

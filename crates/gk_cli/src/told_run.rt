@@ -84,6 +84,7 @@ fn add_feature<R: Reporter, W: Write>(
 }
 
 // Runs the next feature of a run, and tells it. On an error it isn't counted.
+#[tactic(auto, using(gk_request::proofs::ResultLemmas::on_both, gk_request::proofs::ResultLemmas::if_err, crate::proofs::ToldRunLemmas::next_stopped))]
 fn tell_next<R: Reporter, W: Write>(
     parts: &RunParts<'_>,
     sandbox: &mut Sandbox,
@@ -160,6 +161,7 @@ fn tell_features<R: Reporter, W: Write>(
 }
 
 // Looks up the steps of the next feature, and tells it. On an error it isn't counted.
+#[tactic(auto, using(gk_request::proofs::ResultLemmas::on_both, gk_request::proofs::ResultLemmas::if_err, crate::proofs::ToldRunLemmas::next_stopped))]
 fn tell_dry_next<R: Reporter, W: Write>(
     alloc: Global,
     library: &Library,
@@ -209,6 +211,7 @@ pub fn tell_dry_features<R: Reporter, W: Write>(
 }
 
 /// Tells a reporter the end of the run, and writes its last text. Returns the status of the run.
+#[tactic(auto, using(gk_request::proofs::ResultLemmas::passed_on))]
 pub fn close<R: Reporter, W: Write>(
     alloc: Global,
     told: CountingReporter<R>,

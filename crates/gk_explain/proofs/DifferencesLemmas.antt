@@ -1,10 +1,5 @@
 -- What two texts begin with alike, character by character.
-use Rattle.std.proofs.Common.{◌≡◌, ◌∙◌, ◌≢◌, ◌≤◌, ◌+◌, ◌==◌, ℕ, suc, Bool, true, false, cond, List, [], ◌∷◌, ◌++◌, length, chars, encode_utf8, IsUtf8, refl, ap, sym, arith}
-use Rattle.std.proofs.lemmas.Bool.{eq-eqb, ne_eqb}
-use Rattle.std.proofs.lemmas.List.{length-append}
-use Rattle.std.proofs.lemmas.Str.{chars-nil, chars_past_char, length-encode, len_utf8_bounds}
-use Rattle.gk_explain.specs.declared.differences.Position.{Position}
-use Rattle.gk_explain.specs.Differences.{common_start, position_after, position_past}
+use Rattle.gk_explain.proofs.Common.{◌≡◌, ◌∙◌, ◌≢◌, ◌≤◌, ◌+◌, ◌==◌, ℕ, suc, Bool, true, false, cond, List, [], ◌∷◌, ◌++◌, length, chars, encode_utf8, IsUtf8, refl, ap, sym, arith, eq-eqb, ne_eqb, length-append, chars-nil, chars_past_char, length-encode, len_utf8_bounds, Position, common_start, position_after, position_past}
 
 -- A text without bytes has no characters.
 pub no_chars : (text : List ℕ) → length text ≡ 0 → chars text ≡ []

@@ -1,17 +1,5 @@
 -- The line in which two texts differ first is a line of each of them, and is shown.
-use Rattle.std.proofs.Common.{◌≡◌, ◌∙◌, ◌⊎◌, ◌<◌, ◌≤◌, ◌+◌, ◌-◌, ◌==◌, ℕ, zero, suc, Bool, true, false, cond, nat_lt, List, [], Some, ◌∷◌, ◌++◌, length, take, drop, chars, codes, encode_utf8, encode_utf8_all, IsUtf8, refl, ap, sym, subst, inl, inr, length-take, append_assoc, ⊎_elim, arith}
-use Rattle.std.specs.Prelude.{sum_by}
-use Rattle.std.proofs.lemmas.Bool.{ltb-true, ltb-false, eqb-true, and_parts, and_cases}
-use Rattle.std.proofs.lemmas.List.{take-append-drop, drop-take, drop-drop}
-use Rattle.std.proofs.lemmas.List.Concat.{flat_map-append}
-use Rattle.std.proofs.lemmas.List.Splits.{length-slice_split}
-use Rattle.std.proofs.lemmas.List.Sums.{sum_by-cons, sum_by-append}
-use Rattle.std.proofs.lemmas.Str.{encode_ascii, encodes-chars}
-use Rattle.gk_explain.specs.declared.differences.Position.{Position}
-use Rattle.gk_explain.specs.Differences.{common_start, first_position, position_after, position_past, first_difference}
-use Rattle.gk_explain.specs.Shown.{text_lines, cut_line, row, marked_lines, left_out, few_lines, is_left_out, lines_round, marked_text_with}
-use Rattle.gk_explain.specs.Details.{compared, difference_line}
-use Rattle.gk_explain.specs.DifferingLines.{IsLine, DifferingLinesAreShown}
+use Rattle.gk_explain.proofs.Common.{◌≡◌, ◌∙◌, ◌⊎◌, ◌<◌, ◌≤◌, ◌+◌, ◌-◌, ◌==◌, ℕ, zero, suc, Bool, true, false, cond, nat_lt, List, [], Some, ◌∷◌, ◌++◌, length, take, drop, chars, codes, encode_utf8, encode_utf8_all, IsUtf8, refl, ap, sym, subst, inl, inr, length-take, append_assoc, ⊎_elim, arith, sum_by, ltb-true, ltb-false, eqb-true, and_parts, and_cases, take-append-drop, drop-take, drop-drop, flat_map-append, length-slice_split, sum_by-cons, sum_by-append, encode_ascii, encodes-chars, Position, common_start, first_position, position_after, position_past, first_difference, text_lines, cut_line, row, marked_lines, left_out, few_lines, is_left_out, lines_round, marked_text_with, compared, difference_line, IsLine, DifferingLinesAreShown}
 
 -- One for a line feed, none for another number.
 abbrev one_if_feed : ℕ → ℕ

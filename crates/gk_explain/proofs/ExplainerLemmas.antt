@@ -1,29 +1,9 @@
 -- What an explainer says of a case that it was told.
-use Rattle.std.specs.List.{FoldsTo}
-use Rattle.std.proofs.Common.{◌≡◌, ◌∙◌, ℕ, zero, suc, Bool, true, false, cond, List, [], ◌∷◌, ◌++◌, reverse, refl, ap, sym, subst}
-use Rattle.gk_gherkin.specs.Feature.{StepValue}
-use Rattle.gk_select.specs.Case.{CaseValue}
-use Rattle.gk_steps.specs.Finding.{LibraryValue}
-use Rattle.gk_world.specs.State.{State, enter}
-use Rattle.gk_run.specs.declared.ending.Ending.{Ending}
+use Rattle.gk_explain.proofs.Common.{FoldsTo, ◌≡◌, ◌∙◌, ℕ, zero, suc, Bool, true, false, cond, List, [], ◌∷◌, ◌++◌, reverse, refl, ap, sym, subst, StepValue, CaseValue, LibraryValue, State, enter, Ending, Level, Stage, CleanupValue, act, done_of, clean_each, after_lists, before_list, entered, walk_each, ending_of, has_passed, of_step, of_cleanup, SectionNow, cut_at, ended_in, left_by, refused, Run, alone, Cut, nowhere, in_before, in_steps, in_after, in_cleanups, Events, after_of, before_of, happened, in_order, has_event, site_of, one_step, steps_from, walk, Explainer, SectionValue, after_event, after_events, level_of, ExplanationValue, with_section, with_case, with_case_of, is_cut, said, Hears, CasesAreExplained}
 use Rattle.gk_run.specs.declared.ending.Ending.TheVariants as endings
 use Rattle.gk_run.specs.declared.acting.Site.TheVariants as sites
-use Rattle.gk_run.specs.declared.section.Level.{Level}
 use Rattle.gk_run.specs.declared.section.Level.TheVariants as levels
-use Rattle.gk_run.specs.declared.section.Stage.{Stage}
-use Rattle.gk_run.specs.Acting.{CleanupValue, act, done_of}
-use Rattle.gk_run.specs.SectionHooks.{clean_each, after_lists, before_list, entered, walk_each}
-use Rattle.gk_run.specs.Ending.{ending_of, has_passed}
-use Rattle.gk_run.specs.Events.{Event as RunEvent, of_step, of_cleanup, SectionNow, cut_at, ended_in, left_by, refused}
-use Rattle.gk_run.specs.OpenSection.{Run}
-use Rattle.gk_run.specs.Running.{alone}
-use Rattle.gk_run.specs.Section.{Cut, nowhere, in_before, in_steps, in_after, in_cleanups, Events, after_of, before_of, happened, in_order, has_event, site_of}
-use Rattle.gk_run.specs.Walk.{one_step, steps_from, walk}
-use Rattle.gk_explain.specs.declared.explainer.Explainer.{Explainer}
-use Rattle.gk_explain.specs.SectionLines.{SectionValue, after_event, after_events}
-use Rattle.gk_explain.specs.Event.{level_of}
-use Rattle.gk_explain.specs.Explanation.{ExplanationValue, with_section, with_case, with_case_of}
-use Rattle.gk_explain.specs.Explainer.{is_cut, said, Hears, CasesAreExplained}
+use Rattle.gk_run.specs.Events.{Event as RunEvent}
 
 -- Events are all of one level.
 abbrev pub AllAt : Level → List RunEvent → Type 0

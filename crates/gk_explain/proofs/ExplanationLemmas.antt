@@ -1,20 +1,7 @@
 -- What an event more of a section makes of an explanation.
-use Rattle.std.proofs.Common.{◌≡◌, ◌∙◌, ℕ, List, [], ap, refl, sym, subst}
-use Rattle.std.specs.Prelude.{OnOk, Result}
-use Rattle.std.proofs.lemmas.Result.{on_ok_weaker}
-use Rattle.gk_gherkin.specs.Feature.{StepValue}
-use Rattle.gk_steps.specs.Finding.{LibraryValue}
-use Rattle.gk_world.specs.State.{State}
-use Rattle.gk_run.specs.declared.results.Mark.{Mark}
-use Rattle.gk_run.specs.declared.section.Stage.{Stage}
-use Rattle.gk_run.specs.Acting.{CleanupValue}
-use Rattle.gk_run.specs.Events.{Event as RunEvent, of_step}
-use Rattle.gk_run.specs.declared.section.Level.{Level}
+use Rattle.gk_explain.proofs.Common.{◌≡◌, ◌∙◌, ℕ, List, [], ap, refl, sym, subst, OnOk, Result, on_ok_weaker, StepValue, LibraryValue, State, Mark, Stage, CleanupValue, of_step, Level, event_details, level_of, SectionValue, after_event, ExplanationValue, with_event, with_section}
+use Rattle.gk_run.specs.Events.{Event as RunEvent}
 use Rattle.gk_run.specs.declared.section.Level.TheVariants as levels
-use Rattle.gk_explain.specs.Details.{event_details}
-use Rattle.gk_explain.specs.Event.{level_of}
-use Rattle.gk_explain.specs.SectionLines.{SectionValue, after_event}
-use Rattle.gk_explain.specs.Explanation.{ExplanationValue, with_event, with_section}
 
 pub in_run : (e : ExplanationValue) (level : Level) (change : SectionValue → SectionValue) (new : SectionValue) → level ≡ levels.Run → new ≡ change e.run → record e { run = new } ≡ with_section level change e
 in_run e level change new is becomes = ap (λ (new : SectionValue). record e { run = new }) becomes ∙ ap (λ (level : Level). with_section level change e) (sym is)

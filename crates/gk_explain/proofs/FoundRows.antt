@@ -1,10 +1,5 @@
 -- Of rows whose lines rise, the one at a line.
-use Rattle.std.proofs.Common.{◌≡◌, ◌∙◌, ℕ, suc, ◌+◌, ◌<◌, ◌≤◌, ◌==◌, cond, Bool, List, [], ◌∷◌, map, Option, Some, None, refl, ap, sym, subst, arith, inl, inr}
-use Rattle.std.specs.List.{find, slice_index}
-use Rattle.std.specs.List.Sorted.{IsStrictlyIncreasing}
-use Rattle.std.proofs.lemmas.Bool.{cases_lt, cases_eq, lt-ltb, le-ltb, eq-eqb, ne_eqb}
-use Rattle.gk_select.specs.ExampleRows.{ExampleRowValue, row_lines}
-use Rattle.gk_explain.specs.RowLines.{rows_from, row_at, is_at, RowsAreFound}
+use Rattle.gk_explain.proofs.Common.{◌≡◌, ◌∙◌, ℕ, suc, ◌+◌, ◌<◌, ◌≤◌, List, [], ◌∷◌, None, refl, ap, sym, subst, arith, inl, inr, find, slice_index, IsStrictlyIncreasing, cases_lt, cases_eq, lt-ltb, le-ltb, eq-eqb, ne_eqb, ExampleRowValue, row_lines, rows_from, row_at, is_at, RowsAreFound}
 
 increasing_tail : (n : ℕ) (ns : List ℕ) → IsStrictlyIncreasing (n ∷ ns) → IsStrictlyIncreasing ns
 increasing_tail n ns rises k less =

@@ -1,3 +1,4 @@
+pub mod Common
 pub mod ShownLemmas
 pub mod DifferencesLemmas
 pub mod DifferingLinesLemmas

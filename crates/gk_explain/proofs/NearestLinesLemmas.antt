@@ -1,12 +1,5 @@
 -- What is kept of the nearest entries, where more is.
-use Rattle.std.proofs.Common.{◌≡◌, ◌∙◌, ℕ, Bool, true, false, cond, List, String, string_bytes, Option, Some, IfSome, refl, ap, sym, subst}
-use Rattle.std.specs.HashMap.{HashMap, get_by_text}
-use Rattle.std.specs.Map.{update}
-use Rattle.std.specs.Str.{bytes_eq}
-use Rattle.std.proofs.lemmas.Slice.Eq.{bytes_eq-Decides}
-use Rattle.gk_steps.specs.Finding.{LibraryValue}
-use Rattle.gk_explain.specs.Nearest.{nearest_told}
-use Rattle.gk_explain.specs.NearestLines.{AreNearest}
+use Rattle.gk_explain.proofs.Common.{◌≡◌, ◌∙◌, ℕ, Bool, true, false, cond, List, String, string_bytes, Option, Some, IfSome, refl, ap, sym, subst, HashMap, get_by_text, update, bytes_eq, bytes_eq-Decides, LibraryValue, nearest_told, AreNearest}
 
 -- What was kept for a text.
 pub kept_line : {X Y S : Type 0} (library : LibraryValue) (m : HashMap (String X) (String Y) S) (text : List ℕ) (line : String Y) → AreNearest library m → Some line ≡ get_by_text m text → string_bytes line ≡ nearest_told library text

@@ -1,37 +1,14 @@
 -- Where the cleanups of a case were registered.
-use Rattle.std.specs.List.{slice_get}
-use Rattle.std.proofs.Common.{◌≡◌, ◌∙◌, ◌-◌, Bool, true, false, cond, ◌&&◌, List, [], ◌∷◌, ◌++◌, length, map, flat_map, reverse, Option, Some, None, is_some, refl, ap, ap₂, sym, subst, append_assoc, arith}
-use Rattle.std.proofs.lemmas.List.{append-nil, map-append, reverse-append, reverse-reverse, length_push, take_at}
-use Rattle.std.proofs.lemmas.List.Concat.{flat_map-append}
-use Rattle.gk_gherkin.specs.Feature.{BlockValue, StepValue}
-use Rattle.gk_steps.specs.declared.action.Action.{Action}
-use Rattle.gk_steps.specs.declared.action.Does.{Does}
-use Rattle.gk_steps.specs.declared.action.Does.TheVariants.{Changes, Checks, Registers, Skips}
-use Rattle.gk_steps.specs.Action.{row_of}
-use Rattle.gk_steps.specs.Finding.{LibraryValue, FoundValue, action_of, found, found_any}
-use Rattle.gk_world.specs.State.{State, enter}
-use Rattle.gk_run.specs.declared.acting.Site.{Site}
+use Rattle.gk_explain.proofs.Common.{slice_get, ◌≡◌, ◌∙◌, ◌-◌, Bool, true, false, cond, ◌&&◌, List, [], ◌∷◌, ◌++◌, length, map, flat_map, reverse, Option, Some, None, is_some, refl, ap, ap₂, sym, subst, append_assoc, arith, map-append, reverse-append, reverse-reverse, length_push, take_at, flat_map-append, BlockValue, StepValue, Action, Does, Changes, Checks, Registers, Skips, row_of, LibraryValue, FoundValue, action_of, found, found_any, State, enter, Site, Ending, Mark, Undefined, Skipped, Outcome, Level, Stage, CleanupValue, ArgumentsValue, act, does_at_site, table, skip_outcome, done_of, fails, arguments_of, is_pass, may_register, without_cleanups, clean_each, after_lists, before_list, entered, walk_each, ending_of, has_passed, of_step, SectionNow, ended_in, left_by, alone, after_of, before_of, in_order, site_of, steps_of_case, looked_up, one_step, stepped, steps_from, walk, Registration, PlacedCleanup, is_registering, found_registers, is_passed, registered_by, last_of, all_but_last, placed_cleanups, placed_by, CleanupsAreOfTheirSteps}
+use Rattle.std.proofs.lemmas.List.{append-nil}
 use Rattle.gk_run.specs.declared.acting.Site.TheVariants as sites
-use Rattle.gk_run.specs.declared.ending.Ending.{Ending}
 use Rattle.gk_run.specs.declared.ending.Ending.TheVariants as endings
-use Rattle.gk_run.specs.declared.results.Mark.{Mark}
-use Rattle.gk_run.specs.declared.results.Mark.TheVariants.{Undefined, Skipped}
-use Rattle.gk_run.specs.declared.results.Outcome.{Outcome}
 use Rattle.gk_run.specs.declared.results.Outcome.TheVariants as outcomes
 use Rattle.gk_run.specs.declared.results.Reason.TheVariants as reasons
-use Rattle.gk_run.specs.declared.section.Level.{Level}
 use Rattle.gk_run.specs.declared.section.Level.TheVariants as levels
 use Rattle.gk_run.specs.declared.section.Part.TheVariants as parts
-use Rattle.gk_run.specs.declared.section.Stage.{Stage}
-use Rattle.gk_run.specs.Acting.{ActionEffect as Result, CleanupValue, ArgumentsValue, act, does_at_site, table, skip_outcome, done_of, fails, arguments_of, is_pass, may_register, registers as registers_found, without_cleanups}
-use Rattle.gk_run.specs.SectionHooks.{clean_each, after_lists, before_list, entered, walk_each}
-use Rattle.gk_run.specs.Ending.{ending_of, has_passed}
-use Rattle.gk_run.specs.Events.{Event as RunEvent, of_step, SectionNow, after_event, ended_in, left_by}
-use Rattle.gk_run.specs.Running.{alone}
-use Rattle.gk_run.specs.Section.{after_of, before_of, in_order, site_of, steps_of_case}
-use Rattle.gk_run.specs.Walk.{looked_up, one_step, stepped, steps_from, walk}
-use Rattle.gk_explain.specs.declared.registrations.Registration.{Registration}
-use Rattle.gk_explain.specs.Registrations.{PlacedCleanup, is_registering, found_registers, is_passed, registered_by, last_of, all_but_last, placed_cleanups, placed_by, CleanupsAreOfTheirSteps}
+use Rattle.gk_run.specs.Acting.{ActionEffect as Result, registers as registers_found}
+use Rattle.gk_run.specs.Events.{Event as RunEvent, after_event}
 
 -- A cleanup with its place.
 abbrev Pair : Type 0

@@ -1,12 +1,5 @@
 -- What is left of a text to be shown.
-use Rattle.std.proofs.Common.{◌≡◌, ◌∙◌, ◌-◌, ◌≤◌, ◌<◌, ◌⊎◌, inl, inr, ⊎_elim, ◌||◌, ◌==◌, ℕ, true, false, nat_lt, List, [], ◌∷◌, ◌++◌, length, take, drop, map, flat_map, chars, IsUtf8, encode_utf8, ap, ap₂, sym, refl, append_assoc, arith}
-use Rattle.std.specs.List.{list_any}
-use Rattle.std.proofs.lemmas.Bool.{cases_lt, or_parts, or_from, and_left, and_right, not_from_true, ltb-false, lt-ltb, le-ltb, eqb-false, ne_eqb, cond-false, cond-true}
-use Rattle.std.proofs.lemmas.List.{take-map, drop-map, length-map}
-use Rattle.std.proofs.lemmas.List.Folds.{list_any-append}
-use Rattle.std.proofs.lemmas.Str.{chars-nil, chars-encodes, chars_past_char, encode_ascii}
-use lib.Utf8.{encode, encodes, next}
-use Rattle.gk_explain.specs.Shown.{is_control, is_suspect, escaped_char, escaped, marked_lines, left_out, few_lines}
+use Rattle.gk_explain.proofs.Common.{◌≡◌, ◌∙◌, ◌-◌, ◌≤◌, ◌<◌, ◌⊎◌, inl, inr, ⊎_elim, ◌||◌, ◌==◌, ℕ, true, false, nat_lt, List, [], ◌∷◌, ◌++◌, length, take, drop, map, flat_map, chars, IsUtf8, encode_utf8, ap, ap₂, sym, refl, append_assoc, arith, list_any, cases_lt, or_parts, or_from, and_left, and_right, not_from_true, ltb-false, lt-ltb, le-ltb, eqb-false, ne_eqb, cond-false, cond-true, take-map, drop-map, length-map, list_any-append, chars-nil, chars-encodes, chars_past_char, encode_ascii, encode, encodes, next, is_control, is_suspect, escaped_char, escaped, marked_lines, left_out, few_lines}
 
 -- Of a text without bytes nothing is shown.
 pub shown_none : (show : ℕ → List ℕ) (text : List ℕ) → length text ≡ 0 → flat_map show (chars text) ≡ []

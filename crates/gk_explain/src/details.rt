@@ -100,7 +100,7 @@ fn push_lacking(
 }
 
 // Appends an expected number, and the text of the found value.
-#[tactic(auto, unfolding(crate::specs::Details::unequal))]
+#[tactic(auto, using(std::proofs::lemmas::Result::on_ok_weaker), unfolding(crate::specs::Details::unequal))]
 fn push_unequal(
     alloc: Global,
     out: &mut String,

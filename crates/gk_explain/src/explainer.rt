@@ -211,12 +211,14 @@ impl Observer for Explainer<'_> {
 /// A case that was told to an explainer that kept nothing before and isn't cut is explained if it failed or
 /// was refused memory. The explanation has the lines of all its events in order, with the text below those that
 /// failed. Nothing is said about any other case.
+#[tactic(auto, using(crate::proofs::ExplainerLemmas::explained_by_its_events))]
 pub fn cases_are_explained()
     ensures { CasesAreExplained }
 {}
 
 /// If memory is refused nowhere, the cleanups of a case that run are those that its hooks and steps registered,
 /// the last first. The place given for each is that of the step that registered it.
+#[tactic(auto, using(crate::proofs::RegistrationLemmas::placed_by_their_steps))]
 pub fn cleanups_are_of_their_steps()
     ensures { CleanupsAreOfTheirSteps }
 {}

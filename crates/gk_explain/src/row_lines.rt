@@ -36,6 +36,7 @@ pub fn row_at(rows: &[ExampleRow], line: u32) -> Option<&ExampleRow>
 
 /// Of rows whose lines rise, the one at a line is found, if there is one, even if rows were dropped for an earlier
 /// line.
+#[tactic(auto, using(crate::proofs::FoundRows::rows_are_found))]
 pub fn rows_are_found()
     ensures { RowsAreFound }
 {}

@@ -124,6 +124,7 @@ fn push_escaped_chars(out: &mut String, text: &str) -> Result<(), AllocError>
 
 /// Appends a name or a text on one line, with its control characters escaped. An error comes only if a growth was
 /// refused; a part of it may have been appended then.
+#[tactic(auto, using(crate::proofs::ShownLemmas::plain_text))]
 pub fn push_escaped(out: &mut String, text: &str) -> Result<(), AllocError>
     ensures { Pushes out.old (spec.escaped text.now) result out.new }
 {
@@ -300,6 +301,7 @@ fn push_left_out(out: &mut String, count: usize) -> Result<(), AllocError>
 }
 
 // Appends lines of a text in at most twenty rows.
+#[tactic(auto, using(std::proofs::lemmas::Result::on_ok_weaker, crate::proofs::ShownLemmas::many_lines))]
 fn push_few_lines(
     alloc: Global,
     out: &mut String,

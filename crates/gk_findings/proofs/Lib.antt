@@ -1,2 +1,3 @@
+pub mod Common
 pub mod LintedSourcesLemmas
 pub mod LintedSuiteLemmas

@@ -1,18 +1,5 @@
 -- What is found of sources, one after another, and that they are read as a run reads them.
-use Rattle.std.proofs.Common.{◌≡◌, ℕ, Bool, List, [], ◌∷◌, ◌++◌, Option, Some, None, refl, ap, sym, subst, ◌∙◌, append_assoc, option_to_list, string_bytes}
-use Rattle.std.proofs.lemmas.List.{append-nil}
-use Rattle.std.proofs.lemmas.List.Concat.{flat_map-append}
-use Rattle.gk_gherkin.specs.Lines.{lines_of, IsText}
-use Rattle.gk_gherkin.specs.Feature.{FeatureValue}
-use Rattle.gk_gherkin.specs.Grammar.{Reads}
-use Rattle.gk_select.specs.Expansion.{IsExpandable}
-use Rattle.gk_select.specs.Case.{CaseValue}
-use Rattle.gk_run.specs.Chosen.{ChosenValue}
-use Rattle.gk_findings.specs.declared.linted_sources.LintSoFar.{LintSoFar}
-use Rattle.gk_request.specs.Source.{SourceValue}
-use Rattle.gk_findings.specs.FindingLines.{NotedLibraryValue}
-use Rattle.gk_request.specs.Inputs.{AreRead, with_reading}
-use Rattle.gk_findings.specs.LintedSources.{features_in, used_by, IsLintedAs, AreLinted, IsLintOf, IsLintedOnto, AreExpandable}
+use Rattle.gk_findings.proofs.Common.{◌≡◌, ℕ, Bool, List, [], ◌∷◌, ◌++◌, Option, Some, None, refl, ap, sym, subst, ◌∙◌, append_assoc, option_to_list, string_bytes, append-nil, flat_map-append, lines_of, IsText, FeatureValue, Reads, IsExpandable, CaseValue, ChosenValue, LintSoFar, SourceValue, NotedLibraryValue, AreRead, with_reading, features_in, used_by, IsLintedAs, AreLinted, IsLintOf, IsLintedOnto, AreExpandable}
 
 -- What was read can be expanded.
 pub expandable : ((bytes : List ℕ) (f : FeatureValue) → IsText bytes → Reads (lines_of bytes) (Some f) → IsExpandable f) → (bytes : List ℕ) (reading : Option FeatureValue) → IsText bytes → Reads (lines_of bytes) reading → AreExpandable reading

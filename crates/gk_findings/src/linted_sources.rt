@@ -154,6 +154,7 @@ fn push_source_findings(
 }
 
 // Adds the findings of a source that reads as this feature, or as none.
+#[tactic(auto, using(crate::proofs::LintedSourcesLemmas::expandable))]
 fn add_source<S: FeatureSource>(
     so_far: &mut LintSoFar,
     alloc: Global,

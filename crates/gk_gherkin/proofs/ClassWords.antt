@@ -1,11 +1,5 @@
 -- What stands before and after the first colon or blank of a text.
-use Rattle.std.proofs.Common.{◌≡◌, ◌<◌, ◌∷◌, false, get_or, ◌+◌, ℕ, List, [], length, Option, Some, None, Bor, ap, sym, arith}
-use Rattle.std.proofs.lemmas.List.{take_all, drop_all}
-use Rattle.std.proofs.lemmas.Str.Pattern.{IsSplitOnceResult, split_once_first}
-use Rattle.std.specs.List.{position_or_len, before_first, after_first}
-use Rattle.gk_gherkin.specs.Text.{trim, begins}
-use Rattle.std.proofs.lemmas.Bool.Decides.{nat_tests}
-use Rattle.gk_gherkin.specs.Class.{is_colon}
+use Rattle.gk_gherkin.proofs.Common.{◌≡◌, ◌<◌, ◌∷◌, false, get_or, ◌+◌, ℕ, List, [], length, Option, Some, None, Bor, ap, sym, arith, take_all, drop_all, IsSplitOnceResult, split_once_first, position_or_len, before_first, after_first, trim, begins, nat_tests, is_colon}
 
 module _ (text : List ℕ) (r : Option (Bor (List ℕ) × Bor (List ℕ))) (split : IsSplitOnceResult 58 text r) where
   pub at_colon : (x : Bor (List ℕ) × Bor (List ℕ)) → r ≡ Some x → (x.0.now ≡ before_first is_colon text) × (x.1.now ≡ after_first is_colon text)

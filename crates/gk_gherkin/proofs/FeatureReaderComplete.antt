@@ -1,20 +1,5 @@
 -- What has a reading as a feature file is read so, and so no lines have two.
-use Rattle.std.proofs.Common.{◌≡◌, ℕ, List, [], ◌∷◌, ◌++◌, length, Option, Some, None, Result, Ok, refl, sym, subst, ap, ◌∙◌, append_assoc, inl, inr}
-use Rattle.std.proofs.lemmas.List.{append-nil}
-use Rattle.gk_gherkin.specs.declared.class.Class.TheVariants.{BackgroundHeading, Blank, Comment, ExamplesHeading, FeatureHeading, FenceLine, Other, RowLine, RuleHeading, ScenarioHeading, StepLine, TagLine}
-use Rattle.gk_gherkin.specs.declared.class.Class.{Class}
-use Rattle.gk_gherkin.specs.declared.class.Fence.{Fence}
-use Rattle.gk_gherkin.specs.declared.read_fault.ReadFault.{ReadFault}
-use Rattle.gk_gherkin.specs.FeatureReader.{Above, FeatureReader, InFeature, OfFeature, OfRule, OpenFeature, Tagged, Top, Untagged, by_language, examples_after, feature_in, feature_of, feature_readers, on, on_comment, on_heading, on_line, rule_of, tag_line, takes_text, with_rule, without_tags}
-use Rattle.gk_gherkin.specs.Reading.{Outside, State, finish, opening, reading, run, step}
-use Rattle.gk_gherkin.specs.OpenParts.{InBody, Body, NoSteps, InExamples, Grid, HeadValue, InDescription, NoRows, OfBackground, OfScenario, Open, OutlineValue, Owner, Rows, ChildrenValue, Steps, background_children, examples_of, head_from, header_of, on_body, on_grid, on_open, open_takes_text, outline_of, row_from, rows_of, scenario_of, children_of, steps_of, with_examples, with_scenario}
-use Rattle.gk_gherkin.specs.Lines.{LineValue, Lines}
-use Rattle.gk_gherkin.specs.Class.{class, heading_name}
-use Rattle.gk_gherkin.specs.Tags.{tags_of}
-use Rattle.gk_gherkin.specs.Language.{IsEnglishOrNone, language_of}
-use Rattle.gk_gherkin.specs.Feature.{BackgroundValue, ExamplesValue, FeatureValue, RowValue, RuleValue, ScenarioValue, StepValue}
-use Rattle.gk_gherkin.specs.Grammar.{AreExamples, AreSteps, AreTags, Describes, HasOneReading, HasTable, IsBackground, IsFeature, IsIgnored, IsIgnoredClass, IsRow, IsRule, IsScenario, IsTaggedHeading, Many, MayDescribeExamples, MayDescribeFeature, MayDescribeScenario, Next, Perhaps, Reads, Skips, describe, described, more, none, skip, skip_none, tagged, untagged}
-use Rattle.gk_gherkin.specs.Results.{◌>>=◌}
+use Rattle.gk_gherkin.proofs.Common.{◌≡◌, ℕ, List, [], ◌∷◌, ◌++◌, length, Option, Some, None, Result, Ok, refl, sym, subst, ap, ◌∙◌, append_assoc, inl, inr, arith, append-nil, BackgroundHeading, Blank, Comment, ExamplesHeading, FeatureHeading, FenceLine, Other, RowLine, RuleHeading, ScenarioHeading, StepLine, TagLine, Class, Fence, ReadFault, Above, FeatureReader, InFeature, OfFeature, OfRule, OpenFeature, Tagged, Top, Untagged, examples_after, feature_in, feature_of, feature_readers, on, on_heading, on_line, rule_of, tag_line, takes_text, with_rule, without_tags, Outside, State, finish, opening, reading, run, step, InBody, Body, NoSteps, InExamples, Grid, HeadValue, InDescription, NoRows, OfBackground, OfScenario, Open, OutlineValue, Owner, Rows, ChildrenValue, Steps, background_children, examples_of, head_from, header_of, on_body, on_grid, on_open, open_takes_text, outline_of, row_from, rows_of, scenario_of, children_of, steps_of, with_examples, with_scenario, LineValue, Lines, class, heading_name, tags_of, BackgroundValue, ExamplesValue, FeatureValue, RowValue, RuleValue, ScenarioValue, StepValue, AreExamples, AreSteps, AreTags, Describes, HasOneReading, HasTable, IsBackground, IsFeature, IsIgnored, IsIgnoredClass, IsRow, IsRule, IsScenario, IsTaggedHeading, Many, MayDescribeExamples, MayDescribeFeature, MayDescribeScenario, Next, Perhaps, Reads, Skips, describe, described, more, none, skip, skip_none, tagged, untagged, ◌>>=◌, common_steps}
 use Rattle.gk_gherkin.proofs.ReadingRuns.{no_ok, ok_same, run_nil, run_over}
 use Rattle.gk_gherkin.proofs.ReadingStates.{IsNoFence, ignored_no_fence, no_fence, step_plain}
 use Rattle.gk_gherkin.proofs.ReadingSteps.{AllAre, run_steps}
@@ -30,20 +15,12 @@ ignored_class : (feature : OpenFeature) (l : LineValue) → IgnoredAt feature l 
 ignored_class Above l i = i.0
 ignored_class (InFeature top part) l i = i
 
-english_quiet : (r : Option (List ℕ)) (s : FeatureReader) (l : LineValue) → IsEnglishOrNone r → by_language r s l ≡ Ok s
-english_quiet None s l i = refl
-english_quiet (Some word) s l i = ap (λ (word : List ℕ). by_language (Some word) s l) i
-
-comment_quiet : (feature : OpenFeature) (s : FeatureReader) (l : LineValue) → IgnoredAt feature l → on_comment feature s l ≡ Ok s
-comment_quiet Above s l i = english_quiet (language_of l) s l i.1
-comment_quiet (InFeature top part) s l i = refl
-
 quiet_class : (s : FeatureReader) (l : LineValue) (c : Class) → IgnoredAt (FeatureOf s) l → IsIgnoredClass c → on s l c ≡ Ok s
 unfolding on
 quiet_class (Untagged feature) l Blank i n = refl
-quiet_class (Untagged feature) l Comment i n = comment_quiet feature (Untagged feature) l i
+quiet_class (Untagged feature) l Comment i n = grind (arith, common_steps)
 quiet_class (Tagged feature tags last) l Blank i n = refl
-quiet_class (Tagged feature tags last) l Comment i n = comment_quiet feature (Tagged feature tags last) l i
+quiet_class (Tagged feature tags last) l Comment i n = grind (arith, common_steps)
 quiet_class s l _ i n = absurd n
 
 quiet : (s : FeatureReader) (l : LineValue) → IgnoredAt (FeatureOf s) l → on s l (class l) ≡ Ok s

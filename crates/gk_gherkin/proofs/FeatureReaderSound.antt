@@ -1,23 +1,5 @@
 -- What a reader of a feature file means, and that each line keeps it: what is read has that reading.
-use Rattle.std.proofs.Common.{◌≡◌, ℕ, suc, Bool, true, false, ◌==◌, List, [], ◌∷◌, Option, Some, None, Result, Ok, Err, refl, sym, subst, arith}
-use Rattle.std.proofs.lemmas.Grind.{common_steps}
-use Rattle.std.proofs.lemmas.Bool.Decides.{nat_tests}
-use Rattle.std.specs.Prelude.{codes, option_and_then}
-use Rattle.std.specs.Str.{bytes_eq}
-use Rattle.std.proofs.lemmas.Slice.Eq.{bytes_eq-Decides}
-use Rattle.gk_gherkin.specs.declared.class.Class.TheVariants.{Blank, Comment, ExamplesHeading, FeatureHeading, RuleHeading, ScenarioHeading, TagLine}
-use Rattle.gk_gherkin.specs.declared.class.Class.{Class}
-use Rattle.gk_gherkin.specs.declared.read_fault.ReadFault.{ReadFault}
-use Rattle.gk_gherkin.specs.FeatureReader.{Above, FeatureReader, InFeature, OfFeature, OfRule, OpenFeature, Tagged, Top, Untagged, by_language, examples_after, feature_in, feature_of, feature_readers, on, on_comment, on_heading, on_line, rule_of, tag_line, without_tags}
-use Rattle.gk_gherkin.specs.Reading.{Outside, InText, State, finish, reading, run}
-use Rattle.gk_gherkin.specs.OpenParts.{InBody, InExamples, HeadValue, InDescription, Open, OutlineValue, ChildrenValue, outline_of, children_of}
-use Rattle.gk_gherkin.specs.Text.{begins, trim}
-use Rattle.gk_gherkin.specs.Lines.{LineValue, Lines}
-use Rattle.gk_gherkin.specs.Class.{class, class_of}
-use Rattle.gk_gherkin.specs.Tags.{tags_of}
-use Rattle.gk_gherkin.specs.Language.{IsEnglishOrNone, language_of, language_word, rest_after}
-use Rattle.gk_gherkin.specs.Feature.{FeatureValue, rule_container}
-use Rattle.gk_gherkin.specs.Grammar.{AreTags, Describes, IsContainer, IsDocString, IsFeature, IsIgnored, IsIgnoredAbove, IsIgnoredClass, MayDescribeScenario, Reads, Skips, described, none, skip_none, untagged}
+use Rattle.gk_gherkin.proofs.Common.{◌≡◌, ℕ, suc, Bool, true, false, ◌==◌, List, [], ◌∷◌, Option, Some, None, Result, Ok, Err, refl, sym, subst, arith, common_steps, nat_tests, codes, option_and_then, bytes_eq, bytes_eq-Decides, Blank, Comment, ExamplesHeading, FeatureHeading, RuleHeading, ScenarioHeading, TagLine, Class, ReadFault, Above, FeatureReader, InFeature, OfFeature, OfRule, OpenFeature, Tagged, Top, Untagged, by_language, examples_after, feature_in, feature_of, feature_readers, on, on_comment, on_heading, on_line, rule_of, tag_line, without_tags, Outside, InText, State, finish, reading, run, InBody, InExamples, HeadValue, InDescription, Open, OutlineValue, ChildrenValue, outline_of, children_of, begins, trim, LineValue, Lines, class, class_of, tags_of, IsEnglishOrNone, language_of, language_word, rest_after, FeatureValue, rule_container, AreTags, Describes, IsContainer, IsDocString, IsFeature, IsIgnored, IsIgnoredAbove, IsIgnoredClass, MayDescribeScenario, Reads, Skips, described, none, skip_none, untagged}
 use Rattle.gk_gherkin.proofs.ReadingRuns.{bind_is, bind_ok, no_ok, ok_same}
 use Rattle.gk_gherkin.proofs.ReadingSound.{Built, built_run}
 use Rattle.gk_gherkin.proofs.OpenPartsSound.{AreTags-push, HeadBuilt, Many-push, OpenBuilt, SectionBuilt, Skips-more, closed, cond_ok, head_line, on_open-built, outline_built, text_under}
@@ -41,7 +23,7 @@ closed_container head children ls mid rest h s = record { line = h.line; after_h
 pub closed_top : (top : Top) (children : ChildrenValue) (whole mid rest : Lines) → TopBuilt top whole mid → SectionBuilt children mid rest → IsFeature whole (feature_of top children) rest
 closed_top (OfFeature head) children whole mid rest h s =
     record { after_scenarios = rest; container = closed_container head children whole mid rest h s; rules = none }
-closed_top (OfRule f head) children whole mid rest t s = grind (arith, common_steps, closed_container, Many-push)
+closed_top (OfRule f head) children whole mid rest t s = grind (arith, common_steps, Many-push)
 
 -- a heading after tags
 examples_ok : (part : Open) (r : Option OutlineValue) (top : Top) (tags : List (List ℕ)) (whole mid a b rest : Lines) (l : LineValue) (t : OpenFeature) → outline_of part ≡ r → class l ≡ ExamplesHeading → TopBuilt top whole mid → OpenBuilt part mid a → AreTags IsIgnored a tags b → Skips IsIgnored b (l ∷ rest) → examples_after r top tags l ≡ Ok t → FeatureBuilt t whole rest

@@ -1,25 +1,5 @@
 -- Where a run over the lines of a feature file stops, and what the fault there says.
-use Rattle.std.proofs.Common.{◌≡◌, ℕ, true, List, [], ◌∷◌, ◌++◌, length, Option, Some, None, Result, Ok, Err, refl, sym, subst, ap, ◌∙◌, append_assoc, inl, inr, ◌≢◌, ◌⊎◌, IfOk, IfErr, arith}
-use Rattle.std.proofs.lemmas.Grind.{common_steps}
-use Rattle.std.specs.List.{AllByRecursion}
-use Rattle.std.specs.Prelude.{codes, option_map}
-use Rattle.gk_gherkin.specs.declared.class.Class.TheVariants.{BackgroundHeading, Blank, Comment, ExamplesHeading, FeatureHeading, FenceLine, Other, RowLine, RuleHeading, ScenarioHeading, StepLine, TagLine}
-use Rattle.gk_gherkin.specs.declared.read_fault.ReadFault.TheVariants.{BadTag, Memory, TagsAtEnd, UnclosedText, Unexpected}
-use Rattle.gk_gherkin.specs.declared.class.Class.{Class}
-use Rattle.gk_gherkin.specs.declared.class.Fence.{Fence}
-use Rattle.gk_gherkin.specs.declared.read_fault.ReadFault.{ReadFault}
-use Rattle.gk_gherkin.specs.FeatureReader.{Above, FeatureReader, InFeature, NeedsAt, OfFeature, OpenFeature, Tagged, Top, Untagged, after_text, by_language, examples_after, feature_in, feature_readers, on, on_comment, on_heading, on_line, tag_line, takes_text, with_text, without_tags}
-use Rattle.gk_gherkin.specs.Reading.{Outside, DocStringValue, FailsAs, FailsBy, InText, State, finish, opening, outside, reading, run, step}
-use Rattle.gk_gherkin.specs.OpenParts.{InBody, Body, NoSteps, InExamples, Grid, InDescription, NoRows, OfScenario, Open, OutlineValue, Rows, Steps, head_from, on_body, on_grid, on_open, on_row, outline_of, row_from, children_of}
-use Rattle.gk_gherkin.specs.Lines.{IsText, LineValue, Lines, lines_of}
-use Rattle.gk_gherkin.specs.Class.{class, class_of, class_of_words, heading_keyword}
-use Rattle.gk_gherkin.specs.Tags.{tags_of}
-use Rattle.gk_gherkin.specs.Rows.{cells_of}
-use Rattle.gk_gherkin.specs.Language.{language_of}
-use Rattle.gk_gherkin.specs.Feature.{FeatureValue, RowValue, feature_value}
-use Rattle.gk_gherkin.specs.Grammar.{AreTags, Describes, IsIgnored, IsIgnoredAbove, IsIgnoredClass, IsReadable, MayDescribeScenario, Reads, Skips, skip, skip_none, tagged, untagged}
-use Rattle.gk_gherkin.specs.ReadFault.{AnswersOrLacksMemory, BeginsNone, FaultSays, FeatureFault, IsBadTag, IsLineFault, LineSays, NeedsMemory, NoneLikeIt, TakesTags, line_of_fault}
-use Rattle.gk_gherkin.specs.Results.{◌>>=◌}
+use Rattle.gk_gherkin.proofs.Common.{◌≡◌, ℕ, true, List, [], ◌∷◌, ◌++◌, length, Option, Some, None, Result, Ok, Err, refl, sym, subst, ap, ◌∙◌, append_assoc, inl, inr, ◌≢◌, ◌⊎◌, IfOk, IfErr, arith, common_steps, AllByRecursion, codes, option_map, BackgroundHeading, Blank, Comment, ExamplesHeading, FeatureHeading, FenceLine, Other, RowLine, RuleHeading, ScenarioHeading, StepLine, TagLine, BadTag, Memory, TagsAtEnd, UnclosedText, Unexpected, Class, Fence, ReadFault, Above, FeatureReader, InFeature, NeedsAt, OfFeature, OpenFeature, Tagged, Untagged, after_text, by_language, feature_in, feature_readers, on, on_comment, on_heading, on_line, tag_line, takes_text, with_text, without_tags, Outside, DocStringValue, FailsAs, FailsBy, InText, State, finish, opening, outside, reading, run, step, InBody, Body, NoSteps, InExamples, Grid, InDescription, NoRows, OfScenario, Open, Rows, Steps, head_from, on_body, on_grid, on_open, on_row, row_from, children_of, IsText, LineValue, Lines, lines_of, class, class_of, class_of_words, heading_keyword, tags_of, cells_of, language_of, FeatureValue, RowValue, feature_value, AreTags, Describes, IsIgnored, IsIgnoredAbove, IsIgnoredClass, IsReadable, MayDescribeScenario, Reads, Skips, skip, skip_none, tagged, untagged, AnswersOrLacksMemory, BeginsNone, FaultSays, FeatureFault, IsBadTag, IsLineFault, LineSays, NeedsMemory, NoneLikeIt, TakesTags, line_of_fault, ◌>>=◌, Feature}
 use Rattle.gk_gherkin.proofs.ReadingRuns.{Halts, bind_err, err_same, halts, no_err, no_ok, ok_same, one_more_line}
 use Rattle.gk_gherkin.proofs.ReadingStates.{never, no_fence, refused_at, step_plain, step_refused}
 use Rattle.gk_gherkin.proofs.ReadingStops.{Marks, ends_in_text, halted, marks, needed}
@@ -29,7 +9,6 @@ use Rattle.gk_gherkin.proofs.FeatureReaderSound.{FeatureBuilt, blank_at, comment
 use Rattle.gk_gherkin.proofs.FeatureReaderComplete.{complete, runs}
 use Rattle.gk_gherkin.proofs.RowStops.{Refuses, RowStop, Stopped, first_of, first_row, line_of, row_says, row_stops, row_takes, stepped_stops, stopped_then}
 use Rattle.gk_gherkin.proofs.FirstTags.{good_tags}
-use Rattle.gk_gherkin.specs.declared.feature.Feature.{Feature}
 
 pub feature_runs : (ls : Lines) → IsReadable ls → (reader : FeatureReader) × (run feature_readers (Outside feature_readers.first) ls ≡ Ok (Outside reader))
 feature_runs ls readable = let k = runs ls readable.0 readable.1 in (Untagged k.0, k.1)
@@ -107,17 +86,13 @@ fits before (InText reader text) l e r h = never feature_readers reader text l e
 abbrev Says : ReadFault → Lines → LineValue → Type 0
 Says e before l = (line_of_fault e ≡ Some l.line) × LineSays e before l
 
-examples_refuse : (o : Option OutlineValue) (top : Top) (tags : List (List ℕ)) (l : LineValue) (e : ReadFault) → examples_after o top tags l ≡ Err e → Refuses (examples_after o top tags) l e
-examples_refuse (Some outline) top tags l e h = no_err h
-examples_refuse None top tags l e h = (err_same h, λ o. refl)
-
 heading_refuses : (reader : OpenFeature) (tags : List (List ℕ)) (l : LineValue) (c : Class) (e : ReadFault) → on_heading reader tags l c ≡ Err e → Refuses (λ o. on_heading reader tags o c) l e
 unfolding on_heading
 heading_refuses Above tags l FeatureHeading e h = no_err h
 heading_refuses Above tags l _ e h = (err_same h, λ o. refl)
 heading_refuses (InFeature top part) tags l RuleHeading e h = no_err h
 heading_refuses (InFeature top part) tags l ScenarioHeading e h = no_err h
-heading_refuses (InFeature top part) tags l ExamplesHeading e h = examples_refuse (outline_of part) top tags l e h
+heading_refuses (InFeature top part) tags l ExamplesHeading e h = grind (arith, common_steps)
 heading_refuses (InFeature top part) tags l _ e h = (err_same h, λ o. refl)
 
 body_stops : (body : Body) (ls mid : Lines) (l : LineValue) (c : Class) (e : ReadFault) → BodyBuilt body ls mid → on_body body l c ≡ Err e → Stopped (λ o. on_body body o c) l c e
@@ -224,11 +199,8 @@ skips_above : {ls rest : Lines} → Skips IsIgnoredAbove ls rest → NoFeature r
 skips_above skip_none a = a
 skips_above (skip n s) a = ((λ e. subst IsIgnoredClass e n.0), skips_above s a)
 
-tag_above : (l : LineValue) → class l ≡ TagLine → class l ≢ FeatureHeading
-tag_above l is e = let no : ⊥ = cc in no
-
 next_above : {ls rest k : Lines} (l : LineValue) → class l ≡ TagLine → Skips IsIgnoredAbove ls k → k ≡ l ∷ rest → NoFeature rest → NoFeature ls
-next_above l is s e a = skips_above s (subst NoFeature (sym e) (tag_above l is, a))
+next_above l is s e a = grind (arith, common_steps, skips_above)
 
 tags_above : {ls rest : Lines} {tags : List (List ℕ)} → AreTags IsIgnoredAbove ls tags rest → NoFeature rest → NoFeature ls
 tags_above untagged a = a
@@ -245,7 +217,7 @@ language_says before None s l e a is w h = no_err h
 language_says before (Some word) s l e a is w h = grind (arith, common_steps)
 
 comment_says : (before : Lines) (s : FeatureReader) (feature : OpenFeature) (l : LineValue) (e : ReadFault) → (feature ≡ Above → NoFeature before) → class l ≡ Comment → on_comment feature s l ≡ Err e → Says e before l
-comment_says before s Above l e a is h = language_says before (language_of l) s l e (a refl) is refl h
+comment_says before s Above l e a is h = grind (arith, common_steps)
 comment_says before s (InFeature top part) l e a is h = no_err h
 
 untagged_says : (before : Lines) (feature : OpenFeature) (l : LineValue) (c : Class) (e : ReadFault) → run feature_readers (Outside feature_readers.first) before ≡ Ok (Outside (Untagged feature)) → class l ≡ c → opening (takes_text (Untagged feature)) c ≡ None → on (Untagged feature) l c ≡ Err e → Says e before l
@@ -304,10 +276,6 @@ after_ignored done n l i b = record { before = b.before; line = b.line; ignored 
 to : {x t : FeatureReader} (done : Lines) → ◌≡◌ {A = Result FeatureReader ReadFault} (Ok x) (Ok t) → Marked x done → Marked t done
 to done e m = subst (λ t. Marked t done) (ok_same e) m
 
-untagged_marked : (r : Result OpenFeature ReadFault) (t : FeatureReader) (done : Lines) → without_tags r ≡ Ok t → Marked t done
-untagged_marked (Ok p) t done e = to done e tt
-untagged_marked (Err x) t done e = no_ok e
-
 tag_marked : (r : Option (List (List ℕ))) (feature : OpenFeature) (tags : List (List ℕ)) (l : LineValue) (t : FeatureReader) (done : Lines) → class l ≡ TagLine → tag_line r feature tags l ≡ Ok t → Marked t (done ++ l ∷ [])
 tag_marked (Some others) feature tags l t done is e = to (done ++ l ∷ []) e (record { before = done; line = l; ignored = []; whole = refl; number = refl; is = is; skipped = skip_none })
 tag_marked None feature tags l t done is e = no_ok e
@@ -317,15 +285,15 @@ unfolding on
 marked_on (Untagged feature) t l Blank done is m e = to _ e tt
 marked_on (Untagged feature) t l Comment done is m e = subst (λ t. Marked t (done ++ l ∷ [])) (comment_ok feature (Untagged feature) t l is e).1 tt
 marked_on (Untagged feature) t l TagLine done is m e = tag_marked (tags_of l) feature [] l t done is e
-marked_on (Untagged feature) t l FeatureHeading done is m e = untagged_marked (on_heading feature [] l FeatureHeading) t _ e
-marked_on (Untagged feature) t l RuleHeading done is m e = untagged_marked (on_heading feature [] l RuleHeading) t _ e
-marked_on (Untagged feature) t l ScenarioHeading done is m e = untagged_marked (on_heading feature [] l ScenarioHeading) t _ e
-marked_on (Untagged feature) t l ExamplesHeading done is m e = untagged_marked (on_heading feature [] l ExamplesHeading) t _ e
-marked_on (Untagged feature) t l k done is m e = untagged_marked (on_line feature l k) t _ e
+marked_on (Untagged feature) t l FeatureHeading done is m e = grind (arith, common_steps)
+marked_on (Untagged feature) t l RuleHeading done is m e = grind (arith, common_steps)
+marked_on (Untagged feature) t l ScenarioHeading done is m e = grind (arith, common_steps)
+marked_on (Untagged feature) t l ExamplesHeading done is m e = grind (arith, common_steps)
+marked_on (Untagged feature) t l k done is m e = grind (arith, common_steps)
 marked_on (Tagged feature tags n) t l Blank done is m e = to _ e (after_ignored done n l (subst IsIgnoredClass (sym is) tt) m)
 marked_on (Tagged feature tags n) t l Comment done is m e = subst (λ t. Marked t (done ++ l ∷ [])) (comment_ok feature (Tagged feature tags n) t l is e).1 (after_ignored done n l (subst IsIgnoredClass (sym is) tt) m)
 marked_on (Tagged feature tags n) t l TagLine done is m e = tag_marked (tags_of l) feature tags l t done is e
-marked_on (Tagged feature tags n) t l k done is m e = untagged_marked (on_heading feature tags l k) t _ e
+marked_on (Tagged feature tags n) t l k done is m e = grind (arith, common_steps)
 
 text_marked : (reader : FeatureReader) (text : List ℕ) (done : Lines) → takes_text reader ≡ true → Marked (after_text reader text) done
 text_marked (Untagged feature) text done t = tt

@@ -1,20 +1,5 @@
 -- The text of a content line, from one escaped fence to the next.
-use Rattle.std.proofs.Common.{◌≡◌, ◌≢◌, ℕ, suc, ◌+◌, ◌<◌, ◌≤◌, Bool, false, cond, List, [], ◌∷◌, ◌++◌, length, drop, take, get_or, Option, Some, None, Bor, refl, sym, ap, ◌∙◌, subst, arith}
-use Rattle.std.proofs.lemmas.Grind.{common_steps}
-use Rattle.std.specs.Prelude.{MatchOption}
-use Rattle.std.proofs.lemmas.Bool.Decides.{nat_tests}
-use Rattle.std.proofs.lemmas.List.{append-nil}
-use Rattle.std.proofs.lemmas.Str.Pattern.{starts_text, split_text_parts}
-use Rattle.std.specs.Str.Pattern.{FindsText}
-use Rattle.gk_gherkin.specs.declared.class.Fence.{Fence}
-use Rattle.gk_gherkin.specs.declared.class.Fence.TheVariants.{Quotes, Backticks}
-use Rattle.gk_gherkin.specs.Class.{fence_text}
-use Rattle.gk_gherkin.specs.Text.{begins}
-use Rattle.gk_gherkin.specs.DocStrings.{escaped_fence, fences_read}
-
-escaped_here : (fence : Fence) (after : List ℕ) → fences_read fence 0 (escaped_fence fence ++ after) ≡ fence_text fence ++ fences_read fence 0 after
-escaped_here Quotes after = refl
-escaped_here Backticks after = refl
+use Rattle.gk_gherkin.proofs.Common.{◌≡◌, ◌≢◌, ℕ, suc, ◌+◌, ◌<◌, ◌≤◌, Bool, false, cond, List, [], ◌∷◌, ◌++◌, length, drop, take, get_or, Option, Some, None, Bor, refl, sym, ap, ◌∙◌, subst, arith, common_steps, MatchOption, nat_tests, append-nil, starts_text, split_text_parts, FindsText, Fence, Quotes, Backticks, fence_text, begins, escaped_fence, fences_read}
 
 not_here : (fence : Fence) (b : ℕ) (bs : List ℕ) → begins (b ∷ bs) (escaped_fence fence) ≡ false → fences_read fence 0 (b ∷ bs) ≡ b ∷ fences_read fence 0 bs
 not_here fence b bs e = ap (λ (t : Bool). cond t (fence_text fence ++ fences_read fence 5 bs) (b ∷ fences_read fence 0 bs)) e
@@ -28,7 +13,7 @@ lacks : (fence : Fence) (text : List ℕ) (i : ℕ) → ((rest : List ℕ) → d
 lacks fence text i h = sym (starts_text false (escaped_fence fence) (drop i text) h)
 
 pub at_fence : (fence : Fence) (text xs after : List ℕ) → text ≡ xs ++ (escaped_fence fence ++ after) → ((i : ℕ) → i < length xs → (rest : List ℕ) → drop i text ≢ escaped_fence fence ++ rest) → fences_read fence 0 text ≡ xs ++ (fence_text fence ++ fences_read fence 0 after)
-at_fence fence text xs after e h = grind (arith, common_steps, before_fence, lacks, escaped_here)
+at_fence fence text xs after e h = grind (arith, common_steps, before_fence, lacks)
 
 pub no_fence : (fence : Fence) (text : List ℕ) → ((i : ℕ) → i ≤ length text → (rest : List ℕ) → drop i text ≢ escaped_fence fence ++ rest) → fences_read fence 0 text ≡ text
 no_fence fence text h =

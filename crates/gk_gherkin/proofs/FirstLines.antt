@@ -1,13 +1,5 @@
 -- The first line of a text, and the lines after it.
-use Rattle.std.proofs.Common.{◌≡◌, ℕ, ◌+◌, ◌<◌, false, refl, List, [], ◌∷◌, length, take, drop, get_or, None, Some, ap, ◌∙◌, arith, rules}
-use Rattle.std.proofs.lemmas.Grind.{common_steps}
-use Rattle.std.proofs.lemmas.Bool.{false_from_ne_true}
-use Rattle.std.proofs.lemmas.Bool.Decides.{nat_tests}
-use Rattle.std.proofs.lemmas.List.Elements.{All-from_get_or}
-use Rattle.std.proofs.lemmas.List.Sums.{position_or_len_is}
-use Rattle.std.proofs.lemmas.List.Splits.{slice_split_first, slice_split_none, length-slice_split}
-use Rattle.std.specs.Str.Lines.{lines, lines_of_parts, strip_carriage_return}
-use Rattle.memchr.specs.Find.{IsFirstByte, is_byte}
+use Rattle.gk_gherkin.proofs.Common.{◌≡◌, ℕ, ◌+◌, ◌<◌, false, refl, List, [], ◌∷◌, length, take, drop, get_or, None, Some, ap, ◌∙◌, arith, rules, common_steps, false_from_ne_true, nat_tests, All-from_get_or, position_or_len_is, slice_split_first, slice_split_none, length-slice_split, lines, lines_of_parts, strip_carriage_return, IsFirstByte, is_byte}
 
 -- Only the last part isn't followed by a newline.
 before_parts : (part : List ℕ) (parts : List (List ℕ)) → 0 < length parts → lines_of_parts (part ∷ parts) ≡ strip_carriage_return part ∷ lines_of_parts parts

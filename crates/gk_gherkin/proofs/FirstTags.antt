@@ -1,26 +1,15 @@
 -- The first word of a tag line, where it is a tag.
-use Rattle.std.specs.Prelude.{codes}
-use Rattle.std.proofs.Common.{◌≡◌, ℕ, true, false, ◌<◌, List, ◌∷◌, length, take, Option, Some, Result, Ok, Err, IfErr, arith}
-use Rattle.std.proofs.lemmas.Grind.{common_steps}
-use Rattle.std.specs.List.{prefix_len, position_or_len}
-use Rattle.gk_gherkin.specs.declared.read_fault.ReadFault.{ReadFault}
-use Rattle.gk_gherkin.specs.Lines.{LineValue}
-use Rattle.gk_gherkin.specs.Text.{begins, is_blank, trim_front}
-use Rattle.gk_gherkin.specs.Tags.{tags_of, is_tag}
-use Rattle.gk_gherkin.specs.ReadFault.{BeginsWithTag}
-use Rattle.gk_gherkin.proofs.TagWords.{after_blanks, first_word, some_before, begins_cut, word_kept}
+use Rattle.gk_gherkin.proofs.Common.{codes, ◌≡◌, ℕ, true, false, ◌<◌, List, length, take, Option, Some, Result, Ok, Err, IfErr, arith, common_steps, prefix_len, position_or_len, ReadFault, LineValue, begins, is_blank, trim_front, tags_of, is_tag, BeginsWithTag}
+use Rattle.gk_gherkin.proofs.TagWords.{after_blanks, first_word, some_before, begins_cut}
 
 -- a line whose words are all tags begins with one
 pub good_tags : (line : LineValue) (tags : List (List ℕ)) → tags_of line ≡ Some tags → BeginsWithTag line
 unfolding tags_of
 good_tags line tags h word others e = grind (arith, common_steps)
 
-same_word : (a b : List ℕ) (more others : List (List ℕ)) → a ∷ more ≡ b ∷ others → a ≡ b
-same_word a b more others e = cc
-
 -- the first word that is kept is the line's first
 pub first_tag : (line : LineValue) (t : List ℕ) (n : ℕ) → t ≡ trim_front line.text → 0 < length t → prefix_len is_blank t ≡ 0 → n ≡ position_or_len is_blank t → begins t (codes "#") ≡ false → is_tag (take n t) ≡ true → BeginsWithTag line
-first_tag line t n e some start at plain good word others is = grind (arith, common_steps, some_before, after_blanks, first_word, word_kept, begins_cut, same_word)
+first_tag line t n e some start at plain good word others is = grind (arith, common_steps, some_before, after_blanks, first_word, begins_cut)
 
 pub good_found : (line : LineValue) (tags : List (List ℕ)) → ◌≡◌ {A = Result (Option (List (List ℕ))) ReadFault} (Ok (tags_of line)) (Ok (Some tags)) → BeginsWithTag line
 good_found line tags h = let same : tags_of line ≡ Some tags = cc in good_tags line tags same

@@ -1,19 +1,5 @@
 -- A heading that none of some hooks has: that of a longer tag.
-use Rattle.std.proofs.Common.{◌≡◌, ℕ, zero, suc, ◌+◌, ◌-◌, ◌<◌, Bool, true, false, not, cond, ◌&&◌, ◌||◌, nat_eq, List, [], ◌∷◌, ◌++◌, length, take, drop, get_or, Option, Some, None, refl, ap, ◌∙◌, arith, length-append}
-use Rattle.std.proofs.lemmas.Grind.{common_steps}
-use Rattle.std.specs.Prelude.{codes}
-use Rattle.std.proofs.lemmas.Bool.Decides.{nat_tests}
-use Rattle.std.specs.List.{ends_with, before_last, list_all}
-use Rattle.std.specs.Cmp.Lexicographic.{pointwise}
-use Rattle.gk_gherkin.specs.declared.hooks.HookKind.TheVariants.{BeforeTag}
-use Rattle.gk_gherkin.specs.declared.hook_headings.HooksClass.{HooksClass}
-use Rattle.gk_gherkin.specs.declared.hook_headings.HooksClass.TheVariants.{HookLine, Plain}
-use Rattle.gk_gherkin.specs.Lines.{LineValue}
-use Rattle.gk_gherkin.specs.Text.{is_blank, trim, trim_front, trim_back, begins}
-use Rattle.gk_gherkin.specs.Class.{class, is_colon}
-use Rattle.gk_gherkin.specs.Tags.{is_tag}
-use Rattle.gk_gherkin.specs.Hooks.{HookValue}
-use Rattle.gk_gherkin.specs.HookHeadings.{hooks_class, HookHeadingValue, hook_heading, plain_heading, tag_alone, tag_between}
+use Rattle.gk_gherkin.proofs.Common.{◌≡◌, ℕ, zero, suc, ◌+◌, ◌-◌, ◌<◌, Bool, true, false, not, cond, ◌&&◌, ◌||◌, nat_eq, List, [], ◌∷◌, ◌++◌, length, drop, Option, Some, None, refl, ap, ◌∙◌, arith, length-append, common_steps, codes, nat_tests, ends_with, before_last, list_all, BeforeTag, HooksClass, HookLine, Plain, LineValue, is_blank, trim, trim_front, begins, class, is_colon, is_tag, HookValue, hooks_class, HookHeadingValue, hook_heading, plain_heading, tag_alone, tag_between}
 use Rattle.gk_gherkin.proofs.HookHeadingTexts.{but_last}
 use Rattle.gk_gherkin.proofs.HookHeadingsDecided.{IsFresh}
 use Rattle.gk_gherkin.proofs.RowStops.{line_of}
@@ -23,35 +9,17 @@ module _ (prefix : List ℕ) (b : ℕ) where
   long : length (prefix ++ b ∷ []) ≡ length prefix + 1
   long = length-append prefix (b ∷ [])
 
-last_at : (prefix : List ℕ) (b : ℕ) → get_or (prefix ++ b ∷ []) (length prefix) 0 ≡ b
-last_at [] b = refl
-last_at (x ∷ prefix) b = last_at prefix b
-
-rest_at : (prefix : List ℕ) (b : ℕ) → drop (length prefix) (prefix ++ b ∷ []) ≡ b ∷ []
-rest_at [] b = refl
-rest_at (x ∷ prefix) b = rest_at prefix b
-
-prefix_at : (prefix : List ℕ) (b : ℕ) → take (length prefix) (prefix ++ b ∷ []) ≡ prefix
-prefix_at [] b = refl
-prefix_at (x ∷ prefix) b = ap (λ (xs : List ℕ). x ∷ xs) (prefix_at prefix b)
-
 one_less : (prefix : List ℕ) (b : ℕ) → length (prefix ++ b ∷ []) - 1 ≡ length prefix
 one_less prefix b = omega (arith, long prefix b)
-
-last_byte : (prefix : List ℕ) (b : ℕ) → get_or (prefix ++ b ∷ []) (length (prefix ++ b ∷ []) - 1) 0 ≡ b
-last_byte prefix b = ap (λ (n : ℕ). get_or (prefix ++ b ∷ []) n 0) (one_less prefix b) ∙ last_at prefix b
 
 some_bytes : (prefix : List ℕ) (b : ℕ) → 0 < length (prefix ++ b ∷ [])
 some_bytes prefix b = omega (arith, long prefix b)
 
-no_blank_end : (prefix : List ℕ) (b : ℕ) → is_blank b ≡ false → trim_back (prefix ++ b ∷ []) ≡ prefix ++ b ∷ []
-no_blank_end prefix b k = grind (arith, common_steps)
-
 ends_so : (prefix : List ℕ) → ends_with nat_eq (prefix ++ 58 ∷ []) (58 ∷ []) ≡ true
-ends_so prefix = ap (λ (n : ℕ). pointwise nat_eq (58 ∷ []) (drop n (prefix ++ 58 ∷ []))) (one_less prefix 58) ∙ ap (pointwise nat_eq (58 ∷ [])) (rest_at prefix 58)
+ends_so prefix = grind (arith, common_steps, nat_eq, one_less)
 
 before_colon : (prefix : List ℕ) → before_last is_colon (prefix ++ 58 ∷ []) ≡ prefix
-before_colon prefix = but_last (prefix ++ 58 ∷ []) (some_bytes prefix 58) (last_byte prefix 58) ∙ ap (λ (n : ℕ). take n (prefix ++ 58 ∷ [])) (one_less prefix 58) ∙ prefix_at prefix 58
+before_colon prefix = grind (arith, common_steps, but_last, some_bytes, one_less)
 
 -- tags of any length
 letters : ℕ → List ℕ
@@ -97,7 +65,7 @@ heading_text n = heading_prefix n ++ 58 ∷ []
 
 trimmed : (n : ℕ) → trim (heading_text n) ≡ heading_text n
 unfolding heading_text heading_prefix
-trimmed n = no_blank_end (codes "before_tag @a" ++ letters n) 58 refl
+trimmed n = grind (arith, common_steps, letters)
 
 tag_found : (n : ℕ) → tag_between (codes "before_tag") (heading_text n) ≡ Some (tag_of n)
 unfolding heading_text heading_prefix tag_of

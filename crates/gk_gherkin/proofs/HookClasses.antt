@@ -1,16 +1,5 @@
 -- The classes of lines in a hooks file, by their classes in a feature file.
-use Rattle.std.proofs.Common.{◌≡◌, ◌≢◌, ℕ, suc, Bool, true, false, cond, None, ◌==◌, ◌||◌, List, [], ◌∷◌, length, refl, ap, sym, ◌∙◌, arith}
-use Rattle.std.specs.Prelude.{codes}
-use Rattle.std.proofs.lemmas.Bool.Decides.{nat_tests}
-use Rattle.gk_gherkin.specs.declared.class.Class.{Class}
-use Rattle.gk_gherkin.specs.declared.class.Class.TheVariants.{Blank, FenceLine, Other}
-use Rattle.gk_gherkin.specs.declared.hook_headings.HooksClass.{HooksClass}
-use Rattle.gk_gherkin.specs.declared.hook_headings.HooksClass.TheVariants.{HookLine, Plain}
-use Rattle.gk_gherkin.specs.Lines.{LineValue}
-use Rattle.gk_gherkin.specs.Text.{trim, begins}
-use Rattle.gk_gherkin.specs.Class.{class, class_of, class_of_words}
-use Rattle.gk_gherkin.specs.HookHeadings.{hooks_class}
-use Rattle.gk_gherkin.specs.Reading.{opening}
+use Rattle.gk_gherkin.proofs.Common.{◌≡◌, ◌≢◌, ℕ, suc, Bool, true, false, cond, None, ◌==◌, ◌||◌, List, [], ◌∷◌, length, refl, ap, sym, ◌∙◌, arith, codes, nat_tests, Class, Blank, FenceLine, Other, HooksClass, HookLine, Plain, LineValue, trim, begins, class, class_of, class_of_words, hooks_class, opening}
 use Rattle.gk_gherkin.proofs.ReadingStates.{no_fence}
 
 -- whether a text begins as a hook line does

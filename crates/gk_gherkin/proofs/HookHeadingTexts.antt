@@ -1,16 +1,5 @@
 -- What stands between the word of a hook's heading and the colon at its end.
-use Rattle.std.proofs.Common.{◌≡◌, ℕ, ◌-◌, ◌<◌, Bool, true, false, not, ◌&&◌, nat_eq, List, [], ◌∷◌, length, take, drop, get_or, slice_index, refl, arith, length-drop}
-use Rattle.std.proofs.lemmas.Grind.{common_steps}
-use Rattle.std.proofs.lemmas.List.{get_or-drop}
-use Rattle.std.proofs.lemmas.Bool.Decides.{nat_tests}
-use Rattle.std.specs.List.{ends_with, before_last}
-use Rattle.gk_gherkin.specs.Text.{is_blank, trim_front, begins}
-use Rattle.gk_gherkin.specs.Class.{is_colon}
-use Rattle.gk_gherkin.specs.HookHeadings.{tag_alone, tag_between}
-
-pub colon_at_end : (text : List ℕ) → ends_with nat_eq text (58 ∷ []) ≡ true → (0 < length text) × (get_or text (length text - 1) 0 ≡ 58)
-colon_at_end [] h = let no : ⊥ = cc in absurd no
-colon_at_end (b ∷ text) h = grind (arith, common_steps)
+use Rattle.gk_gherkin.proofs.Common.{◌≡◌, ℕ, ◌-◌, ◌<◌, Bool, true, false, not, ◌&&◌, nat_eq, List, [], ◌∷◌, length, take, drop, get_or, slice_index, refl, arith, length-drop, common_steps, get_or-drop, nat_tests, ends_with, before_last, is_blank, trim_front, begins, is_colon, tag_alone, tag_between}
 
 no_colon : (b : ℕ) → b ≡ 58 → not (is_colon b) ≡ false
 no_colon b e = grind (arith, nat_tests)
@@ -30,13 +19,9 @@ all_three true true false e f g = g
 all_three true false c e f g = f
 all_three false b c e f g = e
 
--- A blank stands before the colon that a text ends in.
-blank_before : (text : List ℕ) (n : ℕ) → is_blank (get_or text n 0) ≡ true → 0 < length text → get_or text (length text - 1) 0 ≡ 58 → n < length text - 1
-blank_before text n blank some at = grind (arith, common_steps)
-
 -- What stands after some bytes of a text that ends in a colon, and before that colon.
 pub cut_between : (text part : List ℕ) (n : ℕ) → is_blank (get_or text n 0) ≡ true → ends_with nat_eq text (58 ∷ []) ≡ true → part ≡ take (length text - 1 - n) (drop n text) → part ≡ before_last is_colon (drop n text)
-cut_between text part n blank ends cut = grind (arith, common_steps, colon_at_end, blank_before, length-drop, get_or-drop, but_last)
+cut_between text part n blank ends cut = grind (arith, common_steps, length-drop, get_or-drop, but_last)
 
 pub between : (word text part : List ℕ) → (begins text word && is_blank (slice_index text (length word))) ≡ true → ends_with nat_eq text (58 ∷ []) ≡ true → part ≡ take (length text - 1 - length word) (drop (length word) text) → tag_alone (trim_front part) ≡ tag_between word text
 between word text part begun ends cut = grind (arith, common_steps, both, slice_index, cut_between, nat_eq, all_three)

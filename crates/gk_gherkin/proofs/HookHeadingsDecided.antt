@@ -1,14 +1,5 @@
 -- What the test of two headings says.
-use Rattle.std.proofs.Common.{◌≡◌, ◌≢◌, ℕ, zero, suc, Bool, true, false, ◌==◌, ◌&&◌, ◌||◌, List, [], ◌∷◌, ◌++◌, Option, Some, None, refl, ap, sym, ◌∙◌, arith, rules}
-use Rattle.std.proofs.lemmas.Bool.Decides.{nat_tests}
-use Rattle.std.proofs.lemmas.Slice.Eq.{bytes_eq-Decides}
-use Rattle.std.specs.List.{AllByRecursion}
-use Rattle.gk_gherkin.specs.declared.hooks.HookKind.{HookKind}
-use Rattle.gk_gherkin.specs.declared.hooks.HookKind.TheVariants.{BeforeAll, AfterAll, BeforeFeature, AfterFeature, BeforeRule, AfterRule, BeforeScenario, AfterScenario, BeforeTag, AfterTag}
-use Rattle.gk_gherkin.specs.Hooks.{HookValue, number_of_kind, is_same_kind, is_same_tag}
-use Rattle.gk_gherkin.specs.HookHeadings.{HookHeadingValue}
-use Rattle.gk_gherkin.specs.HooksGrammar.{heading_of, AreDistinct}
-use Rattle.gk_gherkin.specs.HooksReader.{has_heading}
+use Rattle.gk_gherkin.proofs.Common.{◌≡◌, ◌≢◌, ℕ, Bool, true, false, ◌==◌, ◌&&◌, ◌||◌, List, [], ◌∷◌, ◌++◌, Option, Some, None, refl, ap, sym, ◌∙◌, arith, rules, nat_tests, bytes_eq-Decides, AllByRecursion, HookKind, HookValue, number_of_kind, is_same_kind, is_same_tag, HookHeadingValue, heading_of, AreDistinct, has_heading, common_steps}
 
 both : (a b : Bool) → (a && b) ≡ true → (a ≡ true) × (b ≡ true)
 both true true h = (refl, refl)
@@ -21,31 +12,6 @@ either false true h = (refl, h)
 either true b h = let no : ⊥ = cc in absurd no
 
 -- the kind of each number
-kind_at : ℕ → HookKind
-kind_at zero = BeforeAll
-kind_at (suc zero) = AfterAll
-kind_at (suc (suc zero)) = BeforeFeature
-kind_at (suc (suc (suc zero))) = AfterFeature
-kind_at (suc (suc (suc (suc zero)))) = BeforeRule
-kind_at (suc (suc (suc (suc (suc zero))))) = AfterRule
-kind_at (suc (suc (suc (suc (suc (suc zero)))))) = BeforeScenario
-kind_at (suc (suc (suc (suc (suc (suc (suc zero))))))) = AfterScenario
-kind_at (suc (suc (suc (suc (suc (suc (suc (suc zero)))))))) = BeforeTag
-kind_at _ = AfterTag
-
-kind_back : (k : HookKind) → kind_at (number_of_kind k) ≡ k
-unfolding kind_at
-kind_back BeforeAll = refl
-kind_back AfterAll = refl
-kind_back BeforeFeature = refl
-kind_back AfterFeature = refl
-kind_back BeforeRule = refl
-kind_back AfterRule = refl
-kind_back BeforeScenario = refl
-kind_back AfterScenario = refl
-kind_back BeforeTag = refl
-kind_back AfterTag = refl
-
 eqb_same : (m n : ℕ) → (m == n) ≡ true → m ≡ n
 eqb_same m n h = grind (arith, nat_tests)
 
@@ -53,7 +19,7 @@ same_eqb : (m : ℕ) → (m == m) ≡ true
 same_eqb m = grind (arith, nat_tests)
 
 kind_so : (a b : HookKind) → is_same_kind a b ≡ true → a ≡ b
-kind_so a b h = sym (kind_back a) ∙ ap kind_at (eqb_same (number_of_kind a) (number_of_kind b) h) ∙ kind_back b
+kind_so a b h = grind (arith, common_steps, eqb_same)
 
 tag_so : (a b : Option (List ℕ)) → is_same_tag a b ≡ true → a ≡ b
 tag_so None None h = refl
@@ -107,7 +73,7 @@ fresh_stands heading (hook ∷ hooks) f = search (rules, none_same, fresh_stands
 
 differ_push : (heading : HookHeadingValue) (hooks : List HookValue) (hook : HookValue) → AllByRecursion (λ other. heading_of other ≢ heading) hooks → heading_of hook ≢ heading → AllByRecursion (λ other. heading_of other ≢ heading) (hooks ++ hook ∷ [])
 differ_push heading [] hook a n = (n, tt)
-differ_push heading (first ∷ hooks) hook a n = (a.0, differ_push heading hooks hook a.1 n)
+differ_push heading (first ∷ hooks) hook a n = grind (arith, common_steps)
 
 -- one hook more, with a heading that none of them has
 pub distinct_push : (hooks : List HookValue) (hook : HookValue) → AreDistinct hooks → IsFresh (heading_of hook) hooks → AreDistinct (hooks ++ hook ∷ [])

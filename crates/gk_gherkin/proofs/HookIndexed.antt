@@ -1,17 +1,6 @@
 -- What an index of hooks finds.
-use Rattle.std.specs.Prelude.{◌&&◌, ◌||◌, ◌==◌, is_some, Bool, true, false, cond, find, slice_get, option_copied, option_map, bytes_eq, Result, Ok, Err, OnOk, IfSome, ltb}
-use Rattle.std.specs.List.{list_any}
-use Rattle.std.specs.String.{string_bytes}
-use Rattle.std.proofs.Common.{◌≡◌, ◌≢◌, ℕ, zero, suc, ◌+◌, ◌≤◌, ◌<◌, inl, inr, ◌⊎◌, List, [], ◌∷◌, ◌++◌, length, map, get_or, Option, Some, None, Bor, refl, sym, ap, subst, ◌∙◌, arith}
-use Rattle.std.proofs.lemmas.Grind.{common_steps}
-use Rattle.std.proofs.lemmas.Bool.{cases_lt, eqb-true, eq-eqb, lt-ltb, ltb-true}
-use Rattle.std.proofs.lemmas.Option.{slice_get_past, slice_get_within}
-use Rattle.std.proofs.lemmas.Slice.Eq.{bytes_eq-Decides}
-use Rattle.gk_gherkin.specs.declared.hooks.Hook.{Hook}
-use Rattle.gk_gherkin.specs.declared.hooks.HookKind.{HookKind}
-use Rattle.gk_gherkin.specs.declared.hook_index.HookIndex.{HookIndex}
-use Rattle.gk_gherkin.specs.Hooks.{HookValue, hook_value, is_same_kind, is_same_tag, is_for}
-use Rattle.gk_gherkin.specs.HookIndex.{is_among, positions_of, AreListed, AreListedTo, ListsOnly, IsFirst}
+use Rattle.gk_gherkin.proofs.Common.{◌&&◌, ◌||◌, ◌==◌, is_some, Bool, true, false, cond, find, slice_get, option_copied, option_map, Result, Ok, Err, OnOk, IfSome, ltb, list_any, string_bytes, ◌≡◌, ◌≢◌, ℕ, zero, suc, ◌+◌, ◌≤◌, ◌<◌, inl, inr, ◌⊎◌, List, [], ◌∷◌, ◌++◌, length, map, get_or, Option, Some, None, Bor, refl, sym, ap, subst, ◌∙◌, arith, common_steps, cases_lt, eqb-true, lt-ltb, ltb-true, slice_get_past, slice_get_within, bytes_eq-Decides, Hook, HookKind, HookIndex, HookValue, hook_value, is_same_kind, is_same_tag, is_for, is_among, positions_of, AreListed, AreListedTo, ListsOnly, IsFirst}
+use Rattle.std.specs.Prelude.{bytes_eq}
 
 second : (a b : Bool) → (a && b) ≡ true → b ≡ true
 second true b e = e
@@ -21,18 +10,6 @@ second false b e = cc
 either : (a b : Bool) → b ≡ true → (a || b) ≡ true
 either true b e = refl
 either false b e = e
-
-either_by : (a b c : Bool) → (b ≡ true → c ≡ true) → (a || b) ≡ true → (a || c) ≡ true
-either_by true b c f e = refl
-either_by false b c f e = f e
-
-pub among_push : (n p : ℕ) (ns : List ℕ) → is_among n ns ≡ true → is_among n (ns ++ p ∷ []) ≡ true
-among_push n p [] h = cc
-among_push n p (k ∷ ns) h = either_by (n == k) (is_among n ns) (is_among n (ns ++ p ∷ [])) (among_push n p ns) h
-
-pub among_last : (p : ℕ) (ns : List ℕ) → is_among p (ns ++ p ∷ []) ≡ true
-among_last p [] = ap (λ (b : Bool). b || false) (eq-eqb p p refl)
-among_last p (k ∷ ns) = either (p == k) (is_among p (ns ++ p ∷ [])) (among_last p ns)
 
 among_next : (n k : ℕ) (ns : List ℕ) (b : Bool) → (n == k) ≡ b → (b || is_among n ns) ≡ true → (is_among n ns ≡ true → (j : ℕ) × (slice_get ns j ≡ Some n)) → (j : ℕ) × (slice_get (k ∷ ns) j ≡ Some n)
 among_next n k ns true e h more = (0, ap Some (sym (eqb-true n k e)))
@@ -44,7 +21,7 @@ among_at n (k ∷ ns) h = among_next n k ns (n == k) refl h (among_at n ns)
 
 -- a position that was added under a tag
 pub added_there : (t tag : List ℕ) (position : ℕ) (before after : List ℕ) → after ≡ cond (bytes_eq t tag) (before ++ position ∷ []) before → tag ≡ t → is_among position after ≡ true
-added_there t tag position before after e same = grind (arith, common_steps, bytes_eq-Decides, among_last)
+added_there t tag position before after e same = grind (arith, common_steps, bytes_eq-Decides)
 
 pub on_ok : {X E P Q : Type 0} (r : Result X E) → (P → Q) → OnOk r P → OnOk r Q
 on_ok (Ok x) f h = f h
@@ -76,17 +53,9 @@ same_tag None (Some b) e = cc
 same_tag (Some a) None e = cc
 same_tag (Some a) (Some b) e = ap Some ((bytes_eq-Decides a b).0 e)
 
-split_by : (b c d : Bool) {P : Type 0} → (c ≡ true → (d ≡ true) ⊎ P) → (b || c) ≡ true → ((b || d) ≡ true) ⊎ P
-split_by true c d f h = inl refl
-split_by false c d f h = f h
-
-last_by : (n p : ℕ) (b : Bool) → (n == p) ≡ b → (b || false) ≡ true → n ≡ p
-last_by n p true e h = eqb-true n p e
-last_by n p false e h = let no : ⊥ = cc in absurd no
-
 among_split : (n p : ℕ) (ns : List ℕ) → is_among n (ns ++ p ∷ []) ≡ true → (is_among n ns ≡ true) ⊎ (n ≡ p)
-among_split n p [] h = inr (last_by n p (n == p) refl h)
-among_split n p (k ∷ ns) h = split_by (n == k) (is_among n (ns ++ p ∷ [])) (is_among n ns) (among_split n p ns) h
+among_split n p [] h = grind (arith, common_steps)
+among_split n p (k ∷ ns) h = grind (arith, common_steps)
 
 tag_itself : (a : Option (List ℕ)) → is_same_tag a a ≡ true
 tag_itself None = refl

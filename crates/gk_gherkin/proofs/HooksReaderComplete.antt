@@ -1,22 +1,6 @@
 -- What has a reading as hooks is read so, and so no lines have two.
-use Rattle.std.proofs.Common.{◌≡◌, false, List, [], ◌∷◌, Some, Result, Ok, refl, sym, subst, ◌++◌, ap, ◌∙◌, append_assoc, arith}
-use Rattle.std.proofs.lemmas.Grind.{common_steps}
-use Rattle.std.proofs.lemmas.List.{append-nil}
-use Rattle.gk_gherkin.specs.declared.hook_headings.HooksClass.TheVariants.{HookLine}
-use Rattle.gk_gherkin.specs.declared.class.Class.TheVariants.{Blank, Comment, RowLine, StepLine}
-use Rattle.gk_gherkin.specs.declared.class.Class.{Class}
-use Rattle.gk_gherkin.specs.declared.read_fault.ReadFault.{ReadFault}
-use Rattle.gk_gherkin.specs.HooksReader.{HooksReader, InHook, NoHook, OpenedValue, hook_of, hooks_of, hooks_readers, on, on_hook, on_hook_body, on_plain_line, has_heading, takes_text}
-use Rattle.gk_gherkin.specs.Reading.{Outside, State, finish, reading, run, step}
-use Rattle.gk_gherkin.specs.OpenParts.{Body, NoSteps, Steps, on_body, steps_of}
-use Rattle.gk_gherkin.specs.Hooks.{HookValue}
-use Rattle.gk_gherkin.specs.HookHeadings.{hook_heading, hooks_class}
-use Rattle.gk_gherkin.specs.HooksGrammar.{AreDistinct, HaveOneHooksReading, IsHook, ReadsHooks, heading_of}
-use Rattle.gk_gherkin.specs.Lines.{LineValue, Lines}
-use Rattle.gk_gherkin.specs.Class.{class}
-use Rattle.gk_gherkin.specs.Feature.{StepValue}
-use Rattle.gk_gherkin.specs.Grammar.{AreSteps, IsIgnored, IsIgnoredClass, Many, Skips, more, none, skip, skip_none}
-use Rattle.gk_gherkin.specs.Results.{◌>>=◌}
+use Rattle.gk_gherkin.proofs.Common.{◌≡◌, false, List, [], ◌∷◌, Some, Result, Ok, refl, sym, subst, ◌++◌, ap, ◌∙◌, append_assoc, arith, common_steps, append-nil, HookLine, Blank, Comment, RowLine, StepLine, Class, ReadFault, HooksReader, InHook, NoHook, OpenedValue, hook_of, hooks_of, hooks_readers, on_hook, on_hook_body, on_plain_line, has_heading, Outside, State, finish, reading, run, step, Body, NoSteps, Steps, on_body, steps_of, HookValue, hook_heading, hooks_class, AreDistinct, HaveOneHooksReading, IsHook, ReadsHooks, heading_of, LineValue, Lines, class, StepValue, AreSteps, IsIgnored, IsIgnoredClass, Many, Skips, more, none, skip, skip_none, ◌>>=◌}
+use Rattle.gk_gherkin.specs.HooksReader.{on, takes_text}
 use Rattle.gk_gherkin.proofs.ReadingRuns.{ok_same, run_nil, run_over}
 use Rattle.gk_gherkin.proofs.ReadingStates.{ignored_no_fence, no_fence, step_plain}
 use Rattle.gk_gherkin.proofs.ReadingSteps.{run_steps}

@@ -1,19 +1,6 @@
 -- What a reader of a hooks file means, and that each line keeps it: what is read has that reading.
-use Rattle.std.proofs.Common.{◌≡◌, ℕ, Bool, true, false, List, [], ◌∷◌, Option, Some, None, Ok, refl, sym, subst, arith}
-use Rattle.std.proofs.lemmas.Grind.{common_steps}
-use Rattle.gk_gherkin.specs.declared.hook_headings.HooksClass.TheVariants.{HookLine, Plain}
-use Rattle.gk_gherkin.specs.declared.class.Class.TheVariants.{Blank, Comment, StepLine}
-use Rattle.gk_gherkin.specs.declared.class.Class.{Class}
-use Rattle.gk_gherkin.specs.declared.hook_headings.HooksClass.{HooksClass}
-use Rattle.gk_gherkin.specs.HooksReader.{HooksReader, InHook, NoHook, OpenedValue, hook_begun, hook_after, hooks_of, hooks_readers, on, on_hook, on_hook_body, on_plain_line, has_heading}
-use Rattle.gk_gherkin.specs.Reading.{Outside, InText, State, finish, opened, reading, run}
-use Rattle.gk_gherkin.specs.OpenParts.{Body, NoSteps, Steps}
-use Rattle.gk_gherkin.specs.Hooks.{HookValue}
-use Rattle.gk_gherkin.specs.HookHeadings.{HookHeadingValue, hook_heading, hooks_class}
-use Rattle.gk_gherkin.specs.HooksGrammar.{AreDistinct, IsHook, ReadsHooks}
-use Rattle.gk_gherkin.specs.Lines.{LineValue, Lines}
-use Rattle.gk_gherkin.specs.Class.{class}
-use Rattle.gk_gherkin.specs.Grammar.{IsDocString, IsIgnored, IsIgnoredClass, Many, Next, Skips, none, skip_none}
+use Rattle.gk_gherkin.proofs.Common.{◌≡◌, ℕ, Bool, true, false, List, [], ◌∷◌, Option, Some, None, Ok, refl, sym, subst, arith, common_steps, HookLine, Plain, Blank, Comment, StepLine, Class, HooksClass, HooksReader, InHook, NoHook, OpenedValue, hook_begun, hook_after, hooks_of, hooks_readers, on_hook, on_hook_body, on_plain_line, has_heading, Outside, InText, State, finish, opened, reading, run, Body, NoSteps, Steps, HookValue, HookHeadingValue, hook_heading, hooks_class, AreDistinct, IsHook, ReadsHooks, LineValue, Lines, class, IsDocString, IsIgnored, IsIgnoredClass, Many, Next, Skips, none, skip_none}
+use Rattle.gk_gherkin.specs.HooksReader.{on}
 use Rattle.gk_gherkin.proofs.ReadingRuns.{bind_is, bind_ok, no_ok, ok_same}
 use Rattle.gk_gherkin.proofs.ReadingSound.{Built, built_run}
 use Rattle.gk_gherkin.proofs.OpenPartsSound.{Many-push, Skips-more, StepsBuilt, closed_steps, first_step-built, stepped-built, text_under}

@@ -1,26 +1,6 @@
 -- Where a run over the lines of a hooks file stops, and what the fault there says.
-use Rattle.std.proofs.Common.{◌≡◌, ℕ, Bool, true, false, List, [], ◌∷◌, Option, Some, None, Result, Ok, Err, refl, sym, subst, ◌++◌, ap, ◌∙◌, ◌⊎◌, inl, inr, ◌||◌, ◌≢◌, IfOk, IfErr, arith}
-use Rattle.std.proofs.lemmas.Grind.{common_steps}
-use Rattle.std.proofs.lemmas.List.{append-nil}
-use Rattle.gk_gherkin.specs.declared.hook_headings.HooksClass.TheVariants.{HookLine, Plain}
-use Rattle.gk_gherkin.specs.declared.hooks.HookKind.TheVariants.{BeforeTag}
-use Rattle.gk_gherkin.specs.declared.class.Class.TheVariants.{Blank, Comment, RowLine, StepLine}
-use Rattle.gk_gherkin.specs.declared.read_fault.ReadFault.TheVariants.{BadHook, Memory, UnclosedText, Unexpected}
-use Rattle.gk_gherkin.specs.declared.class.Class.{Class}
-use Rattle.gk_gherkin.specs.declared.read_fault.ReadFault.{ReadFault}
-use Rattle.gk_gherkin.specs.declared.hook_headings.HooksClass.{HooksClass}
-use Rattle.gk_gherkin.specs.HooksReader.{HooksReader, InHook, Needs, NoHook, after_text, hook_begun, hook_after, hooks_of, hooks_readers, on, on_hook, on_hook_body, on_plain_line, opened_from, has_heading, takes_text}
-use Rattle.gk_gherkin.specs.Reading.{Outside, FailsAs, FailsBy, InText, State, finish, opened, opening, reading, run, step}
-use Rattle.gk_gherkin.specs.OpenParts.{Body, NoSteps, Steps, on_body}
-use Rattle.gk_gherkin.specs.Hooks.{HookValue, hooks_value}
-use Rattle.gk_gherkin.specs.HookHeadings.{HookHeadingValue, hook_heading, hooks_class}
-use Rattle.gk_gherkin.specs.HooksGrammar.{AreHooksReadable, ReadsHooks, heading_of}
-use Rattle.gk_gherkin.specs.Lines.{IsText, LineValue, Lines, lines_of}
-use Rattle.gk_gherkin.specs.Class.{class}
-use Rattle.gk_gherkin.specs.Rows.{cells_of}
-use Rattle.gk_gherkin.specs.Grammar.{IsIgnored, IsIgnoredClass, skip, skip_none}
-use Rattle.gk_gherkin.specs.ReadFault.{AnswersOrLacksMemory, BeginsNone, BeginsSome, FaultSays, HooksFault, HooksLineSays, HooksNeedMemory, IsHooksLineFault, NoneLikeIt, SomeLikeIt, StoodBefore, line_of_fault}
-use Rattle.gk_gherkin.specs.Results.{◌>>=◌}
+use Rattle.gk_gherkin.proofs.Common.{◌≡◌, ℕ, Bool, true, false, List, [], ◌∷◌, Option, Some, None, Result, Ok, Err, refl, sym, subst, ◌++◌, ap, ◌∙◌, ◌⊎◌, inl, inr, ◌||◌, ◌≢◌, IfOk, IfErr, arith, common_steps, append-nil, HookLine, Plain, BeforeTag, Blank, Comment, RowLine, StepLine, BadHook, Memory, UnclosedText, Unexpected, Class, ReadFault, HooksClass, HooksReader, InHook, Needs, NoHook, hook_begun, hook_after, hooks_of, hooks_readers, on_hook, on_hook_body, on_plain_line, opened_from, has_heading, Outside, FailsAs, FailsBy, InText, State, finish, opened, opening, reading, run, step, Body, NoSteps, Steps, on_body, HookValue, hooks_value, HookHeadingValue, hook_heading, hooks_class, AreHooksReadable, ReadsHooks, heading_of, IsText, LineValue, Lines, lines_of, class, cells_of, IsIgnored, IsIgnoredClass, skip, skip_none, AnswersOrLacksMemory, BeginsNone, BeginsSome, FaultSays, HooksFault, HooksLineSays, HooksNeedMemory, IsHooksLineFault, NoneLikeIt, SomeLikeIt, StoodBefore, line_of_fault, ◌>>=◌, HookFile}
+use Rattle.gk_gherkin.specs.HooksReader.{after_text, on, takes_text}
 use Rattle.gk_gherkin.proofs.ReadingRuns.{Halts, bind_err, err_same, halts, no_err, no_ok, ok_same, one_more_line}
 use Rattle.gk_gherkin.proofs.ReadingStates.{never, no_fence, refused_at, step_plain, step_refused}
 use Rattle.gk_gherkin.proofs.ReadingStops.{ends_in_text, halted, marks, needed}
@@ -32,7 +12,6 @@ use Rattle.gk_gherkin.proofs.RowStops.{Refuses, Stopped, row_says, row_stops, st
 use Rattle.gk_gherkin.proofs.HookClasses.{class_plain, opens_alike, plain_class}
 use Rattle.gk_gherkin.proofs.HookHeadingsDecided.{fresh_stands, heading_so, is_same_heading}
 use Rattle.gk_gherkin.proofs.FreshHookHeadings.{fresh_class, fresh_heading, fresh_line, is_fresh, size_of, tag_of}
-use Rattle.gk_gherkin.specs.declared.hooks.HookFile.{HookFile}
 
 pub hook_runs : (ls : Lines) → AreHooksReadable ls → (reader : HooksReader) × (run hooks_readers (Outside NoHook) ls ≡ Ok (Outside reader))
 hook_runs ls readable = let k = hooks_run ls readable.0 readable.1 in (k.0, k.1)

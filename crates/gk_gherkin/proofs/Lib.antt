@@ -1,3 +1,4 @@
+pub mod Common
 pub mod LineNumbering
 pub mod LineCuts
 pub mod ClassWords

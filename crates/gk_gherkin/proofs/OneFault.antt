@@ -1,18 +1,5 @@
 -- No lines have two faults: no line has two, no lines have two faulty lines, and none that end in a doc string or after tags have one.
-use Rattle.std.specs.Prelude.{◌≡◌, ℕ, true, false, ◌⊎◌, List, [], ◌∷◌, ◌++◌, Option, Some, None}
-use Rattle.std.specs.List.{AllByRecursion}
-use Rattle.std.proofs.Common.{◌∙◌, sym, inl, inr, refl, subst, append_assoc, ap}
-use Rattle.gk_gherkin.specs.Lines.{LineValue, Lines, line_at}
-use Rattle.gk_gherkin.specs.DocStrings.{closes}
-use Rattle.gk_gherkin.specs.declared.class.Fence.{Fence}
-use Rattle.gk_gherkin.specs.declared.class.Fence.TheVariants.{Quotes, Backticks}
-use Rattle.gk_gherkin.specs.Class.{class, fence_text}
-use Rattle.gk_gherkin.specs.Rows.{cells_of}
-use Rattle.gk_gherkin.specs.Grammar.{IsReadable}
-use Rattle.gk_gherkin.specs.ReadFault.{SomeLikeIt, NoneLikeIt, AnyLineSays, StopsAt, EndsInDocString, EndsInTags, IsLineFault, LineSays, line_of_fault}
-use Rattle.gk_gherkin.specs.declared.class.Class.TheVariants.{FenceLine, RowLine}
-use Rattle.gk_gherkin.specs.declared.read_fault.ReadFault.{ReadFault}
-use Rattle.gk_gherkin.specs.declared.read_fault.ReadFault.TheVariants.{BadRow, CellCount, Unexpected}
+use Rattle.gk_gherkin.proofs.Common.{◌≡◌, ℕ, true, false, ◌⊎◌, List, [], ◌∷◌, ◌++◌, Option, Some, None, AllByRecursion, ◌∙◌, sym, inl, inr, refl, subst, append_assoc, ap, arith, LineValue, Lines, line_at, closes, Fence, Quotes, Backticks, class, fence_text, cells_of, IsReadable, SomeLikeIt, NoneLikeIt, AnyLineSays, StopsAt, EndsInDocString, EndsInTags, IsLineFault, LineSays, line_of_fault, FenceLine, RowLine, ReadFault, BadRow, CellCount, Unexpected, common_steps}
 
 -- Where a list is cut at two lines: these are the same, or one lies after the other.
 pub data Cuts (a b more others : Lines) (x y : LineValue) : Type 0 where
@@ -32,7 +19,7 @@ tail_same : (l k : LineValue) (ls ks : Lines) → l ∷ ls ≡ k ∷ ks → ls �
 tail_same l k ls ks e = cc
 
 pub cuts : (a b more others : Lines) (x y : LineValue) → a ++ x ∷ more ≡ b ++ y ∷ others → Cuts a b more others x y
-cuts [] [] more others x y e = same refl (head_same x y more others e)
+cuts [] [] more others x y e = grind (arith, common_steps)
 cuts [] (l ∷ b) more others x y e = first b (ap (λ (k : LineValue). k ∷ b) (sym (head_same x l more (b ++ y ∷ others) e))) (tail_same x l more (b ++ y ∷ others) e)
 cuts (l ∷ a) [] more others x y e = second a (ap (λ (k : LineValue). k ∷ a) (head_same l y (a ++ x ∷ more) others e)) (sym (tail_same l y (a ++ x ∷ more) others e))
 cuts (l ∷ a) (k ∷ b) more others x y e = subst (λ k. Cuts (l ∷ a) (k ∷ b) more others x y) (head_same l k (a ++ x ∷ more) (b ++ y ∷ others) e) (further l a b more others x y (cuts a b more others x y (tail_same l k (a ++ x ∷ more) (b ++ y ∷ others) e)))

@@ -1,9 +1,6 @@
 -- No bytes have two faults, where no lines have two.
-use Rattle.std.proofs.Common.{◌≡◌, ◌≢◌, ℕ, List, length, ◌<◌, ◌≤◌, refl, ap, sym, ◌∙◌, arith}
-use Rattle.gk_gherkin.specs.declared.read_fault.ReadFault.{ReadFault}
+use Rattle.gk_gherkin.proofs.Common.{◌≡◌, ◌≢◌, ℕ, List, length, ◌<◌, ◌≤◌, refl, ap, sym, ◌∙◌, arith, ReadFault, Lines, lines_of, limit, IsText, IsTooLong, IsNotUtf8At, FaultSays, HaveOneFault}
 use Rattle.gk_gherkin.specs.declared.read_fault.ReadFault.TheVariants as faults
-use Rattle.gk_gherkin.specs.Lines.{Lines, lines_of, limit, IsText, IsTooLong, IsNotUtf8At}
-use Rattle.gk_gherkin.specs.ReadFault.{FaultSays, HaveOneFault}
 
 short : (bytes : List ℕ) {P : Type 0} → limit < length bytes → length bytes ≤ limit → P
 short bytes long within = let no : ⊥ = omega (arith, long, within) in absurd no

@@ -1,25 +1,6 @@
 -- No lines have two faults of a feature file.
-use Rattle.std.specs.Prelude.{codes}
-use Rattle.std.proofs.Common.{◌≡◌, ◌≢◌, ◌⊎◌, inl, inr, ℕ, Bool, true, false, ◌&&◌, ◌==◌, length, List, [], ◌∷◌, ◌++◌, Option, Some, None, Result, Ok, Err, refl, ap, sym, subst, ◌∙◌, append_assoc, arith}
-use Rattle.std.proofs.lemmas.Bool.Decides.{nat_tests}
-use Rattle.std.proofs.lemmas.List.{append-nil}
-use Rattle.gk_gherkin.specs.declared.class.Class.TheVariants.{Comment, FenceLine, RowLine, TagLine}
-use Rattle.gk_gherkin.specs.declared.class.Class.{Class}
-use Rattle.gk_gherkin.specs.declared.class.Fence.TheVariants.{Backticks, Quotes}
+use Rattle.gk_gherkin.proofs.Common.{codes, ◌≡◌, ◌≢◌, ◌⊎◌, inl, inr, ℕ, Bool, true, false, ◌&&◌, ◌==◌, length, List, [], ◌∷◌, ◌++◌, Option, Some, None, Result, Ok, Err, refl, ap, sym, subst, ◌∙◌, append_assoc, arith, nat_tests, append-nil, Comment, FenceLine, RowLine, TagLine, Class, Backticks, Quotes, Fence, ReadFault, Above, FeatureReader, InFeature, OpenFeature, Tagged, Untagged, by_language, feature_readers, on, on_comment, takes_text, Outside, InText, State, longer, opening, run, step, begins, trim, LineValue, Lines, line_at, class, class_of, class_of_words, fence_text, closes, cells_of, language_of, IsIgnored, IsIgnoredClass, IsReadable, Skips, skip, skip_none, BeginsSome, EndsInDocString, EndsInTags, FeatureFault, IsLineFault, LineSays, TakesTags, line_of_fault, ◌>>=◌}
 use Rattle.gk_gherkin.specs.declared.read_fault.ReadFault.TheVariants as faults
-use Rattle.gk_gherkin.specs.declared.class.Fence.{Fence}
-use Rattle.gk_gherkin.specs.declared.read_fault.ReadFault.{ReadFault}
-use Rattle.gk_gherkin.specs.FeatureReader.{Above, FeatureReader, InFeature, OpenFeature, Tagged, Untagged, by_language, feature_readers, on, on_comment, takes_text}
-use Rattle.gk_gherkin.specs.Reading.{Outside, InText, State, longer, opening, run, step}
-use Rattle.gk_gherkin.specs.Text.{begins, trim}
-use Rattle.gk_gherkin.specs.Lines.{LineValue, Lines, line_at}
-use Rattle.gk_gherkin.specs.Class.{class, class_of, class_of_words, fence_text}
-use Rattle.gk_gherkin.specs.DocStrings.{closes}
-use Rattle.gk_gherkin.specs.Rows.{cells_of}
-use Rattle.gk_gherkin.specs.Language.{language_of}
-use Rattle.gk_gherkin.specs.Grammar.{IsIgnored, IsIgnoredClass, IsReadable, Skips, skip, skip_none}
-use Rattle.gk_gherkin.specs.ReadFault.{BeginsSome, EndsInDocString, EndsInTags, FeatureFault, IsLineFault, LineSays, TakesTags, line_of_fault}
-use Rattle.gk_gherkin.specs.Results.{◌>>=◌}
 use Rattle.gk_gherkin.proofs.ReadingRuns.{no_ok, one_more_line, run-append}
 use Rattle.gk_gherkin.proofs.ReadingStates.{no_fence, step_plain, step_stays}
 use Rattle.gk_gherkin.proofs.ReadingStops.{IsOpen, closed, not_in_text, open_until, still_open}

@@ -1,17 +1,6 @@
 -- No lines have two faults of a hooks file.
-use Rattle.std.proofs.Common.{◌≡◌, ◌≢◌, ◌⊎◌, inr, ℕ, List, [], ◌∷◌, ◌++◌, Option, Some, refl, ap, sym, ◌∙◌}
-use Rattle.gk_gherkin.specs.declared.class.Class.TheVariants.{RowLine}
-use Rattle.gk_gherkin.specs.declared.hook_headings.HooksClass.TheVariants.{HookLine, Plain}
-use Rattle.gk_gherkin.specs.declared.hook_headings.HooksClass.{HooksClass}
-use Rattle.gk_gherkin.specs.Class.{class}
-use Rattle.gk_gherkin.specs.Rows.{cells_of}
+use Rattle.gk_gherkin.proofs.Common.{◌≡◌, ◌≢◌, ◌⊎◌, inr, ℕ, List, [], ◌∷◌, ◌++◌, Option, Some, refl, ap, sym, ◌∙◌, RowLine, HookLine, Plain, HooksClass, class, cells_of, ReadFault, hooks_readers, hooks_class, AreHooksReadable, LineValue, Lines, EndsInDocString, HooksFault, HooksLineSays, IsHooksLineFault, line_of_fault}
 use Rattle.gk_gherkin.specs.declared.read_fault.ReadFault.TheVariants as faults
-use Rattle.gk_gherkin.specs.declared.read_fault.ReadFault.{ReadFault}
-use Rattle.gk_gherkin.specs.HooksReader.{hooks_readers}
-use Rattle.gk_gherkin.specs.HookHeadings.{hooks_class}
-use Rattle.gk_gherkin.specs.HooksGrammar.{AreHooksReadable}
-use Rattle.gk_gherkin.specs.Lines.{LineValue, Lines}
-use Rattle.gk_gherkin.specs.ReadFault.{EndsInDocString, HooksFault, HooksLineSays, IsHooksLineFault, line_of_fault}
 use Rattle.gk_gherkin.proofs.HookClasses.{class_plain}
 use Rattle.gk_gherkin.proofs.ReadingStops.{open_until}
 use Rattle.gk_gherkin.proofs.HooksReaderStops.{hook_runs, hooks_readable_at}

@@ -1,20 +1,5 @@
 -- What the open parts of a file stand for, and that each line keeps it.
-use Rattle.std.proofs.Common.{◌≡◌, ℕ, Bool, true, false, cond, ◌==◌, List, [], ◌∷◌, ◌++◌, length, map, Option, Some, None, Result, Ok, Err, refl, sym, subst, ap, ◌∙◌, append_assoc, arith, inl, inr, rules}
-use Rattle.std.proofs.lemmas.Grind.{common_steps}
-use Rattle.std.proofs.lemmas.List.{append-nil, map_push}
-use Rattle.std.proofs.lemmas.Bool.Decides.{nat_tests}
-use Rattle.gk_gherkin.specs.declared.class.Class.TheVariants.{BackgroundHeading, ExamplesHeading, FenceLine, Other, RowLine, ScenarioHeading, StepLine}
-use Rattle.gk_gherkin.specs.declared.feature.StepType.TheVariants.{Given}
-use Rattle.gk_gherkin.specs.declared.class.Class.{Class}
-use Rattle.gk_gherkin.specs.declared.read_fault.ReadFault.{ReadFault}
-use Rattle.gk_gherkin.specs.declared.feature.StepType.{StepType}
-use Rattle.gk_gherkin.specs.OpenParts.{InBody, Body, NoSteps, InExamples, Grid, HeadValue, InDescription, NoRows, OfBackground, OfScenario, Open, OutlineValue, Owner, Rows, ChildrenValue, Steps, body_takes_text, body_with_text, examples_of, head_from, header_of, is_empty, on_block, on_body, on_grid, on_open, on_row, outline_of, owner_children, row_from, row_of, rows_of, scenario_of, children_of, step_from, steps_of, width_of, with_block, with_examples, with_scenario}
-use Rattle.gk_gherkin.specs.Lines.{LineValue, Lines}
-use Rattle.gk_gherkin.specs.Class.{class, heading_keyword, heading_name}
-use Rattle.gk_gherkin.specs.Rows.{cells_of}
-use Rattle.gk_gherkin.specs.StepTypes.{AreTyped, AreTypedAfter, type_after}
-use Rattle.gk_gherkin.specs.Feature.{BlockValue, Empty, RowValue, ScenarioValue, StepValue, Table, Text}
-use Rattle.gk_gherkin.specs.Grammar.{AreExamples, AreSteps, AreTags, Describes, HasTable, IsBackground, IsBlock, IsDocString, IsHeading, IsIgnored, IsRow, IsScenario, IsStep, IsTable, IsTagLine, IsTaggedHeading, Many, MayDescribeExamples, MayDescribeFeature, MayDescribeScenario, Next, Perhaps, Skips, describe, described, more, none, skip, skip_none, tagged, untagged}
+use Rattle.gk_gherkin.proofs.Common.{◌≡◌, ℕ, Bool, true, false, cond, ◌==◌, List, [], ◌∷◌, ◌++◌, length, map, Option, Some, None, Result, Ok, Err, refl, sym, subst, ap, ◌∙◌, append_assoc, arith, inl, inr, rules, common_steps, append-nil, map_push, nat_tests, BackgroundHeading, ExamplesHeading, FenceLine, Other, RowLine, ScenarioHeading, StepLine, Given, Class, ReadFault, StepType, InBody, Body, NoSteps, InExamples, Grid, HeadValue, InDescription, NoRows, OfBackground, OfScenario, Open, OutlineValue, Owner, Rows, ChildrenValue, Steps, body_takes_text, body_with_text, examples_of, head_from, header_of, is_empty, on_block, on_body, on_grid, on_open, on_row, outline_of, owner_children, row_from, row_of, rows_of, scenario_of, children_of, step_from, steps_of, width_of, with_block, with_examples, with_scenario, LineValue, Lines, class, heading_keyword, heading_name, cells_of, AreTyped, AreTypedAfter, type_after, BlockValue, Empty, RowValue, ScenarioValue, StepValue, Table, Text, AreExamples, AreSteps, AreTags, Describes, HasTable, IsBackground, IsBlock, IsDocString, IsHeading, IsIgnored, IsRow, IsScenario, IsStep, IsTable, IsTagLine, IsTaggedHeading, Many, MayDescribeExamples, MayDescribeFeature, MayDescribeScenario, Next, Perhaps, Skips, describe, described, more, none, skip, skip_none, tagged, untagged}
 use Rattle.gk_gherkin.proofs.ReadingRuns.{bind_is, no_ok, ok_same}
 use Rattle.gk_gherkin.proofs.ReadingSound.{All-push}
 

@@ -1,13 +1,5 @@
 -- A part's lines are a list of its own: the relation speaks of a prefix, whatever follows it.
-use Rattle.std.proofs.Common.{◌≡◌, ◌↔◌, ℕ, List, [], ◌∷◌, ◌++◌, Option, Some, None, refl, ap, sym, subst, ◌∙◌, append_assoc, inl, inr}
-use Rattle.std.proofs.lemmas.List.{append-nil}
-use Rattle.gk_gherkin.specs.declared.class.Class.{Class}
-use Rattle.gk_gherkin.specs.declared.class.Class.TheVariants.{FeatureHeading, RuleHeading, BackgroundHeading, ScenarioHeading, ExamplesHeading}
-use Rattle.gk_gherkin.specs.Lines.{LineValue, Lines}
-use Rattle.gk_gherkin.specs.Feature.{BlockValue, Empty, Text, Table, StepValue, RowValue, ExamplesValue, BackgroundValue, ScenarioValue, RuleValue, FeatureValue, ContainerValue, rule_container, feature_container}
-use Rattle.gk_gherkin.specs.Hooks.{HookValue}
-use Rattle.gk_gherkin.specs.HooksGrammar.{IsHook}
-use Rattle.gk_gherkin.specs.Grammar.{IsIgnored, IsIgnoredAbove, Skips, skip_none, skip, Next, Many, none, more, Perhaps, IsTagLine, AreTags, untagged, tagged, IsHeading, IsTaggedHeading, MayDescribeFeature, MayDescribeScenario, MayDescribeExamples, IsRow, IsTable, IsDocString, IsBlock, HasTable, AreExamples, Describes, described, describe, IsStep, AreSteps, IsBackground, IsScenario, IsContainer, IsRule, IsFeature, IsConcatenation}
+use Rattle.gk_gherkin.proofs.Common.{◌≡◌, ◌↔◌, ℕ, List, [], ◌∷◌, ◌++◌, Option, Some, None, refl, ap, sym, subst, ◌∙◌, append_assoc, inl, inr, append-nil, Class, FeatureHeading, RuleHeading, BackgroundHeading, ScenarioHeading, ExamplesHeading, LineValue, Lines, BlockValue, Empty, Text, Table, StepValue, RowValue, ExamplesValue, BackgroundValue, ScenarioValue, RuleValue, FeatureValue, ContainerValue, rule_container, feature_container, HookValue, IsHook, IsIgnored, IsIgnoredAbove, Skips, skip_none, skip, Next, Many, none, more, Perhaps, IsTagLine, AreTags, untagged, tagged, IsHeading, IsTaggedHeading, MayDescribeFeature, MayDescribeScenario, MayDescribeExamples, IsRow, IsTable, IsDocString, IsBlock, HasTable, AreExamples, Describes, described, describe, IsStep, AreSteps, IsBackground, IsScenario, IsContainer, IsRule, IsFeature, IsConcatenation}
 
 -- P holds of a prefix of ls, up to rest, and of that prefix before anything else.
 record Fronts (P : Lines → Lines → Type 0) (ls rest : Lines) : Type 0 where

@@ -1,10 +1,6 @@
 -- Reading line after line, as the loop does.
-use Rattle.std.proofs.Common.{◌≡◌, ℕ, ◌+◌, List, [], ◌∷◌, Result, Ok, sym, subst, ap, ◌∙◌}
-use Rattle.gk_gherkin.specs.declared.read_fault.ReadFault.{ReadFault}
+use Rattle.gk_gherkin.proofs.Common.{◌≡◌, ℕ, ◌+◌, List, [], ◌∷◌, Result, Ok, sym, subst, ap, ◌∙◌, ReadFault, LineValue, line_at, numbered_from, Fails, ◌>>=◌, run_by, Need, need_at_end, need_here, need_later}
 use Rattle.gk_gherkin.specs.declared.read_fault.ReadFault.TheVariants as faults
-use Rattle.gk_gherkin.specs.Lines.{LineValue, line_at, numbered_from}
-use Rattle.gk_gherkin.specs.Results.{Fails, ◌>>=◌}
-use Rattle.gk_gherkin.specs.Reading.{run_by, Need, need_at_end, need_here, need_later}
 
 -- step: what a line makes of a state; n: the number of the next line, whose text is the first of those that are left
 module _ {S : Type 0} (step : S → LineValue → Result S ReadFault) (s : S) (n : ℕ) (left after : List (List ℕ)) (text : List ℕ) (is : left ≡ text ∷ after) where

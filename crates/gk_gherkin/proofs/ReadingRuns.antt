@@ -1,9 +1,5 @@
 -- A run over lines, and where it stops.
-use Rattle.std.proofs.Common.{◌≡◌, [], ◌∷◌, ◌++◌, Result, Ok, Err, refl, ap, ◌∙◌, append_assoc}
-use Rattle.gk_gherkin.specs.declared.read_fault.ReadFault.{ReadFault}
-use Rattle.gk_gherkin.specs.Lines.{LineValue, Lines}
-use Rattle.gk_gherkin.specs.Results.{◌>>=◌}
-use Rattle.gk_gherkin.specs.Reading.{run_by}
+use Rattle.gk_gherkin.proofs.Common.{◌≡◌, [], ◌∷◌, ◌++◌, Result, Ok, Err, refl, ap, ◌∙◌, append_assoc, ReadFault, LineValue, Lines, ◌>>=◌, run_by}
 
 pub no_err : {A : Type 0} {x : A} {e : ReadFault} {P : Type 0} → ◌≡◌ {A = Result A ReadFault} (Ok x) (Err e) → P
 no_err e = cc

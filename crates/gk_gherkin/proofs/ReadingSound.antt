@@ -1,14 +1,5 @@
 -- What a state stands for, and that each line keeps it, the same for both kinds of file.
-use Rattle.std.proofs.Common.{◌≡◌, ℕ, ◌-◌, Bool, true, false, List, [], ◌∷◌, ◌++◌, map, Option, Some, None, Ok, refl, sym, subst, ap, ◌∙◌, append_assoc}
-use Rattle.std.proofs.lemmas.List.{map_push}
-use Rattle.std.specs.List.{AllByRecursion, join_with_byte}
-use Rattle.gk_gherkin.specs.declared.class.Class.TheVariants.{FenceLine}
-use Rattle.gk_gherkin.specs.declared.class.Fence.{Fence}
-use Rattle.gk_gherkin.specs.Lines.{LineValue, Lines}
-use Rattle.gk_gherkin.specs.Class.{class}
-use Rattle.gk_gherkin.specs.DocStrings.{closes, content_of, doc_string}
-use Rattle.gk_gherkin.specs.Grammar.{skip_none, IsDocString}
-use Rattle.gk_gherkin.specs.Reading.{DocStringValue, Readers, State, Outside, InText, opening, opened, with_line, longer, whole_text, outside_text, in_text, step, run, run_by}
+use Rattle.gk_gherkin.proofs.Common.{◌≡◌, ℕ, ◌-◌, Bool, true, false, List, [], ◌∷◌, ◌++◌, map, Option, Some, None, Ok, refl, sym, subst, ap, ◌∙◌, append_assoc, map_push, AllByRecursion, join_with_byte, FenceLine, Fence, LineValue, Lines, class, closes, content_of, doc_string, skip_none, IsDocString, DocStringValue, Readers, State, Outside, InText, opening, opened, with_line, longer, whole_text, outside_text, in_text, step, run, run_by}
 use Rattle.gk_gherkin.proofs.ReadingRuns.{ok_same, bind_ok}
 use Rattle.gk_gherkin.proofs.ReadingStates.{opens_by, outside_ok}
 

@@ -1,14 +1,5 @@
 -- What a line makes of a state, the same for both kinds of file.
-use Rattle.std.proofs.Common.{◌≡◌, Bool, true, false, Option, Some, None, Result, Ok, Err, refl, ap, sym, ◌∙◌}
-use Rattle.gk_gherkin.specs.declared.class.Class.{Class}
-use Rattle.gk_gherkin.specs.declared.class.Class.TheVariants.{Blank, Comment, FenceLine}
-use Rattle.gk_gherkin.specs.declared.class.Fence.{Fence}
-use Rattle.gk_gherkin.specs.declared.read_fault.ReadFault.{ReadFault}
-use Rattle.gk_gherkin.specs.Lines.{LineValue}
-use Rattle.gk_gherkin.specs.Class.{class}
-use Rattle.gk_gherkin.specs.DocStrings.{closes}
-use Rattle.gk_gherkin.specs.Grammar.{IsIgnoredClass}
-use Rattle.gk_gherkin.specs.Reading.{DocStringValue, Readers, State, Outside, InText, outside, opening, opened, longer, whole_text, outside_text, in_text, step}
+use Rattle.gk_gherkin.proofs.Common.{◌≡◌, Bool, true, false, Option, Some, None, Result, Ok, Err, refl, ap, sym, ◌∙◌, arith, Class, Blank, Comment, FenceLine, Fence, ReadFault, LineValue, class, closes, IsIgnoredClass, DocStringValue, Readers, State, Outside, InText, outside, opening, opened, longer, whole_text, outside_text, in_text, step, common_steps}
 use Rattle.gk_gherkin.proofs.ReadingRuns.{ok_same, no_ok, no_err, err_same}
 
 -- which lines open a doc string
@@ -29,13 +20,10 @@ ignored_no_fence _ i = absurd i
 some_same : {A : Type 0} {x y : A} → ◌≡◌ {A = Option A} (Some x) (Some y) → x ≡ y
 some_same e = cc
 
-not_some : {A : Type 0} {x : A} {P : Type 0} → ◌≡◌ {A = Option A} None (Some x) → P
-not_some e = cc
-
 pub opens_by : (b : Bool) (c : Class) (fence : Fence) → opening b c ≡ Some fence → (b ≡ true) × (c ≡ FenceLine fence)
 opens_by true (FenceLine other) fence e = (refl, ap FenceLine (some_same e))
-opens_by true _ fence e = not_some e
-opens_by false c fence e = not_some e
+opens_by true _ fence e = grind (arith, common_steps)
+opens_by false c fence e = grind (arith, common_steps)
 
 pub outside_ok : {P : Type 0} (r : Result P ReadFault) (t : State P) → outside r ≡ Ok t → (reader : P) × (r ≡ Ok reader) × (Outside reader ≡ t)
 outside_ok (Ok reader) t e = (reader, refl, ok_same e)

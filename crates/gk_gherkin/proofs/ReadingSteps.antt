@@ -1,22 +1,5 @@
 -- Steps with their tables and doc strings, run over line after line, the same for both kinds of file.
-use Rattle.std.proofs.Common.{◌≡◌, ℕ, ◌-◌, true, false, List, [], ◌∷◌, ◌++◌, length, map, Option, Some, None, Result, Ok, refl, sym, ap, ◌∙◌, append_assoc}
-use Rattle.std.proofs.lemmas.List.{append-nil}
-use Rattle.std.specs.List.{AllByRecursion}
-use Rattle.gk_gherkin.specs.declared.class.Class.TheVariants.{FenceLine, RowLine, StepLine}
-use Rattle.gk_gherkin.specs.declared.feature.StepType.TheVariants.{Given}
-use Rattle.gk_gherkin.specs.declared.class.Class.{Class}
-use Rattle.gk_gherkin.specs.declared.class.Fence.{Fence}
-use Rattle.gk_gherkin.specs.declared.read_fault.ReadFault.{ReadFault}
-use Rattle.gk_gherkin.specs.declared.feature.StepType.{StepType}
-use Rattle.gk_gherkin.specs.Reading.{Outside, InText, Readers, State, opening, run, run_by, step, whole_text, with_line}
-use Rattle.gk_gherkin.specs.OpenParts.{Body, NoSteps, Steps, body_takes_text, body_with_text, is_empty, on_block, on_body, step_from, steps_of, with_block}
-use Rattle.gk_gherkin.specs.Lines.{LineValue, Lines}
-use Rattle.gk_gherkin.specs.Class.{class, step_keyword, step_text}
-use Rattle.gk_gherkin.specs.DocStrings.{closes, content_of, doc_string}
-use Rattle.gk_gherkin.specs.StepTypes.{AreTypedAfter, type_after}
-use Rattle.gk_gherkin.specs.Feature.{BlockValue, Empty, RowValue, StepValue, Table, Text, texts}
-use Rattle.gk_gherkin.specs.Grammar.{AreOfOneWidth, IsBlock, IsDocString, IsIgnored, IsRow, IsStep, Many, Next, Skips, more, none, skip, skip_none}
-use Rattle.gk_gherkin.specs.Results.{◌>>=◌}
+use Rattle.gk_gherkin.proofs.Common.{◌≡◌, ℕ, ◌-◌, true, false, List, [], ◌∷◌, ◌++◌, length, map, Option, Some, None, Result, Ok, refl, sym, ap, ◌∙◌, append_assoc, append-nil, AllByRecursion, FenceLine, RowLine, StepLine, Given, Class, Fence, ReadFault, StepType, Outside, InText, Readers, State, opening, run, run_by, step, whole_text, with_line, Body, NoSteps, Steps, body_takes_text, body_with_text, is_empty, on_block, on_body, step_from, steps_of, with_block, LineValue, Lines, class, step_keyword, step_text, closes, content_of, doc_string, AreTypedAfter, type_after, BlockValue, Empty, RowValue, StepValue, Table, Text, texts, AreOfOneWidth, IsBlock, IsDocString, IsIgnored, IsRow, IsStep, Many, Next, Skips, more, none, skip, skip_none, ◌>>=◌}
 use Rattle.gk_gherkin.proofs.ReadingRuns.{run_over}
 use Rattle.gk_gherkin.proofs.ReadingSound.{joined, joined_push, joined_text}
 use Rattle.gk_gherkin.proofs.ReadingStates.{IsNoFence, ignored_no_fence, no_fence, step_closes, step_opens, step_plain, step_stays}

@@ -1,16 +1,5 @@
 -- Where a run stops, and what the lines before say, the same for both kinds of file.
-use Rattle.std.proofs.Common.{◌≡◌, ℕ, Bool, true, false, List, [], ◌∷◌, ◌++◌, Option, Some, None, Result, Ok, Err, refl, ap, sym, subst, ◌∙◌, append_assoc}
-use Rattle.std.proofs.lemmas.List.{append-nil}
-use Rattle.std.specs.List.{AllByRecursion}
-use Rattle.gk_gherkin.specs.declared.class.Class.TheVariants.{FenceLine}
-use Rattle.gk_gherkin.specs.declared.class.Fence.{Fence}
-use Rattle.gk_gherkin.specs.declared.read_fault.ReadFault.{ReadFault}
-use Rattle.gk_gherkin.specs.Lines.{LineValue, Lines}
-use Rattle.gk_gherkin.specs.Class.{class}
-use Rattle.gk_gherkin.specs.DocStrings.{closes}
-use Rattle.gk_gherkin.specs.ReadFault.{BeginsSome, BeginsNone, EndsInDocString}
-use Rattle.gk_gherkin.specs.Results.{◌>>=◌}
-use Rattle.gk_gherkin.specs.Reading.{DocStringValue, Readers, State, Outside, InText, opening, opened, longer, whole_text, outside_text, in_text, step, run, run_by, need_at_end, need_here, need_later, NeedsIn, NeedsAtEnd, NeedSome}
+use Rattle.gk_gherkin.proofs.Common.{◌≡◌, ℕ, Bool, true, false, List, [], ◌∷◌, ◌++◌, Option, Some, None, Result, Ok, Err, refl, ap, sym, subst, ◌∙◌, append_assoc, append-nil, AllByRecursion, FenceLine, Fence, ReadFault, LineValue, Lines, class, closes, BeginsSome, BeginsNone, EndsInDocString, ◌>>=◌, DocStringValue, Readers, State, Outside, InText, opening, opened, longer, whole_text, outside_text, in_text, step, run, run_by, need_at_end, need_here, need_later, NeedsIn, NeedsAtEnd, NeedSome}
 use Rattle.gk_gherkin.proofs.ReadingRuns.{ok_same, no_ok, run-append, run_nil, halted_run, one_more_line, no_err}
 use Rattle.gk_gherkin.proofs.ReadingSound.{All-push}
 use Rattle.gk_gherkin.proofs.ReadingStates.{opens_by, outside_ok, step_at, step_refused, step_plain, step_opens, step_closes, step_stays}

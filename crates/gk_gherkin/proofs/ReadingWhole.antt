@@ -1,11 +1,6 @@
 -- What a reading's result says of the bytes, the same for both kinds of file.
-use Rattle.std.proofs.Common.{◌≡◌, ◌≢◌, inl, inr, ℕ, List, Result, Ok, Err, IfOk, IfErr, ◌<◌, ◌≤◌, length, refl, sym, ◌∙◌, subst, arith}
-use Rattle.gk_gherkin.specs.declared.read_fault.ReadFault.{ReadFault}
+use Rattle.gk_gherkin.proofs.Common.{◌≡◌, ◌≢◌, inl, inr, ℕ, List, Result, Ok, Err, IfOk, IfErr, ◌<◌, ◌≤◌, length, refl, sym, ◌∙◌, subst, arith, ReadFault, Lines, lines_of, limit, IsText, FaultSays, LinesFaultSays, Agrees, Readers, Outside, reading, NeedSome, FailsBy, FailsAs}
 use Rattle.gk_gherkin.specs.declared.read_fault.ReadFault.TheVariants as faults
-use Rattle.gk_gherkin.specs.Lines.{Lines, lines_of, limit, IsText}
-use Rattle.gk_gherkin.specs.ReadFault.{FaultSays, LinesFaultSays}
-use Rattle.gk_gherkin.specs.Results.{Agrees}
-use Rattle.gk_gherkin.specs.Reading.{Readers, Outside, reading, NeedSome, FailsBy, FailsAs}
 use Rattle.gk_gherkin.proofs.ReadingRuns.{no_ok}
 
 pub if_ok : {X : Type 0} (r : Result X ReadFault) (P Q : X → Type 0) → ((x : X) → P x → Q x) → IfOk r P → IfOk r Q

@@ -1,16 +1,6 @@
 -- The parts of a row, byte by byte and part by part, and what escapes mean.
-use Rattle.std.proofs.Common.{◌≡◌, ◌≢◌, ℕ, zero, suc, ◌+◌, ◌-◌, ◌<◌, ◌≤◌, Bool, true, false, cond, ◌==◌, List, [], ◌∷◌, ◌++◌, length, map, take, drop, get_or, Option, Some, None, Bor, min, refl, sym, ap, subst, ◌∙◌, arith, inl, inr}
-use Rattle.std.proofs.lemmas.Grind.{common_steps}
-use Rattle.std.specs.Prelude.{option_map, codes}
-use Rattle.std.proofs.lemmas.Str.Pattern.{IsSplitOnceResult, split_parts}
-use Rattle.std.proofs.lemmas.Bool.{cases_lt, false≢true, or_parts}
-use Rattle.std.specs.List.{list_any}
-use Rattle.std.proofs.lemmas.Bool.Decides.{nat_tests}
-use Rattle.memchr.specs.Find.{IsFirstByte, Nowhere, Passes, is_byte2}
-use Rattle.std.proofs.lemmas.List.{append-nil, get_or-drop, length-drop, drop_more, take_more, drop_all, take_all}
-use Rattle.gk_gherkin.specs.Lines.{LineValue}
-use Rattle.gk_gherkin.specs.Text.{trim, begins}
-use Rattle.gk_gherkin.specs.Rows.{cells_of, part_before, into_first, parts_of, parts_after, no_bar, unescaped, cell_of, cells_of_parts}
+use Rattle.gk_gherkin.proofs.Common.{◌≡◌, ◌≢◌, ℕ, zero, suc, ◌+◌, ◌-◌, ◌<◌, ◌≤◌, Bool, true, false, cond, ◌==◌, List, [], ◌∷◌, ◌++◌, length, map, take, drop, get_or, Option, Some, None, Bor, min, refl, sym, ap, subst, ◌∙◌, arith, inl, inr, common_steps, option_map, codes, IsSplitOnceResult, split_parts, cases_lt, false≢true, or_parts, list_any, nat_tests, IsFirstByte, Nowhere, Passes, is_byte2, append-nil, get_or-drop, drop_more, take_more, drop_all, take_all, LineValue, trim, begins, cells_of, part_before, into_first, parts_of, parts_after, no_bar, unescaped, cell_of, cells_of_parts}
+use Rattle.std.proofs.lemmas.List.{length-drop}
 
 -- The parts of the rest of a text, after a backslash or not.
 abbrev pub parts_in : Bool → List ℕ → Option (List (List ℕ))
@@ -225,12 +215,6 @@ row_cells line rest e = ap (λ (t : List ℕ). cond (begins t (codes "|")) (cell
 not_begun : (b : ℕ) (bs : List ℕ) → b ≢ 124 → begins (b ∷ bs) (codes "|") ≡ false
 not_begun b bs h = grind (arith, nat_tests)
 
-no_bar_first : (t : List ℕ) → ((rest : List ℕ) → t ≢ 124 ∷ rest) → begins t (codes "|") ≡ false
-no_bar_first [] h = refl
-no_bar_first (b ∷ bs) h =
-    let other : b ≢ 124 = λ e. h bs (ap (λ (d : ℕ). d ∷ bs) e) in
-    not_begun b bs other
-
 pub no_row : (line : LineValue) → ((rest : List ℕ) → trim line.text ≢ 124 ∷ rest) → cells_of line ≡ None
 unfolding cells_of
-no_row line h = ap (λ (t : Bool). cond t (cells_of_parts (parts_of (drop 1 (trim line.text)))) None) (no_bar_first (trim line.text) h)
+no_row line h = grind (arith, common_steps)

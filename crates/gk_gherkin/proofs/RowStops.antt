@@ -1,20 +1,5 @@
 -- Lines that are refused, and rows among them.
-use Rattle.std.proofs.Common.{◌≡◌, ◌≢◌, ℕ, Bool, true, false, cond, ◌==◌, length, map, List, [], ◌∷◌, ◌++◌, Option, Some, None, Result, Ok, Err, refl, ap, sym, subst, ◌∙◌, ◌⊎◌, inl, inr, arith, IfSome}
-use Rattle.std.specs.Prelude.{codes}
-use Rattle.std.proofs.lemmas.List.{append-nil}
-use Rattle.std.proofs.lemmas.Bool.Decides.{nat_tests}
-use Rattle.gk_gherkin.specs.declared.class.Class.TheVariants.{RowLine, StepLine}
-use Rattle.gk_gherkin.specs.declared.read_fault.ReadFault.TheVariants.{BadRow, CellCount, Unexpected}
-use Rattle.gk_gherkin.specs.declared.class.Class.{Class}
-use Rattle.gk_gherkin.specs.declared.read_fault.ReadFault.{ReadFault}
-use Rattle.gk_gherkin.specs.OpenParts.{Steps, on_block, on_body, on_row, row_of, width_of, with_block}
-use Rattle.gk_gherkin.specs.Lines.{LineValue, Lines}
-use Rattle.gk_gherkin.specs.Class.{class, class_of, class_of_words}
-use Rattle.gk_gherkin.specs.Rows.{cells_of, parts_of, unescaped}
-use Rattle.gk_gherkin.specs.Feature.{BlockValue, Empty, RowValue, StepValue, Table, Text}
-use Rattle.gk_gherkin.specs.Grammar.{IsBlock, IsRow, IsTable, Many, more}
-use Rattle.gk_gherkin.specs.ReadFault.{BeginsNone, BeginsSome, IsBadRow, IsOtherWidth}
-use Rattle.gk_gherkin.specs.Results.{◌>>=◌}
+use Rattle.gk_gherkin.proofs.Common.{◌≡◌, ◌≢◌, ℕ, Bool, true, false, cond, ◌==◌, length, map, List, [], ◌∷◌, ◌++◌, Option, Some, None, Result, Ok, Err, refl, ap, sym, subst, ◌∙◌, ◌⊎◌, inl, inr, arith, IfSome, codes, append-nil, nat_tests, RowLine, StepLine, BadRow, CellCount, Unexpected, Class, ReadFault, Steps, on_block, on_body, on_row, row_of, width_of, with_block, LineValue, Lines, class, class_of, class_of_words, cells_of, parts_of, unescaped, BlockValue, Empty, RowValue, StepValue, Table, Text, IsBlock, IsRow, IsTable, Many, more, BeginsNone, BeginsSome, IsBadRow, IsOtherWidth, ◌>>=◌, common_steps}
 use Rattle.gk_gherkin.proofs.ReadingRuns.{bind_err, err_same, no_err}
 use Rattle.gk_gherkin.proofs.OpenPartsSound.{Fits, StepsBuilt, eqb_same}
 
@@ -25,9 +10,6 @@ line_of text = record { line = 0; column = 1; text = text }
 -- a class that is refused, whichever line it is
 abbrev pub Refuses : {A : Type 0} → (LineValue → Result A ReadFault) → LineValue → ReadFault → Type 0
 Refuses f l e = (Unexpected l.line ≡ e) × ((o : LineValue) → f o ≡ Err (Unexpected o.line))
-
-pub refuses_then : {A B : Type 0} (g : LineValue → Result A ReadFault) (f : A → B) (l : LineValue) (e : ReadFault) → Refuses g l e → Refuses (λ o. g o >>= λ x. Ok (f x)) l e
-refuses_then {A} {B} g f l e r = (r.0, λ o. ap (λ (k : Result A ReadFault). k >>= λ x. Ok (f x)) (r.1 o))
 
 -- a row that is refused where a row may stand: this one may, and the others do as the width wants
 pub record RowStop {A : Type 0} (f : LineValue → Result A ReadFault) (l : LineValue) (c : Class) (e : ReadFault) : Type 0 where
@@ -45,7 +27,7 @@ abbrev pub Stopped : {A : Type 0} → (LineValue → Result A ReadFault) → Lin
 Stopped f l c e = Refuses f l e ⊎ RowStop f l c e
 
 pub stopped_then : {A B : Type 0} (g : LineValue → Result A ReadFault) (f : A → B) (l : LineValue) (c : Class) (e : ReadFault) → Stopped g l c e → Stopped (λ o. g o >>= λ x. Ok (f x)) l c e
-stopped_then g f l c e (inl r) = inl (refuses_then g f l e r)
+stopped_then g f l c e (inl r) = grind (arith, common_steps)
 stopped_then {A} {B} g f l c e (inr r) = inr (record {
   is = r.is;
   width = r.width;

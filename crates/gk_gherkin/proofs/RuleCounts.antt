@@ -1,15 +1,5 @@
 -- A text has more lines than the feature that it spells has rules.
-use Rattle.std.proofs.Common.{◌≡◌, ℕ, ◌+◌, ◌<◌, ◌≤◌, ◌^◌, Bool, true, false, cond, nat_eq, List, [], ◌∷◌, ◌++◌, length, drop, Some, ap, arith, length-append, length-drop}
-use Rattle.std.proofs.lemmas.Grind.{common_steps}
-use Rattle.std.proofs.lemmas.List.Sums.{count_by-le-length}
-use Rattle.std.proofs.lemmas.List.Splits.{length-slice_split}
-use Rattle.std.specs.List.{starts_with}
-use Rattle.std.specs.Str.Lines.{lines, lines_of_parts}
-use Rattle.gk_gherkin.specs.declared.class.Class.{Class}
-use Rattle.gk_gherkin.specs.declared.class.Class.TheVariants.{FeatureHeading, RuleHeading}
-use Rattle.gk_gherkin.specs.Lines.{LineValue, Lines, byte_order_mark, without_mark, lines_of, IsText}
-use Rattle.gk_gherkin.specs.Feature.{RuleValue, FeatureValue, ContainerValue, rule_container, feature_container}
-use Rattle.gk_gherkin.specs.Grammar.{IsIgnored, IsIgnoredAbove, Skips, skip_none, skip, Many, none, more, AreTags, untagged, tagged, IsContainer, IsRule, Reads}
+use Rattle.gk_gherkin.proofs.Common.{◌≡◌, ℕ, ◌+◌, ◌<◌, ◌≤◌, ◌^◌, Bool, true, false, cond, nat_eq, List, [], ◌∷◌, ◌++◌, length, drop, Some, ap, arith, length-append, length-drop, common_steps, count_by-le-length, length-slice_split, starts_with, lines, lines_of_parts, Class, FeatureHeading, RuleHeading, LineValue, Lines, byte_order_mark, without_mark, lines_of, IsText, RuleValue, FeatureValue, ContainerValue, rule_container, feature_container, IsIgnored, IsIgnoredAbove, Skips, skip_none, skip, Many, none, more, AreTags, untagged, tagged, IsContainer, IsRule, Reads}
 use Rattle.gk_gherkin.proofs.LineNumbering.{length-numbered_from}
 use Rattle.gk_gherkin.proofs.Prefixes.{container_lines}
 
@@ -44,13 +34,9 @@ fewer_than_lines ls f r =
     let rules = rules_shorten r.1.rules in
     omega (arith, container, rules)
 
-last_as_line : (empty : Bool) (x : List ℕ) → length (cond empty [] (x ∷ [])) ≤ 1
-last_as_line true x = omega arith
-last_as_line false x = omega arith
-
 parts_as_lines : (parts : List (List ℕ)) → length (lines_of_parts parts) ≤ length parts
 parts_as_lines [] = omega arith
-parts_as_lines (x ∷ []) = last_as_line (nat_eq (length x) 0) x
+parts_as_lines (x ∷ []) = grind (arith, common_steps, nat_eq)
 parts_as_lines (x ∷ y ∷ parts) = let ih = parts_as_lines (y ∷ parts) in omega (arith, ih)
 
 lines_counted : (text : List ℕ) → length (lines text) ≤ length text + 1

@@ -1,12 +1,5 @@
 -- What std's `contains` answers, as the definition has it.
-use Rattle.std.specs.Prelude.{◌||◌, ◌==◌}
-use Rattle.std.specs.Str.Iter.{HasSubslice}
-use Rattle.std.proofs.Common.{◌≡◌, ◌⊎◌, inl, inr, ℕ, Bool, true, false, List, [], ◌∷◌, ◌++◌, length, take, drop, refl, sym, ap, ◌∙◌, arith}
-use Rattle.std.proofs.Math.Seq.{take-append_seam}
-use Rattle.std.proofs.lemmas.Bool.{eqb-true}
-use Rattle.std.proofs.lemmas.List.{take-append-drop}
-use Rattle.std.proofs.lemmas.Slice.Eq.{bytes_eq-Decides}
-use Rattle.gk_gherkin.specs.Text.{begins, stands_in}
+use Rattle.gk_gherkin.proofs.Common.{◌||◌, ◌==◌, HasSubslice, ◌≡◌, ◌⊎◌, inl, inr, ℕ, Bool, true, false, List, [], ◌∷◌, ◌++◌, length, take, drop, refl, sym, ap, ◌∙◌, arith, take-append_seam, eqb-true, take-append-drop, bytes_eq-Decides, begins, stands_in}
 
 -- a list begins with another where it is that one and something after it
 begins_so : (bs text rest : List ℕ) → bs ≡ text ++ rest → begins bs text ≡ true

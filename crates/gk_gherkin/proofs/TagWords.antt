@@ -1,19 +1,5 @@
 -- The words of a tag line, one after the other.
-use Rattle.std.proofs.Common.{◌≡◌, ℕ, zero, suc, ◌+◌, ◌<◌, ◌≤◌, Bool, true, false, not, cond, ◌==◌, List, [], ◌∷◌, ◌++◌, length, take, drop, get_or, Option, Some, None, inl, inr, refl, sym, ap, ◌∙◌, append_assoc, arith}
-use Rattle.std.proofs.lemmas.Grind.{common_steps}
-use Rattle.std.specs.Prelude.{String, option_map, codes, filter, take_while}
-use Rattle.std.specs.List.{prefix_len, position_or_len, slice_split, list_all}
-use Rattle.std.proofs.lemmas.Bool.Decides.{nat_tests}
-use Rattle.std.proofs.lemmas.List.{map_push, drop_more, take-append-drop, get_or-take, drop_all, take_all, length-take, length-take-le}
-use Rattle.std.proofs.lemmas.List.Sums.{prefix_len_passes, prefix_len-le-length, passes_at_first, fails_before_first, take_while-cons, prefix_len-drop_no, prefix_len-drop_all, prefix_len_stops}
-use Rattle.std.proofs.lemmas.List.Splits.{slice_split-cons_yes, slice_split_first, slice_split_none}
-use Rattle.std.proofs.Math.Nat.{eq-or-lt_of_le}
-use Rattle.std.proofs.lemmas.List.Elements.{All-from_get_or}
-use Rattle.gk_gherkin.specs.Lines.{LineValue}
-use Rattle.gk_gherkin.specs.Text.{is_blank, trim_front, begins}
-use Rattle.std.specs.String.{string_bytes}
-use Rattle.gk_gherkin.specs.Feature.{texts}
-use Rattle.gk_gherkin.specs.Tags.{tags_of, words_of, is_tag}
+use Rattle.gk_gherkin.proofs.Common.{◌≡◌, ℕ, zero, suc, ◌+◌, ◌<◌, ◌≤◌, Bool, true, false, not, cond, ◌==◌, List, [], ◌∷◌, ◌++◌, length, take, drop, get_or, Option, Some, None, inl, inr, refl, sym, ap, ◌∙◌, append_assoc, arith, common_steps, String, option_map, codes, filter, take_while, prefix_len, position_or_len, slice_split, list_all, nat_tests, map_push, drop_more, take-append-drop, get_or-take, drop_all, take_all, length-take, length-take-le, prefix_len_passes, prefix_len-le-length, passes_at_first, fails_before_first, prefix_len-drop_no, prefix_len-drop_all, prefix_len_stops, slice_split-cons_yes, slice_split_first, slice_split_none, eq-or-lt_of_le, All-from_get_or, LineValue, is_blank, trim_front, begins, string_bytes, texts, tags_of, words_of, is_tag}
 
 some_bytes : (b : ℕ) (bs : List ℕ) → not (length (b ∷ bs) == 0) ≡ true
 some_bytes b bs = grind (arith, nat_tests)
@@ -40,13 +26,9 @@ no_blank_left t =
       | inr h ↦ prefix_len-drop_no is_blank t (prefix_len is_blank t) 0 h (prefix_len_stops is_blank t 0 h)
     ]
 
-some_by : (t : Bool) (x y : ℕ) → cond t (1 + x) 0 ≡ 0 → 0 < cond (not t) (1 + y) 0
-some_by true x y h = absurd (omega arith)
-some_by false x y h = omega arith
-
 pub some_before : (t : List ℕ) → 0 < length t → prefix_len is_blank t ≡ 0 → 0 < position_or_len is_blank t
 some_before [] h e = absurd (omega arith)
-some_before (b ∷ bs) h e = some_by (is_blank b) (prefix_len is_blank bs) (position_or_len is_blank bs) e
+some_before (b ∷ bs) h e = grind (arith, common_steps)
 
 kept : (word : List ℕ) (words : List (List ℕ)) → 0 < length word → filter (λ word. not (length word == 0)) (word ∷ words) ≡ word ∷ filter (λ word. not (length word == 0)) words
 kept [] words h = absurd (omega arith)
@@ -78,9 +60,6 @@ all_tags t words = cond t (Some words) None
 
 abbrev pub tags_by : List (List ℕ) → Option (List (List ℕ))
 tags_by words = all_tags (list_all is_tag (tag_words words)) (tag_words words)
-
-pub word_kept : (word : List ℕ) (words : List (List ℕ)) → begins word (codes "#") ≡ false → tag_words (word ∷ words) ≡ word ∷ tag_words words
-word_kept word words e = take_while-cons (λ word. not (begins word (codes "#"))) word words ∙ ap (λ (t : Bool). cond (not t) (word ∷ tag_words words) []) e
 
 pub no_tag : (word : List ℕ) (words : List (List ℕ)) → begins word (codes "#") ≡ false → is_tag word ≡ false → tags_by (word ∷ words) ≡ None
 no_tag word words e n = grind (arith, common_steps)
@@ -119,13 +98,9 @@ module _ (all : Option (List (List ℕ))) (t : List ℕ) (n : ℕ) (xs : List (L
       so_far ∙ ap (λ (words : List (List ℕ)). onto_tags xs (tags_by words)) (first_word t n some start e)
       ∙ ap (onto_tags xs) (no_tag (take n t) (words_of (drop n t)) word_plain y)
 
-onto_nothing : (o : Option (List (List ℕ))) → onto_tags [] o ≡ o
-onto_nothing None = refl
-onto_nothing (Some xs) = refl
-
 pub starts : (line : LineValue) (rest : List ℕ) (xs : List (List ℕ)) → rest ≡ trim_front line.text → xs ≡ [] → tags_of line ≡ onto_tags xs (tags_by (words_of rest))
 unfolding tags_of
-starts line rest xs e none = grind (arith, common_steps, onto_nothing, after_blanks)
+starts line rest xs e none = grind (arith, common_steps, after_blanks)
 
 pub text_more : {Z : Type 0} (items more : List (String Z)) (s : String Z) (word : List ℕ) → more ≡ items ++ s ∷ [] → string_bytes s ≡ word → texts more ≡ texts items ++ word ∷ []
 text_more items more s word e w = ap texts e ∙ map_push string_bytes items s ∙ ap (λ (t : List ℕ). texts items ++ t ∷ []) w

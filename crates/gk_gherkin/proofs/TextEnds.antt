@@ -1,6 +1,5 @@
 -- Texts that grow at their end.
-use Rattle.std.proofs.Common.{◌≡◌, ℕ, List, [], ◌∷◌, ◌++◌, append_assoc, sym, ◌∙◌, arith}
-use Rattle.std.proofs.lemmas.Grind.{common_steps}
+use Rattle.gk_gherkin.proofs.Common.{◌≡◌, ℕ, List, [], ◌∷◌, ◌++◌, append_assoc, sym, ◌∙◌, arith, common_steps}
 
 pub after_end : (before text : List ℕ) → (before ++ 10 ∷ []) ++ text ≡ before ++ 10 ∷ text
 after_end before text = append_assoc before (10 ∷ []) text

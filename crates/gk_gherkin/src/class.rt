@@ -127,6 +127,7 @@ pub fn class_of_line(line: &BorrowedLine<'_>) -> Class
 }
 
 // Returns the keyword of a heading, without its colon.
+#[tactic(auto, using(std::proofs::lemmas::Grind::common_steps, crate::proofs::ClassWords::at_colon, crate::proofs::ClassWords::no_colon), unfolding(crate::specs::Class::heading_keyword))]
 fn heading_keyword<'a>(line: &BorrowedLine<'a>) -> &'a str
     ensures { result.now ≡ spec.heading_keyword (borrowed_value line.now) }
 {
@@ -154,6 +155,7 @@ fn scenario_word(word: &str) -> Keyword
 }
 
 /// Returns the keyword of the heading of a scenario or an outline.
+#[tactic(auto, using(crate::proofs::KeywordWords::scenario_is_word))]
 pub fn scenario_keyword(line: &BorrowedLine<'_>) -> Keyword
     requires { spec.class (borrowed_value line.now) ≡ ScenarioHeading }
     ensures { keyword_text result ≡ spec.heading_keyword (borrowed_value line.now) }
@@ -193,7 +195,7 @@ fn step_word(word: &str) -> Keyword
 }
 
 /// Returns the keyword of a step, and the text after the keyword, trimmed.
-#[tactic(auto, unfolding(crate::specs::Class::step_keyword, crate::specs::Class::step_text))]
+#[tactic(auto, using(crate::proofs::KeywordWords::step_is_word), unfolding(crate::specs::Class::step_keyword, crate::specs::Class::step_text))]
 pub fn step_parts<'a>(line: &BorrowedLine<'a>) -> (Keyword, &'a str)
     requires { spec.class (borrowed_value line.now) ≡ StepLine }
     ensures keyword { keyword_text result.0 ≡ spec.step_keyword (borrowed_value line.now) }

@@ -27,6 +27,7 @@ fn closes(fence: Fence, line: &BorrowedLine<'_>) -> bool
 }
 
 // Removes leading spaces and tabs from a text, at most `margin` of them.
+#[tactic(auto, using(std::proofs::lemmas::Grind::common_steps, crate::proofs::LineCuts::boundary_at))]
 fn without_margin(margin: usize, text: &str) -> &str
     ensures { result.now ≡ drop (min margin (prefix_len is_blank text.now)) text.now }
 {
@@ -75,6 +76,7 @@ fn with_fences(text: String, fence: Fence, rest: &str) -> Result<String, ReadFau
 }
 
 // Appends the text of a content line to a text.
+#[tactic(auto, using(std::proofs::lemmas::Grind::common_steps, crate::proofs::FenceTexts::plain_text, crate::proofs::RowParts::no_backslash), unfolding(crate::specs::DocStrings::content_of))]
 fn with_content(
     text: String,
     fence: Fence,

@@ -90,6 +90,7 @@ fn ends_in_colon(text: &str) -> bool
 }
 
 // Returns the tag between a word followed by a space or a tab and the colon at the text's end.
+#[tactic(auto, using(std::proofs::lemmas::Grind::common_steps, crate::proofs::HookHeadingTexts::between))]
 fn tag_between<'a>(word: &str, text: &'a str) -> Option<&'a str>
     ensures { option_map (λ t. t.now) result ≡ spec.tag_between word.now text.now }
 {

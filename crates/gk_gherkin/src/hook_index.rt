@@ -22,6 +22,7 @@ pub struct HookIndex {
 }
 
 // Adds a position to those of a tag.
+#[tactic(auto, using(std::proofs::lemmas::Grind::text_groups))]
 fn add_under(
     tagged: &mut BTreeMap<String, Vec<usize>>,
     tag: String,
@@ -63,6 +64,7 @@ impl HookIndex {
 
     /// Adds the position of a hook with this tag, after the earlier ones. Positions under other
     /// tags stay as they are. A refusal of memory adds nothing.
+    #[tactic(auto, using(std::proofs::lemmas::Grind::common_steps, crate::proofs::HookIndexed::added_there, crate::proofs::HookIndexed::on_ok))]
     pub fn add(&mut self, tag: &Option<String>, position: usize) -> Result<(), AllocError>
         ensures kept { (t : Option (List ℕ)) (n : ℕ) →
             is_among n (spec.positions_of self.old t) ≡ true

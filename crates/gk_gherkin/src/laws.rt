@@ -24,6 +24,7 @@ pub fn parts_are_concatenations()
 
 /// States that no list of lines has two readings as a feature file. (the grammar of this project's
 /// profile)
+#[tactic(auto, using(crate::proofs::FeatureReaderComplete::one_reading))]
 pub fn reading_is_unique()
     ensures { HasOneReading }
 {}
@@ -36,6 +37,7 @@ pub fn hooks_reading_is_unique()
 
 /// States that a feature returned by `read_feature` has fewer than 2^32 rules, because each rule
 /// has its own line. (this project's profile)
+#[tactic(auto, using(crate::proofs::RuleCounts::rules_counted))]
 pub fn rules_are_counted()
     ensures { (bytes : List ℕ) (f : FeatureValue) → IsText bytes → Reads (lines_of bytes) (Some f)
         → length f.rules < 2 ^ 32 }
@@ -44,6 +46,7 @@ pub fn rules_are_counted()
 /// States that no bytes have two faults as a feature file, and none have two as a hooks file:
 /// neither of two classes nor on two lines. Refused memory is no fault of the bytes. (the faults of
 /// this project's profile)
+#[tactic(auto, using(crate::proofs::OneFeatureFault::one_feature_fault, crate::proofs::OneHooksFault::one_hooks_fault, crate::proofs::OneFaultOfBytes::one_fault))]
 pub fn fault_is_unique()
     ensures features { HaveOneFault FeatureFault }
     ensures hooks { HaveOneFault HooksFault }

@@ -68,6 +68,7 @@ fn unescaped(alloc: Global, part: &str) -> Result<String, ReadFault>
 }
 
 // Returns the cell of a trimmed part.
+#[tactic(auto, using(std::proofs::lemmas::Grind::common_steps, crate::proofs::RowParts::no_backslash, crate::proofs::RowParts::no_escape))]
 fn cell_from(alloc: Global, part: &str) -> Result<String, ReadFault>
     ensures { Agrees string_bytes result (Ok (spec.unescaped part.now)) }
 {

@@ -26,6 +26,7 @@ pub(crate) fn leading_blanks(text: &[u8]) -> usize
 }
 
 /// Returns a text without its leading spaces and tabs.
+#[tactic(auto, using(std::proofs::lemmas::Grind::common_steps, crate::proofs::LineCuts::boundary_at))]
 pub(crate) fn trim_front(text: &str) -> &str
     ensures { result.now ≡ spec.trim_front text.now }
 {
@@ -67,6 +68,7 @@ pub(crate) fn first_blank(text: &[u8]) -> usize
 }
 
 /// Splits a text at its first space or tab: returns the word before it, and the rest after it.
+#[tactic(auto, using(std::proofs::lemmas::Grind::common_steps, crate::proofs::LineCuts::before_first_blank, crate::proofs::LineCuts::after_first_blank))]
 pub fn split_word(text: &str) -> (&str, &str)
     ensures word { result.0.now ≡ before_first is_blank text.now }
     ensures rest { result.1.now ≡ after_first is_blank text.now }
@@ -110,6 +112,7 @@ pub(crate) fn begins_word(text: &str, word: &str) -> bool
 }
 
 /// Returns whether a text occurs in another. The empty text occurs in every text.
+#[tactic(auto, using(std::proofs::lemmas::Grind::common_steps, std::proofs::lemmas::Bool::Decides::same_from_decides, std::proofs::lemmas::Str::Pattern::contains_text, crate::proofs::StandsIn::stands_from, crate::proofs::StandsIn::stands_to))]
 pub fn stands_in(text: &str, whole: &str) -> bool
     ensures { result ≡ spec.stands_in text.now whole.now }
 {

@@ -1,9 +1,5 @@
 -- The lines of entries, line after line, as the loop finds them.
-use Rattle.std.proofs.Common.{◌≡◌, ℕ, suc, ◌+◌, ◌<◌, ◌≤◌, List, ◌∷◌, ◌++◌, length, drop, get_or, sym, ap, ◌∙◌, add-one, append_assoc}
-use Rattle.std.proofs.Math.Seq.{drop-cons}
-use Rattle.std.proofs.lemmas.List.{drop_all, append-nil}
-use Rattle.gk_gherkin.specs.Lines.{LineValue, line_at, numbered_from}
-use Rattle.gk_lint.specs.LibraryUse.{entry_line, entry_lines}
+use Rattle.gk_lint.proofs.Common.{◌≡◌, ℕ, suc, ◌+◌, ◌<◌, ◌≤◌, List, ◌∷◌, ◌++◌, length, drop, get_or, sym, ap, ◌∙◌, add-one, append_assoc, drop-cons, drop_all, append-nil, LineValue, line_at, numbered_from, entry_line, entry_lines}
 
 -- all: the texts of the lines; i: how many are read; n: the next line's number
 module _ (all : List (List ℕ)) (i n : ℕ) (text : List ℕ) (within : i < length all) (is : text ≡ get_or all i text) where

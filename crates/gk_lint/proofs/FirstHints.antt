@@ -1,10 +1,5 @@
 -- Hints and other results for the steps of lists that follow each other.
-use Rattle.std.proofs.Common.{◌≡◌, List, [], ◌∷◌, ◌++◌, flat_map, Option, Some, None, refl, ap, sym, ◌∙◌, arith}
-use Rattle.std.proofs.lemmas.Grind.{common_steps}
-use Rattle.std.specs.Option.{option_or}
-use Rattle.gk_gherkin.specs.Feature.{StepValue}
-use Rattle.gk_lint.specs.declared.nearest_entry.EntryHint.{EntryHint}
-use Rattle.gk_lint.specs.StepHints.{first_hint}
+use Rattle.gk_lint.proofs.Common.{◌≡◌, List, [], ◌∷◌, ◌++◌, flat_map, Option, Some, None, refl, ap, sym, ◌∙◌, arith, common_steps, option_or, StepValue, EntryHint, first_hint}
 
 pub no_other_hint : (a : Option EntryHint) → option_or a None ≡ a
 no_other_hint None = refl

@@ -1,3 +1,4 @@
+pub mod Common
 pub mod Letters
 pub mod AsciiLetters
 pub mod CommonLetters

@@ -1,15 +1,5 @@
 -- A stable sort by lines keeps the findings of each line in their order.
-use Rattle.std.proofs.Common.{◌≡◌, ℕ, not, ◌&&◌, ◌==◌, List, filter, sym, ◌∙◌, arith, Bor}
-use Rattle.std.specs.List.Sorted.{ties, IsStableByKey}
-use Rattle.std.specs.Ordering.{nat_cmp, is_lt}
-use Rattle.std.specs.Fn.{Called, ComputesKey}
-use Rattle.std.proofs.lemmas.Fn.{always_returns_same}
-use Rattle.std.proofs.lemmas.List.Elements.{filter_agree}
-use Rattle.std.proofs.lemmas.Bool.Decides.{nat_tests}
-use denote.Param.Members.{Mut}
-use Rattle.gk_lint.specs.declared.findings.Finding.{Finding}
-use Rattle.gk_lint.specs.declared.findings.FindingKind.TheVariants.{FileWithoutFeature}
-use Rattle.gk_lint.specs.Findings.{at_line}
+use Rattle.gk_lint.proofs.Common.{◌≡◌, ℕ, not, ◌&&◌, ◌==◌, List, filter, sym, ◌∙◌, arith, Bor, ties, IsStableByKey, nat_cmp, is_lt, Called, ComputesKey, always_returns_same, filter_agree, nat_tests, Mut, Finding, FileWithoutFeature, at_line}
 
 -- Two numbers neither of which is below the other are one.
 tie_is_one : (m n : ℕ) → (not (is_lt (nat_cmp m n)) && not (is_lt (nat_cmp n m))) ≡ (n == m)

@@ -1,11 +1,5 @@
 -- The wordings of lines, one after another, as the loop finds them.
-use Rattle.std.proofs.Common.{◌≡◌, ℕ, ◌+◌, ◌<◌, ◌≤◌, List, [], ◌∷◌, ◌++◌, length, drop, get_or, sym, ap, ◌∙◌, append_assoc}
-use Rattle.std.proofs.lemmas.List.{drop_all, append-nil}
-use Rattle.gk_gherkin.specs.Lines.{LineValue, line_at, numbered_from}
-use Rattle.gk_lint.specs.declared.line_context.LineContext.{LineContext}
-use Rattle.gk_lint.specs.declared.misspelt.WordedLine.{WordedLine}
-use Rattle.gk_lint.specs.LineContext.{after}
-use Rattle.gk_lint.specs.Misspelt.{worded, wording}
+use Rattle.gk_lint.proofs.Common.{◌≡◌, ℕ, ◌+◌, ◌<◌, ◌≤◌, List, [], ◌∷◌, ◌++◌, length, drop, get_or, sym, ap, ◌∙◌, append_assoc, drop_all, append-nil, LineValue, line_at, numbered_from, LineContext, WordedLine, after, worded, wording}
 use Rattle.gk_lint.proofs.EntryLinesLoop.{next}
 
 -- all: the texts of the lines; i: how many are read; n: the next line's number

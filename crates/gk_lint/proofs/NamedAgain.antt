@@ -1,12 +1,5 @@
 -- What is found of scenarios goes by which names were seen, whatever holds them.
-use Rattle.std.proofs.Common.{◌≡◌, ◌||◌, ℕ, Bool, true, false, cond, not, List, ◌∷◌, ◌++◌, refl, arith}
-use Rattle.std.proofs.lemmas.Grind.{common_steps}
-use Rattle.std.specs.Str.{bytes_eq}
-use Rattle.gk_gherkin.specs.Feature.{ScenarioValue}
-use Rattle.gk_lint.specs.declared.findings.Finding.{Finding}
-use Rattle.gk_lint.specs.declared.findings.FindingKind.TheVariants.{NameTwice}
-use Rattle.gk_lint.specs.Findings.{found_if}
-use Rattle.gk_lint.specs.ScenarioNames.{named_again}
+use Rattle.gk_lint.proofs.Common.{◌≡◌, ◌||◌, ℕ, Bool, true, false, cond, not, List, ◌∷◌, ◌++◌, refl, arith, common_steps, bytes_eq, ScenarioValue, Finding, NameTwice, found_if, named_again}
 
 pub or_of_cond : (b x : Bool) → cond b true x ≡ (b || x)
 or_of_cond true x = refl

@@ -1,11 +1,5 @@
 -- Whether lines are one line with a carriage return, as a loop over them finds it.
-use Rattle.std.proofs.Common.{◌≡◌, ◌||◌, ◌&&◌, ◌==◌, ℕ, suc, ◌+◌, ◌<◌, Bool, List, [], ◌∷◌, length, drop, get_or, refl, sym, ap, ◌∙◌, arith}
-use Rattle.std.proofs.lemmas.Grind.{common_steps}
-use Rattle.std.proofs.Math.Bool.{or-false, or_assoc}
-use Rattle.std.proofs.lemmas.List.{drop_all}
-use Rattle.std.proofs.lemmas.Bool.Decides.{nat_tests}
-use Rattle.gk_gherkin.specs.Lines.{Lines, numbered_from}
-use Rattle.gk_lint.specs.LineEnds.{has_cr, have_cr, is_one_with_cr}
+use Rattle.gk_lint.proofs.Common.{◌≡◌, ◌||◌, ◌&&◌, ◌==◌, ℕ, suc, ◌+◌, ◌<◌, Bool, List, [], ◌∷◌, length, drop, get_or, refl, sym, ap, ◌∙◌, arith, common_steps, or-false, or_assoc, drop_all, nat_tests, Lines, numbered_from, has_cr, have_cr, is_one_with_cr}
 use Rattle.gk_lint.proofs.EntryLinesLoop.{next}
 
 pub one_line : (all : List (List ℕ)) (i n : ℕ) (text : List ℕ) → i < length all → text ≡ get_or all i text → (before : Bool) → (before || have_cr (numbered_from n (drop i all))) ≡ ((before || has_cr text) || have_cr (numbered_from (n + 1) (drop (i + 1) all)))

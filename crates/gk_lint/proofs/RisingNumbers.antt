@@ -1,9 +1,5 @@
 -- Numbers in another order.
-use Rattle.std.proofs.Common.{◌≡◌, ℕ, ◌==◌, List, sym}
-use Rattle.std.proofs.lemmas.List.Sorted.{list_any-IsPermutation}
-use Rattle.std.specs.List.Sorted.{IsPermutation}
-use Rattle.gk_lint.specs.LibraryUse.{is_among, unused_entries, unused_from, entry_lines}
-use Rattle.gk_gherkin.specs.Lines.{Lines}
+use Rattle.gk_lint.proofs.Common.{◌≡◌, ℕ, ◌==◌, List, sym, list_any-IsPermutation, IsPermutation, is_among, unused_entries, unused_from, entry_lines, Lines}
 
 -- The order of numbers doesn't change which are among them.
 pub same_among : (xs ys : List ℕ) → IsPermutation xs ys → (n : ℕ) → is_among ys n ≡ is_among xs n

@@ -50,6 +50,7 @@ pub fn rising(alloc: Global, numbers: &[usize]) -> Result<Vec<usize>, AllocError
 }
 
 /// Returns whether a number is among numbers in ascending order. Doesn't allocate.
+#[tactic(auto, using(gk_select::proofs::ChosenLines::is_among))]
 pub fn has(numbers: &[usize], n: usize) -> bool
     requires { IsNonDecreasing numbers.now }
     ensures { result ≡ is_among numbers.now n }
@@ -74,6 +75,7 @@ fn unused_at(alloc: Global, used: &[usize], lines: &[u32]) -> Result<Vec<Finding
 /// Returns the findings of a library file with this text, in the order of lines: each entry that isn't used. `used` has
 /// the positions of the entries that steps, hooks and their cleanups find. They may be in any order and may be
 /// repeated, as in the results of `lint_steps` and `lint_hooks`. An error comes only if a growth was refused.
+#[tactic(auto, using(crate::proofs::RisingNumbers::same_unused))]
 pub fn lint_library(alloc: Global, text: &str, used: &[usize]) -> Result<Vec<Finding>, AllocError>
     requires { length text.now ≤ LIMIT }
     // Returns all findings, and no others.

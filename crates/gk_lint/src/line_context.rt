@@ -132,6 +132,7 @@ fn first_kind(text: &str) -> LineKind
 }
 
 // Returns the kind of a trimmed text that is neither empty, a comment nor tags.
+#[tactic(auto, using(crate::proofs::LineKinds::first_kind_fits))]
 fn kind_of_words(text: &str) -> LineKind
     ensures { result ≡ spec.kind_of (words.class_of_words text.now) }
 {

@@ -1,20 +1,6 @@
 -- What the arguments ask for.
-use Rattle.std.proofs.Common.{◌≡◌, subst, ℕ, List, Result, Ok, Err}
-use Rattle.std.specs.Prelude.{String, string_bytes}
-use Rattle.std.specs.declared.alloc.Global.{Global}
-use Rattle.clap.specs.Words.{IsAmong, Text, kind_of}
-use Rattle.clap.specs.declared.error.Error.{Error}
-use Rattle.gk_cli.specs.Arguments.{SaysArguments, faults_in}
-use Rattle.gk_cli.specs.declared.arguments.Mode.{Mode}
-use Rattle.gk_cli.specs.declared.arguments.WordsFault.{WordsFault}
+use Rattle.gk_program.proofs.Common.{◌≡◌, subst, ℕ, List, Result, Ok, Err, String, string_bytes, Global, IsAmong, Text, kind_of, Error, SaysArguments, faults_in, Mode, WordsFault, NoEquals, SaysAsked, SaysError, IsEnvFault, Asked, Help, Run, Fault, Env, Memory, Usage}
 use Rattle.gk_cli.specs.declared.arguments.WordsFault.TheVariants as words
-use Rattle.gk_findings.specs.declared.env_notes.EnvMistake.TheVariants.{NoEquals}
-use Rattle.gk_program.specs.Asked.{SaysAsked, SaysError}
-use Rattle.gk_program.specs.EnvFault.{IsEnvFault}
-use Rattle.gk_program.specs.declared.asked.Asked.{Asked}
-use Rattle.gk_program.specs.declared.asked.Asked.TheVariants.{Help, Run}
-use Rattle.gk_program.specs.declared.fault.Fault.{Fault}
-use Rattle.gk_program.specs.declared.fault.Fault.TheVariants.{Env, Memory, Usage}
 
 -- what clap says of the arguments
 of_error : (arguments : List Text) (error : Error) (asked : Result Asked Fault) → IsAmong (kind_of error) (faults_in arguments) → SaysError error asked → SaysAsked arguments asked

@@ -1,18 +1,5 @@
 -- How the program ends.
-use Rattle.std.proofs.Common.{◌≡◌, inr, refl, ℕ, List, Result, Ok, Err}
-use Rattle.std.specs.Prelude.{IfErr, IfOk, OnOk, String, string_bytes}
-use Rattle.std.specs.declared.alloc.Global.{Global}
-use Rattle.clap.specs.Words.{Text}
-use Rattle.gk_request.specs.Counted.{one_more}
-use Rattle.gk_cli.specs.Writing.{Device}
-use Rattle.gk_cli.specs.declared.arguments.Words.{Words}
-use Rattle.gk_program.specs.Asked.{SaysGiven}
-use Rattle.gk_program.specs.Ended.{SaysDone}
-use Rattle.gk_program.specs.Files.{Reading}
-use Rattle.gk_program.specs.Program.{IsDoneFor, IsFaultFor, IsRun, IsShown, IsTextFault, SaysCalls, SaysCallsOfRun, SaysProgram}
-use Rattle.gk_program.specs.declared.asked.ArgumentsFault.{ArgumentsFault}
-use Rattle.gk_program.specs.declared.asked.Asked.TheVariants.{Help, Run}
-use Rattle.gk_program.specs.declared.fault.Fault.{Fault}
+use Rattle.gk_program.proofs.Common.{◌≡◌, inr, refl, ℕ, List, Result, Ok, Err, IfErr, IfOk, OnOk, String, string_bytes, Global, Text, one_more, Device, Words, SaysGiven, SaysDone, Reading, IsDoneFor, IsFaultFor, IsRun, IsShown, IsTextFault, SaysCalls, SaysCallsOfRun, SaysProgram, ArgumentsFault, Help, Run, Fault}
 
 -- help was shown, or why it was not
 pub help_shown : {S : Type 0} (reads : Reading S) (arguments : Result (List Text) ArgumentsFault) (text : String Global) (s : S) (old new : Device) (result : Result ℕ Fault) → SaysGiven arguments (Ok (Help text))

@@ -1,15 +1,5 @@
 -- Reading names one after the other.
-use Rattle.std.proofs.Common.{◌≡◌, inl, inr, subst, ◌∙◌, ◌++◌, ap, sym, refl, arith, suc, ℕ, List, [], ◌∷◌, map, append_assoc, Option, Some, None, Result, Ok, Err}
-use Rattle.std.specs.Prelude.{IfErr, IfSome, IsErrAnd, IsSomeAnd, String, option_map, string_bytes}
-use Rattle.std.specs.declared.alloc.Global.{Global}
-use Rattle.std.specs.List.{Any}
-use Rattle.std.proofs.lemmas.List.{map-append, map_push}
-use Rattle.gk_request.specs.Source.{SourceValue, source_value}
-use Rattle.gk_request.specs.declared.source.Source.{Source}
-use Rattle.gk_request.specs.declared.source.SourceFault.{SourceFault}
-use Rattle.gk_program.specs.Files.{AreRead, IsNotRead, StopsHere, StopsReading, name_of, one_of}
-use Rattle.gk_program.specs.declared.fault.Fault.{Fault}
-use Rattle.gk_program.specs.declared.fault.Fault.TheVariants.{Memory}
+use Rattle.gk_program.proofs.Common.{◌≡◌, inl, inr, subst, ◌++◌, ap, sym, refl, arith, suc, ℕ, List, [], ◌∷◌, map, append_assoc, Option, Some, None, Result, Ok, Err, IfErr, IfSome, IsErrAnd, IsSomeAnd, String, option_map, string_bytes, Global, Any, map-append, SourceValue, source_value, Source, SourceFault, AreRead, IsNotRead, StopsReading, name_of, one_of, Fault, Memory, common_steps}
 
 pub any_first : {X : Type 0} (P : X → Type 0) (x : X) (xs : List X) → P x → Any P (x ∷ xs)
 any_first P x xs p = (0, x, omega arith, refl, p)
@@ -20,13 +10,7 @@ any_later P x xs any = (suc any.0, any.1, omega (arith, any.2), any.3, any.4)
 -- one more is read: its name goes from the names that are left to those of the sources
 pub one_source_more : {X Y : Type 0} (f : X → List ℕ) (g : Y → List ℕ) (xs more : List X) (x : X) (left : List Y) (y : Y) (rest : List Y) (all : List (List ℕ))
     → more ≡ xs ++ x ∷ [] → left ≡ y ∷ rest → f x ≡ g y → map f xs ++ map g left ≡ all → map f more ++ map g rest ≡ all
-one_source_more f g xs more x left y rest all grown step same before =
-    ap (λ l. map f l ++ map g rest) grown
-    ∙ ap (λ l. l ++ map g rest) (map_push f xs x)
-    ∙ append_assoc (map f xs) (f x ∷ []) (map g rest)
-    ∙ ap (λ n. map f xs ++ n ∷ map g rest) same
-    ∙ ap (λ l. map f xs ++ map g l) (sym step)
-    ∙ before
+one_source_more f g xs more x left y rest all grown step same before = grind (arith, common_steps)
 
 -- what holds of the error that a `?` passes on
 pub passed_on : {T E : Type 0} {Q P : E → Type 0} (r : Result T E) → IsErrAnd r Q → ((e : E) → Q e → P e) → IfErr r P
@@ -48,9 +32,7 @@ reads_both r a b c (x ∷ xs) ys first then = (first.0, first.1, reads_both r fi
 
 pub reads_one_more : {S : Type 0} (r : S → List ℕ → Result (List ℕ) SourceFault → S → Type 0) (a b c : S) (xs more : List Source) (x : Source) (name : List ℕ)
     → more ≡ xs ++ x ∷ [] → name_of x ≡ name → AreRead r a (map source_value xs) b → r b name (Ok x.bytes.items) c → AreRead r a (map source_value more) c
-reads_one_more r a b c xs more x name grown same before next =
-    subst (λ l. AreRead r a l c) (sym (map-append source_value xs (x ∷ [])) ∙ ap (map source_value) (sym grown))
-    (reads_both r a b c (map source_value xs) (source_value x ∷ []) before (c, subst (λ n. r b n (Ok x.bytes.items) c) (sym same) next, refl))
+reads_one_more r a b c xs more x name grown same before next = grind (arith, common_steps, map-append, reads_both)
 
 pub names_of_values : (xs : List Source) → map (λ file. file.name) (map source_value xs) ≡ map name_of xs
 names_of_values [] = refl
@@ -59,33 +41,11 @@ names_of_values (x ∷ xs) = ap (λ l. name_of x ∷ l) (names_of_values xs)
 -- where reading stops, after some files more
 pub stops_later : {S : Type 0} (r : S → List ℕ → Result (List ℕ) SourceFault → S → Type 0) (a b c : S) (files : List SourceValue) (names rest : List (List ℕ)) (fault : Fault)
     → AreRead r a files b → map (λ file. file.name) files ≡ names → StopsReading r b rest c fault → StopsReading r a (names ++ rest) c fault
-stops_later r a b c files names rest fault before named stops = record {
-  files = files ++ stops.files;
-  left = stops.left;
-  between = stops.between;
-  order = ap (λ l. l ++ stops.left) (map-append (λ file. file.name) files stops.files)
-      ∙ append_assoc (map (λ file. file.name) files) (map (λ file. file.name) stops.files) stops.left
-      ∙ ap (λ l. l ++ (map (λ file. file.name) stops.files ++ stops.left)) named
-      ∙ ap (λ l. names ++ l) stops.order;
-  read = reads_both r a b stops.between files stops.files before stops.read;
-  stops = stops.stops;
-}
-
-pub stops_before : {S : Type 0} (r : S → List ℕ → Result (List ℕ) SourceFault → S → Type 0) (a c : S) (left more : List (List ℕ)) (fault : Fault) → StopsHere r a left c fault → StopsHere r a (left ++ more) c fault
-stops_before r a c [] [] fault stops = stops
-stops_before r a c [] (m ∷ more) fault stops = inr stops
-stops_before r a c (x ∷ left) more fault stops = stops
+stops_later r a b c files names rest fault before named stops = grind (arith, common_steps, map-append, append_assoc, reads_both)
 
 -- where reading stops, before some files more
 pub stops_sooner : {S : Type 0} (r : S → List ℕ → Result (List ℕ) SourceFault → S → Type 0) (a c : S) (names more : List (List ℕ)) (fault : Fault) → StopsReading r a names c fault → StopsReading r a (names ++ more) c fault
-stops_sooner r a c names more fault stops = record {
-  files = stops.files;
-  left = stops.left ++ more;
-  between = stops.between;
-  order = sym (append_assoc (map (λ file. file.name) stops.files) stops.left more) ∙ ap (λ l. l ++ more) stops.order;
-  read = stops.read;
-  stops = stops_before r stops.between c stops.left more fault stops.stops;
-}
+stops_sooner r a c names more fault stops = grind (arith, common_steps)
 
 -- the first of some files isn't read
 pub stops_at : {S : Type 0} (r : S → List ℕ → Result (List ℕ) SourceFault → S → Type 0) (a c : S) (name : List ℕ) (rest : List (List ℕ)) (fault : Fault) → IsNotRead r a name c fault → StopsReading r a (name ∷ rest) c fault

@@ -1,4 +1,5 @@
 -- Lemmas.
+pub mod Common
 mod FilesLemmas
 mod FaultListingLemmas
 mod WorldFilesLemmas

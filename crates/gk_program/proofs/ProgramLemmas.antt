@@ -1,49 +1,12 @@
 -- A run whose output is flushed, the program's faults for those of the run, help, and variables one after another.
-use Rattle.std.proofs.Common.{◌≡◌, ◌⊎◌, ◌∙◌, ◌+◌, ◌-◌, ◌^◌, ◌<◌, ◌≤◌, ◌++◌, ap, sym, subst, refl, inl, inr, arith, suc, zero, ℕ, Bool, true, List, [], ◌∷◌, length, map, take, drop, get_or, Option, Some, None, Result, Ok, Err, add-one}
-use Rattle.std.specs.Prelude.{IfErr, IfOk, IsSome, IsSomeAnd, String, is_some, option_map, slice_get, string_bytes}
-use Rattle.std.specs.declared.alloc.Global.{Global}
-use Rattle.std.specs.List.{All, Any}
-use Rattle.std.specs.Io.KnownBytes.{Appends, Keeps}
-use Rattle.std.proofs.lemmas.Option.{slice_get-map, slice_get_read}
-use Rattle.std.proofs.lemmas.List.{append-nil, map-append, map_push, take-append-drop, take_all}
-use Rattle.std.proofs.lemmas.List.Elements.{All-push}
-use Rattle.std.proofs.Math.Seq.{drop-cons, take-suc}
-use Rattle.gk_world.specs.State.{Contents, nothing_yet}
-use Rattle.gk_world.specs.Refusals.{IsFault, put_refusal}
-use Rattle.gk_world.specs.Sandbox.{SandboxValue, new_sandbox, with_env}
-use Rattle.gk_world.specs.declared.refusals.WorldFault.{WorldFault}
+use Rattle.gk_program.proofs.Common.{◌≡◌, ◌⊎◌, ◌∙◌, ◌+◌, ◌-◌, ◌^◌, ◌<◌, ◌≤◌, ◌++◌, ap, sym, subst, refl, inl, inr, arith, suc, zero, ℕ, true, List, [], ◌∷◌, length, map, take, drop, get_or, Option, Some, None, Result, Ok, Err, add-one, IfErr, IfOk, IsSomeAnd, String, option_map, slice_get, string_bytes, Global, All, Any, Appends, Keeps, slice_get-map, slice_get_read, map-append, map_push, take-append-drop, take_all, All-push, drop-cons, take-suc, Contents, IsFault, put_refusal, SandboxValue, new_sandbox, with_env, WorldFault, PairValue, pair_value, one_more, Request, FilesValue, HaveSameNames, request_of_files, suite_value, SourceValue, source_value, names_of, Source, Device, IsUntouched, AreLeft, SaysFaultAs, name_at_fault, SuiteFiles, Mode, Report, Explanation, Findings, Words, RunFault, AreRead, IsFaultOfFiles, IsFileFault, Reading, StopsReading, files_in_order, name_of, AreGiven, AreTaken, IsFaultAs, IsFaultOfGiven, IsFaultOfRun, IsFirstRefused, IsFlushedRun, IsMemoryAfter, IsRefused, IsRun, SaysCallsOfRun, IsRunFrom, SaysProgram, SaysRunFrom, SaysSuite, SaysVariables, contents_given, variables_given, with_variables, hinted, files_to_put, names_given, ArePut, StopsPutting, IsEnvFault, IsFaultOfVariable, is_lint, mistake_of, Fault, NotUtf8, Usage, Env, File, NotText, TextTooLong, CannotRead, TooLong, OfRun, Unread, Write, Memory, common_steps}
 use Rattle.gk_world.specs.declared.refusals.WorldFault.TheVariants as world
-use Rattle.gk_cli.specs.Arguments.{PairValue, pair_value}
-use Rattle.gk_request.specs.Counted.{one_more}
-use Rattle.gk_request.specs.Request.{Request, FilesValue, HaveSameNames, request_of_files, suite_value}
-use Rattle.gk_request.specs.Source.{SourceValue, source_value, names_of}
-use Rattle.gk_request.specs.declared.source.Source.{Source}
 use Rattle.gk_request.specs.declared.source.SourceFault.TheVariants as reading
-use Rattle.gk_cli.specs.Writing.{Device, IsUntouched, StopsBy}
-use Rattle.gk_cli.specs.Modes.{AreLeft, IsStoppedAs, SaysFaultAs}
-use Rattle.gk_request.specs.FaultLine.{name_at_fault}
-use Rattle.gk_request.specs.declared.request.SuiteFiles.{SuiteFiles}
-use Rattle.gk_cli.specs.declared.arguments.Mode.{Mode}
-use Rattle.gk_cli.specs.declared.arguments.Mode.TheVariants.{Report, Explanation, Findings}
-use Rattle.gk_cli.specs.declared.arguments.Words.{Words}
-use Rattle.gk_request.specs.declared.run_fault.RunFault.{RunFault}
 use Rattle.gk_request.specs.declared.run_fault.RunFault.TheVariants as run
-use Rattle.gk_program.specs.Files.{AreRead, IsFaultOfFiles, IsFileFault, Reading, StopsHere, StopsReading, files_in_order, name_of}
-use Rattle.gk_program.specs.Program.{AreGiven, AreTaken, IsFaultAs, IsFaultOfGiven, IsFaultOfRun, IsFirstRefused, IsFlushedRun, IsGiven, IsMemoryAfter, IsRefused, IsRun, SaysCallsOfRun, IsRunFrom, SaysProgram, SaysRunFrom, SaysSuite, SaysVariables, contents_given, variables_given, with_variables, hinted}
-use Rattle.gk_program.specs.Asked.{files_to_put, names_given}
-use Rattle.gk_program.specs.WorldFiles.{ArePut, StopsPutting}
-use Rattle.gk_program.specs.EnvFault.{IsEnvFault, IsFaultOfVariable, is_lint, mistake_of}
-use Rattle.gk_program.specs.FaultListing.{IsListedAs}
-use Rattle.gk_program.specs.declared.fault.Fault.{Fault}
-use Rattle.gk_program.specs.declared.fault.Fault.TheVariants.{NotUtf8, Usage, Env, File, NotText, TextTooLong, CannotRead, TooLong, OfRun, Unread, Write, Memory}
 
 -- a device that isn't called
 pub untouched : (d : Device) → IsUntouched d d
-untouched d = record { written = nothing d.bytes; calls = refl; flushes = refl; failures = refl; idle = refl }
-  where
-    nothing : (bytes : Option (List ℕ)) → Appends bytes bytes []
-    nothing None = tt
-    nothing (Some x) = sym (append-nil x)
+untouched d = grind (arith, common_steps)
 
 -- ---- a fault of the run
 
@@ -75,9 +38,9 @@ named_as_before old new run.Write fault same is = is
 named_as_before old new run.Memory fault same is = is
 named_as_before old new (run.Read input f) (OfRun name g) same is = (is.0, is.1 ∙ same_name old new (run.Read input f) same)
 named_as_before old new (run.Read input f) _ same is = absurd is
-named_as_before old new (run.Library f) (OfRun name g) same is = (is.0, is.1 ∙ same_name old new (run.Library f) same)
+named_as_before old new (run.Library f) (OfRun name g) same is = grind (arith, common_steps)
 named_as_before old new (run.Library f) _ same is = absurd is
-named_as_before old new (run.Hooks f) (OfRun name g) same is = (is.0, is.1 ∙ same_name old new (run.Hooks f) same)
+named_as_before old new (run.Hooks f) (OfRun name g) same is = grind (arith, common_steps)
 named_as_before old new (run.Hooks f) _ same is = absurd is
 named_as_before old new (run.Select input f) (OfRun name g) same is = (is.0, is.1 ∙ same_name old new (run.Select input f) same)
 named_as_before old new (run.Select input f) _ same is = absurd is
@@ -89,22 +52,12 @@ fault_as_before Explanation tags result old new by fault left is = named_as_befo
 fault_as_before (Findings steps) tags result old new by fault left is = subst (λ (files : FilesValue). IsFaultAs (Findings steps) tags files by fault) left is
 
 -- why a run was stopped
-stopped_by : (mode : Mode) (files : FilesValue) (r : Request) (c : Contents) (old new : Device) (by : RunFault) → IsStoppedAs mode files r c old new by → StopsBy old new by
-stopped_by Report files r c old new by stopped = stopped.2.why
-stopped_by Explanation files r c old new by stopped = elim stopped.3 [
-  | inl part ↦ part.stopped.why
-  | inr short ↦ short.stopped.why
-]
-stopped_by (Findings steps) files r c old new by stopped = stopped.2.why
-
 pub fewer : (a b : ℕ) → a < 2 ^ 64 - 1 → b ≡ one_more a → a < b
 fewer a b room e = omega (arith, e)
 
 pub calls_of_run : (mode : Mode) (r : Request) (c : Contents) (old new : Device) (files : FilesValue) (by : RunFault) (fault : Fault)
     → old.failures < 2 ^ 64 - 1 → IsFaultOfRun files by fault → SaysFaultAs mode files r c old new by → SaysCallsOfRun old new fault
-calls_of_run mode r c old new files run.Write fault room is says =
-    let why : StopsBy old new run.Write = stopped_by mode files r c old new run.Write says in
-    subst (SaysCallsOfRun old new) (sym is) (fewer old.failures new.failures room why.0, (let idle = why.1 in omega arith))
+calls_of_run mode r c old new files run.Write fault room is says = grind (arith, common_steps)
 calls_of_run mode r c old new files run.Memory fault room is (inl nothing) = subst (SaysCallsOfRun old new) (sym is) (inl nothing)
 calls_of_run mode r c old new files run.Memory fault room is (inr cut) = subst (SaysCallsOfRun old new) (sym is) (inr (mode, files, r, c, cut))
 calls_of_run mode r c old new files (run.Read input f) (OfRun name g) room is says = says.1
@@ -116,22 +69,17 @@ calls_of_run mode r c old new files (run.Hooks f) _ room is says = absurd is
 calls_of_run mode r c old new files (run.Select input f) (OfRun name g) room is says = says.1
 calls_of_run mode r c old new files (run.Select input f) _ room is says = absurd is
 
-listed_calls : (tags : List (List ℕ)) (files : FilesValue) (by : RunFault) (old new : Device) (fault : Fault) → IsListedAs tags files by fault → IsUntouched old new → SaysCallsOfRun old new fault
-listed_calls tags files by old new (Unread status place lines) is nothing = nothing
-listed_calls tags files by old new Memory is nothing = inl nothing
-listed_calls tags files by old new _ is nothing = absurd is
-
 -- the same, by what is written of the run
 pub calls_as : (mode : Mode) (r : Request) (c : Contents) (old new : Device) (files : FilesValue) (by : RunFault) (fault : Fault)
     → old.failures < 2 ^ 64 - 1 → IsFaultAs mode r.tags files by fault → SaysFaultAs mode files r c old new by → SaysCallsOfRun old new fault
 calls_as Report r c old new files by fault room is says = calls_of_run Report r c old new files by fault room is says
 calls_as Explanation r c old new files by fault room is says = calls_of_run Explanation r c old new files by fault room is says
-calls_as (Findings steps) r c old new files run.Write fault room is says = calls_of_run (Findings steps) r c old new files run.Write fault room is says
-calls_as (Findings steps) r c old new files run.Memory fault room is says = calls_of_run (Findings steps) r c old new files run.Memory fault room is says
-calls_as (Findings steps) r c old new files (run.Read input f) fault room is says = listed_calls r.tags files (run.Read input f) old new fault is says.1
-calls_as (Findings steps) r c old new files (run.Library f) fault room is says = listed_calls r.tags files (run.Library f) old new fault is says.1
-calls_as (Findings steps) r c old new files (run.Hooks f) fault room is says = listed_calls r.tags files (run.Hooks f) old new fault is says.1
-calls_as (Findings steps) r c old new files (run.Select input f) fault room is says = listed_calls r.tags files (run.Select input f) old new fault is says.1
+calls_as (Findings steps) r c old new files run.Write fault room is says = grind (arith, common_steps)
+calls_as (Findings steps) r c old new files run.Memory fault room is says = grind (arith, common_steps)
+calls_as (Findings steps) r c old new files (run.Read input f) fault room is says = grind (arith, common_steps)
+calls_as (Findings steps) r c old new files (run.Library f) fault room is says = grind (arith, common_steps)
+calls_as (Findings steps) r c old new files (run.Hooks f) fault room is says = grind (arith, common_steps)
+calls_as (Findings steps) r c old new files (run.Select input f) fault room is says = grind (arith, common_steps)
 
 -- ---- what is shown
 
@@ -154,14 +102,10 @@ one_taken xs i x lt is = ap (λ n. take n xs) (add-one i) ∙ take-suc xs i x lt
 
 pub put_more : {X : Type 0} (f : X → PairValue) (xs : List X) (i : ℕ) (x : X) (start old new : Contents) → i < length xs → x ≡ get_or xs i x → new ≡ with_env old (f x).name (f x).text
     → old ≡ with_variables start (map f (take i xs)) → new ≡ with_variables start (map f (take (i + 1) xs))
-put_more f xs i x start old new lt is put before =
-    let last : with_variables start (map f (take (i + 1) xs)) ≡ with_env (with_variables start (map f (take i xs))) (f x).name (f x).text =
-    ap (λ l. with_variables start (map f l)) (one_taken xs i x lt is) ∙ ap (with_variables start) (map_push f (take i xs) x) ∙ after_variables start (map f (take i xs)) (f x) in
-    put ∙ ap (λ c. with_env c (f x).name (f x).text) before ∙ sym last
+put_more f xs i x start old new lt is put before = grind (arith, common_steps, one_taken, map_push, after_variables)
 
 pub taken_more : {X : Type 0} (P : PairValue → Type 0) (f : X → PairValue) (xs : List X) (i : ℕ) (x : X) → i < length xs → x ≡ get_or xs i x → P (f x) → All P (map f (take i xs)) → All P (map f (take (i + 1) xs))
-taken_more P f xs i x lt is here before =
-    subst (λ l. All P (map f l)) (sym (one_taken xs i x lt is)) (subst (All P) (sym (map_push f (take i xs) x)) (All-push P (map f (take i xs)) (f x) before here))
+taken_more P f xs i x lt is here before = grind (arith, common_steps, one_taken, map_push, All-push)
 
 pub all_put : {X : Type 0} (f : X → PairValue) (xs : List X) (i : ℕ) (start new : Contents) → length xs ≤ i → new ≡ with_variables start (map f (take i xs)) → new ≡ with_variables start (map f xs)
 all_put f xs i start new le before = before ∙ ap (λ l. with_variables start (map f l)) (take_all i xs le)
@@ -225,25 +169,9 @@ calls_of_variables d mode variables old new _ says = absurd says
 -- ---- a fault of a file
 
 -- a hint changes nothing of why reading stops
-still_stops_here : {S : Type 0} (r : Reading S) (a b : S) (left : List (List ℕ)) (name : String Global) (one other : Bool) → StopsHere r a left b (CannotRead name one) → StopsHere r a left b (CannotRead name other)
-still_stops_here r a b [] name one other stops = let no : ⊥ = cc in absurd no
-still_stops_here r a b (n ∷ left) name one other (inl (reading.Device, read, named)) = inl (reading.Device, read, named)
-still_stops_here r a b (n ∷ left) name one other (inl (by, read, named)) = absurd named
-still_stops_here r a b (n ∷ left) name one other (inr stops) = let no : ⊥ = cc in absurd no
-
-still_stops : {S : Type 0} (r : Reading S) (names : List (List ℕ)) (a b : S) (name : String Global) (one other : Bool) → StopsReading r a names b (CannotRead name one) → StopsReading r a names b (CannotRead name other)
-still_stops r names a b name one other stops = record {
-  files = stops.files;
-  left = stops.left;
-  between = stops.between;
-  order = stops.order;
-  read = stops.read;
-  stops = still_stops_here r stops.between b stops.left name one other stops.stops;
-}
-
 from_files : {S : Type 0} (r : Reading S) (w : Words) (c : Contents) (a b : S) (d : Device) (fault : Fault) → StopsReading r a (names_given w) b fault
     → Any (λ name. IsFileFault (string_bytes name) fault) w.files.items → SaysRunFrom r w c a b d d (hinted w.mode fault)
-from_files r w c a b d (CannotRead other hint) stops h = (record { given = inr (inr h); stops = still_stops r (names_given w) a b other hint (is_lint w.mode) stops }, refl)
+from_files r w c a b d (CannotRead other hint) stops h = grind (arith, common_steps)
 from_files r w c a b d (TooLong other) stops h = record { given = inr (inr h); stops = stops }
 from_files r w c a b d Memory stops h = inl (untouched d, stops)
 from_files r w c a b d _ stops h = absurd h.4
@@ -252,19 +180,11 @@ no_file : (name : Option (String Global)) → IsSomeAnd name (λ n. ⊥) → ⊥
 no_file None says = says
 no_file (Some n) says = says
 
--- a fault of the library file or of the hooks file
-from_named : {S : Type 0} (r : Reading S) (w : Words) (c : Contents) (a b : S) (d : Device) (name : Option (String Global)) (fault : Fault) → ((file : List ℕ) → IsSomeAnd name (λ n. file ≡ string_bytes n) → IsGiven w file)
-    → StopsReading r a (names_given w) b fault → IsSomeAnd name (λ n. IsFileFault (string_bytes n) fault) → SaysRunFrom r w c a b d d (hinted w.mode fault)
-from_named r w c a b d name (CannotRead other hint) given stops says = (record { given = given (string_bytes other) says; stops = still_stops r (names_given w) a b other hint (is_lint w.mode) stops }, refl)
-from_named r w c a b d name (TooLong other) given stops says = record { given = given (string_bytes other) says; stops = stops }
-from_named r w c a b d name Memory given stops says = inl (untouched d, stops)
-from_named r w c a b d name _ given stops says = absurd (no_file name says)
-
 -- a fault of one of the files
 pub from_run_files : {S : Type 0} (r : Reading S) (w : Words) (c : Contents) (a b : S) (d : Device) (fault : Fault) → StopsReading r a (names_given w) b fault
     → IsFaultOfFiles w.library w.hooks w.files.items fault → SaysRunFrom r w c a b d d (hinted w.mode fault)
-from_run_files r w c a b d fault stops (inl h) = from_named r w c a b d w.library fault (λ file is. inl is) stops h
-from_run_files r w c a b d fault stops (inr (inl h)) = from_named r w c a b d w.hooks fault (λ file is. inr (inl is)) stops h
+from_run_files r w c a b d fault stops (inl h) = grind (arith, common_steps)
+from_run_files r w c a b d fault stops (inr (inl h)) = grind (arith, common_steps)
 from_run_files r w c a b d fault stops (inr (inr h)) = from_files r w c a b d fault stops h
 
 -- then standard output is not called
@@ -289,32 +209,15 @@ IsSuiteFault (CannotRead name hint) = ⊥
 IsSuiteFault (TooLong name) = ⊥
 IsSuiteFault _ = Unit {0}
 
-suite_fault : (files : FilesValue) (by : RunFault) (fault : Fault) → IsFaultOfRun files by fault → IsSuiteFault fault
-suite_fault files run.Write fault is = subst IsSuiteFault (sym is) tt
-suite_fault files run.Memory fault is = subst IsSuiteFault (sym is) tt
-suite_fault files (run.Read input f) (OfRun name g) is = tt
-suite_fault files (run.Read input f) _ is = absurd is
-suite_fault files (run.Library f) (OfRun name g) is = tt
-suite_fault files (run.Library f) _ is = absurd is
-suite_fault files (run.Hooks f) (OfRun name g) is = tt
-suite_fault files (run.Hooks f) _ is = absurd is
-suite_fault files (run.Select input f) (OfRun name g) is = tt
-suite_fault files (run.Select input f) _ is = absurd is
-
-listed_fault : (tags : List (List ℕ)) (files : FilesValue) (by : RunFault) (fault : Fault) → IsListedAs tags files by fault → IsSuiteFault fault
-listed_fault tags files by (Unread status place lines) is = tt
-listed_fault tags files by Memory is = tt
-listed_fault tags files by _ is = absurd is
-
 fault_as : (mode : Mode) (tags : List (List ℕ)) (files : FilesValue) (by : RunFault) (fault : Fault) → IsFaultAs mode tags files by fault → IsSuiteFault fault
-fault_as Report tags files by fault is = suite_fault files by fault is
-fault_as Explanation tags files by fault is = suite_fault files by fault is
-fault_as (Findings steps) tags files run.Write fault is = suite_fault files run.Write fault is
-fault_as (Findings steps) tags files run.Memory fault is = suite_fault files run.Memory fault is
-fault_as (Findings steps) tags files (run.Read input f) fault is = listed_fault tags files (run.Read input f) fault is
-fault_as (Findings steps) tags files (run.Library f) fault is = listed_fault tags files (run.Library f) fault is
-fault_as (Findings steps) tags files (run.Hooks f) fault is = listed_fault tags files (run.Hooks f) fault is
-fault_as (Findings steps) tags files (run.Select input f) fault is = listed_fault tags files (run.Select input f) fault is
+fault_as Report tags files by fault is = grind (arith, common_steps)
+fault_as Explanation tags files by fault is = grind (arith, common_steps)
+fault_as (Findings steps) tags files run.Write fault is = grind (arith, common_steps)
+fault_as (Findings steps) tags files run.Memory fault is = grind (arith, common_steps)
+fault_as (Findings steps) tags files (run.Read input f) fault is = grind (arith, common_steps)
+fault_as (Findings steps) tags files (run.Library f) fault is = grind (arith, common_steps)
+fault_as (Findings steps) tags files (run.Hooks f) fault is = grind (arith, common_steps)
+fault_as (Findings steps) tags files (run.Select input f) fault is = grind (arith, common_steps)
 
 suite_named : (mode : Mode) (files : FilesValue) (r : Request) (c : Contents) (old new : Device) (fault : Fault) → SaysSuite mode files r c old new fault → IsSuiteFault fault
 suite_named mode files r c old new fault (inl says) = fault_as mode r.tags files says.0 fault says.1
@@ -329,8 +232,7 @@ of_given r w c a b old new _ is h = absurd is
 
 pub of_suite : {S : Type 0} (r : Reading S) (w : Words) (c : Contents) (a b : S) (files : FilesValue) (old new : Device) (fault : Fault) → AreGiven w files → AreRead r a (files_in_order files) b
     → SaysSuite w.mode files (request_of_files w.options files) c old new fault → SaysRunFrom r w c a b old new fault
-of_suite r w c a b files old new fault given read says =
-    of_given r w c a b old new fault (suite_named w.mode files _ _ old new fault says) record { files = files; given = given; read = read; says = says }
+of_suite r w c a b files old new fault given read says = grind (arith, common_steps, of_given, suite_named)
 
 -- ---- the run of the files
 
@@ -344,11 +246,7 @@ name_given (Some x) = refl
 
 pub are_given : (w : Words) (files : SuiteFiles Source) → option_map name_of files.library ≡ option_map string_bytes w.library → option_map name_of files.hooks ≡ option_map string_bytes w.hooks
     → map name_of files.sources.items ≡ map string_bytes w.files.items → AreGiven w (suite_value source_value files)
-are_given w files l h s = record {
-  sources = their_names files.sources.items ∙ s;
-  library = name_given files.library ∙ l;
-  hooks = name_given files.hooks ∙ h;
-}
+are_given w files l h s = grind (arith, common_steps, their_names, name_given)
 
 -- the variables that were put are those that were given
 pub taken_in : (w : Words) (variables : List (String Global × String Global)) → AreTaken (map pair_value variables) → variables ≡ w.env.items → AreTaken (variables_given w)
@@ -357,8 +255,7 @@ taken_in w variables taken same = subst (λ xs. AreTaken (map pair_value xs)) sa
 -- the contents after the variables are put into a new sandbox
 pub put_in : (w : Words) (start : SandboxValue) (c : Contents) (variables : List (String Global × String Global)) → c ≡ with_variables start.now (map pair_value variables) → start ≡ new_sandbox → variables ≡ w.env.items
     → c ≡ contents_given w
-put_in w start c variables put new same =
-    put ∙ ap (λ s. with_variables s.now (map pair_value variables)) new ∙ ap (λ xs. with_variables nothing_yet (map pair_value xs)) same
+put_in w start c variables put new same = grind (arith, common_steps)
 
 pub runs : {S : Type 0} (r : Reading S) (w : Words) (a b : S) (files : FilesValue) (old new : Device) (c : Contents) (result : Result ℕ Fault) → AreGiven w files → AreRead r a (files_in_order files) b
     → IfOk result (IsFlushedRun w.mode files (request_of_files w.options files) c old new) → IfOk result (IsRunFrom r w c a b old new)
@@ -379,11 +276,7 @@ put_from r w a b c d files same is put = subst (λ x. ArePut r (files_to_put w) 
 
 pub stops_from : {S : Type 0} (r : Reading S) (w : Words) (a b : S) (d : Device) (files : List (String Global × String Global)) (fault : Fault) → files ≡ w.world_files.items → AreTaken (variables_given w)
     → StopsPutting r (map pair_value files) a b fault → SaysProgram r w a b d d fault
-stops_from r w a b d files fault same taken stops = inr (inl record {
-  taken = taken;
-  stops = subst (λ xs. StopsPutting r (map pair_value xs) a b fault) same stops;
-  untouched = untouched d;
-})
+stops_from r w a b d files fault same taken stops = grind (arith, common_steps)
 
 -- then standard output is not called
 pub calls_of_putting : {S : Type 0} (r : Reading S) (given : List PairValue) (a b : S) (d : Device) (fault : Fault) → StopsPutting r given a b fault → SaysCallsOfRun d d fault

@@ -1,15 +1,5 @@
 -- Putting files one after another.
-use Rattle.std.proofs.Common.{◌≡◌, ◌∙◌, ◌+◌, ◌<◌, ◌≤◌, ◌++◌, ap, sym, subst, refl, arith, ℕ, List, [], ◌∷◌, append_assoc, drop, get_or, length, map}
-use Rattle.std.specs.List.{All}
-use Rattle.std.proofs.lemmas.List.{append-nil, drop_all, map-append, map_push}
-use Rattle.std.proofs.lemmas.List.Elements.{All-nil, All-push}
-use Rattle.std.proofs.lemmas.Grind.{common_steps}
-use Rattle.gk_world.specs.State.{Contents}
-use Rattle.gk_world.specs.Sandbox.{SandboxValue, with_file}
-use Rattle.gk_cli.specs.Arguments.{PairValue}
-use Rattle.gk_program.specs.Files.{AreRead, Reading}
-use Rattle.gk_program.specs.WorldFiles.{ArePut, IsNotPut, IsPut, IsText, PutFile, StopsPutting, given_of, read_of, with_files}
-use Rattle.gk_program.specs.declared.fault.Fault.{Fault}
+use Rattle.gk_program.proofs.Common.{◌≡◌, ◌∙◌, ◌+◌, ◌<◌, ◌≤◌, ◌++◌, ap, sym, subst, refl, arith, ℕ, List, [], ◌∷◌, append_assoc, drop, get_or, length, map, All, drop_all, map-append, map_push, All-nil, All-push, common_steps, Contents, SandboxValue, with_file, PairValue, AreRead, Reading, ArePut, IsNotPut, IsPut, IsText, PutFile, StopsPutting, given_of, read_of, with_files, Fault}
 use Rattle.gk_program.proofs.FilesLemmas.{reads_both}
 
 -- some files were put, and these are left
@@ -27,7 +17,7 @@ none_put reads given s world = record { files = []; all = refl; read = refl; tex
 -- one file after some others
 after_files : (c : Contents) (files : List PutFile) (file : PutFile) → with_files c (files ++ file ∷ []) ≡ with_file (with_files c files) file.name file.text
 after_files c [] file = refl
-after_files c (f ∷ fs) file = after_files (with_file c f.name f.text) fs file
+after_files c (f ∷ fs) file = grind (arith, common_steps)
 
 pub one_put : {S : Type 0} (reads : Reading S) (given left : List PairValue) (next : PairValue) (before between after : S) (old middle new : SandboxValue)
     → ArePutSoFar reads given (next ∷ left) before between old middle → IsPut reads next between after middle new → ArePutSoFar reads given left before after old new
@@ -43,32 +33,15 @@ one_put reads given left next before between after old middle new so_far one =
     }
 
 pub all_put : {S : Type 0} (reads : Reading S) (given : List PairValue) (before after : S) (old new : SandboxValue) → ArePutSoFar reads given [] before after old new → ArePut reads given before after old.now new.now
-all_put reads given before after old new so_far = record {
-  files = so_far.files;
-  all = sym (append-nil (map given_of so_far.files)) ∙ so_far.all;
-  read = so_far.read;
-  texts = so_far.texts;
-  put = so_far.put;
-}
+all_put reads given before after old new so_far = grind (arith, common_steps)
 
 pub stops_putting : {S : Type 0} (reads : Reading S) (given left : List PairValue) (next : PairValue) (before between after : S) (old middle : SandboxValue) (fault : Fault)
     → ArePutSoFar reads given (next ∷ left) before between old middle → IsNotPut reads between next after fault → StopsPutting reads given before after fault
-stops_putting reads given left next before between after old middle fault so_far stops = record {
-  files = so_far.files;
-  next = next;
-  left = left;
-  between = between;
-  all = so_far.all;
-  read = so_far.read;
-  texts = so_far.texts;
-  stops = stops;
-}
+stops_putting reads given left next before between after old middle fault so_far stops = grind (arith, common_steps)
 
 -- the files that are left, by their place
 pub first_left : {X : Type 0} (f : X → PairValue) (xs : List X) (i : ℕ) (x : X) → i < length xs → x ≡ get_or xs i x → map f (drop i xs) ≡ f x ∷ map f (drop (i + 1) xs)
-first_left f xs i x lt is =
-    let split : drop i xs ≡ get_or xs i x ∷ drop (i + 1) xs = grind (arith, common_steps) in
-    ap (map f) split ∙ ap (λ y. f y ∷ map f (drop (i + 1) xs)) (sym is)
+first_left f xs i x lt is = grind (arith, common_steps)
 
 pub none_left : {X : Type 0} (f : X → PairValue) (xs : List X) (i : ℕ) → length xs ≤ i → map f (drop i xs) ≡ []
 none_left f xs i past = ap (map f) (drop_all i xs past)

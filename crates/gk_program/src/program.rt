@@ -280,6 +280,7 @@ fn run_words<S: System, W: Write>(
 
 // Does what the arguments ask for, with the files of this system, and returns the status to end with. A fault is that
 // of the arguments, or says why what they ask for was not done.
+#[tactic(auto, using(crate::proofs::EndedLemmas::help_fails, crate::proofs::EndedLemmas::help_shown, crate::proofs::EndedLemmas::run_done, crate::proofs::EndedLemmas::run_fails))]
 fn run_given<S: System, W: Write>(
     alloc: Global,
     system: &mut S,

@@ -1,10 +1,5 @@
 -- Formats by name.
-use Rattle.std.proofs.Common.{◌≡◌, refl, ℕ, Bool, true, false, cond, List, [], ◌∷◌, Option, Some}
-use Rattle.std.specs.Option.{IfSome}
-use Rattle.std.specs.Str.{bytes_eq}
-use Rattle.std.proofs.lemmas.Slice.Eq.{bytes_eq-Decides}
-use Rattle.gk_report.specs.declared.report.Format.{Format}
-use Rattle.gk_report.specs.Report.{format_among, format_name}
+use Rattle.gk_report.proofs.Common.{◌≡◌, refl, ℕ, Bool, true, false, cond, List, [], ◌∷◌, Option, Some, IfSome, bytes_eq, bytes_eq-Decides, Format, format_among, format_name}
 
 named_here : (f : Format) (name : List ℕ) (others : Option Format) (b : Bool) → bytes_eq (format_name f) name ≡ b → IfSome others (λ format. format_name format ≡ name) → IfSome (cond b (Some f) others) (λ format. format_name format ≡ name)
 named_here f name others true e rest = (bytes_eq-Decides (format_name f) name).0 e

@@ -1,32 +1,12 @@
 -- No value of the report has a float, and what writing one value after another gives.
-use Rattle.std.proofs.Common.{◌≡◌, ℕ, Bool, true, false, ◌||◌, not, List, [], ◌∷◌, ◌++◌, length, map, Option, Some, None, codes, refl, ap, sym, ◌∙◌, subst, suc, append_assoc, arith}
-use Rattle.std.proofs.lemmas.Grind.{common_steps}
-use Rattle.std.specs.Fmt.{decimal}
-use Rattle.serde.specs.Event.{Log, Logs, map_begins, map_ends}
-use Rattle.serde_json.specs.Data.{Data, string, object, Members, no_members, member}
-use Rattle.serde_json.specs.View.{items_of}
-use Rattle.serde_json.specs.Events.{items_len, members_len, SendsValue, SendsMembers}
-use Rattle.serde_json.specs.Written.{has_float, items_have_float, members_have_float, compact_text, items_text}
-use Rattle.serde_json.proofs.OnLiterals.{serde_json_on_literals}
-use Rattle.gk_run.specs.declared.results.Reason.{Reason}
-use Rattle.gk_run.specs.declared.results.Status.{Status}
-use Rattle.gk_run.specs.Results.{StepRow, CaseRow, RuleRow, FeatureRow}
-use Rattle.gk_report.specs.declared.summary.Counts.{Counts}
-use Rattle.gk_report.specs.declared.summary.Summary.{Summary}
-use Rattle.gk_report.specs.Summary.{status_by}
-use Rattle.gk_report.specs.ReportTexts.{printed_cases}
-use Rattle.gk_report.specs.JsonReport.{number_data, status_data, array_data, reason_and, step_data, case_data, rule_data, rules_data, rules_and, feature_object, counts_data, step_counts_data, summary_data, comma_unless, joined, objects_text, rules_member, object_start, object_end, AddsMembers, undefined_and, counts_data_of, step_members, count_members, tail_of, json_tail}
+use Rattle.gk_report.proofs.Common.{◌≡◌, ℕ, Bool, true, false, ◌||◌, not, List, [], ◌∷◌, ◌++◌, length, map, Option, Some, None, codes, refl, ap, sym, ◌∙◌, subst, suc, append_assoc, arith, common_steps, decimal, Log, Logs, map_begins, map_ends, Data, string, object, no_members, member, items_of, items_len, members_len, SendsValue, SendsMembers, has_float, items_have_float, compact_text, items_text, serde_json_on_literals, Reason, Status, StepRow, CaseRow, RuleRow, FeatureRow, Counts, Summary, status_by, printed_cases, number_data, status_data, array_data, reason_and, step_data, case_data, rule_data, rules_data, rules_and, feature_object, counts_data, step_counts_data, summary_data, comma_unless, joined, objects_text, rules_member, object_start, object_end, AddsMembers, undefined_and, counts_data_of, step_members, count_members, tail_of, json_tail}
 
 none_of_both : (a b : Bool) → a ≡ false → b ≡ false → (a || b) ≡ false
 none_of_both false b p q = q
 none_of_both true b p q = p
 
-reason_whole : (why : Option Reason) (ms : Members) → members_have_float ms ≡ false → members_have_float (reason_and why ms) ≡ false
-reason_whole None ms h = h
-reason_whole (Some why) ms h = h
-
 step_whole : (s : StepRow) → has_float (step_data s) ≡ false
-step_whole s = reason_whole s.reason _ refl
+step_whole s = grind (arith, common_steps)
 
 steps_whole : (ss : List StepRow) → items_have_float (items_of (map step_data ss)) ≡ false
 steps_whole [] = refl

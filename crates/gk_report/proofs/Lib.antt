@@ -1,3 +1,4 @@
+pub mod Common
 pub mod SummaryLemmas
 pub mod PushLemmas
 pub mod PrintedLemmas

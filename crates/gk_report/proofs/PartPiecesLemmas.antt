@@ -1,13 +1,5 @@
 -- What a part begins with, and which texts aren't empty.
-use Rattle.std.proofs.Common.{◌≡◌, ◌≢◌, ℕ, Bool, true, false, Result, Ok, Err, IfErr, List, [], ◌∷◌, ◌++◌, append_assoc, arith}
-use Rattle.std.proofs.lemmas.Grind.{common_steps}
-use Rattle.gk_run.specs.Results.{FeatureRow}
-use Rattle.gk_report.specs.declared.plain_report.LinesLeft.{LinesLeft}
-use Rattle.gk_report.specs.declared.json_report.ObjectsLeft.{ObjectsLeft}
-use Rattle.gk_report.specs.declared.part_pieces.PartPieces.{PartPieces}
-use Rattle.gk_report.specs.ReportTexts.{is_hidden}
-use Rattle.gk_report.specs.JsonReport.{object_start, objects_text, objects_left, object_end, json_part}
-use Rattle.gk_report.specs.PartPieces.{lines_and_end, objects_and_end}
+use Rattle.gk_report.proofs.Common.{◌≡◌, ◌≢◌, ℕ, Bool, true, false, Result, Ok, Err, IfErr, List, [], ◌∷◌, ◌++◌, append_assoc, arith, common_steps, FeatureRow, LinesLeft, ObjectsLeft, PartPieces, is_hidden, object_start, objects_text, objects_left, object_end, json_part, lines_and_end, objects_and_end}
 use Rattle.gk_report.proofs.JsonReportLemmas.{object_parts}
 
 -- In JSON what stands before the scenarios is pushed, and their objects and what follows them are left.

@@ -1,10 +1,6 @@
 -- What pushing one text after another gives.
-use Rattle.std.proofs.Common.{◌≡◌, ◌≢◌, ℕ, suc, ◌<◌, false, ◌==◌, List, [], ◌∷◌, ◌++◌, length, get_or, Option, Some, None, Bor, refl, ap, sym, ◌∙◌, arith}
-use Rattle.std.proofs.lemmas.Bool.{ne_eqb, or_parts}
+use Rattle.gk_report.proofs.Common.{◌≡◌, ◌≢◌, ℕ, suc, ◌<◌, false, ◌==◌, List, [], ◌∷◌, ◌++◌, length, get_or, Option, Some, None, Bor, refl, ap, sym, ◌∙◌, arith, ne_eqb, or_parts, IsSplitOnceResult, split_parts, list_any, one_line}
 use Rattle.std.proofs.lemmas.List.{append_assoc}
-use Rattle.std.proofs.lemmas.Str.Pattern.{IsSplitOnceResult, split_parts}
-use Rattle.std.specs.List.{list_any}
-use Rattle.gk_report.specs.ReportTexts.{one_line}
 
 -- One text after another.
 pub written_after : (start first second : List ℕ) {middle end : List ℕ} → middle ≡ start ++ first → end ≡ middle ++ second → end ≡ start ++ (first ++ second)

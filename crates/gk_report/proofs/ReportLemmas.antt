@@ -1,16 +1,6 @@
 -- A JSON report is one document, and a report grows by the parts of its features.
-use Rattle.std.proofs.Common.{◌≡◌, ℕ, Bool, true, false, cond, not, ◌&&◌, List, [], ◌∷◌, ◌++◌, map, ap, sym, ◌∙◌, refl, append_assoc, append-nil, arith}
-use Rattle.std.proofs.lemmas.Grind.{common_steps}
-use Rattle.std.specs.Prelude.{codes}
-use Rattle.serde_json.specs.View.{items_of}
-use Rattle.serde_json.specs.Written.{compact_text, items_text}
-use Rattle.serde_json.proofs.OnLiterals.{serde_json_on_literals}
-use Rattle.gk_run.specs.Results.{FeatureRow, Results}
+use Rattle.gk_report.proofs.Common.{◌≡◌, ℕ, Bool, true, false, cond, not, ◌&&◌, List, [], ◌∷◌, ◌++◌, map, ap, sym, ◌∙◌, refl, append_assoc, append-nil, arith, common_steps, codes, items_of, compact_text, items_text, serde_json_on_literals, FeatureRow, Results, Style, is_hidden, feature_data, printed_features, json_head, json_part, json_tail, head, part, is_empty, parts_from, parts, tail, report, IsOneDocument, ReportsGrowByParts}
 use Rattle.gk_report.specs.declared.report.Format.TheVariants as formats
-use Rattle.gk_report.specs.declared.report.Style.{Style}
-use Rattle.gk_report.specs.ReportTexts.{is_hidden}
-use Rattle.gk_report.specs.JsonReport.{feature_data, printed_features, json_head, json_part, json_tail}
-use Rattle.gk_report.specs.Report.{head, part, is_empty, parts_from, parts, tail, report, IsOneDocument, ReportsGrowByParts}
 
 abbrev json : Bool → Style
 json no_skipped = record { format = formats.Json; no_skipped = no_skipped }
@@ -40,10 +30,6 @@ pub one_document : IsOneDocument
 unfolding json_head json_tail serde_json_on_literals
 one_document no_skipped results = simp (items_parts no_skipped results.features true, append_assoc)
 
-true_both : (b : Bool) → b ≡ (b && true)
-true_both true = refl
-true_both false = refl
-
 three_both : (a b c : Bool) → ((a && b) && c) ≡ (a && (b && c))
 three_both true b c = refl
 three_both false b c = refl
@@ -54,7 +40,7 @@ empty_both (x ∷ xs) ys = refl
 
 part_more : (style : Style) (row : FeatureRow) (rows : List FeatureRow) (first : Bool) →
     parts_from style first (rows ++ row ∷ []) ≡ parts_from style first rows ++ part style (first && is_empty (parts_from style first rows)) row
-part_more style row [] first = append-nil (part style first row) ∙ ap (λ b. part style b row) (true_both first)
+part_more style row [] first = grind (arith, common_steps, append-nil)
 part_more style row (f ∷ rows) first =
     let p = part style first f in
     let next = first && is_empty p in

@@ -1,16 +1,5 @@
 -- How the scenarios of a feature stand by its rules.
-use Rattle.std.specs.Prelude.{nat_lt, All, filter}
-use Rattle.std.specs.List.{last_or}
-use Rattle.std.specs.List.Sorted.{IsNonDecreasingBy}
-use Rattle.std.proofs.Common.{◌≡◌, ℕ, ◌+◌, ◌≤◌, ◌<◌, Bool, true, false, cond, not, List, [], ◌∷◌, ◌++◌, length, get_or, map, flat_map, Option, Some, None, refl, ap, sym, ◌∙◌, subst, arith, append-nil}
-use Rattle.std.proofs.lemmas.Grind.{common_steps}
-use Rattle.std.proofs.lemmas.Bool.{ltb-true, ltb-false, lt-ltb, le-ltb, not-false, not-true}
-use Rattle.std.proofs.lemmas.List.{take-append-drop, get_or-take, get_or-drop, length-take, length-drop}
-use Rattle.std.proofs.lemmas.List.Elements.{All-nil, All-cons, All-tail, All-weaker}
-use Rattle.std.proofs.lemmas.List.Sorted.{IsNonDecreasingBy-drop}
-use Rattle.std.proofs.lemmas.List.Sums.{prefix_len_passes, prefix_len_stops, prefix_len-le-length}
-use Rattle.gk_run.specs.Results.{CaseRow, RuleRow}
-use Rattle.gk_report.specs.RuleGroups.{begins_above, count_before, cases_before, cases_behind, RuleGroup, rule_groups, rule_of, AreInFileOrder, RulesFollowTheirScenarios}
+use Rattle.gk_report.proofs.Common.{nat_lt, All, filter, last_or, IsNonDecreasingBy, ◌≡◌, ℕ, ◌+◌, ◌≤◌, ◌<◌, Bool, true, false, cond, not, List, [], ◌∷◌, ◌++◌, length, get_or, map, flat_map, Option, Some, None, refl, ap, sym, ◌∙◌, subst, arith, append-nil, common_steps, ltb-true, ltb-false, lt-ltb, le-ltb, not-false, not-true, take-append-drop, get_or-take, get_or-drop, length-take, length-drop, All-nil, All-cons, All-tail, All-weaker, IsNonDecreasingBy-drop, prefix_len_passes, prefix_len_stops, prefix_len-le-length, CaseRow, RuleRow, begins_above, count_before, cases_before, cases_behind, RuleGroup, rule_groups, rule_of, AreInFileOrder, RulesFollowTheirScenarios}
 use Rattle.gk_report.proofs.RuleLemmas.{before_next}
 
 each_has_one : (rules : List RuleRow) (cases : List CaseRow) → map (λ (g : RuleGroup). g.rule) (rule_groups rules cases) ≡ rules
@@ -84,7 +73,7 @@ first_group r rules cs rising below k d lt =
 
 groups_in_rules : (r : RuleRow) (rules : List RuleRow) (cs : List CaseRow) → IsNonDecreasingBy (λ (s : RuleRow). s.line) rules → IsNonDecreasingBy (λ (c : CaseRow). c.line) cs →
     All (λ (c : CaseRow). r.line < c.line) cs → All (InGroup (r ∷ rules)) (rule_groups (r ∷ rules) cs)
-groups_in_rules r [] cs rising order below = All-cons (InGroup (r ∷ [])) _ [] (first_group r [] cs rising below) (All-nil (InGroup (r ∷ [])))
+groups_in_rules r [] cs rising order below = grind (arith, common_steps, All-cons, All-nil)
 groups_in_rules r (s ∷ rules) cs rising order below =
     let rest = cases_behind (s ∷ rules) cs in
     let n = count_before (s ∷ rules) cs in

@@ -1,13 +1,5 @@
 -- The scenarios of rules, one after another.
-use Rattle.std.proofs.Common.{◌≡◌, ℕ, ◌+◌, Bool, false, cond, not, List, [], ◌∷◌, ◌++◌, flat_map, Option, codes, ap, sym, ◌∙◌, append_assoc, arith}
-use Rattle.std.proofs.lemmas.Grind.{common_steps}
-use Rattle.std.specs.Fmt.{decimal}
-use Rattle.std.proofs.lemmas.List.Sums.{take_while-cons}
-use Rattle.gk_run.specs.Results.{CaseRow, RuleRow, is_passed}
-use Rattle.gk_report.specs.ReportTexts.{status_text, line_feed, is_hidden}
-use Rattle.gk_report.specs.RuleGroups.{begins_above, cases_before, cases_behind}
-use Rattle.gk_report.specs.PlainReport.{status_line, case_lines, printed_lines, rule_line, lines_in}
-use Rattle.gk_report.proofs.PrintedLemmas.{lines_next}
+use Rattle.gk_report.proofs.Common.{◌≡◌, ℕ, ◌+◌, Bool, false, cond, not, List, [], ◌∷◌, ◌++◌, flat_map, Option, codes, ap, sym, ◌∙◌, append_assoc, arith, common_steps, decimal, take_while-cons, CaseRow, RuleRow, is_passed, status_text, line_feed, is_hidden, begins_above, cases_before, cases_behind, status_line, case_lines, printed_lines, rule_line, lines_in}
 
 -- A scenario in front of the first rule is one of those in front of it.
 pub before_next : (rules : List RuleRow) (c : CaseRow) (cs : List CaseRow) → begins_above rules c.line ≡ false → cases_before rules (c ∷ cs) ≡ c ∷ cases_before rules cs
@@ -15,7 +7,7 @@ before_next rules c cs e = take_while-cons (λ (x : CaseRow). not (begins_above 
 
 pub lines_before_next : (no_skipped : Bool) (rules : List RuleRow) (c : CaseRow) (cs : List CaseRow) → begins_above rules c.line ≡ false →
     printed_lines no_skipped (cases_before rules (c ∷ cs)) ≡ cond (is_hidden no_skipped c.status) [] (case_lines c) ++ printed_lines no_skipped (cases_before rules cs)
-lines_before_next no_skipped rules c cs e = ap (printed_lines no_skipped) (before_next rules c cs e) ∙ lines_next no_skipped c (cases_before rules cs)
+lines_before_next no_skipped rules c cs e = grind (arith, common_steps, before_next)
 
 behind_next : (rules : List RuleRow) (c : CaseRow) (cs : List CaseRow) → begins_above rules c.line ≡ false → cases_behind rules (c ∷ cs) ≡ cases_behind rules cs
 behind_next rules c cs e = grind (arith, common_steps)

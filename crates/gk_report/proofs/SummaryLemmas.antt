@@ -1,24 +1,8 @@
 -- Counting one status after the other counts all.
-use Rattle.std.proofs.Common.{◌≡◌, ℕ, ◌+◌, Bool, true, false, cond, ◌||◌, min, nat_lt, ◌<◌, List, [], ◌∷◌, ◌++◌, map, flat_map, fold, count_by, refl, ap, sym, ◌∙◌, append_assoc}
-use Rattle.std.proofs.lemmas.Grind.{common_steps}
+use Rattle.gk_report.proofs.Common.{◌≡◌, ℕ, ◌+◌, Bool, true, false, cond, ◌||◌, min, nat_lt, ◌<◌, List, [], ◌∷◌, ◌++◌, map, flat_map, fold, count_by, refl, ap, sym, ◌∙◌, append_assoc, common_steps, list_any, fold-append, or-false, Status, Counts, Summary, CaseRow, FeatureRow, greatest, count_of, counts_of, feature_statuses, case_statuses, scenario_statuses, statuses_of_case, statuses_of_feature, step_statuses, summary_of, status_of, one_status_more, one_case_more, one_feature_more, status_by, IsStatusOf}
 use native.Mathlib.Omega.{arith}
-use Rattle.std.specs.List.{list_any}
 use Rattle.std.proofs.lemmas.List.{append-nil}
-use Rattle.std.proofs.lemmas.List.Sums.{fold-append}
-use Rattle.std.proofs.Math.Bool.{or_assoc, or-false}
-use Rattle.std.proofs.lemmas.List.Folds.{list_any-append}
-use Rattle.gk_run.specs.declared.results.Status.{Status}
 use Rattle.gk_run.specs.declared.results.Status.TheVariants as statuses
-use Rattle.gk_report.specs.declared.summary.Counts.{Counts}
-use Rattle.gk_report.specs.declared.summary.Summary.{Summary}
-use Rattle.gk_run.specs.Results.{CaseRow, FeatureRow, is_passed, is_failed, is_skipped, is_undefined, is_untested, is_memory}
-use Rattle.gk_report.specs.Summary.{greatest, count_of, counts_of, feature_statuses, case_statuses, scenario_statuses, statuses_of_case, statuses_of_feature, step_statuses, summary_of, verdicts, status_of, raised, one_status_more, one_case_more, one_feature_more, status_by, IsStatusOf}
-
-raised_count : (p : Status → Bool) (xs : List Status) (s : Status) → p s ≡ true → raised (count_of p xs) ≡ count_of p (xs ++ s ∷ [])
-raised_count p xs s h = grind (arith, common_steps)
-
-kept_count : (p : Status → Bool) (xs : List Status) (s : Status) → p s ≡ false → count_of p xs ≡ count_of p (xs ++ s ∷ [])
-kept_count p xs s h = grind (arith, common_steps)
 
 six : {a a' b b' c c' d d' e e' f f' : ℕ} → a ≡ a' → b ≡ b' → c ≡ c' → d ≡ d' → e ≡ e' → f ≡ f' →
     let x : Counts = record { passed = a; failed = b; skipped = c; undefined = d; untested = e; memory = f } in
@@ -27,12 +11,12 @@ six : {a a' b b' c c' d d' e e' f f' : ℕ} → a ≡ a' → b ≡ b' → c ≡ 
 six ha hb hc hd he hf = cc
 
 pub status_more : (xs : List Status) (s : Status) → one_status_more (counts_of xs) s ≡ counts_of (xs ++ s ∷ [])
-status_more xs statuses.Passed = six (raised_count is_passed xs _ refl) (kept_count is_failed xs _ refl) (kept_count is_skipped xs _ refl) (kept_count is_undefined xs _ refl) (kept_count is_untested xs _ refl) (kept_count is_memory xs _ refl)
-status_more xs statuses.Failed = six (kept_count is_passed xs _ refl) (raised_count is_failed xs _ refl) (kept_count is_skipped xs _ refl) (kept_count is_undefined xs _ refl) (kept_count is_untested xs _ refl) (kept_count is_memory xs _ refl)
-status_more xs statuses.Skipped = six (kept_count is_passed xs _ refl) (kept_count is_failed xs _ refl) (raised_count is_skipped xs _ refl) (kept_count is_undefined xs _ refl) (kept_count is_untested xs _ refl) (kept_count is_memory xs _ refl)
-status_more xs statuses.Undefined = six (kept_count is_passed xs _ refl) (kept_count is_failed xs _ refl) (kept_count is_skipped xs _ refl) (raised_count is_undefined xs _ refl) (kept_count is_untested xs _ refl) (kept_count is_memory xs _ refl)
-status_more xs statuses.Untested = six (kept_count is_passed xs _ refl) (kept_count is_failed xs _ refl) (kept_count is_skipped xs _ refl) (kept_count is_undefined xs _ refl) (raised_count is_untested xs _ refl) (kept_count is_memory xs _ refl)
-status_more xs statuses.Memory = six (kept_count is_passed xs _ refl) (kept_count is_failed xs _ refl) (kept_count is_skipped xs _ refl) (kept_count is_undefined xs _ refl) (kept_count is_untested xs _ refl) (raised_count is_memory xs _ refl)
+status_more xs statuses.Passed = grind (arith, common_steps, six)
+status_more xs statuses.Failed = grind (arith, common_steps, six)
+status_more xs statuses.Skipped = grind (arith, common_steps, six)
+status_more xs statuses.Undefined = grind (arith, common_steps, six)
+status_more xs statuses.Untested = grind (arith, common_steps, six)
+status_more xs statuses.Memory = grind (arith, common_steps, six)
 
 pub statuses_more : (xs ys : List Status) → fold one_status_more (counts_of xs) ys ≡ counts_of (xs ++ ys)
 statuses_more xs [] = ap counts_of (sym (append-nil xs))
@@ -82,13 +66,9 @@ any_count p xs =
     let above : 0 < greatest = omega arith in
     least_above greatest (count_by p xs) above ∙ any_counted p 0 xs
 
-any_verdict : (p : Status → Bool) (rows : List FeatureRow) (around : Status) →
-    (p around || nat_lt 0 (count_of p (feature_statuses rows)) || nat_lt 0 (count_of p (scenario_statuses rows))) ≡ list_any p (verdicts rows around)
-any_verdict p rows around = grind (arith, common_steps, nat_lt, any_count, or_assoc, list_any-append)
-
 -- The status by the counts is that of the rows.
 pub status_counted : (rows : List FeatureRow) (around : Status) → status_by (summary_of rows) around ≡ status_of rows around
-status_counted rows around = grind (arith, common_steps, nat_lt, any_verdict, any_count)
+status_counted rows around = grind (arith, common_steps, nat_lt, any_count)
 
 -- So a number that is the status by the counts is that of whatever rows they count.
 pub status_from : (s : Summary) (around : Status) (number : ℕ) → number ≡ status_by s around → IsStatusOf s around number

@@ -65,6 +65,7 @@ impl Serialize for SummaryObject {
     }
 }
 
+#[inline(always)]
 fn write_text<S: Serializer>(out: &mut S, key: &str, text: &str) -> Result<(), S::Error>
     ensures { WritesMembers S.written out.old (member key.now (string text.now)) result out.new }
 {
@@ -72,6 +73,7 @@ fn write_text<S: Serializer>(out: &mut S, key: &str, text: &str) -> Result<(), S
     out.str(text)
 }
 
+#[inline(always)]
 fn write_number<S: Serializer>(out: &mut S, key: &str, number: u64) -> Result<(), S::Error>
     ensures { WritesMembers S.written out.old (member key.now (number_data number)) result out.new }
 {
@@ -79,6 +81,7 @@ fn write_number<S: Serializer>(out: &mut S, key: &str, number: u64) -> Result<()
     out.u64(number)
 }
 
+#[inline(always)]
 fn write_status<S: Serializer>(out: &mut S, key: &str, status: Status) -> Result<(), S::Error>
     ensures { WritesMembers S.written out.old (member key.now (status_data status)) result out.new }
 {

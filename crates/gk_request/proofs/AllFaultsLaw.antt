@@ -1,17 +1,6 @@
 -- The first fault and those of the files after it are the faults of all files.
-use Rattle.std.proofs.Common.{◌≡◌, ℕ, suc, zero, ◌+◌, Bool, List, [], ◌∷◌, take, drop, Some, None, refl, subst, inl, add-one, arith}
-use Rattle.std.proofs.lemmas.Grind.{common_steps}
-use Rattle.std.specs.Prelude.{slice_get}
+use Rattle.gk_request.proofs.Common.{◌≡◌, ℕ, suc, zero, ◌+◌, Bool, List, [], ◌∷◌, take, drop, Some, None, refl, subst, inl, add-one, arith, common_steps, slice_get, CaseValue, is_chosen, ChosenValue, RunFault, Read, Library, Hooks, Select, Write, Memory, source_at, IsFaultOf, AreFaultsOf, library_files, hooks_files, sources_from, after_library, AllFaultsAreFound, request_of_files, AreRead, SourceValue}
 use Rattle.gk_select.specs.declared.select_fault.SelectFault.TheVariants as select_faults
-use Rattle.gk_select.specs.Case.{CaseValue}
-use Rattle.gk_select.specs.Choice.{is_chosen}
-use Rattle.gk_run.specs.Chosen.{ChosenValue}
-use Rattle.gk_request.specs.declared.run_fault.RunFault.{RunFault}
-use Rattle.gk_request.specs.declared.run_fault.RunFault.TheVariants.{Read, Library, Hooks, Select, Write, Memory}
-use Rattle.gk_request.specs.AllFaults.{source_at, IsFaultOf, AreFaultsOf, library_files, hooks_files, sources_from, after_library, AllFaultsAreFound}
-use Rattle.gk_request.specs.Request.{request_of_files}
-use Rattle.gk_request.specs.Inputs.{AreRead}
-use Rattle.gk_request.specs.Source.{SourceValue}
 use Rattle.gk_request.proofs.AllFaultsLemmas.{are_more, library_reads, hooks_read, hooks_stop}
 
 -- The sources before the one at a place read, and that one doesn't.

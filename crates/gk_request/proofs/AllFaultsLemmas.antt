@@ -1,24 +1,8 @@
 -- The faults of files, some after others.
-use Rattle.std.proofs.Common.{◌≡◌, ◌≢◌, ℕ, suc, zero, ◌+◌, List, [], ◌∷◌, ◌++◌, drop, Option, Some, None, Err, refl, ap, sym, subst, ◌∙◌, inl, inr, add-one, append_assoc, arith}
-use Rattle.std.proofs.lemmas.Grind.{common_steps}
-use Rattle.std.proofs.lemmas.List.{append-nil}
-use Rattle.std.specs.Prelude.{slice_get}
-use Rattle.gk_gherkin.specs.declared.read_fault.ReadFault.{ReadFault}
+use Rattle.gk_request.proofs.Common.{◌≡◌, ◌≢◌, ℕ, suc, zero, ◌+◌, List, [], ◌∷◌, ◌++◌, drop, Option, Some, None, Err, refl, ap, sym, subst, ◌∙◌, inl, inr, add-one, append_assoc, arith, common_steps, append-nil, slice_get, ReadFault, FeatureValue, HookValue, FaultSays, HooksFault, LibraryFault, LibraryValue, RunFault, Read, Library, Hooks, Select, Write, Memory, RunFile, source_at, AreFaultsOf, library_files, hooks_files, sources_from, SaysOfFiles, AreAdded, bytes_of, IsLibrary, AreHooks, IsReadAs, SaysLibrary, SaysHooks, SaysSourceAt, library_fault, hooks_fault, SourceValue}
 use Rattle.gk_gherkin.specs.declared.read_fault.ReadFault.TheVariants as read_faults
-use Rattle.gk_gherkin.specs.Feature.{FeatureValue}
-use Rattle.gk_gherkin.specs.Hooks.{HookValue}
-use Rattle.gk_gherkin.specs.ReadFault.{FaultSays, HooksFault}
 use Rattle.gk_select.specs.declared.select_fault.SelectFault.TheVariants as select_faults
-use Rattle.gk_steps.specs.declared.library_fault.LibraryFault.{LibraryFault}
 use Rattle.gk_steps.specs.declared.library_fault.LibraryFault.TheVariants as library_faults
-use Rattle.gk_steps.specs.Finding.{LibraryValue}
-use Rattle.gk_request.specs.declared.run_fault.RunFault.{RunFault}
-use Rattle.gk_request.specs.declared.run_fault.RunFault.TheVariants.{Read, Library, Hooks, Select, Write, Memory}
-use Rattle.gk_request.specs.AllFaults.{RunFile, source_at, AreFaultsOf, library_files, hooks_files, sources_from, SaysOfFiles, AreAdded}
-use Rattle.gk_request.specs.Request.{bytes_of}
-use Rattle.gk_request.specs.Inputs.{IsLibrary, AreHooks, IsReadAs}
-use Rattle.gk_request.specs.RunFault.{SaysLibrary, SaysHooks, SaysSourceAt, library_fault, hooks_fault}
-use Rattle.gk_request.specs.Source.{SourceValue}
 use Rattle.gk_request.proofs.InputsLemmas.{same_some}
 
 -- A library file that reads, or none.

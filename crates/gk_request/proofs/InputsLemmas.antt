@@ -1,40 +1,8 @@
 -- Inputs, one after another, and that they are determined.
-use Rattle.std.proofs.Common.{◌≡◌, ◌⊎◌, inl, inr, ℕ, suc, zero, ◌+◌, ◌<◌, Bool, true, false, List, [], ◌∷◌, ◌++◌, map, take, drop, length, get_or, Option, Some, None, Result, Ok, Err, refl, ap, sym, subst, ◌∙◌, arith, add-one}
-use Rattle.std.proofs.lemmas.Grind.{common_steps}
-use denote.Ref.{Bor}
-use Rattle.std.specs.Prelude.{option_map, slice_get, zip, OnOk}
-use Rattle.std.specs.List.{AllByRecursion}
-use Rattle.gk_gherkin.specs.declared.read_fault.ReadFault.{ReadFault}
+use Rattle.gk_request.proofs.Common.{◌≡◌, ◌⊎◌, inl, inr, ℕ, suc, zero, ◌+◌, ◌<◌, Bool, true, false, List, [], ◌∷◌, ◌++◌, map, take, drop, length, get_or, Option, Some, None, Result, Ok, Err, refl, ap, sym, subst, ◌∙◌, arith, add-one, common_steps, Bor, option_map, slice_get, zip, OnOk, AllByRecursion, ReadFault, lines_of, IsText, Feature, FeatureValue, feature_value, Reads, HasOneReading, HookValue, HaveOneHooksReading, Case, SelectFault, CaseValue, case_value, ExampleRowValue, with_own_tags, Expression, ReadsTags, is_chosen, LibraryFault, LibraryValue, default_text, LibraryReadingIsUnique, Chosen, HeadValue, MemberValue, ChosenValue, chosen_value, member_of, members_of, IsFormed, SourceValue, GaveUpThrough, Inputs, InputsAreUnique, IsFirstBadText, AreRules, IsLibrary, AreHooks, member_by, chosen_of, with_reading, IsWithinLimit, AreRead, with_rows, AreRowsOf, AreRowsIf, AreRowsReadOnto, IsReading, IsReadOnto, Options, Request, AreLeftAt, RunFault, Read, Library, Hooks, Select, Write, Memory, IsUnread, IsUnreadBefore, SaysTags, SaysLibrary, SaysHooks, SaysSourceAt, SaysSources, SaysTooMany, select_fault_at, tags_fault, library_fault, hooks_fault, SaysExpansion}
 use Rattle.gk_gherkin.specs.declared.read_fault.ReadFault.TheVariants as read_faults
-use Rattle.gk_gherkin.specs.Lines.{lines_of, IsText}
-use Rattle.gk_gherkin.specs.declared.feature.Feature.{Feature}
-use Rattle.gk_gherkin.specs.Feature.{FeatureValue, feature_value}
-use Rattle.gk_gherkin.specs.Grammar.{Reads, HasOneReading}
-use Rattle.gk_gherkin.specs.Hooks.{HookValue}
-use Rattle.gk_gherkin.specs.HooksGrammar.{HaveOneHooksReading}
-use Rattle.gk_select.specs.declared.case.Case.{Case}
-use Rattle.gk_select.specs.declared.select_fault.SelectFault.{SelectFault}
 use Rattle.gk_select.specs.declared.select_fault.SelectFault.TheVariants as select_faults
-use Rattle.gk_select.specs.Case.{CaseValue, case_value}
-use Rattle.gk_select.specs.ExampleRows.{ExampleRowValue}
-use Rattle.gk_select.specs.OwnTags.{with_own_tags}
-use Rattle.gk_select.specs.TagGrammar.{Expression}
-use Rattle.gk_select.specs.TagRules.{ReadsTags}
-use Rattle.gk_select.specs.Choice.{is_chosen}
-use Rattle.gk_steps.specs.declared.library_fault.LibraryFault.{LibraryFault}
 use Rattle.gk_steps.specs.declared.library_fault.LibraryFault.TheVariants as library_faults
-use Rattle.gk_steps.specs.Finding.{LibraryValue}
-use Rattle.gk_steps.specs.DefaultFile.{default_text}
-use Rattle.gk_steps.specs.LibraryFile.{LibraryReadingIsUnique}
-use Rattle.gk_run.specs.declared.chosen.Chosen.{Chosen}
-use Rattle.gk_run.specs.Chosen.{HeadValue, MemberValue, ChosenValue, chosen_value, member_of, members_of, IsFormed}
-use Rattle.gk_request.specs.Source.{SourceValue, GaveUpThrough}
-use Rattle.gk_request.specs.Inputs.{Inputs, InputsAreUnique, IsFirstBadText, AreRules, IsLibrary, AreHooks, member_by, chosen_of, with_reading, IsWithinLimit, AreRead, with_rows, AreRowsOf, AreRowsIf, AreRowsReadOnto, IsReading, IsReadOnto}
-use Rattle.gk_request.specs.declared.request.Options.{Options}
-use Rattle.gk_request.specs.Request.{Request, AreLeftAt}
-use Rattle.gk_request.specs.declared.run_fault.RunFault.{RunFault}
-use Rattle.gk_request.specs.declared.run_fault.RunFault.TheVariants.{Read, Library, Hooks, Select, Write, Memory}
-use Rattle.gk_request.specs.RunFault.{IsUnread, IsUnreadBefore, SaysTags, SaysLibrary, SaysHooks, SaysSourceAt, SaysSources, SaysTooMany, select_fault_at, tags_fault, library_fault, hooks_fault, SaysExpansion}
 
 -- The element at a place, as a loop has it.
 pub at_place : {A B : Type 0} (f : A → B) (xs : List A) (i : ℕ) (x : A) → i < length xs → x ≡ get_or xs i x → slice_get (map f xs) i ≡ Some (f x)

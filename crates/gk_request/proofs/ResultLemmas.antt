@@ -1,5 +1,5 @@
 -- What holds of a result, by what is known of it.
-use Rattle.std.specs.Prelude.{Result, Ok, Err, IfOk, IfErr, IsErrAnd, OnOk}
+use Rattle.gk_request.proofs.Common.{Result, Ok, Err, IfOk, IfErr, IsErrAnd, OnOk}
 
 pub on_ok : {T E : Type 0} {P Q : Type 0} (r : Result T E) → (P → Q) → OnOk r P → OnOk r Q
 on_ok (Ok x) f h = f h

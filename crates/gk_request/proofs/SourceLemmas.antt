@@ -1,10 +1,5 @@
 -- What a reader has left after the bytes that it gave.
-use Rattle.std.proofs.Common.{◌≡◌, ◌≤◌, ℕ, ◌+◌, ◌++◌, List, length, take, Option, Some, None, arith, length-append}
-use Rattle.std.proofs.lemmas.Grind.{common_steps}
-use Rattle.std.specs.Io.KnownBytes.{Consumes}
-use Rattle.std.proofs.KnownBytes.{Consumes-trans}
-use Rattle.std.proofs.lemmas.List.{length-take}
-use Rattle.gk_request.specs.Source.{StopsAfter, GivesAtMost}
+use Rattle.gk_request.proofs.Common.{◌≡◌, ◌≤◌, ℕ, ◌+◌, ◌++◌, List, length, take, Option, Some, None, arith, length-append, common_steps, Consumes, Consumes-trans, length-take, StopsAfter, GivesAtMost}
 
 pub stops_after : (n : ℕ) (a b : Option (List ℕ)) (bytes : List ℕ) → Consumes a b bytes → length bytes ≡ n → StopsAfter n a b
 stops_after n None b bytes taken size = tt

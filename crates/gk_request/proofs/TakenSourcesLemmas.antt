@@ -1,7 +1,5 @@
 -- Sources that give up their bytes one after another: a list whose first elements are changed.
-use Rattle.std.proofs.Common.{◌≡◌, ℕ, suc, zero, ◌+◌, ◌<◌, List, [], ◌∷◌, ◌++◌, map, set, get_or, length, take, drop, Option, Some, refl, ap, sym, ◌∙◌, arith, add-one}
-use Rattle.std.specs.Prelude.{slice_get}
-use Rattle.std.proofs.lemmas.List.{append-nil, drop_all, take_all}
+use Rattle.gk_request.proofs.Common.{◌≡◌, ℕ, suc, zero, ◌+◌, ◌<◌, List, [], ◌∷◌, ◌++◌, map, set, get_or, length, take, drop, Option, Some, refl, ap, sym, ◌∙◌, arith, add-one, slice_get, append-nil, drop_all, take_all}
 
 -- The first elements of a list are changed, and the others are as they were.
 abbrev pub changed_to : {A : Type 0} → (A → A) → ℕ → List A → List A

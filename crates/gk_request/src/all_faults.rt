@@ -28,6 +28,7 @@ fn check_library(alloc: Global, library: &Option<Source>) -> Result<(), RunFault
 }
 
 // Checks that the hooks file reads, if there is one.
+#[tactic(auto, using(crate::proofs::AllFaultsLemmas::hooks_read, crate::proofs::AllFaultsLemmas::says_of_hooks))]
 fn check_hooks(alloc: Global, hooks: &Option<Source>) -> Result<(), RunFault>
     ensures { SaysOfFiles (hooks_files (option_map source_value hooks.now)) result }
 {
@@ -38,6 +39,7 @@ fn check_hooks(alloc: Global, hooks: &Option<Source>) -> Result<(), RunFault>
 }
 
 // Checks that the source at a place reads.
+#[tactic(auto, using(crate::proofs::AllFaultsLemmas::source_reads, crate::proofs::AllFaultsLemmas::says_of_source))]
 fn check_source(alloc: Global, place: usize, source: &Source) -> Result<(), RunFault>
     ensures { SaysOfFiles (source_at place source.now.bytes.items ∷ []) result }
 {
@@ -166,6 +168,7 @@ pub fn faults_after(
 /// Shows that, if a request doesn't read for a reason other than `Memory`, its first fault and those of the files after
 /// it are the faults of all files. There is one for each file that doesn't read, and no other. A first fault of the
 /// texts of tags isn't the fault of a file.
+#[tactic(auto, using(crate::proofs::AllFaultsLaw::all_found))]
 pub fn all_faults_are_found()
     ensures { AllFaultsAreFound }
 {}

@@ -263,6 +263,7 @@ fn select_fault_at(input: usize, fault: SelectFault) -> RunFault
 }
 
 // Reads the feature, if there is one, from the bytes of the source at a place. An error says why they don't read.
+#[tactic(auto, using(std::proofs::lemmas::Grind::common_steps))]
 fn feature_at(alloc: Global, input: usize, bytes: &[u8]) -> Result<Option<Feature>, RunFault>
     ensures read { IfOk result (λ feature. IsReading bytes.now (option_map feature_value feature)) }
     ensures fault { IfErr result (λ e. SaysSourceAt input bytes.now e) }
@@ -309,6 +310,7 @@ pub fn read_feature_at(
 }
 
 // Adds the feature of the source with this place and name after those of other sources.
+#[tactic(auto, using(std::proofs::lemmas::List::map_push, crate::proofs::InputsLemmas::all_push, crate::proofs::InputsLemmas::too_many_at))]
 fn add_feature(
     alloc: Global,
     choice: &Choice,

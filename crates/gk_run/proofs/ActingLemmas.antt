@@ -1,37 +1,13 @@
 -- What the world's changes and answers are to the table of actions.
-use Rattle.std.specs.Prelude.{⊤, ℤ, pos, negsuc, ◌+ℤ◌, String, FitsSigned, cond, option_map, Option, Some, None, Result, Ok, Err, OnOk, OnErr, map, is_none}
+use Rattle.gk_run.proofs.Common.{⊤, ℤ, pos, negsuc, ◌+ℤ◌, String, FitsSigned, cond, option_map, Option, Some, None, Result, Ok, Err, OnOk, OnErr, map, is_none, get-insert, get-remove, signed_decimal, inl, inr, ◌≤◌, Vec, Global, get_or, w64, ◌≡◌, ℕ, ◌+◌, ◌<◌, Bool, true, false, List, [], ◌∷◌, length, drop, refl, sym, ap, subst, ◌∙◌, arith, leb-true, le-leb, common_steps, Decides-ltb, length_signed_le, nat_list_cmp_total, is_eq-slice_cmp, WorldFault, Texts, Contents, State, Map, with_text, without, laid, see, state_of, first_true, IsAnswer, IsFault, joined, is_bad_name, is_too_long, SandboxValue, Becomes, Outcome, Site, Reason, number_of, is_i64, Action, Does, Changes, Checks, Registers, Skips, UsedFields, HasUsedFields, LibraryValue, FoundValue, action_of, BlockValue, texts, Arguments, WritesFirst, WritesFile, row_file, ArgumentsValue, arguments_of, arguments_by_uses, arguments_value, table, act, at_site, does_at_site, without_cleanups, CleanupValue, HasRegistered, write_row, write_rows, Done, add_number, is_pass, and_then, put, passes, fails, stays, unless, outcome_of, IsDone, IsActed, Performs, exists, is_absent, agrees, skip_outcome, with_file, without_file, with_env, without_env, with_own, without_own}
 use Rattle.std.specs.FinMap as finite
-use Rattle.std.specs.FinMap.{get-insert, get-remove}
-use Rattle.std.specs.Fmt.{signed_decimal}
-use Rattle.std.proofs.Common.{inl, inr, ◌≤◌, Vec, Global, get_or, w64, ◌≡◌, ℕ, ◌+◌, ◌<◌, Bool, true, false, List, [], ◌∷◌, length, drop, refl, sym, ap, subst, ◌∙◌, arith, leb-true, le-leb, true≢false}
-use Rattle.std.proofs.lemmas.Grind.{common_steps}
-use Rattle.std.proofs.lemmas.Bool.Decides.{Decides-ltb}
 use Rattle.std.proofs.lemmas.List.{append-nil}
-use Rattle.std.proofs.lemmas.Fmt.{length_signed_le}
-use Rattle.std.proofs.lemmas.Cmp.{nat_list_cmp_total}
-use Rattle.std.proofs.lemmas.Map.Text.{is_eq-slice_cmp}
-use Rattle.gk_world.specs.declared.refusals.WorldFault.{WorldFault}
 use Rattle.gk_world.specs.declared.refusals.WorldFault.TheVariants as faults
-use Rattle.gk_world.specs.State.{Texts, Contents, State, Map, with_text, without, laid, see, state_of}
-use Rattle.gk_world.specs.Refusals.{first_true, IsAnswer, IsFault, joined, is_bad_name, is_too_long}
 use Rattle.gk_world.specs.Sandbox as changes
-use Rattle.gk_world.specs.Sandbox.{SandboxValue, Becomes}
-use Rattle.gk_run.specs.declared.results.Outcome.{Outcome}
 use Rattle.gk_run.specs.declared.results.Outcome.TheVariants as outcomes
-use Rattle.gk_run.specs.declared.acting.Site.{Site}
 use Rattle.gk_run.specs.declared.acting.Site.TheVariants as sites
-use Rattle.gk_run.specs.declared.results.Reason.{Reason}
 use Rattle.gk_run.specs.declared.results.Reason.TheVariants as reasons
-use Rattle.gk_steps.specs.Decimal.{number_of, is_i64}
-use Rattle.gk_steps.specs.declared.action.Action.{Action}
-use Rattle.gk_steps.specs.declared.action.Does.{Does}
-use Rattle.gk_steps.specs.declared.action.Does.TheVariants.{Changes, Checks, Registers, Skips}
-use Rattle.std.specs.Ordering.{int_eq}
-use Rattle.gk_steps.specs.declared.used_fields.UsedFields.{UsedFields}
-use Rattle.gk_steps.specs.Finding.{HasUsedFields, LibraryValue, FoundValue, action_of}
-use Rattle.gk_gherkin.specs.Feature.{BlockValue, texts}
-use Rattle.gk_run.specs.declared.acting.Arguments.{Arguments}
-use Rattle.gk_run.specs.Acting.{WritesFirst, WritesFile, row_file, ArgumentsValue, arguments_of, arguments_by_uses, arguments_value, table, act, at_site, does_at_site, without_cleanups, CleanupValue, HasRegistered, write_row, write_rows, Done, add_number, is_pass, and_then, put, passes, fails, stays, unless, unless_for, outcome_of, IsDone, IsActed, Performs, exists, is_absent, agreement, agrees, equals, is_number as number_check, skip_outcome, with_file, without_file, with_env, without_env, with_own, without_own}
+use Rattle.gk_run.specs.Acting.{is_number as number_check}
 
 not_so : (b : Bool) (P : Type 0) → (b ≡ true → P) → (P → ⊥) → b ≡ false
 not_so true P so never = absurd (never (so refl))
@@ -130,16 +106,8 @@ pub acted : (ws : List (Bool × WorldFault)) (r : Result ⊤ WorldFault) (o : Ou
 acted ws r o old new changed after is ok answer err e = grind (arith, common_steps, acted_so)
 
 -- a file that was written
-written_so : (r : Result ⊤ WorldFault) (file : List ℕ × List ℕ) (old new : SandboxValue) → OnOk r (changes.PutsFile old file.0 file.1 new) → WritesFile file old (outcome_of r) new
-written_so (Ok x) file old new put m = put
-written_so (Err faults.Memory) file old new put m = let no : ⊥ = cc in absurd no
-written_so (Err faults.Absent) file old new put m = let no : ⊥ = cc in absurd no
-written_so (Err faults.TextTooLong) file old new put m = let no : ⊥ = cc in absurd no
-written_so (Err faults.BadName) file old new put m = let no : ⊥ = cc in absurd no
-written_so (Err faults.OtherLayer) file old new put m = let no : ⊥ = cc in absurd no
-
 pub file_written : (r : Result ⊤ WorldFault) (o : Outcome) (file : List ℕ × List ℕ) (old new : SandboxValue) → o ≡ outcome_of r → OnOk r (changes.PutsFile old file.0 file.1 new) → WritesFile file old o new
-file_written r o file old new is put = subst (λ (x : Outcome). WritesFile file old x new) (sym is) (written_so r file old new put)
+file_written r o file old new is put = grind (arith, common_steps)
 
 -- a text at the end of a file's
 pub file_extended : (c : Contents) (name more : List ℕ) → state_of (changes.with_more c name more) ≡ with_file (state_of c) name (joined (finite.get c.files) name more)
@@ -172,23 +140,15 @@ pub absent_free : (held : Option (List ℕ)) → refuses (is_absent held) ≡ fa
 absent_free None = refl
 absent_free (Some held) = refl
 
-agreement_free : (b : Bool) → refuses (agreement b) ≡ false
-agreement_free true = refl
-agreement_free false = refl
-
 pub agrees_free : (holds : List ℕ → List ℕ → Bool) (held text : Option (List ℕ)) → refuses (agrees holds held text) ≡ false
 agrees_free holds None None = refl
 agrees_free holds (Some held) None = refl
 agrees_free holds None (Some text) = refl
-agrees_free holds (Some held) (Some text) = agreement_free (holds text held)
-
-equals_free : (number : Option ℤ) (n : ℤ) → refuses (equals number n) ≡ false
-equals_free None n = refl
-equals_free (Some m) n = agreement_free (int_eq m n)
+agrees_free holds (Some held) (Some text) = grind (arith, common_steps)
 
 pub number_free : (held : Option (List ℕ)) (n : ℤ) → refuses (number_check held n) ≡ false
 number_free None n = refl
-number_free (Some held) n = equals_free (number_of held) n
+number_free (Some held) n = grind (arith, common_steps)
 
 pub skip_free : (site : Site) → refuses (skip_outcome site) ≡ false
 skip_free sites.Step = refl
@@ -196,15 +156,9 @@ skip_free sites.CaseHook = refl
 skip_free sites.Hook = refl
 skip_free sites.Cleanup = refl
 
-stayed_so : (old : SandboxValue) (o : Outcome) → refuses o ≡ false → IsActed (stays (state_of old.now) o) old o old
-stayed_so old outcomes.Passed free = record { carried_out = (refl, refl); layers = record { layers = refl; starts = refl }; kept = λ m. refl }
-stayed_so old outcomes.Skip free = record { carried_out = (refl, refl); layers = record { layers = refl; starts = refl }; kept = λ m. refl }
-stayed_so old (outcomes.Failed why) free = record { carried_out = (refl, refl); layers = record { layers = refl; starts = refl }; kept = λ m. refl }
-stayed_so old outcomes.Memory free = absurd (true≢false free)
-
 -- an action that changes nothing
 pub stayed : (old : SandboxValue) (o p : Outcome) → o ≡ p → refuses p ≡ false → IsActed (stays (state_of old.now) p) old o old
-stayed old o p e free = subst (λ (x : Outcome). IsActed (stays (state_of old.now) p) old x old) (sym e) (stayed_so old p free)
+stayed old o p e free = grind (arith, common_steps)
 
 -- a check, by its row
 pub checked : (action row : Action) (arguments : Arguments) (old : SandboxValue) (o p : Outcome) → action ≡ row → o ≡ p → refuses p ≡ false
@@ -219,12 +173,8 @@ went_on d files (outcomes.Failed why) s h = h
 went_on d files outcomes.Memory s h = refl
 
 -- a change that is refused, or only one, writes no files of several
-no_files : (s new : State) (why : Option Reason) → (unless_for s why new).files ≡ []
-no_files s new None = refl
-no_files s new (Some why) = refl
-
 pub put_no_files : (s : State) (name text : List ℕ) (new : State) → (put s name text new).files ≡ []
-put_no_files s name text new = no_files s new (first_true ((is_bad_name name, reasons.BadName) ∷ (is_too_long text, reasons.TextTooLong) ∷ []))
+put_no_files s name text new = grind (arith, common_steps)
 
 -- an action in two parts, of which the first wrote a file and passed
 pub part_passes : (file : List ℕ × List ℕ) (this : Done) (next : State → Done) (old mid new : SandboxValue) (written o : Outcome) → written ≡ outcomes.Passed

@@ -1,33 +1,12 @@
 -- Cases, one after another.
-use Rattle.std.specs.List.{FoldsTo, list_any}
-use Rattle.std.proofs.Common.{◌⊎◌, inl, inr, Bool, List, [], ap, append_assoc, arith, cond, false, length, map, refl, suc, subst, sym, true, ℕ, ◌&&◌, ◌++◌, ◌<◌, ◌||◌, ◌∙◌, ◌∷◌, ◌≡◌, Err, IfOk, None, Ok, Result, Some, Vec, Global, eq-eqb}
-use Rattle.std.proofs.lemmas.Grind.{common_steps}
-use Rattle.std.proofs.lemmas.List.{append-nil, map_push}
-use Rattle.gk_gherkin.specs.Feature.{StepValue}
-use Rattle.gk_select.specs.declared.case.Case.{Case}
-use Rattle.gk_world.specs.State.{State}
-use Rattle.gk_run.specs.declared.results.CaseResult.{CaseResult}
-use Rattle.gk_run.specs.declared.results.Mark.{Mark}
-use Rattle.gk_run.specs.declared.results.Mark.TheVariants.{Skipped, Untested}
-use Rattle.gk_run.specs.declared.results.Status.{Status}
+use Rattle.gk_run.proofs.Common.{FoldsTo, list_any, ◌⊎◌, inl, inr, Bool, List, [], ap, append_assoc, arith, cond, false, length, map, refl, suc, subst, sym, true, ℕ, ◌&&◌, ◌++◌, ◌<◌, ◌||◌, ◌∙◌, ◌∷◌, ◌≡◌, Err, IfOk, None, Ok, Result, Some, Vec, Global, eq-eqb, common_steps, map_push, StepValue, Case, State, CaseResult, Mark, Skipped, Untested, Status, Run, AreEventsTold, alone, reached_row, unrun_row, unreached_row, unselected_row, same_marks, all_stay_open, case_events, case_of, cases_of, first_or, without_first, stays_open, row_of_step, rows_of_steps, MemberValue, has_selected, member_of, members_of, falls_from, members_of_rank, Event, EndTold, IsRan, Ran, Told, happens, has_ended, of_case, tells, StopsBeforeCase, AreCases, AreCasesInPart, IsMember, RunsCases, TakesMember, members_in, Cases, Member, RuleResult, CaseRow, RuleRow, case_row, rule_row, Cut, happened, in_order, nowhere}
+use Rattle.std.proofs.lemmas.List.{append-nil}
 use Rattle.gk_run.specs.declared.results.Status.TheVariants as statuses
-use Rattle.gk_run.specs.OpenSection.{Run}
-use Rattle.gk_run.specs.Running.{AreEventsTold, alone, reached_row, unrun_row, unreached_row, unselected_row, same_marks, all_stay_open, case_events, case_of, cases_of, first_or, without_first, stays_open}
-use Rattle.gk_run.specs.Walk.{row_of_step, rows_of_steps}
-use Rattle.gk_run.specs.Chosen.{MemberValue, has_selected, member_of, members_of, falls_from, members_of_rank}
-use Rattle.gk_run.specs.Events.{Event, EndTold, IsRan, Ran, Told, happens, has_ended, of_case, tells}
-use Rattle.gk_run.specs.Features.{StopsBeforeCase}
-use Rattle.gk_run.specs.PrivateContracts.{AreCases, AreCasesInPart, IsMember, RunsCases, TakesMember, members_in}
 use Rattle.gk_run.proofs.EventLemmas.{heard_both}
 use Rattle.gk_run.proofs.ToldLemmas.{heard_told}
 use Rattle.gk_run.proofs.PartLemmas.{GoesFrom, ran_of, ran_whole, stops_behind, stops_both, told_so_far}
 use Rattle.gk_run.proofs.GroupingLemmas.{and_left, first_of_rank, none_of_rank, not_of_rank}
-use Rattle.gk_run.specs.declared.cases.Cases.{Cases}
-use Rattle.gk_run.specs.declared.cases.Member.{Member}
 use Rattle.gk_select.specs.RuleOrder as order
-use Rattle.gk_run.specs.declared.results.RuleResult.{RuleResult}
-use Rattle.gk_run.specs.Results.{CaseRow, RuleRow, case_row, rule_row}
-use Rattle.gk_run.specs.Section.{Cut, happened, in_order, nowhere}
 use Rattle.gk_run.proofs.Nothing.{nothing_in}
 
 -- a test of statuses, as the code makes it
@@ -200,7 +179,7 @@ goes_first hears ends run first is_open old begin =
 
 pub all_stay_push : (run : Run) (rows : List CaseRow) (row : CaseRow) → all_stay_open run (rows ++ row ∷ []) ≡ (all_stay_open run rows && stays_open run row.status)
 all_stay_push run [] row = and_true (stays_open run row.status)
-all_stay_push run (r ∷ rows) row = ap (λ b. stays_open run r.status && b) (all_stay_push run rows row) ∙ sym (and_assoc (stays_open run r.status) (all_stay_open run rows) (stays_open run row.status))
+all_stay_push run (r ∷ rows) row = grind (arith, common_steps, and_assoc)
 
 pub goes_on : {S : Type 0} (hears : S → Event → S → Type 0) (ends : S → EndTold → S → Type 0) (run : Run) (first now_state : State) (is_open : Bool) (old now taken next : Cases) (m : Member) (row : CaseResult) (all_stay opens stays : Bool) (begin here ran after : S) →
     GoesOn hears ends run first is_open old now all_stay begin here → TakesMember now (Some m) taken → opens ≡ (is_open && all_stay) → now_state ≡ first →

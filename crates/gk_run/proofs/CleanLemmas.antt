@@ -1,18 +1,7 @@
 -- Cleanups, the last first.
-use Rattle.std.proofs.Common.{List, [], ap, false, refl, sym, ◌++◌, ◌∙◌, ◌∷◌, ◌≡◌}
-use Rattle.gk_steps.specs.Finding.{LibraryValue}
-use Rattle.gk_world.specs.State.{State}
-use Rattle.gk_run.specs.declared.ending.Ending.{Ending}
+use Rattle.gk_run.proofs.Common.{List, [], ap, false, refl, sym, ◌++◌, ◌∙◌, ◌∷◌, ◌≡◌, LibraryValue, State, Ending, Acted, Outcome, Level, CleanupValue, Done, IsDone, clean_each, cleanup_done, ending_of, is_memory_ending, worse, Event, SectionNow, of_cleanup, outcomes_of, Goes, Happens}
 use Rattle.gk_run.specs.declared.ending.Ending.TheVariants as endings
-use Rattle.gk_run.specs.declared.results.Mark.TheVariants.{Acted}
-use Rattle.gk_run.specs.declared.results.Outcome.{Outcome}
 use Rattle.gk_run.specs.declared.results.Outcome.TheVariants as outcomes
-use Rattle.gk_run.specs.declared.section.Level.{Level}
-use Rattle.gk_run.specs.Acting.{CleanupValue, Done, IsDone}
-use Rattle.gk_run.specs.SectionHooks.{clean_each, cleanup_done}
-use Rattle.gk_run.specs.Ending.{ending_of, is_memory_ending, worse}
-use Rattle.gk_run.specs.Events.{Event, SectionNow, of_cleanup, outcomes_of}
-use Rattle.gk_run.specs.PrivateContracts.{Goes, Happens}
 use Rattle.gk_run.proofs.EventLemmas.{outcomes_append}
 use Rattle.gk_run.proofs.GoesLemmas.{begin, behind, chain, unrefused, with_rest}
 use Rattle.gk_run.proofs.WalkLemmas.{at}

@@ -1,25 +1,7 @@
 -- What the loops of a dry run come to.
-use Rattle.std.proofs.Common.{Bool, List, [], ap, append_assoc, cond, false, inl, inr, is_some, map, refl, subst, suc, sym, true, ◌++◌, ◌||◌, ◌∙◌, ◌∷◌, ◌≡◌, append-nil, arith}
-use Rattle.std.proofs.lemmas.Grind.{common_steps}
-use Rattle.std.specs.List.{list_any}
-use Rattle.gk_gherkin.specs.Feature.{StepValue}
-use Rattle.gk_select.specs.Case.{CaseValue}
-use Rattle.gk_steps.specs.Finding.{LibraryValue}
-use Rattle.gk_run.specs.declared.results.Mark.{Mark}
-use Rattle.gk_run.specs.declared.results.Mark.TheVariants.{Skipped, Undefined, Untested}
+use Rattle.gk_run.proofs.Common.{Bool, List, [], ap, append_assoc, cond, false, inl, inr, is_some, map, refl, subst, suc, sym, true, ◌++◌, ◌||◌, ◌∙◌, ◌∷◌, ◌≡◌, append-nil, arith, common_steps, list_any, StepValue, CaseValue, LibraryValue, Mark, Skipped, Undefined, Untested, Status, nothing_yet, state_of, cut_at, event_marks, row_of_case, unrun_row, unselected_row, same_marks, case_statuses, IsLookedUp, row_of_step, looked_up, ChosenValue, MemberValue, AreDrySteps, IsDryStep, dry_case_of, dry_cases_of, dry_events, dry_feature_of, dry_row, dry_rules_of, dry_step, dry_verdict, is_memory_mark, FeatureCuts, feature_verdict, rule_statuses, CaseRow, FeatureRow, RuleRow, StepRow, Cut, Events, happened, in_steps, nowhere}
 use Rattle.gk_run.specs.declared.results.Outcome.TheVariants as outcomes
-use Rattle.gk_run.specs.declared.results.Status.{Status}
 use Rattle.gk_run.specs.declared.results.Status.TheVariants as statuses
-use Rattle.gk_world.specs.State.{nothing_yet, state_of}
-use Rattle.gk_run.specs.Events.{cut_at, event_marks}
-use Rattle.gk_run.specs.Running.{row_of_case, unrun_row, unselected_row, same_marks, case_statuses}
-use Rattle.gk_run.specs.Walk.{IsLookedUp, row_of_step, looked_up}
-use Rattle.gk_run.specs.Chosen.{ChosenValue, MemberValue}
-use Rattle.gk_run.specs.DryRun.{AreDrySteps, IsDryStep, dry_case_of, dry_cases_of, dry_events, dry_feature_of, dry_row, dry_rules_of, dry_step, dry_verdict}
-use Rattle.gk_run.specs.Ending.{is_memory_mark}
-use Rattle.gk_run.specs.Features.{FeatureCuts, feature_verdict, rule_statuses}
-use Rattle.gk_run.specs.Results.{CaseRow, FeatureRow, RuleRow, StepRow}
-use Rattle.gk_run.specs.Section.{Cut, Events, happened, in_steps, nowhere}
 use Rattle.gk_run.proofs.EventLemmas.{cut_is_memory}
 
 -- ---- the steps of a case

@@ -1,13 +1,6 @@
 -- How lists of marks end.
-use Rattle.std.proofs.Common.{Bool, List, false, refl, true, ◌++◌, ◌||◌, ◌≡◌, arith}
-use Rattle.std.proofs.lemmas.Grind.{common_steps}
-use Rattle.gk_run.specs.declared.ending.Ending.{Ending}
+use Rattle.gk_run.proofs.Common.{refl, ◌||◌, ◌≡◌, Ending, is_memory_ending, worse}
 use Rattle.gk_run.specs.declared.ending.Ending.TheVariants as endings
-use Rattle.gk_run.specs.declared.results.Mark.{Mark}
-use Rattle.gk_run.specs.Ending.{ended_of, is_memory_ending, worse}
-
-pub ended_append : (xs ys : List Mark) → ended_of (xs ++ ys) ≡ worse (ended_of xs) (ended_of ys)
-ended_append xs ys = grind (arith, common_steps)
 
 pub worse_assoc : (a b c : Ending) → worse (worse a b) c ≡ worse a (worse b c)
 worse_assoc endings.Passed b c = refl
@@ -33,21 +26,11 @@ worse_assoc endings.Skipped endings.Skipped endings.Memory = refl
 worse_assoc endings.Skipped endings.Skipped endings.Failed = refl
 worse_assoc endings.Skipped endings.Skipped endings.Skipped = refl
 
-pub worse_memory : (a : Ending) → worse a endings.Memory ≡ endings.Memory
-worse_memory endings.Passed = refl
-worse_memory endings.Memory = refl
-worse_memory endings.Failed = refl
-worse_memory endings.Skipped = refl
-
 pub worse_passed : (a : Ending) → worse a endings.Passed ≡ a
 worse_passed endings.Passed = refl
 worse_passed endings.Memory = refl
 worse_passed endings.Failed = refl
 worse_passed endings.Skipped = refl
-
-pub or_true : (b : Bool) → (b || true) ≡ true
-or_true true = refl
-or_true false = refl
 
 -- where memory was refused in one of two endings
 pub memory_of : (a b : Ending) → is_memory_ending (worse a b) ≡ (is_memory_ending a || is_memory_ending b)

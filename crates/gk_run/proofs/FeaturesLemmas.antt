@@ -1,24 +1,10 @@
 -- What is inside of a feature, and what it comes to.
-use Rattle.std.proofs.Common.{Bool, List, [], ap, arith, false, flat_map, map, refl, subst, suc, sym, true, zero, ℕ, ◌&&◌, ◌++◌, ◌<◌, ◌≤◌, ◌∙◌, ◌≡◌, append-nil}
-use Rattle.std.proofs.lemmas.Grind.{common_steps}
-use Rattle.gk_world.specs.State.{State}
-use Rattle.gk_run.specs.declared.cases.Cases.{Cases}
-use Rattle.gk_run.specs.declared.results.RuleResult.{RuleResult}
-use Rattle.gk_run.specs.declared.results.Status.{Status}
+use Rattle.gk_run.proofs.Common.{Bool, List, [], ap, arith, false, flat_map, map, refl, subst, suc, sym, true, zero, ℕ, ◌&&◌, ◌++◌, ◌<◌, ◌≤◌, ◌∙◌, ◌≡◌, append-nil, common_steps, State, Cases, RuleResult, Status, FoldsTo, all_stay_open, case_statuses, cases_of, Event, EndTold, IsRan, Ran, Told, tells, AreCasesInPart, AreRulesInPart, IsFeatureEnd, IsFeatureEndInPart, IsInside, IsInsideInPart, RunsCases, RunsFeature, RunsRules, StopsFeature, members_in, ChosenValue, HeadValue, MemberValue, has_selected, CasesFallIntoRules, Group, groups_from, members_of_rank, own_members, rule_groups, FeatureCuts, FeaturesWithoutRulesHaveTheirCases, feature_row_of, feature_verdict, inside_by, inside_of, rule_statuses, Inside, IsToldInPart, feature_of, rules_of, uncut_feature, SectionRow, section_of, section_state, Run, CaseRow, FeatureRow, case_row, rule_row, nowhere}
 use Rattle.gk_run.specs.declared.results.Status.TheVariants as statuses
 use Rattle.gk_run.specs.declared.section.Level.TheVariants as levels
-use Rattle.std.specs.List.{FoldsTo}
-use Rattle.gk_run.specs.Running.{all_stay_open, case_statuses, cases_of}
-use Rattle.gk_run.specs.Events.{Event, EndTold, IsRan, Ran, Told, tells}
-use Rattle.gk_run.specs.PrivateContracts.{AreCasesInPart, AreRulesInPart, IsFeatureEnd, IsFeatureEndInPart, IsInside, IsInsideInPart, RunsCases, RunsFeature, RunsRules, StopsFeature, members_in}
 use Rattle.gk_run.proofs.CasesLemmas.{stops_cases}
 use Rattle.gk_run.proofs.PartLemmas.{told_between}
 use Rattle.gk_run.proofs.EventLemmas.{heard_both}
-use Rattle.gk_run.specs.Chosen.{ChosenValue, HeadValue, MemberValue, has_selected, CasesFallIntoRules, Group, groups_from, members_of_rank, own_members, rule_groups}
-use Rattle.gk_run.specs.Features.{FeatureCuts, FeaturesWithoutRulesHaveTheirCases, feature_row_of, feature_verdict, inside_by, inside_of, rule_statuses, Inside, IsToldInPart, feature_of, rules_of, uncut_feature}
-use Rattle.gk_run.specs.OpenSection.{SectionRow, section_of, section_state, Run}
-use Rattle.gk_run.specs.Results.{CaseRow, FeatureRow, case_row, rule_row}
-use Rattle.gk_run.specs.Section.{nowhere}
 use Rattle.gk_run.proofs.GroupingLemmas.{and_left, groups_all, groups_same}
 
 pub later_rank : (first other : ℕ) → first ≡ 0 → suc zero ≤ other → first < other

@@ -1,15 +1,6 @@
 -- The results of a feature stand in file order.
-use Rattle.std.proofs.Common.{Bool, List, [], ap, cond, false, flat_map, map, refl, suc, true, ℕ, ◌&&◌, ◌++◌, ◌∙◌, ◌∷◌, ◌≡◌, arith}
-use Rattle.std.proofs.lemmas.Grind.{common_steps}
-use Rattle.gk_world.specs.State.{State}
+use Rattle.gk_run.proofs.Common.{Bool, List, [], ap, cond, false, flat_map, map, refl, suc, true, ℕ, ◌&&◌, ◌++◌, ◌∙◌, ◌∷◌, ◌≡◌, arith, common_steps, State, all_stay_open, case_of, cases_of, first_or, without_first, stays_open, reached_row, unreached_row, unselected_row, HeadValue, MemberValue, has_selected, Group, groups_from, own_members, rule_groups, ResultsStandInFileOrder, RuleCuts, rule_of, rule_stays_open, rules_of, uncut_rule, result_of, happened_in, section_state, Run, CaseRow, RuleRow, Cut, before_passed, nowhere}
 use Rattle.gk_run.specs.declared.section.Level.TheVariants as levels
-use Rattle.gk_run.specs.Running.{all_stay_open, case_of, cases_of, first_or, without_first, stays_open, reached_row, unreached_row, unselected_row}
-use Rattle.gk_run.specs.Chosen.{HeadValue, MemberValue, has_selected, Group, groups_from, own_members, rule_groups}
-use Rattle.gk_run.specs.Features.{ResultsStandInFileOrder, RuleCuts, rule_of, rule_stays_open, rules_of, uncut_rule}
-use Rattle.gk_run.specs.Events.{result_of}
-use Rattle.gk_run.specs.OpenSection.{happened_in, section_state, Run}
-use Rattle.gk_run.specs.Results.{CaseRow, RuleRow}
-use Rattle.gk_run.specs.Section.{Cut, before_passed, nowhere}
 use Rattle.gk_run.proofs.GroupingLemmas.{groups_all}
 
 -- the lines of cases

@@ -1,11 +1,6 @@
 -- What happens in a section, one part after another.
-use Rattle.std.proofs.Common.{Bool, List, [], ap, append_assoc, cond, false, refl, subst, sym, true, ◌++◌, ◌||◌, ◌∙◌, ◌∷◌, ◌≡◌, true≢false, append-nil, arith}
-use Rattle.std.proofs.lemmas.Grind.{common_steps}
-use Rattle.gk_run.specs.declared.ending.Ending.{Ending}
+use Rattle.gk_run.proofs.Common.{Bool, List, [], ap, append_assoc, cond, false, refl, subst, sym, true, ◌++◌, ◌||◌, ◌∙◌, ◌∷◌, ◌≡◌, true≢false, append-nil, arith, common_steps, Ending, has_passed, is_memory_ending, worse, Event, IsCutOff, SoFar, SectionNow, ended_in, left_by, refused, Goes}
 use Rattle.gk_run.specs.declared.ending.Ending.TheVariants as endings
-use Rattle.gk_run.specs.Ending.{has_passed, is_memory_ending, worse}
-use Rattle.gk_run.specs.Events.{Event, IsCutOff, SoFar, SectionNow, ended_in, left_by, refused}
-use Rattle.gk_run.specs.PrivateContracts.{Goes}
 use Rattle.gk_run.proofs.EndingLemmas.{memory_of, worse_assoc, worse_passed}
 use Rattle.gk_run.proofs.EventLemmas.{ended_both, heard_both, left_both}
 

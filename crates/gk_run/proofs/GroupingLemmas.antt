@@ -1,12 +1,6 @@
 -- Cases by their rules.
-use Rattle.std.proofs.Common.{Bool, Bor, List, drop, [], ap, arith, cond, false, length, map, refl, sym, true, suc, ℕ, ◌&&◌, ◌++◌, ◌+◌, ◌<◌, ◌≤◌, ◌∙◌, ◌∷◌, ◌≡◌, nat_eq, nat_le, flat_map, MatchOption, Option, Some, None, rules}
-use Rattle.std.proofs.lemmas.Grind.{common_steps}
-use Rattle.std.specs.Slice.{IsItemAt}
-use Rattle.std.proofs.lemmas.Bool.{eqb-false, eqb-true, le-leb, leb-true, ne_eqb}
-use Rattle.std.proofs.lemmas.List.{drop_all, length-map}
-use Rattle.gk_select.specs.declared.case.Case.{Case}
-use Rattle.gk_select.specs.RuleOrder.{rank, FallFrom}
-use Rattle.gk_run.specs.Chosen.{HeadValue, MemberValue, member_of, members_of, FormedCasesFallIntoRules, Group, GroupsAreAll, falls_from, groups_from, members_of_rank}
+use Rattle.gk_run.proofs.Common.{Bool, Bor, List, drop, [], ap, arith, cond, false, length, map, refl, sym, true, suc, ℕ, ◌&&◌, ◌++◌, ◌+◌, ◌<◌, ◌≤◌, ◌∙◌, ◌∷◌, ◌≡◌, nat_eq, nat_le, flat_map, MatchOption, Option, Some, None, rules, common_steps, IsItemAt, eqb-false, eqb-true, ne_eqb, drop_all, length-map, Case, rank, FallFrom, HeadValue, MemberValue, member_of, members_of, FormedCasesFallIntoRules, Group, GroupsAreAll, falls_from, groups_from, members_of_rank}
+use Rattle.std.proofs.lemmas.Bool.{le-leb, leb-true}
 
 pub and_left : (a b : Bool) → (a && b) ≡ true → a ≡ true
 and_left true b h = refl

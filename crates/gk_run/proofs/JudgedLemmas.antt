@@ -1,16 +1,6 @@
 -- The results of a dry run are judged.
-use Rattle.std.proofs.Common.{Bool, List, [], ap, cond, refl, sym, ◌++◌, ◌∙◌, ◌∷◌, ◌≡◌}
-use Rattle.gk_steps.specs.Finding.{LibraryValue}
-use Rattle.gk_world.specs.State.{Contents, state_of}
+use Rattle.gk_run.proofs.Common.{Bool, List, [], ap, cond, refl, sym, ◌++◌, ◌∙◌, ◌∷◌, ◌≡◌, LibraryValue, Contents, state_of, Run, ChosenValue, dry_feature_of, dry_features_of, first_or, without_first, FeatureCuts, uncut_feature, Cuts, DryRunsAreJudged, UnfinishedDryRunsAreJudged, dry_results, results_from, results_of, FeatureRow, Results, nowhere}
 use Rattle.gk_run.specs.declared.results.Status.TheVariants as statuses
-use Rattle.gk_run.specs.OpenSection.{Run}
-use Rattle.gk_run.specs.Chosen.{ChosenValue}
-use Rattle.gk_run.specs.DryRun.{dry_feature_of, dry_features_of}
-use Rattle.gk_run.specs.Running.{first_or, without_first}
-use Rattle.gk_run.specs.Features.{FeatureCuts, uncut_feature}
-use Rattle.gk_run.specs.Judged.{Cuts, DryRunsAreJudged, UnfinishedDryRunsAreJudged, dry_results, results_from, results_of}
-use Rattle.gk_run.specs.Results.{FeatureRow, Results}
-use Rattle.gk_run.specs.Section.{nowhere}
 
 -- the results by whether the run is dry
 abbrev pub results_by : Run → Contents → Cuts → List ChosenValue → Bool → Results

@@ -1,24 +1,7 @@
 -- Judged results are those of which the words hold.
-use Rattle.std.specs.List.{list_all}
-use Rattle.std.proofs.Common.{All, Bool, Decides, List, Some, [], ap, arith, cond, false, flat_map, not, refl, slice_get, subst, suc, sym, take, true, zero, ℕ, ◌&&◌, ◌++◌, ◌↔◌, ◌∙◌, ◌∷◌, ◌≡◌, true≢false}
-use Rattle.std.proofs.lemmas.Grind.{common_steps}
-use Rattle.std.proofs.lemmas.Bool.Decides.{Decides-and, Decides-at, Decides-by_and, Decides-like}
-use Rattle.std.proofs.lemmas.Option.{none-some, same_Some}
-use Rattle.gk_steps.specs.Finding.{LibraryValue}
-use Rattle.gk_world.specs.State.{Contents, State, state_of}
-use Rattle.gk_run.specs.declared.results.Status.{Status}
+use Rattle.gk_run.proofs.Common.{list_all, All, Bool, Decides, List, [], ap, arith, cond, false, flat_map, not, refl, subst, suc, sym, take, true, zero, ℕ, ◌&&◌, ◌++◌, ◌↔◌, ◌∙◌, ◌∷◌, ◌≡◌, true≢false, common_steps, Decides-and, Decides-at, Decides-by_and, Decides-like, none-some, LibraryValue, Contents, State, state_of, Status, Level, all_stay_open, case_of, cases_of, first_or, is_failed_or_memory, without_first, stays_open, reached_row, unreached_row, unselected_row, ChosenValue, MemberValue, has_selected, Group, own_members, rule_groups, dry_case_of, dry_cases_of, dry_feature_of, dry_features_of, dry_rules_of, FeatureCuts, feature_of, feature_row_of, features_of, inside_by, uncut_feature, Inside, RuleCuts, rule_of, rule_stays_open, rules_of, uncut_rule, Cuts, Judged, dry_results, results_from, JudgedCase, JudgedCases, JudgedDryCase, JudgedDryFeature, JudgedDryRun, Each, JudgedFeature, JudgedFeatures, JudgedInside, IsGoodCase, IsGoodFeature, IsGoodRule, IsHeaded, JudgedHoldPartByPart, JudgedPartByPart, JudgedRule, JudgedSection, StepsHaveTheirResults, rule_rows, Ran, result_of, SectionRow, happened_in, no_events, section_events, section_of, section_state, Run, CaseRow, FeatureRow, Results, RuleRow, Cut, Events, around_of, before_passed, happened, nowhere}
 use Rattle.gk_run.specs.declared.results.Status.TheVariants as statuses
-use Rattle.gk_run.specs.declared.section.Level.{Level}
 use Rattle.gk_run.specs.declared.section.Level.TheVariants as levels
-use Rattle.gk_run.specs.Running.{all_stay_open, case_of, cases_of, first_or, is_failed_or_memory, without_first, stays_open, reached_row, unreached_row, unselected_row}
-use Rattle.gk_run.specs.Chosen.{ChosenValue, MemberValue, has_selected, Group, own_members, rule_groups}
-use Rattle.gk_run.specs.DryRun.{dry_case_of, dry_cases_of, dry_feature_of, dry_features_of, dry_rules_of}
-use Rattle.gk_run.specs.Features.{FeatureCuts, feature_of, feature_row_of, features_of, inside_by, uncut_feature, Inside, RuleCuts, rule_of, rule_stays_open, rules_of, uncut_rule}
-use Rattle.gk_run.specs.Judged.{Cuts, Judged, dry_results, results_from, JudgedCase, JudgedCases, JudgedDryCase, JudgedDryFeature, JudgedDryRun, Each, JudgedFeature, JudgedFeatures, JudgedInside, IsGoodCase, IsGoodFeature, IsGoodRule, IsHeaded, JudgedHoldPartByPart, JudgedPartByPart, JudgedRule, JudgedSection, StepsHaveTheirResults, rule_rows}
-use Rattle.gk_run.specs.Events.{Ran, result_of}
-use Rattle.gk_run.specs.OpenSection.{SectionRow, happened_in, no_events, section_events, section_of, section_state, Run}
-use Rattle.gk_run.specs.Results.{CaseRow, FeatureRow, Results, RuleRow}
-use Rattle.gk_run.specs.Section.{Cut, Events, around_of, before_passed, happened, nowhere}
 use Rattle.gk_run.proofs.CasesLemmas.{and_assoc, and_true}
 use Rattle.gk_run.proofs.JudgedLemmas.{results_by}
 
@@ -65,13 +48,8 @@ flag_stops stop keeps Good each P b d rows k =
 
 -- ---- lists that are walked through with a flag
 
-each_at : {A R : Type 0} (Holds : ℕ → A → R → Type 0) (x : A) (xs : List A) (row : R) (rows : List R) → Holds 0 x row → ((k : ℕ) (y : A) (r : R) → slice_get xs k ≡ Some y → slice_get rows k ≡ Some r → Holds (suc k) y r) →
-    (k : ℕ) (y : A) (r : R) → slice_get (x ∷ xs) k ≡ Some y → slice_get (row ∷ rows) k ≡ Some r → Holds k y r
-each_at Holds x xs row rows first h zero y r at that = subst (Holds 0 y) (same_Some row r that) (subst (λ z. Holds 0 z row) (same_Some x y at) first)
-each_at Holds x xs row rows first h (suc k) y r at that = h k y r at that
-
 each_first : {A R : Type 0} (Holds : ℕ → A → R → Type 0) (x : A) (xs : List A) (row : R) (rows : List R) → Holds 0 x row → Each (λ k y r. Holds (suc k) y r) xs rows → Each Holds (x ∷ xs) (row ∷ rows)
-each_first Holds x xs row rows first h = record { count = ap suc h.count; each = each_at Holds x xs row rows first h.each }
+each_first Holds x xs row rows first h = grind (arith, common_steps)
 
 each_rest : {A R : Type 0} (Holds : ℕ → A → R → Type 0) (x : A) (xs : List A) (row : R) (rows : List R) → Each Holds (x ∷ xs) (row ∷ rows) → Each (λ k y r. Holds (suc k) y r) xs rows
 each_rest Holds x xs row rows h = record { count = omega (arith, h.count); each = λ k y r at that. h.each (suc k) y r at that }

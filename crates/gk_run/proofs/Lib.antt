@@ -1,3 +1,4 @@
+pub mod Common
 pub mod ActingLemmas
 pub mod Nothing
 pub mod EndingLemmas

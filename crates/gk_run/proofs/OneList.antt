@@ -1,27 +1,8 @@
 -- Without a memory mark there is one list only.
-use Rattle.std.proofs.Common.{Bool, List, [], ap, cond, false, map, refl, subst, sym, true, ℕ, ◌&&◌, ◌++◌, ◌||◌, ◌∙◌, ◌∷◌, ◌≡◌, true≢false, rules, arith}
-use Rattle.std.proofs.lemmas.Grind.{common_steps}
-use Rattle.std.specs.List.{list_any}
-use Rattle.std.proofs.lemmas.List.Folds.{list_any-append}
-use Rattle.gk_select.specs.Case.{CaseValue}
-use Rattle.gk_steps.specs.Finding.{LibraryValue}
-use Rattle.gk_world.specs.State.{State, state_of}
-use Rattle.gk_run.specs.declared.ending.Ending.{Ending}
+use Rattle.gk_run.proofs.Common.{Bool, List, [], ap, cond, false, map, refl, subst, sym, true, ℕ, ◌&&◌, ◌++◌, ◌||◌, ◌∙◌, ◌∷◌, ◌≡◌, true≢false, rules, arith, common_steps, list_any, list_any-append, CaseValue, LibraryValue, State, state_of, Ending, Status, Level, Run, SectionRow, happened_in, section_events, section_of, section_state, reached_row, case_of, cases_of, first_or, without_first, stays_open, ChosenValue, MemberValue, has_selected, Group, own_members, rule_groups, dry_case_of, dry_cases_of, dry_events, dry_feature_of, dry_features_of, dry_row, dry_step, around_status, is_memory_mark, verdict_status, cut_at, ended_in, event_marks, Ran, result_of, FeatureCuts, feature_of, feature_row_of, features_of, inside_by, inside_of, uncut_feature, Inside, RuleCuts, rule_of, rule_stays_open, rules_of, uncut_rule, Cuts, OneList, dry_results, has_memory, is_memory_case, is_memory_feature, is_memory_rule, results_from, uncut, CaseRow, FeatureRow, RuleRow, Results, is_memory, Cut, Events, around_events, around_of, before_passed, happened, in_after, in_before, in_cleanups, in_order, in_steps, has_event, nowhere}
 use Rattle.gk_run.specs.declared.ending.Ending.TheVariants as endings
-use Rattle.gk_run.specs.declared.results.Status.{Status}
 use Rattle.gk_run.specs.declared.results.Status.TheVariants as statuses
-use Rattle.gk_run.specs.declared.section.Level.{Level}
 use Rattle.gk_run.specs.declared.section.Level.TheVariants as levels
-use Rattle.gk_run.specs.OpenSection.{Run, SectionRow, happened_in, section_events, section_of, section_state}
-use Rattle.gk_run.specs.Running.{reached_row, case_of, cases_of, first_or, without_first, stays_open}
-use Rattle.gk_run.specs.Chosen.{ChosenValue, MemberValue, has_selected, Group, own_members, rule_groups}
-use Rattle.gk_run.specs.DryRun.{dry_case_of, dry_cases_of, dry_events, dry_feature_of, dry_features_of, dry_row, dry_step}
-use Rattle.gk_run.specs.Ending.{around_status, is_memory_mark, verdict_status}
-use Rattle.gk_run.specs.Events.{cut_at, ended_in, event_marks, Ran, result_of}
-use Rattle.gk_run.specs.Features.{FeatureCuts, feature_of, feature_row_of, features_of, inside_by, inside_of, uncut_feature, Inside, RuleCuts, rule_of, rule_stays_open, rules_of, uncut_rule}
-use Rattle.gk_run.specs.Judged.{Cuts, OneList, dry_results, has_memory, is_memory_case, is_memory_feature, is_memory_rule, results_from, uncut}
-use Rattle.gk_run.specs.Results.{CaseRow, FeatureRow, RuleRow, Results, is_memory}
-use Rattle.gk_run.specs.Section.{Cut, Events, around_events, around_of, before_passed, happened, in_after, in_before, in_cleanups, in_order, in_steps, has_event, nowhere}
 use Rattle.gk_run.proofs.EventLemmas.{cut_ends, cut_is_memory, first_refused, later_refused}
 
 or_left : (a b : Bool) → (a || b) ≡ false → a ≡ false

@@ -1,21 +1,6 @@
 -- A whole run, and one that isn't finished.
-use Rattle.std.proofs.Common.{Bool, List, [], ap, false, not, refl, sym, true, ◌&&◌, ◌++◌, ◌∙◌, ◌∷◌, ◌≡◌, ◌||◌, arith}
-use Rattle.std.proofs.lemmas.Grind.{common_steps}
-use Rattle.gk_world.specs.State.{State, state_of}
-use Rattle.gk_run.specs.declared.results.Status.{Status}
+use Rattle.gk_run.proofs.Common.{Bool, List, [], ap, false, not, refl, sym, true, ◌&&◌, ◌++◌, ◌∙◌, ◌∷◌, ◌≡◌, ◌||◌, arith, common_steps, State, state_of, Status, Run, run_of, section_events, section_state, HookFile, Library, ChosenValue, has_passed, is_memory_ending, ended_in, section_now, result_of, first_or, without_first, stays_open, FeatureCuts, feature_of, features_of, uncut_feature, Cuts, results_of, FinishedRunsAreJudged, UnfinishedRunsAreJudged, opens_features, FeatureRow, Results, before_passed, happened}
 use Rattle.gk_run.specs.declared.section.Level.TheVariants as levels
-use Rattle.gk_run.specs.OpenSection.{Run, run_of, section_events, section_state}
-use Rattle.gk_gherkin.specs.declared.hooks.HookFile.{HookFile}
-use Rattle.gk_steps.specs.declared.library.Library.{Library}
-use Rattle.gk_run.specs.Chosen.{ChosenValue}
-use Rattle.gk_run.specs.Ending.{has_passed, is_memory_ending}
-use Rattle.gk_run.specs.Events.{ended_in, section_now, result_of}
-use Rattle.gk_run.specs.Running.{first_or, without_first, stays_open}
-use Rattle.gk_run.specs.Features.{FeatureCuts, feature_of, features_of, uncut_feature}
-use Rattle.gk_run.specs.Judged.{Cuts, results_of}
-use Rattle.gk_run.specs.OpenRun.{FinishedRunsAreJudged, UnfinishedRunsAreJudged, opens_features}
-use Rattle.gk_run.specs.Results.{FeatureRow, Results}
-use Rattle.gk_run.specs.Section.{before_passed, happened}
 use Rattle.gk_run.proofs.JudgedLemmas.{cuts_of_all, results_by}
 use Rattle.gk_run.proofs.SectionLemmas.{opened_cut, passed_state, ready}
 

@@ -1,21 +1,6 @@
 -- What was told of a part of a run that didn't come to its end.
-use Rattle.std.proofs.Common.{◌⊎◌, Bool, Err, List, Ok, OnErr, Result, [], ap, append_assoc, cond, false, length, map, refl, subst, suc, sym, true, zero, ℕ, ◌++◌, ◌∙◌, ◌∷◌, ◌≡◌, append-nil, arith}
-use Rattle.std.proofs.lemmas.Grind.{common_steps}
-use Rattle.std.specs.List.{FoldsTo}
-use Rattle.gk_gherkin.specs.Feature.{StepValue}
-use Rattle.gk_steps.specs.Finding.{LibraryValue}
-use Rattle.gk_world.specs.State.{State, enter}
-use Rattle.gk_run.specs.declared.ending.Ending.{Ending}
-use Rattle.gk_run.specs.declared.section.Level.{Level}
+use Rattle.gk_run.proofs.Common.{◌⊎◌, Bool, Err, List, Ok, OnErr, Result, [], ap, append_assoc, cond, false, length, map, refl, subst, suc, sym, true, zero, ℕ, ◌++◌, ◌∙◌, ◌∷◌, ◌≡◌, append-nil, arith, common_steps, FoldsTo, StepValue, LibraryValue, State, enter, Ending, Level, Stage, ending_of, has_passed, is_memory_ending, Event, EndTold, IsRan, Ran, SoFar, SectionNow, Told, cut_at, ended_in, happens, tells, IsToldInPart, PrecedesCase, StopsBeforeCase, IsBegun, section_events, section_of, section_state, Run, Cut, before_of, before_passed, happened, site_of, before_list, event_of, one_step, walk}
 use Rattle.gk_run.specs.declared.section.Level.TheVariants as levels
-use Rattle.gk_run.specs.declared.section.Stage.{Stage}
-use Rattle.gk_run.specs.Ending.{ending_of, has_passed, is_memory_ending}
-use Rattle.gk_run.specs.Events.{Event, EndTold, IsRan, Ran, SoFar, SectionNow, Told, cut_at, ended_in, happens, tells}
-use Rattle.gk_run.specs.Features.{IsToldInPart, PrecedesCase, StopsBeforeCase}
-use Rattle.gk_run.specs.OpenSection.{IsBegun, section_events, section_of, section_state, Run}
-use Rattle.gk_run.specs.Section.{Cut, before_of, before_passed, happened, site_of}
-use Rattle.gk_run.specs.SectionHooks.{before_list}
-use Rattle.gk_run.specs.Walk.{event_of, one_step, walk}
 use Rattle.gk_run.proofs.EventLemmas.{heard_both}
 use Rattle.gk_run.proofs.GoesLemmas.{all_told}
 use Rattle.gk_run.proofs.SectionLemmas.{cut_told, opened_cut}

@@ -1,32 +1,14 @@
 -- Rules, one after another.
-use Rattle.std.proofs.Common.{Bool, List, [], ap, append_assoc, arith, false, map, refl, subst, suc, sym, true, ℕ, ◌&&◌, ◌++◌, ◌<◌, ◌≤◌, ◌∙◌, ◌∷◌, ◌≡◌}
-use Rattle.std.proofs.lemmas.Grind.{common_steps}
-use Rattle.std.proofs.lemmas.List.{append-nil, map_push}
-use Rattle.gk_world.specs.State.{State}
-use Rattle.gk_run.specs.declared.cases.Cases.{Cases}
-use Rattle.gk_run.specs.declared.results.RuleResult.{RuleResult}
+use Rattle.gk_run.proofs.Common.{Bool, List, [], ap, append_assoc, arith, false, map, refl, subst, suc, sym, true, ℕ, ◌&&◌, ◌++◌, ◌<◌, ◌≤◌, ◌∙◌, ◌∷◌, ◌≡◌, common_steps, map_push, State, Cases, RuleResult, RuleEnd, FoldsTo, cases_of, stays_open, Event, EndTold, IsRan, Ran, Told, has_ended, of_rule, tells, AreCases, AreCasesInPart, AreRulesInPart, IsRule, IsRuleInPart, RunsRule, RunsRules, members_in, HeadValue, MemberValue, has_selected, Group, falls_from, groups_from, members_of_rank, SectionRow, section_of, section_state, Run, CaseRow, RuleRow, case_row, rule_row, Inside, IsToldInPart, RuleCuts, rule_of, rule_stays_open, rules_of, Cut, nowhere}
+use Rattle.std.proofs.lemmas.List.{append-nil}
 use Rattle.gk_run.specs.declared.results.Status.TheVariants as statuses
-use Rattle.gk_run.specs.declared.rules.RuleEnd.{RuleEnd}
 use Rattle.gk_run.specs.declared.section.Level.TheVariants as levels
-use Rattle.std.specs.List.{FoldsTo}
-use Rattle.gk_run.specs.Running.{cases_of, stays_open, stays_open_by}
-use Rattle.gk_run.specs.Events.{Event, EndTold, IsRan, Ran, Told, has_ended, of_rule, tells}
-use Rattle.gk_run.specs.PrivateContracts.{AreCases, AreCasesInPart, AreRulesInPart, IsRule, IsRuleInPart, RunsRule, RunsRules, members_in}
 use Rattle.gk_run.proofs.PartLemmas.{GoesFrom, ran_of, ran_whole, stops_behind, stops_both, told_between, told_further}
 use Rattle.gk_run.proofs.EventLemmas.{heard_both}
-use Rattle.gk_run.specs.Chosen.{HeadValue, MemberValue, has_selected, Group, falls_from, groups_from, members_of_rank}
-use Rattle.gk_run.specs.OpenSection.{SectionRow, section_of, section_state, Run}
-use Rattle.gk_run.specs.Results.{CaseRow, RuleRow, case_row, rule_row}
-use Rattle.gk_run.specs.Features.{Inside, IsToldInPart, RuleCuts, rule_of, rule_stays_open, rules_of}
-use Rattle.gk_run.specs.Section.{Cut, nowhere}
 use Rattle.gk_run.proofs.GroupingLemmas.{and_left, groups_same}
 
-never_stops : (stop : Bool) → stays_open_by stop statuses.Passed ≡ true
-never_stops true = refl
-never_stops false = refl
-
 pub passed_stays : (run : Run) → stays_open run statuses.Passed ≡ true
-passed_stays run = never_stops run.stop
+passed_stays run = grind (arith, common_steps)
 
 -- a rule that was begun, from what its section came to
 pub rule_begun : {S : Type 0} (told : S → Told → S → Type 0) (run : Run) (now : State) (is_open is_begun : Bool) (tags : List (List ℕ)) (g : Group) (row : SectionRow (List CaseRow)) (first last : S) → is_begun ≡ (is_open && has_selected g.members) → is_begun ≡ true → tags ≡ g.head.tags →

@@ -1,26 +1,7 @@
 -- What the parts of a section come to together: there is a cut that gives all of it.
-use Rattle.std.proofs.Common.{Bool, List, [], ap, cond, false, length, refl, subst, sym, true, ℕ, ◌++◌, ◌∙◌, ◌≡◌, true≢false, append-nil, arith}
-use Rattle.std.proofs.lemmas.Grind.{common_steps}
-use Rattle.std.specs.List.{FoldsTo}
-use Rattle.gk_select.specs.Case.{CaseValue}
-use Rattle.gk_world.specs.Sandbox.{SandboxValue}
-use Rattle.gk_world.specs.State.{State}
-use Rattle.gk_run.specs.declared.ending.Ending.{Ending}
+use Rattle.gk_run.proofs.Common.{Bool, List, [], ap, cond, false, length, refl, subst, sym, true, ℕ, ◌++◌, ◌∙◌, ◌≡◌, true≢false, append-nil, arith, common_steps, FoldsTo, CaseValue, SandboxValue, State, Ending, Outcome, Status, Level, CleanupValue, cleaned, after_lists, before_events, entered, walk_each, around_status, has_passed, is_memory_ending, verdict_status, worse, Event, IsCutOff, SoFar, SectionNow, cut_at, ended_in, event_marks, left_by, outcomes_of, section_now, EndsAround, IsBegun, IsSectionEnd, closing_events, section_events, section_state, Run, CaseRow, StepRow, AreEventsTold, alone, row_of_case, verdict_of, Cut, Events, around_of, before_passed, happened, in_after, in_before, in_cleanups, in_order, in_steps, has_event, nowhere, rows_of_steps, steps_from, Happens, IsClosing}
 use Rattle.gk_run.specs.declared.ending.Ending.TheVariants as endings
-use Rattle.gk_run.specs.declared.results.Outcome.{Outcome}
-use Rattle.gk_run.specs.declared.results.Status.{Status}
-use Rattle.gk_run.specs.declared.section.Level.{Level}
 use Rattle.gk_run.specs.declared.section.Level.TheVariants as levels
-use Rattle.gk_run.specs.Acting.{CleanupValue}
-use Rattle.gk_run.specs.SectionHooks.{cleaned, after_lists, before_events, entered, walk_each}
-use Rattle.gk_run.specs.Ending.{around_status, has_passed, is_memory_ending, verdict_status, worse}
-use Rattle.gk_run.specs.Events.{Event, IsCutOff, SoFar, SectionNow, cut_at, ended_in, event_marks, left_by, outcomes_of, section_now}
-use Rattle.gk_run.specs.OpenSection.{EndsAround, IsBegun, IsSectionEnd, closing_events, section_events, section_state, Run}
-use Rattle.gk_run.specs.Results.{CaseRow, StepRow}
-use Rattle.gk_run.specs.Running.{AreEventsTold, alone, row_of_case, verdict_of}
-use Rattle.gk_run.specs.Section.{Cut, Events, around_of, before_passed, happened, in_after, in_before, in_cleanups, in_order, in_steps, has_event, nowhere}
-use Rattle.gk_run.specs.Walk.{rows_of_steps, steps_from}
-use Rattle.gk_run.specs.PrivateContracts.{Happens, IsClosing}
 use Rattle.gk_run.proofs.EndingLemmas.{worse_assoc}
 use Rattle.gk_run.proofs.EventLemmas.{cut_there, ended_both, heard_both, place_there}
 use Rattle.gk_run.proofs.GoesLemmas.{all_told, begin, chain, stays_refused}

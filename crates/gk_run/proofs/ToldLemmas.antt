@@ -1,12 +1,5 @@
 -- What a section comes to and what is told of it, with what is inside of it.
-use Rattle.std.specs.List.{FoldsTo}
-use Rattle.std.proofs.Common.{Bool, List, [], ap, map, subst, true, ℕ, ◌++◌, ◌∙◌, ◌∷◌, ◌≡◌}
-use Rattle.gk_world.specs.State.{State}
-use Rattle.gk_run.specs.declared.results.Status.{Status}
-use Rattle.gk_run.specs.declared.section.Level.{Level}
-use Rattle.gk_run.specs.Events.{Event, EndTold, IsRan, Ran, happens, tells}
-use Rattle.gk_run.specs.OpenSection.{IsSectionEnd, SectionRow, section_events, section_of, section_state, Run}
-use Rattle.gk_run.specs.Section.{around_of, before_passed, happened}
+use Rattle.gk_run.proofs.Common.{FoldsTo, Bool, List, [], ap, map, subst, true, ℕ, ◌++◌, ◌∙◌, ◌∷◌, ◌≡◌, State, Status, Level, Event, EndTold, IsRan, Ran, happens, tells, IsSectionEnd, SectionRow, section_events, section_of, section_state, Run, around_of, before_passed, happened}
 use Rattle.gk_run.proofs.EventLemmas.{heard_both}
 
 -- events that were heard were told

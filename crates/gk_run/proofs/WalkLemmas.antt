@@ -1,34 +1,9 @@
 -- What the code's steps make of a walk.
-use Rattle.std.proofs.Common.{Bool, List, None, Some, [], ap, cond, drop, false, get_or, inl, inr, is_some, length, map, refl, subst, sym, true, ℕ, ◌++◌, ◌+◌, ◌<◌, ◌∙◌, ◌∷◌, ◌≡◌, ◌≤◌, Option, find, true≢false, arith}
-use Rattle.std.proofs.lemmas.Grind.{common_steps}
-use Rattle.std.specs.List.{FoldsTo}
-use Rattle.std.specs.Option.{option_map_or}
-use Rattle.std.proofs.lemmas.List.{append-nil, at_drop_all, at_drop_more, map-append}
-use Rattle.gk_gherkin.specs.Feature.{StepValue}
-use Rattle.gk_gherkin.specs.declared.hooks.HookKind.{HookKind}
-use Rattle.gk_gherkin.specs.Hooks.{HookValue, is_for}
-use Rattle.gk_steps.specs.declared.used_fields.FoundUse.{FoundUse}
-use Rattle.gk_steps.specs.Finding.{FoundValue, HasCandidateFor, IsUseOf, LibraryValue, found}
-use Rattle.gk_world.specs.Sandbox.{SandboxValue}
-use Rattle.gk_world.specs.State.{State, state_of}
-use Rattle.gk_run.specs.declared.acting.Site.{Site}
+use Rattle.gk_run.proofs.Common.{Bool, List, None, Some, [], ap, cond, drop, false, get_or, inl, inr, is_some, length, map, refl, subst, sym, true, ℕ, ◌++◌, ◌+◌, ◌<◌, ◌∙◌, ◌∷◌, ◌≡◌, ◌≤◌, Option, find, true≢false, arith, common_steps, FoldsTo, option_map_or, at_drop_all, at_drop_more, map-append, StepValue, HookKind, HookValue, is_for, FoundUse, FoundValue, HasCandidateFor, IsUseOf, LibraryValue, found, SandboxValue, State, state_of, Site, Ending, Mark, Acted, Skipped, Undefined, Untested, Outcome, Level, Stage, CleanupValue, ArgumentsValue, arguments_by_uses, at_site, done_of, IsDone, HasRegistered, WritesFirst, ending_of, has_passed, is_memory_ending, worse, Event, SoFar, SectionNow, ended_in, event_marks, left_by, mark_of, of_step, StepRow, after_of, site_of, steps_of_case, hook_steps, walk_each, IsLookedUp, Stepped, event_of, looked_up, one_step, row_of_step, rows_of_steps, stepped, steps_from, unrun_step, walk, Goes, Happens, IsNext, IsStepRun, told_next}
+use Rattle.std.proofs.lemmas.List.{append-nil}
 use Rattle.gk_run.specs.declared.acting.Site.TheVariants as sites
-use Rattle.gk_run.specs.declared.ending.Ending.{Ending}
 use Rattle.gk_run.specs.declared.ending.Ending.TheVariants as endings
-use Rattle.gk_run.specs.declared.results.Mark.{Mark}
-use Rattle.gk_run.specs.declared.results.Mark.TheVariants.{Acted, Skipped, Undefined, Untested}
-use Rattle.gk_run.specs.declared.results.Outcome.{Outcome}
 use Rattle.gk_run.specs.declared.results.Outcome.TheVariants as outcomes
-use Rattle.gk_run.specs.declared.section.Level.{Level}
-use Rattle.gk_run.specs.declared.section.Stage.{Stage}
-use Rattle.gk_run.specs.Acting.{ActionEffect as ActedValue, CleanupValue, ArgumentsValue, arguments_by_uses, at_site, done_of, IsDone, HasRegistered, WritesFirst}
-use Rattle.gk_run.specs.Ending.{ending_of, has_passed, is_memory_ending, worse}
-use Rattle.gk_run.specs.Events.{Event, SoFar, SectionNow, ended_in, event_marks, left_by, mark_of, of_step}
-use Rattle.gk_run.specs.Results.{StepRow}
-use Rattle.gk_run.specs.Section.{after_of, site_of, steps_of_case}
-use Rattle.gk_run.specs.SectionHooks.{hook_steps, walk_each}
-use Rattle.gk_run.specs.Walk.{IsLookedUp, Stepped, event_of, looked_up, one_step, row_of_step, rows_of_steps, stepped, steps_from, unrun_step, walk}
-use Rattle.gk_run.specs.PrivateContracts.{Goes, Happens, IsNext, IsStepRun, told_next}
 use Rattle.gk_run.proofs.ActingLemmas.{called_is, used_given}
 use Rattle.gk_run.proofs.GoesLemmas.{all_told, begin, behind, chain, unrefused, with_rest}
 
@@ -267,16 +242,12 @@ shown_any endings.Passed left rows all ms h = h
 shown_any endings.Failed left rows all ms h = h
 shown_any endings.Skipped left rows all ms h = h
 
-shown_more : (e : Ending) (rows : List StepRow) (step : StepValue) (steps all : List StepValue) (ms : List Mark) (m : Mark) → ((more : List Mark) → rows ++ rows_of_steps (step ∷ steps) more ≡ rows_of_steps all (ms ++ more)) →
-    Shows e steps (rows ++ row_of_step step m ∷ []) all (ms ++ m ∷ [])
-shown_more e rows step steps all ms m h = grind (arith, common_steps)
-
 shown_next : (library : LibraryValue) (stood : Ending) (s new : State) (cs left : List CleanupValue) (step : StepValue) (steps all : List StepValue) (rows : List StepRow) (ms : List Mark) (m : Mark) → IsNext library stood s cs step m new left →
     Shows stood (step ∷ steps) rows all ms → Shows (worse stood (ending_of m)) steps (rows ++ row_of_step step m ∷ []) all (ms ++ next_marks stood m)
 shown_next library endings.Memory s new cs left step steps all rows ms m t h = grind (arith, common_steps)
-shown_next library endings.Passed s new cs left step steps all rows ms m t h = shown_more (ending_of m) rows step steps all ms m h
-shown_next library endings.Failed s new cs left step steps all rows ms m t h = shown_more (worse endings.Failed (ending_of m)) rows step steps all ms m h
-shown_next library endings.Skipped s new cs left step steps all rows ms m t h = shown_more (worse endings.Skipped (ending_of m)) rows step steps all ms m h
+shown_next library endings.Passed s new cs left step steps all rows ms m t h = grind (arith, common_steps)
+shown_next library endings.Failed s new cs left step steps all rows ms m t h = grind (arith, common_steps)
+shown_next library endings.Skipped s new cs left step steps all rows ms m t h = grind (arith, common_steps)
 
 shown_last : (e : Ending) (rows : List StepRow) (all : List StepValue) (ms : List Mark) → Shows e [] rows all ms → rows ≡ rows_of_steps all ms
 shown_last endings.Memory rows all ms h = sym (append-nil rows) ∙ h
@@ -328,23 +299,10 @@ drop_next f xs i x lt is = at_drop_more (map f) xs i x lt ∙ ap (λ y. f y ∷ 
 pub drop_none : {X Y : Type 0} (f : X → Y) (xs : List X) (i : ℕ) → length xs ≤ i → map f (drop i xs) ≡ []
 drop_none f xs i le = at_drop_all (map f) xs i le
 
-step_found : (hook : HookValue) (hooks : List HookValue) (kind : HookKind) (tag : Option (List ℕ)) (b : Bool) → option_map_or (λ (h : HookValue). h.steps) (find (λ (h : HookValue). is_for h kind tag) hooks) [] ≡ hook_steps hooks kind tag
-    → option_map_or (λ (h : HookValue). h.steps) (cond b (Some hook) (find (λ (h : HookValue). is_for h kind tag) hooks)) [] ≡ cond b hook.steps (hook_steps hooks kind tag)
-step_found hook hooks kind tag true e = refl
-step_found hook hooks kind tag false e = e
-
 -- the steps of a hook that is found, or none
 pub steps_found : (hooks : List HookValue) (kind : HookKind) (tag : Option (List ℕ)) → option_map_or (λ (hook : HookValue). hook.steps) (find (λ (hook : HookValue). is_for hook kind tag) hooks) [] ≡ hook_steps hooks kind tag
 steps_found [] kind tag = refl
-steps_found (hook ∷ hooks) kind tag = step_found hook hooks kind tag (is_for hook kind tag) (steps_found hooks kind tag)
-
--- a step whose action was carried out
-acted_step : (acted : ActedValue) (cleanups new_cleanups : List CleanupValue) (o : Outcome) (new : State) → IsDone (done_of acted) o new → HasRegistered acted cleanups o new_cleanups
-    → IsStepRun (record { mark = Acted acted.done.outcome; state = acted.done.state; registered = acted.registered; files = acted.done.files }) cleanups (Acted o) new new_cleanups
-acted_step acted cleanups new_cleanups outcomes.Memory new done registered = registered
-acted_step acted cleanups new_cleanups outcomes.Passed new done registered = (ap (λ o. Acted o) done.0, done.1, registered)
-acted_step acted cleanups new_cleanups outcomes.Skip new done registered = (ap (λ o. Acted o) done.0, done.1, registered)
-acted_step acted cleanups new_cleanups (outcomes.Failed why) new done registered = (ap (λ o. Acted o) done.0, done.1, registered)
+steps_found (hook ∷ hooks) kind tag = grind (arith, common_steps, steps_found hooks kind tag)
 
 -- a step of which the action and what its fields took were found
 pub used_step : (library : LibraryValue) (site : Site) (s new : State) (cleanups new_cleanups : List CleanupValue) (step : StepValue) (x : Option FoundValue) (u : FoundUse) (g : ArgumentsValue) (o : Outcome)
@@ -352,7 +310,7 @@ pub used_step : (library : LibraryValue) (site : Site) (s new : State) (cleanups
     → IsDone (done_of (at_site u.action site library g s)) o new → HasRegistered (at_site u.action site library g s) cleanups o new_cleanups
     → IsStepRun (stepped library site s step x) cleanups (Acted o) new new_cleanups
 used_step library site s new cleanups new_cleanups step None u g o looked h done registered = absurd looked
-used_step library site s new cleanups new_cleanups step (Some f) u g o looked h done registered = grind (arith, common_steps, called_is, used_given, acted_step)
+used_step library site s new cleanups new_cleanups step (Some f) u g o looked h done registered = grind (arith, common_steps, called_is, used_given)
 
 -- what such a step wrote where memory was refused in its action
 pub used_kept : (library : LibraryValue) (site : Site) (old new : SandboxValue) (step : StepValue) (x : Option FoundValue) (u : FoundUse) (g : ArgumentsValue)

@@ -1,23 +1,8 @@
 -- What walking through steps is, in words.
-use Rattle.std.proofs.Common.{Bool, List, None, Option, Some, [], ap, arith, cond, drop, false, inl, inr, length, option_map, refl, slice_get, subst, suc, sym, zero, ℕ, ◌∙◌, ◌∷◌, ◌≡◌, ◌≢◌, ◌<◌, ◌⊎◌, true≢false}
-use Rattle.std.proofs.lemmas.Grind.{common_steps}
-use Rattle.std.proofs.lemmas.Option.{same_Some}
-use Rattle.gk_gherkin.specs.Feature.{StepValue}
-use Rattle.gk_steps.specs.Finding.{FoundValue, LibraryValue, found}
-use Rattle.gk_world.specs.State.{State}
-use Rattle.gk_run.specs.declared.acting.Site.{Site}
+use Rattle.gk_run.proofs.Common.{Bool, List, None, Option, Some, [], ap, arith, cond, drop, false, inl, inr, length, option_map, refl, slice_get, subst, suc, sym, zero, ℕ, ◌∙◌, ◌∷◌, ◌≡◌, ◌≢◌, ◌<◌, ◌⊎◌, true≢false, common_steps, same_Some, StepValue, FoundValue, LibraryValue, found, State, Site, Ending, Mark, Acted, Skipped, Outcome, Stage, ending_of, has_passed, Event, SectionNow, event_marks, left_by, site_of, steps_of_case, event_of, looked_up, one_step, stepped, steps_from, unrun_step, walk, LaterSteps, CarriesOut, EndsAt, EndsAtTheLeastStop, HasNoStop, IsStop, StepsEndAtTheLeastStop, StoppedCasesRunNoStep, Stops, StopsAt, WalksEndAtTheLeastStop, after, carried_on, event_at, outcome_from, unrun_steps}
 use Rattle.gk_run.specs.declared.acting.Site.TheVariants as sites
-use Rattle.gk_run.specs.declared.ending.Ending.{Ending}
 use Rattle.gk_run.specs.declared.ending.Ending.TheVariants as endings
-use Rattle.gk_run.specs.declared.results.Mark.{Mark}
-use Rattle.gk_run.specs.declared.results.Mark.TheVariants.{Acted, Skipped}
-use Rattle.gk_run.specs.declared.results.Outcome.{Outcome}
 use Rattle.gk_run.specs.declared.results.Outcome.TheVariants as outcomes
-use Rattle.gk_run.specs.declared.section.Stage.{Stage}
-use Rattle.gk_run.specs.Ending.{ending_of, has_passed}
-use Rattle.gk_run.specs.Events.{Event, SectionNow, event_marks, left_by}
-use Rattle.gk_run.specs.Section.{site_of, steps_of_case}
-use Rattle.gk_run.specs.Walk.{event_of, looked_up, one_step, stepped, steps_from, unrun_step, walk, LaterSteps, CarriesOut, EndsAt, EndsAtTheLeastStop, HasNoStop, IsStop, StepsEndAtTheLeastStop, StoppedCasesRunNoStep, Stops, StopsAt, WalksEndAtTheLeastStop, after, carried_on, event_at, outcome_from, unrun_steps}
 
 -- ---- one step
 

@@ -159,6 +159,7 @@ pub(crate) fn arguments_by<'a>(used: UsedFields<'a>, block: &'a Block) -> Argume
 
 /// Returns the arguments of the action of a step that was found in a library, with the step's block. Doesn't allocate.
 #[inline(always)]
+#[tactic(auto, using(crate::proofs::ActingLemmas::used_given))]
 pub fn arguments_of<'a>(library: &Library, found: &'a Found, block: &'a Block) -> Arguments<'a>
     ensures { arguments_value result ≡ words.arguments_of
         (library_value library.now) (found_value found.now) (block_value block.now) }
@@ -287,6 +288,7 @@ pub(crate) fn act_by(
 /// sandbox and the cleanups are as they were, except for what `write_files` and `rename_file` changed
 /// before; the end of the layer restores what the sandbox held when the layer began. (behave's
 /// documentation: cleanups)
+#[tactic(auto, using(crate::proofs::ActingLemmas::called_is))]
 pub fn act(
     alloc: Global,
     sandbox: &mut Sandbox,

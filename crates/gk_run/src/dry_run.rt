@@ -120,6 +120,7 @@ fn dry_cases(
 }
 
 // Returns the results of rules that aren't begun.
+#[tactic(auto, using(crate::proofs::Nothing::nothing_in))]
 fn dry_rules(rules: Reserved<RuleHead, RuleResult>) -> Vec<RuleResult>
     ensures { map rule_row result.items ≡ dry_rules_of (map head_value rules.list.items) }
 {

@@ -21,6 +21,7 @@ pub fn steps_end_at_the_least_stop()
 
 /// No step of a case whose before list didn't pass whole is carried out. (behave's documentation:
 /// environment file functions)
+#[tactic(auto, using(crate::proofs::WordsLemmas::stopped_cases))]
 pub fn stopped_cases_run_no_step()
     ensures { StoppedCasesRunNoStep }
 {}
@@ -28,6 +29,7 @@ pub fn stopped_cases_run_no_step()
 /// Results are judged exactly if `JudgedPartByPart` holds of them. It says which features and rules
 /// are begun, which cases are reached, what each comes to, and what `--stop` and refused memory leave
 /// of the rest. (behave's documentation: environment file functions, `--stop`)
+#[tactic(auto, using(crate::proofs::JudgedPartsLemmas::judged_in_words))]
 pub fn judged_results_hold_part_by_part()
     ensures { JudgedHoldPartByPart }
 {}
@@ -41,16 +43,19 @@ pub fn steps_have_their_results()
 /// Judged results without memory are the ones that plain maps give: there is one such list. Without
 /// memory means that no case is marked memory, and no hooks and cleanups of a rule, of a feature or of
 /// the run are.
+#[tactic(auto, using(crate::proofs::OneList::one_list))]
 pub fn without_memory_there_is_one_list()
     ensures { OneList }
 {}
 
 /// The results of the features of a dry run are judged, with hooks and cleanups that passed.
+#[tactic(auto, using(crate::proofs::JudgedLemmas::dry_judged))]
 pub fn dry_runs_are_judged()
     ensures { DryRunsAreJudged }
 {}
 
 /// The results of the first features of a dry run are the beginning of judged results of all of them.
+#[tactic(auto, using(crate::proofs::JudgedLemmas::dry_judged_so_far))]
 pub fn unfinished_dry_runs_are_judged()
     ensures { UnfinishedDryRunsAreJudged }
 {}
@@ -69,17 +74,20 @@ pub fn unfinished_runs_are_judged()
 
 /// If the cases of a feature fall into its rules, its own cases and then those of each rule, one rule
 /// after another, are all of them, in file order.
+#[tactic(auto, using(crate::proofs::GroupingLemmas::groups_all))]
 pub fn groups_are_all()
     ensures { GroupsAreAll }
 {}
 
 /// The cases of a feature that `run_feature` accepts fall into its rules.
+#[tactic(auto, using(crate::proofs::GroupingLemmas::formed_falls))]
 pub fn formed_cases_fall_into_rules()
     ensures { FormedCasesFallIntoRules }
 {}
 
 /// A feature without rules, whose cases are in none, has the results that its cases have one after
 /// another.
+#[tactic(auto, using(crate::proofs::FeaturesLemmas::without_rules))]
 pub fn features_without_rules_have_their_cases()
     ensures { FeaturesWithoutRulesHaveTheirCases }
 {}

@@ -64,6 +64,7 @@ impl Suite {
     /// scenarios are untested and later rules and features aren't begun; what was begun is ended as
     /// always. No feature has failed yet. (behave's documentation: context layers, environment file
     /// functions, `--stop`)
+    #[tactic(auto, using(std::proofs::lemmas::Grind::common_steps))]
     pub fn start(
         alloc: Global,
         sandbox: &mut Sandbox,
@@ -180,6 +181,7 @@ impl Suite {
     /// Ends the run: runs its `after_all` hook and its cleanups, and ends its layer. Returns how its
     /// hooks and cleanups ended: `Passed`, `Failed` or `Memory`. Takes only the memory that the steps
     /// take. (behave's documentation: context layers, environment file functions, cleanups)
+    #[tactic(auto, using(std::proofs::lemmas::Grind::common_steps))]
     pub fn finish(
         self,
         alloc: Global,

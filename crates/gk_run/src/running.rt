@@ -88,6 +88,7 @@ pub fn run_case(
 /// happened, and then its result. The observer is told all events of the case, or, if memory is refused
 /// in one, those up to that one. They are the events from which the result comes. Nothing is told if
 /// `NoRoom` is returned. What is told changes nothing in the run.
+#[tactic(auto, using(std::proofs::lemmas::Grind::common_steps))]
 pub fn run_case_watched<O: Observer>(
     alloc: Global,
     sandbox: &mut Sandbox,
@@ -118,6 +119,7 @@ pub fn run_case_watched<O: Observer>(
 }
 
 // Returns the results of steps that aren't run. Each has this mark.
+#[tactic(auto, using(crate::proofs::Nothing::nothing_in))]
 fn unrun_steps(steps: Reserved<Step, StepResult>, mark: Mark) -> Vec<StepResult>
     ensures { map step_row result.items
         ≡ map (λ step. row_of_step step mark) (map step_value steps.list.items) }
@@ -131,6 +133,7 @@ fn unrun_steps(steps: Reserved<Step, StepResult>, mark: Mark) -> Vec<StepResult>
 
 /// Returns the result of a case in which nothing happens. The case has this verdict, and each of its
 /// steps has this mark.
+#[tactic(auto, using(crate::proofs::CasesLemmas::all_unrun))]
 pub fn unrun_case(
     alloc: Global,
     case: Case,

@@ -78,6 +78,7 @@ pub fn walk_before<O: Observer>(
 }
 
 /// Walks through each of a section's after lists by itself. After refused memory nothing more happens.
+#[tactic(auto, using(crate::proofs::GoesLemmas::begin, crate::proofs::GoesLemmas::with_rest, crate::proofs::WalkLemmas::drop_next, crate::proofs::WalkLemmas::drop_none, crate::proofs::WalkLemmas::each_on))]
 pub fn walk_after<O: Observer>(
     run: &Run<'_>,
     sandbox: &mut Sandbox,

@@ -20,6 +20,7 @@ use gk_world::Sandbox;
 use std::alloc::{AllocError, Global};
 
 // Carries out a step, if an entry matches it.
+#[tactic(auto, using(crate::proofs::ActingLemmas::none_written, crate::proofs::WalkLemmas::used_kept, crate::proofs::WalkLemmas::used_step))]
 fn run_step(
     run: &Run<'_>,
     sandbox: &mut Sandbox,
@@ -83,6 +84,7 @@ pub fn walk_hook<O: Observer>(
 }
 
 /// Looks up a step that isn't carried out. Its mark is `matched` if an entry matches it.
+#[tactic(auto, using(std::proofs::lemmas::Grind::common_steps))]
 pub fn look_up(alloc: Global, library: &Library, step: &Step, matched: Mark) -> Mark
     ensures { IsLookedUp (library_value library.now) matched (step_value step.now) result }
 {
@@ -94,6 +96,7 @@ pub fn look_up(alloc: Global, library: &Library, step: &Step, matched: Mark) -> 
 }
 
 // Takes the next step of a case that has ended so far with `ending`, and returns the step's mark.
+#[tactic(auto, using(crate::proofs::ActingLemmas::none_written, crate::proofs::WalkLemmas::look_needs))]
 fn next_step(
     run: &Run<'_>,
     sandbox: &mut Sandbox,

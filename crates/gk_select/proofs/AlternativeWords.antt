@@ -1,28 +1,9 @@
 -- What a text of alternatives says, piece after piece, and the words of it.
-use Rattle.std.proofs.Common.{◌≡◌, ◌≢◌, ◌⊎◌, ◌<◌, ◌==◌, ℕ, zero, suc, Bool, true, false, not, ◌||◌, if◌then◌else◌, List, [], ◌∷◌, ◌++◌, length, map, take, get_or, Option, Some, None, IsSome, is_some, option_map, Err, refl, sym, ap, subst, ◌∙◌, arith, append_assoc, append-nil, inl, inr}
-use Rattle.std.proofs.lemmas.Grind.{common_steps}
-use Rattle.std.proofs.lemmas.Bool.{cond-false}
-use Rattle.std.proofs.lemmas.Bool.Decides.{nat_tests}
-use Rattle.std.proofs.lemmas.List.{length-map, map-append}
-use Rattle.std.proofs.lemmas.List.Splits.{length-slice_split}
-use Rattle.std.specs.List.{list_any}
-use Rattle.std.specs.Str.{bytes_eq}
-use Rattle.gk_gherkin.specs.Text.{begins}
-use Rattle.gk_select.specs.declared.select_fault.SelectFault.{SelectFault}
-use Rattle.gk_select.specs.declared.select_fault.SelectFault.TheVariants.{TooMany, BadTagText, Memory}
-use Rattle.gk_select.specs.SelectFault.{AnswersOrLacksMemory}
-use Rattle.gk_select.specs.Alternatives.{AlternativeValue, alternative_value, alternative_holds, tag_named, alternative, pieces, or_of, alternative_words, words_with}
-use Rattle.gk_select.specs.TagGrammar.{tagged, negated, spelling, factor_spelling}
-use Rattle.gk_select.specs.TagValues.{holds, factor_holds}
-use Rattle.gk_select.specs.TagWords.{WordValue, not_word, or_word, tag_word}
+use Rattle.gk_select.proofs.Common.{◌≡◌, ◌≢◌, ◌⊎◌, ◌<◌, ◌==◌, ℕ, zero, suc, Bool, true, false, not, ◌||◌, if◌then◌else◌, List, [], ◌∷◌, ◌++◌, length, map, take, get_or, Option, Some, None, IsSome, is_some, option_map, Err, refl, sym, ap, subst, ◌∙◌, arith, append_assoc, append-nil, inl, inr, common_steps, cond-false, nat_tests, length-map, map-append, length-slice_split, list_any, bytes_eq, SelectFault, TooMany, BadTagText, Memory, AnswersOrLacksMemory, AlternativeValue, alternative_value, alternative_holds, tag_named, alternative, pieces, or_of, alternative_words, words_with, tagged, negated, spelling, holds, factor_holds, WordValue, not_word, or_word, tag_word}
 
 -- A text without `~` before it says what its tag says.
-no_tilde : (text : List ℕ) → ((rest : List ℕ) → text ≢ 126 ∷ rest) → begins text (126 ∷ []) ≡ false
-no_tilde [] n = refl
-no_tilde (b ∷ bs) n = let other : b ≢ 126 = λ (e : b ≡ 126). n bs (ap (λ (b : ℕ). b ∷ bs) e) in grind (arith, nat_tests)
-
 pub plain_alternative : (text : List ℕ) → ((rest : List ℕ) → text ≢ 126 ∷ rest) → alternative text ≡ option_map (λ (tag : List ℕ). record { negated = false; tag = tag }) (tag_named text)
-plain_alternative text n = cond-false (begins text (126 ∷ [])) _ _ (no_tilde text n)
+plain_alternative text n = grind (arith, common_steps, cond-false)
 
 pub same_some : {X Y : Type 0} (f : X → Y) (o : Option X) → is_some (option_map f o) ≡ is_some o
 same_some f None = refl
@@ -59,12 +40,8 @@ abbrev joined : List AlternativeValue → List WordValue
 joined [] = []
 joined (a ∷ more) = alternative_words a ++ or_words more
 
-factor_words : (absent : Bool) (tag : List ℕ) → factor_spelling (if absent then negated (tagged tag) else tagged tag) ≡ (if absent then not_word ∷ tag_word tag ∷ [] else tag_word tag ∷ [])
-factor_words true tag = refl
-factor_words false tag = refl
-
 or_spelling : (a : AlternativeValue) (more : List AlternativeValue) → spelling (or_of a more) ≡ joined (a ∷ more)
-or_spelling a [] = factor_words a.negated a.tag ∙ sym (append-nil (alternative_words a))
+or_spelling a [] = grind (arith, common_steps, append-nil)
 or_spelling a (b ∷ more) = grind (arith, common_steps, or_spelling b more)
 
 or_words_more : (read : List AlternativeValue) (a : AlternativeValue) → or_words (read ++ a ∷ []) ≡ or_words read ++ or_word ∷ alternative_words a
@@ -146,5 +123,5 @@ or_false true = refl
 or_false false = refl
 
 pub or_value : (a : AlternativeValue) (more : List AlternativeValue) (tags : List (List ℕ)) → holds (or_of a more) tags ≡ list_any (alternative_holds tags) (a ∷ more)
-or_value a [] tags = factor_value a.negated a.tag tags ∙ or_false (alternative_holds tags a)
+or_value a [] tags = grind (arith, common_steps)
 or_value a (b ∷ more) tags = ap (λ (x : Bool). x || holds (or_of b more) tags) (factor_value a.negated a.tag tags) ∙ ap (λ (x : Bool). alternative_holds tags a || x) (or_value b more tags)

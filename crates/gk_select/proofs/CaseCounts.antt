@@ -1,13 +1,5 @@
 -- The cases of features without outlines, and how many cases a feature has.
-use Rattle.std.proofs.Common.{◌≡◌, ℕ, ◌+◌, List, [], ◌∷◌, length, map, flat_map, refl, sym, ap, ◌∙◌, arith}
-use Rattle.std.proofs.lemmas.Grind.{common_steps}
-use Rattle.std.proofs.lemmas.Bool.{cases_Bool}
-use Rattle.std.proofs.lemmas.List.{length-append}
-use Rattle.std.proofs.lemmas.List.Sums.{sum_by-cons}
-use Rattle.std.specs.List.{AllByRecursion, sum_by, enumerate_from}
-use Rattle.gk_gherkin.specs.Feature.{ScenarioValue, RuleValue, FeatureValue}
-use Rattle.gk_select.specs.Inherited.{InheritedValue, inherited_in_feature, inherited_in_rule}
-use Rattle.gk_select.specs.Expansion.{plain_case, scenario_cases, rule_cases, cases, ArePlain, HasNoOutline, plain_cases, case_count_of, case_count}
+use Rattle.gk_select.proofs.Common.{◌≡◌, ℕ, ◌+◌, List, [], ◌∷◌, length, map, flat_map, refl, sym, ap, ◌∙◌, arith, common_steps, cases_Bool, length-append, sum_by-cons, AllByRecursion, sum_by, enumerate_from, ScenarioValue, RuleValue, FeatureValue, InheritedValue, inherited_in_feature, inherited_in_rule, plain_case, scenario_cases, rule_cases, cases, ArePlain, HasNoOutline, plain_cases, case_count_of, case_count}
 
 plain_scenarios : (i : InheritedValue) (scenarios : List ScenarioValue) → ArePlain scenarios → flat_map (scenario_cases i) scenarios ≡ map (plain_case i) scenarios
 plain_scenarios i [] plain = refl

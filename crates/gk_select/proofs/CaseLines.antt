@@ -1,18 +1,5 @@
 -- The lines of the rules and the cases of a feature that the grammar reads rise.
-use Rattle.std.proofs.Common.{ℕ, suc, ◌+◌, ◌≤◌, List, [], ◌∷◌, map, flat_map, sym, subst, arith, inl, inr}
-use Rattle.std.proofs.lemmas.Bool.{cases_Bool}
-use Rattle.std.specs.List.{enumerate_from}
-use Rattle.std.specs.Str.Lines.{lines}
-use Rattle.gk_gherkin.specs.declared.class.Class.{Class}
-use Rattle.gk_gherkin.specs.Lines.{LineValue, Lines, lines_of, without_mark}
-use Rattle.gk_gherkin.specs.Feature.{RowValue, ExamplesValue, ScenarioValue, RuleValue, FeatureValue, ContainerValue, rule_container, feature_container}
-use Rattle.gk_gherkin.specs.Grammar.{IsIgnored, IsIgnoredAbove, Many, none, more, AreExamples, IsScenario, IsContainer, IsRule, IsFeature}
-use Rattle.gk_gherkin.specs.declared.class.Class.TheVariants.{RuleHeading, FeatureHeading}
-use Rattle.gk_select.specs.Case.{CaseValue}
-use Rattle.gk_select.specs.Inherited.{InheritedValue, inherited_in_feature, inherited_in_rule}
-use Rattle.gk_select.specs.Outline.{is_outline}
-use Rattle.gk_select.specs.Expansion.{row_case, examples_cases, scenario_cases, rule_cases, cases}
-use Rattle.gk_select.specs.FileOrder.{case_lines, rule_lines, feature_lines, IsInFileOrder, CasesAreInFileOrder}
+use Rattle.gk_select.proofs.Common.{ℕ, suc, ◌+◌, ◌≤◌, List, [], ◌∷◌, map, flat_map, sym, subst, arith, inl, inr, cases_Bool, enumerate_from, lines, Class, LineValue, Lines, lines_of, without_mark, RowValue, ExamplesValue, ScenarioValue, RuleValue, FeatureValue, ContainerValue, rule_container, feature_container, IsIgnored, IsIgnoredAbove, Many, none, more, AreExamples, IsScenario, IsContainer, IsRule, IsFeature, RuleHeading, FeatureHeading, CaseValue, InheritedValue, inherited_in_feature, inherited_in_rule, is_outline, row_case, examples_cases, scenario_cases, rule_cases, cases, case_lines, rule_lines, feature_lines, IsInFileOrder, CasesAreInFileOrder}
 use Rattle.gk_select.proofs.RisingLines.{Between, between_ends, between_less, between_append, between_map, between_rises, between_increases, Rise, numbered_rise, describes_rise, steps_rise, background_rise, heading_rise, Ends, ends_less, ends_append, no_ends, row_line, examples_end}
 
 abbrev case_line : CaseValue → ℕ

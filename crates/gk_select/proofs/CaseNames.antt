@@ -1,11 +1,5 @@
 -- A text is cut after its last byte that is no blank.
-use Rattle.std.proofs.Common.{◌≡◌, ◌-◌, List, ℕ, length, take, ap, sym, subst, ◌∙◌, arith}
-use Rattle.std.proofs.lemmas.List.{length-take-le}
-use Rattle.std.proofs.lemmas.Str.{IsCharBoundary-from_take}
-use Rattle.std.specs.List.{suffix_len}
-use Rattle.std.specs.Str.{IsUtf8}
-use Rattle.std.specs.String.Boundary.{IsSplitPoint}
-use Rattle.gk_gherkin.specs.Text.{is_blank, trim_back}
+use Rattle.gk_select.proofs.Common.{◌≡◌, ◌-◌, List, ℕ, length, take, ap, sym, subst, ◌∙◌, arith, length-take-le, IsCharBoundary-from_take, suffix_len, IsUtf8, IsSplitPoint, is_blank, trim_back}
 
 -- The text that is left, and its length.
 module _ (bs left : List ℕ) (is : left ≡ trim_back bs) where

@@ -1,28 +1,14 @@
 -- The cases of a feature fall into its rules.
-use Rattle.std.proofs.Common.{◌≡◌, ℕ, ◌+◌, ◌≤◌, List, [], ◌∷◌, ◌++◌, length, map, flat_map, Option, refl, arith, inl, inr}
-use Rattle.std.proofs.lemmas.Grind.{common_steps}
-use Rattle.std.proofs.lemmas.Bool.{cases_Bool}
-use Rattle.std.proofs.lemmas.List.{map-append}
-use Rattle.std.specs.List.{AllByRecursion, enumerate_from}
-use Rattle.gk_gherkin.specs.Feature.{RowValue, ExamplesValue, ScenarioValue, RuleValue, FeatureValue}
-use Rattle.gk_select.specs.Case.{CaseValue}
-use Rattle.gk_select.specs.RuleOrder.{rank, FallFrom, FallIntoRules}
-use Rattle.gk_select.specs.Inherited.{InheritedValue}
-use Rattle.gk_select.specs.Outline.{is_outline}
-use Rattle.gk_select.specs.Expansion.{row_case, examples_cases, scenario_cases, rule_cases, cases}
+use Rattle.gk_select.proofs.Common.{◌≡◌, ℕ, ◌+◌, ◌≤◌, List, [], ◌∷◌, ◌++◌, length, map, flat_map, Option, refl, arith, inl, inr, common_steps, cases_Bool, map-append, AllByRecursion, enumerate_from, RowValue, ExamplesValue, ScenarioValue, RuleValue, FeatureValue, CaseValue, rank, FallFrom, FallIntoRules, InheritedValue, is_outline, row_case, examples_cases, scenario_cases, rule_cases, cases}
 
 -- What holds of each element of lists that are made part by part.
-all_append : {A : Type 0} (P : A → Type 0) (xs ys : List A) → AllByRecursion P xs → AllByRecursion P ys → AllByRecursion P (xs ++ ys)
-all_append P [] ys a b = b
-all_append P (x ∷ xs) ys a b = (a.0, all_append P xs ys a.1 b)
-
 all_map : {A B : Type 0} (P : B → Type 0) (F : A → B) → ((x : A) → P (F x)) → (xs : List A) → AllByRecursion P (map F xs)
 all_map P F each [] = tt
 all_map P F each (x ∷ xs) = (each x, all_map P F each xs)
 
 all_flat_map : {A B : Type 0} (P : B → Type 0) (F : A → List B) → ((x : A) → AllByRecursion P (F x)) → (xs : List A) → AllByRecursion P (flat_map F xs)
 all_flat_map P F each [] = tt
-all_flat_map P F each (x ∷ xs) = all_append P (F x) (flat_map F xs) (each x) (all_flat_map P F each xs)
+all_flat_map P F each (x ∷ xs) = grind (arith, common_steps, flat_map, all_flat_map P F each xs)
 
 -- A case stands in the rule of its scenario.
 abbrev IsIn : Option ℕ → CaseValue → Type 0

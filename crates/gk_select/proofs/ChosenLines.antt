@@ -1,20 +1,5 @@
 -- Whether a line is among lines in rising order.
-use Rattle.std.proofs.lemmas.Grind.{common_steps, get_or_default_zero}
-use Rattle.std.proofs.Common.{◌≡◌, ◌<◌, ◌≤◌, ℕ, Bool, true, false, ◌==◌, ◌&&◌, List, [], ◌∷◌, length, map, get_or, Result, Ok, Err, is_ok, refl, sym, ap, arith}
-use Rattle.std.proofs.lemmas.Bool.{cases_lt}
-use Rattle.std.proofs.lemmas.Bool.Decides.{nat_tests}
-use Rattle.std.proofs.lemmas.List.Folds.{list_any_at, list_any_none}
-use Rattle.std.proofs.lemmas.List.Sorted.{searched, list_any-IsPermutation, length_permutation}
-use Rattle.std.specs.List.{list_all, list_any}
-use Rattle.std.specs.List.Sorted.{IsBinarySearchResult, IsNonDecreasing, IsPermutation}
-use Rattle.std.specs.Ordering.{nat_cmp}
-use Rattle.std.specs.Result.{MatchResult}
-use Rattle.gk_select.specs.Case.{CaseValue}
-use Rattle.gk_select.specs.Choice.{is_chosen}
-use Rattle.gk_select.specs.TagGrammar.{Expression}
-
-same_number : (a b : ℕ) → a ≡ b → (a == b) ≡ true
-same_number a b e = grind (arith, nat_tests)
+use Rattle.gk_select.proofs.Common.{common_steps, get_or_default_zero, ◌≡◌, ◌<◌, ◌≤◌, ℕ, Bool, false, ◌==◌, ◌&&◌, List, [], ◌∷◌, length, map, get_or, Result, Ok, Err, is_ok, refl, ap, arith, cases_lt, nat_tests, list_any_at, list_any_none, searched, list_any-IsPermutation, length_permutation, list_all, list_any, IsBinarySearchResult, IsNonDecreasing, IsPermutation, nat_cmp, MatchResult, is_chosen, Expression}
 
 below : (a b : ℕ) → a < b → (a == b) ≡ false
 below a b l = grind (arith, nat_tests)
@@ -26,7 +11,7 @@ above a b l = grind (arith, nat_tests)
 from_searched : (xs : List ℕ) (x : ℕ) (r : Result ℕ ℕ)
     → MatchResult r (λ i. (i < length xs) × (get_or xs i 0 ≡ x)) (λ i. (i ≤ length xs) × ((k : ℕ) → k < i → get_or xs k 0 < x) × ((k : ℕ) → i ≤ k → k < length xs → x < get_or xs k 0))
     → is_ok r ≡ list_any (λ y. y == x) xs
-from_searched xs x (Ok i) f = sym (list_any_at (λ y. y == x) xs i 0 f.0 (same_number (get_or xs i 0) x f.1))
+from_searched xs x (Ok i) f = grind (arith, common_steps, list_any_at)
 from_searched xs x (Err i) f = grind (arith, common_steps, list_any_none, get_or_default_zero, cases_lt, below, above)
 
 pub is_among : (xs : List ℕ) (x : ℕ) (r : Result ℕ ℕ) → IsBinarySearchResult (λ y. nat_cmp y x) xs r → IsNonDecreasing xs → is_ok r ≡ list_any (λ y. y == x) xs
@@ -36,10 +21,7 @@ pub list_all-map : {X Y : Type 0} (test : Y → Bool) (f : X → Y) (xs : List X
 list_all-map test f [] = refl
 list_all-map test f (x ∷ xs) = ap (λ (b : Bool). test (f x) && b) (list_all-map test f xs)
 
-same_function : (f g : CaseValue → Bool) → ((case : CaseValue) → f case ≡ g case) → f ≡ g
-same_function f g same = λ i case. same case i
-
 -- In any order, lines choose the same cases.
 pub same_choice : (rules : List Expression) (xs ys : List ℕ) → IsPermutation xs ys → is_chosen rules ys ≡ is_chosen rules xs
 unfolding is_chosen
-same_choice rules xs ys p = same_function (is_chosen rules ys) (is_chosen rules xs) (λ case. rw (list_any-IsPermutation (λ line. line == case.line) xs ys p, length_permutation xs ys p) refl)
+same_choice rules xs ys p = grind (arith, common_steps, list_any-IsPermutation, length_permutation)

@@ -1,12 +1,5 @@
 -- A text is filled piece by piece, each piece the text before a `>`.
-use Rattle.std.proofs.Common.{◌≡◌, ◌≢◌, ℕ, zero, suc, ◌+◌, ◌<◌, false, ◌&&◌, nat_eq, List, [], ◌∷◌, ◌++◌, length, get_or, Option, Some, None, refl, ap, ◌∙◌, arith, inl, inr}
-use Rattle.std.proofs.lemmas.Grind.{common_steps}
-use Rattle.std.proofs.lemmas.Bool.{cases_Bool, cases_eq, cond-true, cond-false, ne_eqb}
-use Rattle.std.proofs.lemmas.Bool.Decides.{nat_tests}
-use Rattle.std.proofs.lemmas.Slice.Eq.{bytes_eq-Decides}
-use Rattle.std.specs.List.{starts_with}
-use Rattle.std.specs.Str.{bytes_eq}
-use Rattle.gk_select.specs.Filling.{can_stand, header_at, cell_under, filled_at, filled_from, filled, cell_of, cell_or_byte, filled_piece}
+use Rattle.gk_select.proofs.Common.{◌≡◌, ◌≢◌, ℕ, zero, suc, ◌+◌, ◌<◌, false, ◌&&◌, nat_eq, List, [], ◌∷◌, ◌++◌, length, get_or, Option, Some, None, refl, ap, ◌∙◌, arith, inl, inr, common_steps, cases_Bool, cases_eq, cond-true, cond-false, ne_eqb, nat_tests, bytes_eq-Decides, starts_with, bytes_eq, can_stand, header_at, cell_under, filled_at, filled_from, filled, cell_of, cell_or_byte, filled_piece}
 
 -- A text without a byte.
 pub record Without (c : ℕ) (bs : List ℕ) : Type 0 where

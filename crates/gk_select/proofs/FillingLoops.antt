@@ -1,10 +1,6 @@
 -- What the loops that fill a text go by.
-use Rattle.std.proofs.Common.{◌≡◌, ℕ, ◌<◌, if◌then◌else◌, List, [], ◌∷◌, ◌++◌, length, Option, Some, None, Result, Ok, Err, is_ok, IfOk, option_map, Bor, String, sym, ap, ◌∙◌}
-use Rattle.std.proofs.lemmas.List.{append_assoc, append-nil, length-map}
-use Rattle.std.proofs.lemmas.Str.Pattern.{IsSplitOnceResult, split_parts}
-use Rattle.std.specs.String.{string_bytes}
-use Rattle.gk_gherkin.specs.Feature.{texts}
-use Rattle.gk_select.specs.Filling.{cell_of, cell_or_byte, filled_piece}
+use Rattle.gk_select.proofs.Common.{◌≡◌, ℕ, ◌<◌, if◌then◌else◌, List, [], ◌∷◌, ◌++◌, length, Option, Some, None, Result, Ok, Err, is_ok, IfOk, option_map, Bor, String, sym, ap, ◌∙◌, length-map, IsSplitOnceResult, split_parts, string_bytes, texts, cell_of, cell_or_byte, filled_piece}
+use Rattle.std.proofs.lemmas.List.{append_assoc, append-nil}
 use Rattle.gk_select.proofs.FilledPieces.{Without, fills_plain}
 
 -- What is cut off at a byte.

@@ -1,17 +1,6 @@
 -- What an index over the columns of a header finds.
-use Rattle.std.specs.Prelude.{IfSome, ltb, Bool, true, false, cond, is_some, slice_get, option_map, option_copied, bytes_eq}
-use Rattle.std.specs.Map.{update}
-use Rattle.std.specs.Ordering.{nat_cmp, is_eq}
-use Rattle.std.specs.String.{string_bytes}
-use Rattle.std.proofs.Common.{◌≡◌, ℕ, zero, suc, ◌+◌, ◌<◌, ◌≤◌, List, [], ◌∷◌, length, drop, get_or, Option, Some, None, Bor, String, inl, inr, refl, sym, ap, ◌∙◌, arith}
-use Rattle.std.proofs.lemmas.Grind.{common_steps}
-use Rattle.std.proofs.lemmas.Bool.{cond-true, cond-false, cases_lt, lt-ltb, ltb-true}
-use Rattle.std.proofs.lemmas.List.{drop_more, drop_all}
-use Rattle.std.proofs.lemmas.Option.{slice_get_past}
-use Rattle.gk_gherkin.specs.Feature.{texts}
-use Rattle.gk_select.specs.Filling.{cell_of}
-use Rattle.gk_select.specs.Columns.{column_of, position_in, has_length, IsIndexFrom}
-use Rattle.gk_select.specs.declared.columns.ColumnIndex.{ColumnIndex}
+use Rattle.gk_select.proofs.Common.{IfSome, ltb, Bool, true, false, cond, is_some, slice_get, option_map, option_copied, update, nat_cmp, is_eq, string_bytes, ◌≡◌, ℕ, zero, suc, ◌+◌, ◌<◌, ◌≤◌, List, [], ◌∷◌, length, drop, get_or, Option, Some, None, Bor, String, inl, inr, refl, sym, ap, ◌∙◌, arith, common_steps, cond-true, cond-false, cases_lt, lt-ltb, ltb-true, drop_more, drop_all, slice_get_past, texts, cell_of, column_of, position_in, has_length, IsIndexFrom, ColumnIndex}
+use Rattle.std.specs.Prelude.{bytes_eq}
 
 shifted : (first : ℕ) (o : Option ℕ) → option_map (λ n. first + n) (option_map suc o) ≡ option_map (λ n. first + 1 + n) o
 shifted first None = refl

@@ -1,3 +1,4 @@
+pub mod Common
 pub mod FilledPieces
 pub mod OneCut
 pub mod FillingLoops

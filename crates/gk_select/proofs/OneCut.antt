@@ -1,11 +1,7 @@
 -- Each text has one cut, and its parts filled are the filled text.
-use Rattle.std.proofs.Common.{◌≡◌, ℕ, zero, suc, ◌+◌, ◌<◌, Bool, true, false, ◌&&◌, cond, nat_eq, List, [], ◌∷◌, ◌++◌, length, drop, get_or, flat_map, Option, Some, None, refl, sym, ap, subst, ◌⊎◌, ◌∙◌, arith, inl, inr}
-use Rattle.std.proofs.lemmas.Bool.{and_parts, and_from, both_ways}
-use Rattle.std.proofs.lemmas.Bool.Decides.{nat_tests, Decides-eqb}
-use Rattle.std.proofs.lemmas.Slice.Eq.{starts_is}
-use Rattle.std.proofs.lemmas.List.{append_assoc, length-append}
-use Rattle.std.specs.List.{starts_with}
-use Rattle.gk_select.specs.Filling.{placeholder, can_stand, header_at, cell_under, filled_at, filled_from, filled, Part, Placeholder, Byte, IsPlaceholder, BeginsWithNone, IsCut, filled_part, FillsByCut}
+use Rattle.gk_select.proofs.Common.{◌≡◌, ℕ, zero, suc, ◌+◌, ◌<◌, Bool, true, false, ◌&&◌, cond, nat_eq, List, [], ◌∷◌, ◌++◌, length, drop, get_or, flat_map, Option, Some, None, refl, sym, ap, subst, ◌⊎◌, ◌∙◌, arith, inl, inr, and_parts, and_from, both_ways, nat_tests, Decides-eqb, starts_is, length-append, starts_with, placeholder, can_stand, header_at, cell_under, filled_at, filled_from, filled, Placeholder, Byte, IsPlaceholder, BeginsWithNone, IsCut, filled_part, FillsByCut, common_steps}
+use Rattle.std.proofs.lemmas.List.{append_assoc}
+use Rattle.gk_select.specs.Filling.{Part}
 
 -- What a look-up of a header means for a text.
 abbrev Means : List (List ℕ) → List ℕ → Option (List ℕ) → Type 0
@@ -32,7 +28,7 @@ was_found false x o h e = inr e
 
 none_of : (headers : List (List ℕ)) (text h rest : List ℕ) (k : ℕ) → header_at headers text ≡ None → k < length headers → get_or headers k h ≡ h → can_stand h ≡ true → text ≡ placeholder h ++ rest → ⊥
 none_of [] text h rest k n l e s is = omega arith
-none_of (x ∷ headers) text h rest (suc k) n l e s is = none_of headers text h rest k (not_found (stands text x) x (header_at headers text) n).1 (omega arith) e s is
+none_of (x ∷ headers) text h rest (suc k) n l e s is = grind (arith, common_steps, none_of headers text h rest k (not_found (stands text x) x (header_at headers text) n).1 (omega arith) e s)
 none_of (x ∷ headers) text h rest zero n l e s is =
     let f : stands text h ≡ false = subst (λ (h : List ℕ). stands text h ≡ false) e (not_found (stands text x) x (header_at headers text) n).0 in
     both_ways (stands text h) f (and_from _ _ s ((starts_is Decides-eqb text (placeholder h) _ refl).1 rest is))

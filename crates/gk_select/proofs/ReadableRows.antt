@@ -1,11 +1,5 @@
 -- Features that the grammar reads have rows as wide as their header, and few enough rules.
-use Rattle.std.proofs.Common.{◌≡◌, ◌<◌, ◌^◌, ℕ, List, Some, length, sym, subst, inl, inr}
-use Rattle.std.specs.List.{AllByRecursion}
-use Rattle.gk_gherkin.specs.Lines.{Lines}
-use Rattle.gk_gherkin.specs.Feature.{RowValue, ExamplesValue, ScenarioValue, RuleValue, FeatureValue}
-use Rattle.gk_gherkin.specs.Grammar.{Many, none, more, HasTable, AreExamples, IsScenario, IsRule, Reads}
-use Rattle.gk_select.specs.Outline.{AllFit}
-use Rattle.gk_select.specs.Expansion.{RowsFit, IsExpandable}
+use Rattle.gk_select.proofs.Common.{◌≡◌, ◌<◌, ◌^◌, ℕ, List, Some, length, sym, subst, inl, inr, arith, AllByRecursion, Lines, RowValue, ExamplesValue, ScenarioValue, FeatureValue, Many, none, more, HasTable, AreExamples, IsScenario, Reads, AllFit, RowsFit, IsExpandable, common_steps}
 
 -- What each part of a kind says holds of all parts in a row.
 each_part : {A : Type 0} (Part : Lines → A → Lines → Type 0) (P : A → Type 0) {ls rest : Lines} {xs : List A} → ((a : Lines) (x : A) (b : Lines) → Part a x b → P x) → Many Part ls xs rest → AllByRecursion P xs
@@ -25,8 +19,5 @@ scenario_fits ls s rest i = each_part AreExamples AllFit examples_fit i.examples
 scenarios_fit : {ls rest : Lines} {scenarios : List ScenarioValue} → Many IsScenario ls scenarios rest → RowsFit scenarios
 scenarios_fit many = each_part IsScenario (λ (s : ScenarioValue). AllByRecursion AllFit s.examples) scenario_fits many
 
-rule_fits : (ls : Lines) (r : RuleValue) (rest : Lines) → IsRule ls r rest → RowsFit r.scenarios
-rule_fits ls r rest i = scenarios_fit i.scenarios
-
 pub expandable : (ls : Lines) (f : FeatureValue) → Reads ls (Some f) → length f.rules < 2 ^ 32 → IsExpandable f
-expandable ls f r counted = (scenarios_fit r.1.container.scenarios, each_part IsRule (λ (r : RuleValue). RowsFit r.scenarios) rule_fits r.1.rules, counted)
+expandable ls f r counted = grind (arith, common_steps, scenarios_fit, each_part)

@@ -1,11 +1,6 @@
 -- What lines whose numbers rise leave for what a part reads from them, and for the lines after it.
-use Rattle.std.proofs.Common.{ℕ, zero, suc, ◌+◌, ◌≤◌, ◌<◌, List, [], ◌∷◌, ◌++◌, length, map, get_or, Option, Some, None, sym, subst, arith, inl, inr}
-use Rattle.std.proofs.lemmas.Grind.{common_steps}
-use Rattle.std.specs.List.Sorted.{IsNonDecreasingBy, IsStrictlyIncreasing}
-use Rattle.gk_gherkin.specs.declared.class.Class.{Class}
-use Rattle.gk_gherkin.specs.Lines.{LineValue, Lines, numbered_from}
-use Rattle.gk_gherkin.specs.Feature.{BlockValue, Empty, Text, Table, StepValue, RowValue, ExamplesValue, BackgroundValue}
-use Rattle.gk_gherkin.specs.Grammar.{IsIgnored, Skips, skip_none, skip, Next, Many, none, more, Perhaps, AreTags, untagged, tagged, IsTaggedHeading, Describes, described, describe, IsRow, IsBlock, IsStep, AreSteps, IsBackground, HasTable, AreExamples}
+use Rattle.gk_select.proofs.Common.{ℕ, zero, suc, ◌+◌, ◌≤◌, ◌<◌, List, [], ◌∷◌, ◌++◌, length, map, get_or, Option, Some, None, sym, subst, arith, inl, inr, common_steps, IsNonDecreasingBy, IsStrictlyIncreasing, Class, LineValue, Lines, numbered_from, BlockValue, Empty, Text, Table, StepValue, RowValue, ExamplesValue, BackgroundValue, IsIgnored, Skips, skip_none, skip, Next, Many, none, more, Perhaps, AreTags, untagged, IsTaggedHeading, Describes, described, describe, IsRow, IsBlock, IsStep, AreSteps, IsBackground, HasTable, AreExamples}
+use Rattle.gk_gherkin.specs.Grammar.{tagged}
 
 -- These numbers rise, from n on, and are below m.
 abbrev pub Between : {A : Type 0} → (A → ℕ) → ℕ → List A → ℕ → Type 0

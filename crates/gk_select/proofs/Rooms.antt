@@ -1,19 +1,5 @@
 -- The room that is left, part after part, and how many steps the cases have.
-use Rattle.std.proofs.Common.{◌≡◌, ◌≤◌, ◌<◌, ℕ, ◌+◌, ◌*◌, nat_lt, true, false, List, [], ◌∷◌, ◌++◌, length, map, flat_map, drop, get_or, suc, Option, Some, is_some, not, refl, sym, ap, ◌∙◌, arith, inl, inr}
-use Rattle.std.proofs.lemmas.Grind.{common_steps}
-use Rattle.std.proofs.lemmas.Bool.{cases_Bool, cond-true, cond-false}
-use Rattle.std.proofs.lemmas.Bool.Decides.{nat_tests}
-use Rattle.std.proofs.lemmas.List.{at_drop_more, drop_all, length-append, length-map}
-use Rattle.std.proofs.lemmas.List.Sums.{sum_by-cons, sum_by-append}
-use Rattle.std.proofs.Math.Nat.{suc-mul}
-use Rattle.std.specs.List.{sum_by, enumerate_from}
-use Rattle.gk_gherkin.specs.Feature.{RowValue, ExamplesValue, ScenarioValue, RuleValue, FeatureValue}
-use Rattle.gk_select.specs.Case.{CaseValue}
-use Rattle.gk_select.specs.Inherited.{InheritedValue, background_steps, inherited_in_rule}
-use Rattle.gk_select.specs.Outline.{is_outline}
-use Rattle.gk_select.specs.Expansion.{row_case, examples_cases, scenario_cases, rule_cases, cases, step_count}
-use Rattle.gk_select.specs.Counting.{left, left_of, examples_steps, scenario_steps, rule_steps, feature_steps}
-use Rattle.gk_select.specs.Filling.{filled, filled_step}
+use Rattle.gk_select.proofs.Common.{◌≡◌, ◌≤◌, ◌<◌, ℕ, ◌+◌, ◌*◌, nat_lt, true, false, List, [], ◌∷◌, ◌++◌, length, map, flat_map, drop, get_or, suc, Option, Some, is_some, not, refl, sym, ap, ◌∙◌, arith, inl, inr, common_steps, cases_Bool, cond-true, cond-false, nat_tests, at_drop_more, drop_all, length-append, length-map, sum_by-cons, sum_by-append, suc-mul, sum_by, enumerate_from, RowValue, ExamplesValue, ScenarioValue, RuleValue, FeatureValue, CaseValue, InheritedValue, background_steps, inherited_in_rule, is_outline, row_case, examples_cases, scenario_cases, rule_cases, cases, step_count, left, left_of, examples_steps, scenario_steps, rule_steps, feature_steps, filled, filled_step}
 
 pub left_add : (room a b : ℕ) → left_of (left room a) b ≡ left room (a + b)
 left_add room a b = grind (arith, nat_tests)

@@ -1,16 +1,5 @@
 -- The rows of outlines, and the lines of their cases.
-use Rattle.std.proofs.Common.{◌≡◌, ℕ, ◌+◌, ◌<◌, ◌≤◌, suc, zero, Bool, true, false, ◌||◌, List, [], ◌∷◌, ◌++◌, length, map, flat_map, drop, get_or, Option, Some, refl, sym, ap, ◌∙◌, arith, add-one, append_assoc, rules}
-use Rattle.std.proofs.lemmas.Grind.{common_steps}
-use Rattle.std.proofs.lemmas.List.{map-append}
-use Rattle.std.specs.Prelude.{zip, slice_get}
-use Rattle.std.specs.List.{enumerate_from}
-use Rattle.gk_gherkin.specs.Feature.{RowValue, ExamplesValue, ScenarioValue}
-use Rattle.gk_select.specs.Case.{CaseValue}
-use Rattle.gk_select.specs.Inherited.{InheritedValue}
-use Rattle.gk_select.specs.Outline.{is_outline, has_examples}
-use Rattle.gk_select.specs.Expansion.{row_case, examples_cases, scenario_cases}
-use Rattle.gk_select.specs.FileOrder.{case_lines}
-use Rattle.gk_select.specs.ExampleRows.{ExampleRowValue, numbered_row, rows_of_examples, rows_of_scenario, row_lines, RowsAreAtCases}
+use Rattle.gk_select.proofs.Common.{◌≡◌, ℕ, ◌+◌, ◌<◌, ◌≤◌, suc, zero, Bool, true, false, ◌||◌, List, [], ◌∷◌, ◌++◌, length, map, flat_map, drop, get_or, Option, Some, refl, sym, ap, ◌∙◌, arith, add-one, append_assoc, rules, common_steps, map-append, zip, slice_get, enumerate_from, RowValue, ExamplesValue, ScenarioValue, CaseValue, InheritedValue, is_outline, has_examples, row_case, examples_cases, scenario_cases, case_lines, ExampleRowValue, numbered_row, rows_of_examples, rows_of_scenario, row_lines, RowsAreAtCases}
 
 numbered_lines : (i : InheritedValue) (s : ScenarioValue) (k : ℕ) (e : ExamplesValue) (n : ℕ) (rows : List RowValue) →
     row_lines (map (numbered_row e.header) (enumerate_from n rows)) ≡ case_lines (map (λ (r : ℕ × RowValue). row_case i s k e r.0 r.1) (enumerate_from n rows))

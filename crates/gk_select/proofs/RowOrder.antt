@@ -1,14 +1,5 @@
 -- The lines of the rows of a feature that the grammar reads rise.
-use Rattle.std.proofs.Common.{ℕ, suc, ◌+◌, List, [], ◌∷◌, map, flat_map, arith}
-use Rattle.std.specs.List.{enumerate_from}
-use Rattle.std.specs.List.Sorted.{IsStrictlyIncreasing}
-use Rattle.std.specs.Str.Lines.{lines}
-use Rattle.gk_gherkin.specs.declared.class.Class.{Class}
-use Rattle.gk_gherkin.specs.declared.class.Class.TheVariants.{RuleHeading, FeatureHeading}
-use Rattle.gk_gherkin.specs.Lines.{LineValue, Lines, lines_of, without_mark}
-use Rattle.gk_gherkin.specs.Feature.{RowValue, ExamplesValue, ScenarioValue, RuleValue, FeatureValue, ContainerValue, rule_container, feature_container}
-use Rattle.gk_gherkin.specs.Grammar.{IsIgnored, IsIgnoredAbove, Many, none, more, AreExamples, IsScenario, IsContainer, IsRule, IsFeature}
-use Rattle.gk_select.specs.ExampleRows.{ExampleRowValue, numbered_row, rows_of_examples, rows_of_scenario, outline_rows, row_lines, RowsAreInFileOrder}
+use Rattle.gk_select.proofs.Common.{ℕ, suc, ◌+◌, List, [], ◌∷◌, map, flat_map, arith, enumerate_from, IsStrictlyIncreasing, lines, Class, RuleHeading, FeatureHeading, LineValue, Lines, lines_of, without_mark, RowValue, ExamplesValue, ScenarioValue, RuleValue, FeatureValue, ContainerValue, rule_container, feature_container, IsIgnored, IsIgnoredAbove, Many, none, more, AreExamples, IsScenario, IsContainer, IsRule, IsFeature, ExampleRowValue, numbered_row, rows_of_examples, rows_of_scenario, outline_rows, row_lines, RowsAreInFileOrder}
 use Rattle.gk_select.proofs.RisingLines.{Between, between_append, between_map, between_increases, Rise, numbered_rise, describes_rise, steps_rise, background_rise, heading_rise, Ends, ends_less, ends_append, no_ends, row_line, examples_end}
 
 abbrev example_line : ExampleRowValue → ℕ

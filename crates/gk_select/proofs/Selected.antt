@@ -1,16 +1,5 @@
 -- The choice among the cases of a feature, made without the cases.
-use Rattle.std.proofs.Common.{◌≡◌, ◌<◌, ℕ, ◌+◌, Bool, List, [], ◌∷◌, ◌++◌, ◌&&◌, length, drop, get_or, map, flat_map, Result, Ok, Err, IfErr, refl, sym, ap, subst, ◌∙◌, arith, append_assoc}
-use Rattle.std.proofs.lemmas.Grind.{common_steps}
-use Rattle.std.proofs.lemmas.Bool.{cases_Bool}
-use Rattle.std.proofs.lemmas.List.{get_or-map, length-append, length-map, map-append}
-use Rattle.std.proofs.lemmas.List.Folds.{length-flat_map-take}
-use Rattle.std.specs.List.{enumerate_from}
-use Rattle.gk_gherkin.specs.Feature.{RowValue, ExamplesValue, ScenarioValue, RuleValue, FeatureValue}
-use Rattle.gk_select.specs.declared.choice.Choice.{Choice}
-use Rattle.gk_select.specs.Choice.{is_chosen, is_at_lines, chosen_by}
-use Rattle.gk_select.specs.Inherited.{InheritedValue, inherited_in_feature}
-use Rattle.gk_select.specs.Expansion.{row_case, examples_cases, scenario_cases, rule_cases, cases}
-use Rattle.gk_select.specs.Selecting.{rules_hold, rows_selected, examples_selected, scenario_selected, rules_selected}
+use Rattle.gk_select.proofs.Common.{◌≡◌, ◌<◌, ℕ, ◌+◌, Bool, List, [], ◌∷◌, ◌++◌, ◌&&◌, length, drop, get_or, map, flat_map, Result, Ok, Err, IfErr, refl, sym, ap, subst, ◌∙◌, arith, append_assoc, common_steps, cases_Bool, get_or-map, length-append, length-map, map-append, length-flat_map-take, enumerate_from, RowValue, ExamplesValue, ScenarioValue, RuleValue, FeatureValue, Choice, is_chosen, is_at_lines, chosen_by, InheritedValue, inherited_in_feature, row_case, examples_cases, scenario_cases, rule_cases, cases, rules_hold, rows_selected, examples_selected, scenario_selected, rules_selected}
 
 rows_are : (choice : Choice) (i : InheritedValue) (s : ScenarioValue) (k : ℕ) (e : ExamplesValue) (n : ℕ) (rows : List RowValue) →
     rows_selected choice (rules_hold choice (i.tags ++ s.tags ++ e.tags)) rows ≡ map (chosen_by choice) (map (λ (r : ℕ × RowValue). row_case i s k e r.0 r.1) (enumerate_from n rows))

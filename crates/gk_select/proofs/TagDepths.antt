@@ -1,17 +1,6 @@
 -- What the words taken so far have built is as deep as it is measured.
-use Rattle.std.proofs.Common.{◌≡◌, ◌⊎◌, ◌≤◌, ◌<◌, ◌+◌, ◌-◌, ◌==◌, ℕ, zero, suc, max, min, nat_le, false, if◌then◌else◌, List, [], ◌∷◌, ◌++◌, length, take, get_or, Option, Some, None, option_and_then, refl, ap, sym, subst, ◌∙◌, arith, length-append, map, drop, inl, inr, Err}
-use Rattle.std.proofs.lemmas.Grind.{common_steps}
-use Rattle.std.proofs.lemmas.List.{map-append, take-append-drop}
-use Rattle.std.proofs.Math.Seq.{get_or-append_seam}
-use Rattle.std.proofs.lemmas.Bool.Decides.{nat_tests}
-use Rattle.gk_select.specs.TagWords.{WordValue, word_value, open_word, close_word, not_word, and_word, or_word, tag_word}
-use Rattle.gk_select.specs.TagGrammar.{Expression, Term, Factor, spelling, depth, term_depth, factor_depth, depth_limit}
-use Rattle.gk_select.specs.TagTrees.{Part, State, waiting, ready, term_from, expression_from, closed, step, run, run_whole, expression_again, first, head, part_of}
-use Rattle.gk_select.specs.TagMeasures.{Measure, measure_before, measure_of, built_value}
-use Rattle.gk_select.specs.declared.tag_words.Word.{Word}
-use Rattle.gk_select.specs.declared.select_fault.SelectFault.{SelectFault}
-use Rattle.gk_select.specs.declared.select_fault.SelectFault.TheVariants.{TooMany, BadTagText, Memory}
-use Rattle.gk_select.specs.SelectFault.{AnswersOrLacksMemory}
+use Rattle.gk_select.proofs.Common.{◌≡◌, ◌⊎◌, ◌≤◌, ◌<◌, ◌+◌, ◌-◌, ◌==◌, ℕ, zero, suc, max, min, false, List, [], ◌∷◌, ◌++◌, length, take, get_or, Option, Some, None, option_and_then, refl, ap, sym, subst, ◌∙◌, arith, map, drop, inl, inr, Err, common_steps, map-append, take-append-drop, get_or-append_seam, nat_tests, WordValue, word_value, open_word, close_word, not_word, and_word, or_word, tag_word, Expression, Term, Factor, spelling, depth, term_depth, factor_depth, depth_limit, Part, State, waiting, ready, closed, step, run, run_whole, expression_again, first, head, part_of, Measure, measure_before, measure_of, built_value, Word, SelectFault, TooMany, BadTagText, Memory, AnswersOrLacksMemory}
+use Rattle.std.proofs.Common.{length-append}
 use Rattle.gk_select.proofs.TagMachine.{spelt_by}
 
 abbrev pub capped : ℕ → ℕ
@@ -39,22 +28,8 @@ measured (ready f p ps) = record { factor = Some (capped (factor_depth f)); behi
 abbrev made : Option ℕ → ℕ → List ℕ → Option Measure
 made f b o = Some (record { factor = f; behind = b; outer = o })
 
-term_deep : (f : Factor) (j : Option Term) → term_depth (term_from f j) ≡ max (factor_depth f) (joined_depth j)
-term_deep f None = omega arith
-term_deep f (Some t) = refl
-
-expression_deep : (t : Term) (l : Option Expression) → depth (expression_from t l) ≡ max (term_depth t) (later_depth l)
-expression_deep t None = omega arith
-expression_deep t (Some e) = refl
-
-max_three : (f j l t d : ℕ) → t ≡ max f j → d ≡ max t l → d ≡ max f (max j l)
-max_three f j l t d x y = omega arith
-
 closed_deep : (f : Factor) (p : Part) → depth (closed f p) ≡ max (factor_depth f) (part_depth p)
-closed_deep f p = max_three (factor_depth f) (joined_depth p.joined) (later_depth p.later) (term_depth (term_from f p.joined)) (depth (closed f p)) (term_deep f p.joined) (expression_deep (term_from f p.joined) p.later)
-
-deeper_is : (n k : ℕ) → n ≡ min k 101 → (if nat_le n 100 then n + 1 else n) ≡ min (k + 1) 101
-deeper_is n k e = grind (arith, nat_tests)
+closed_deep f p = grind (arith, common_steps)
 
 seam : (xs : List ℕ) (x : ℕ) → length (xs ++ x ∷ []) - 1 ≡ length xs
 seam xs x = omega (arith, length-append xs (x ∷ []))
@@ -77,7 +52,7 @@ step_measured open_word (ready f p (q ∷ ps)) = grind (arith, common_steps)
 step_measured close_word (waiting p ps) = refl
 step_measured close_word (ready f p ps) = refl
 step_measured not_word (waiting p ps) = refl
-step_measured not_word (ready f p ps) = ap (λ (k : ℕ). made (Some k) (capped (part_depth p)) (outer_depths ps)) (deeper_is (capped (factor_depth f)) (factor_depth f) refl)
+step_measured not_word (ready f p ps) = grind (arith, common_steps)
 step_measured and_word (waiting p ps) = refl
 step_measured and_word (ready f p ps) = grind (arith, common_steps)
 step_measured or_word (waiting p ps) = refl

@@ -1,11 +1,5 @@
 -- What words of an expression have built has those words.
-use Rattle.std.proofs.Common.{◌≡◌, List, [], ◌∷◌, ◌++◌, map, Option, Some, None, option_and_then, refl, ap, sym, ◌∙◌, append_assoc, append-nil, arith}
-use Rattle.std.proofs.lemmas.Grind.{common_steps}
-use Rattle.gk_select.specs.declared.tag_values.TagRule.{TagRule}
-use Rattle.gk_select.specs.TagRules.{tag_rule_value}
-use Rattle.gk_select.specs.TagWords.{WordValue, word_value, open_word, close_word, not_word, and_word, or_word, tag_word}
-use Rattle.gk_select.specs.TagGrammar.{Expression, Term, Factor, tagged, negated, spelling, term_spelling, factor_spelling, SpeltBy}
-use Rattle.gk_select.specs.TagTrees.{Part, State, waiting, ready, empty, term_from, expression_from, closed, step, run, built_from}
+use Rattle.gk_select.proofs.Common.{◌≡◌, List, [], ◌∷◌, ◌++◌, map, Option, Some, None, option_and_then, refl, ap, sym, ◌∙◌, append_assoc, append-nil, arith, common_steps, TagRule, tag_rule_value, WordValue, word_value, open_word, close_word, not_word, and_word, or_word, tag_word, Expression, Term, Factor, tagged, negated, spelling, term_spelling, factor_spelling, SpeltBy, Part, State, waiting, ready, empty, closed, step, run, built_from}
 
 -- What is built has the words taken so far.
 abbrev pub joined_words : Option Term → List WordValue
@@ -27,16 +21,8 @@ abbrev pub state_words : State → List WordValue
 state_words (waiting p ps) = part_words p ++ outer_words ps
 state_words (ready f p ps) = factor_spelling f ++ (part_words p ++ outer_words ps)
 
-term_words : (f : Factor) (j : Option Term) → term_spelling (term_from f j) ≡ factor_spelling f ++ joined_words j
-term_words f None = sym (append-nil (factor_spelling f))
-term_words f (Some t) = refl
-
-expression_words : (t : Term) (l : Option Expression) → spelling (expression_from t l) ≡ term_spelling t ++ later_words l
-expression_words t None = sym (append-nil (term_spelling t))
-expression_words t (Some e) = refl
-
 closed_words : (f : Factor) (p : Part) → spelling (closed f p) ≡ factor_spelling f ++ part_words p
-closed_words f p = expression_words (term_from f p.joined) p.later ∙ ap (λ (ts : List WordValue). ts ++ later_words p.later) (term_words f p.joined) ∙ append_assoc (factor_spelling f) (joined_words p.joined) (later_words p.later)
+closed_words f p = grind (arith, common_steps, append_assoc)
 
 step_words : (w : WordValue) (s s' : State) → step w s ≡ Some s' → state_words s' ≡ w ∷ state_words s
 step_words open_word (waiting p ps) s' e = let no : ⊥ = cc e in absurd no

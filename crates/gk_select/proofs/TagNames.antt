@@ -1,7 +1,5 @@
 -- The tags among the words of an expression are those that it names.
-use Rattle.std.proofs.Common.{◌≡◌, ℕ, List, [], ◌∷◌, ◌++◌, refl, ap, ap₂, sym, ◌∙◌, append-nil}
-use Rattle.gk_select.specs.TagWords.{WordValue, open_word, close_word, not_word, and_word, or_word, tag_word, tags_among}
-use Rattle.gk_select.specs.TagGrammar.{Expression, one_term, or_terms, Term, one_factor, and_factors, Factor, tagged, negated, grouped, spelling, term_spelling, factor_spelling, tags_in, term_tags, factor_tags}
+use Rattle.gk_select.proofs.Common.{◌≡◌, ℕ, List, [], ◌∷◌, ◌++◌, refl, ap, ap₂, sym, ◌∙◌, append-nil, WordValue, open_word, close_word, not_word, and_word, or_word, tag_word, tags_among, Expression, one_term, or_terms, Term, one_factor, and_factors, Factor, tagged, negated, grouped, spelling, term_spelling, factor_spelling, tags_in, term_tags, factor_tags}
 
 among-append : (before after : List WordValue) → tags_among (before ++ after) ≡ tags_among before ++ tags_among after
 among-append [] after = refl

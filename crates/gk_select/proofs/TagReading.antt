@@ -1,16 +1,5 @@
 -- A text spells one rule, whichever form it has.
-use Rattle.std.proofs.Common.{◌≡◌, ◌⊎◌, ◌≤◌, ◌<◌, ℕ, true, false, List, [], ◌∷◌, length, map, get_or, slice_index_or, Option, Some, IsSome, Result, Ok, Err, IfOk, IfErr, refl, sym, ap, subst, ◌∙◌, arith, inl, inr}
-use Rattle.std.specs.List.{list_any}
-use Rattle.gk_select.specs.declared.select_fault.SelectFault.{SelectFault}
-use Rattle.gk_select.specs.declared.select_fault.SelectFault.TheVariants.{TooMany, BadTagText, Memory}
-use Rattle.gk_select.specs.declared.tag_values.TagRule.{TagRule}
-use Rattle.gk_select.specs.Alternatives.{AlternativeValue, alternative, alternative_holds, pieces, or_of, ReadsAlternatives}
-use Rattle.gk_select.specs.SelectFault.{AnswersOrLacksMemory}
-use Rattle.gk_select.specs.TagGrammar.{Expression, spelling, depth, depth_limit}
-use Rattle.gk_select.specs.TagRules.{tag_rule_value, ReadsTags, ReadsNewForm, SpellsNone}
-use Rattle.gk_select.specs.TagTrees.{one_expression}
-use Rattle.gk_select.specs.TagValues.{holds}
-use Rattle.gk_select.specs.TagWords.{WordValue, AreWords, is_of_new_form, words_of_text, word_said}
+use Rattle.gk_select.proofs.Common.{◌≡◌, ◌⊎◌, ◌≤◌, ◌<◌, ℕ, true, false, List, [], ◌∷◌, length, map, get_or, slice_index_or, Option, Some, IsSome, Result, Ok, Err, IfOk, IfErr, refl, sym, ap, subst, ◌∙◌, arith, inl, inr, list_any, SelectFault, TooMany, BadTagText, Memory, TagRule, AlternativeValue, alternative, alternative_holds, pieces, or_of, ReadsAlternatives, AnswersOrLacksMemory, Expression, spelling, depth, depth_limit, tag_rule_value, ReadsTags, ReadsNewForm, SpellsNone, one_expression, holds, WordValue, AreWords, is_of_new_form, words_of_text, word_said}
 use Rattle.gk_select.proofs.AlternativeWords.{no_pieces, one_list, or_value}
 use Rattle.gk_select.proofs.TagTextWords.{one_words}
 

@@ -1,13 +1,5 @@
 -- What the words taken so far show of an expression's value.
-use Rattle.std.proofs.Common.{◌≡◌, ◌≤◌, ◌+◌, ◌-◌, ◌==◌, ℕ, zero, suc, Bool, true, false, not, ◌&&◌, ◌||◌, if◌then◌else◌, List, [], ◌∷◌, length, map, Option, Some, None, option_and_then, refl, ap, sym, subst, ◌∙◌, arith}
-use Rattle.std.specs.List.{list_any}
-use Rattle.std.proofs.lemmas.Bool.Decides.{nat_tests}
-use Rattle.gk_select.specs.TagWords.{WordValue, open_word, close_word, not_word, and_word, or_word, tag_word}
-use Rattle.gk_select.specs.TagGrammar.{Expression, Term, Factor, tagged, negated, grouped, spelling}
-use Rattle.gk_select.specs.TagValues.{seen_before, seen_of, seen_value, seen_depth, holds, term_holds, factor_holds}
-use Rattle.gk_select.specs.TagTrees.{Part, State, waiting, ready, empty, term_from, expression_from, closed, step, run, run_whole, expression_again, first, head, part_of}
-use Rattle.gk_select.specs.declared.tag_values.Seen.{Seen}
-use Rattle.gk_select.specs.declared.tag_values.Seen.TheVariants.{Value, Failed, Held}
+use Rattle.gk_select.proofs.Common.{◌≡◌, ◌≤◌, ◌+◌, ◌-◌, ◌==◌, ℕ, zero, suc, Bool, true, false, not, ◌&&◌, ◌||◌, if◌then◌else◌, List, [], ◌∷◌, length, map, Option, Some, None, option_and_then, refl, ap, sym, subst, ◌∙◌, arith, list_any, WordValue, open_word, close_word, not_word, and_word, or_word, tag_word, Expression, Term, Factor, tagged, negated, grouped, spelling, seen_before, seen_of, seen_value, seen_depth, holds, term_holds, factor_holds, Part, State, waiting, ready, empty, term_from, closed, step, run, run_whole, expression_again, first, head, part_of, Seen, Value, Failed, Held, common_steps}
 
 pub list_any-map : {X Y : Type 0} (test : Y → Bool) (f : X → Y) (xs : List X) → list_any (λ (x : X). test (f x)) xs ≡ list_any test (map f xs)
 list_any-map test f [] = refl
@@ -33,12 +25,8 @@ term_value : (tags : List (List ℕ)) (f : Factor) (j : Option Term) → term_ho
 term_value tags f None = and_true (factor_holds f tags)
 term_value tags f (Some t) = refl
 
-expression_value : (tags : List (List ℕ)) (t : Term) (l : Option Expression) → holds (expression_from t l) tags ≡ term_holds t tags || later_holds tags l
-expression_value tags t None = or_false (term_holds t tags)
-expression_value tags t (Some e) = refl
-
 closed_value : (tags : List (List ℕ)) (f : Factor) (p : Part) → holds (closed f p) tags ≡ (factor_holds f tags && joined_holds tags p.joined) || later_holds tags p.later
-closed_value tags f p = expression_value tags (term_from f p.joined) p.later ∙ ap (λ (b : Bool). b || later_holds tags p.later) (term_value tags f p.joined)
+closed_value tags f p = grind (arith, common_steps, term_value)
 
 -- A part that leaves the value to what comes before it; one that fails its term; one that holds.
 abbrev IsNeutral : List (List ℕ) → Part → Type 0
@@ -79,18 +67,11 @@ also_holds : (b l : Bool) → l ≡ true → b || l ≡ true
 also_holds true l x = refl
 also_holds false l x = x
 
-and_fails : (f j : Bool) → j ≡ false → f && j ≡ false
-and_fails true j x = x
-and_fails false j x = refl
-
 less : (d : ℕ) → suc d - 1 ≡ d
 less d = omega arith
 
-not_zero : (d : ℕ) → (suc d == 0) ≡ false
-not_zero d = grind (arith, nat_tests)
-
 over : (tags : List (List ℕ)) (s : State) (d : ℕ) (x y : Seen) → Shows tags s y → Shows tags s (if suc d == 0 then x else y)
-over tags s d x y h = subst (λ (b : Bool). Shows tags s (if b then x else y)) (sym (not_zero d)) h
+over tags s d x y h = grind (arith, common_steps)
 
 -- One more word, where the state goes on.
 goes_open : (tags : List (List ℕ)) (f : Factor) (p q : Part) (ps : List Part) (seen : Seen) → Shows tags (ready f p (q ∷ ps)) seen → Shows tags (ready (grouped (closed f p)) q ps) (seen_before tags open_word seen)
@@ -117,7 +98,7 @@ goes_and : (tags : List (List ℕ)) (f : Factor) (p : Part) (ps : List Part) (se
     → Shows tags (waiting (record { joined = Some (term_from f p.joined); later = p.later }) ps) (seen_before tags and_word seen)
 goes_and tags f p ps (Value true) h = ((term_value tags f p.joined ∙ rw (h.0, h.1.0.0) refl, h.1.0.1), h.1.1)
 goes_and tags f p ps (Value false) h = ((term_value tags f p.joined ∙ rw h.0 refl, h.1.0.1), h.1.1)
-goes_and tags f p ps (Failed zero) h = ((term_value tags f p.joined ∙ and_fails _ _ h.0.0, h.0.1), h.1)
+goes_and tags f p ps (Failed zero) h = grind (arith, common_steps, term_value)
 goes_and tags f p ps (Failed (suc d)) h = h
 goes_and tags f p ps (Held zero) h = h
 goes_and tags f p ps (Held (suc d)) h = h

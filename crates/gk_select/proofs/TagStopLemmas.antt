@@ -1,15 +1,5 @@
 -- A text that spells a rule stops nowhere, and the words of any other are followed to where it stops.
-use Rattle.std.proofs.Common.{◌≡◌, ◌+◌, ◌-◌, ◌==◌, ◌<◌, ℕ, suc, Bool, true, false, not, if◌then◌else◌, List, [], ◌∷◌, ◌++◌, map, length, take, drop, get_or, Option, Some, None, option_and_then, option_map, refl, ap, sym, ◌∙◌, arith, append_assoc, append-nil, drop-cons, inl, inr}
-use Rattle.std.proofs.lemmas.Grind.{common_steps}
-use Rattle.std.specs.Prelude.{is_some, find}
-use Rattle.std.proofs.lemmas.List.{take-append-drop}
-use Rattle.gk_select.specs.Alternatives.{AlternativeValue, alternative, pieces}
-use Rattle.gk_select.specs.TagGrammar.{Expression, one_term, or_terms, Term, one_factor, and_factors, Factor, tagged, negated, grouped, spelling, term_spelling, factor_spelling}
-use Rattle.gk_select.specs.TagRules.{ReadsTags}
-use Rattle.gk_select.specs.TagStops.{StopValue, first_place, place_after, wanted_at, stop_at_end, unless_after, stop_in, stop_in_pieces, tag_stop}
-use Rattle.gk_select.specs.TagWords.{WordValue, close_word, and_word, or_word, words_of_text, word_said, first_word}
-use Rattle.gk_select.specs.declared.tag_stops.TagPlace.{TagPlace}
-use Rattle.gk_select.specs.declared.tag_stops.Wanted.TheVariants.{Alternative}
+use Rattle.gk_select.proofs.Common.{◌≡◌, ◌+◌, ◌-◌, ◌==◌, ◌<◌, ℕ, suc, Bool, true, false, not, if◌then◌else◌, List, [], ◌∷◌, ◌++◌, map, length, take, drop, get_or, Option, Some, None, option_and_then, option_map, refl, ap, sym, ◌∙◌, arith, append_assoc, append-nil, drop-cons, inl, inr, common_steps, is_some, find, take-append-drop, AlternativeValue, alternative, pieces, Expression, one_term, or_terms, Term, one_factor, and_factors, Factor, tagged, negated, grouped, spelling, term_spelling, factor_spelling, ReadsTags, StopValue, first_place, place_after, wanted_at, stop_at_end, unless_after, stop_in, stop_in_pieces, tag_stop, WordValue, close_word, and_word, or_word, words_of_text, word_said, first_word, TagPlace, Alternative}
 
 -- One word more: it may stand there, or the text stops at it.
 pub goes_on : (place next : TagPlace) (rest after word : List ℕ) → words_of_text rest ≡ word ∷ words_of_text after → Some next ≡ place_after place (word_said word) → stop_in place (words_of_text rest) ≡ stop_in next (words_of_text after)
@@ -98,9 +88,6 @@ Passes texts = (others : List (List ℕ)) → stop_in_pieces (texts ++ others) �
 piece_stops : (v : Bool) (piece : List ℕ) (others : List (List ℕ)) → v ≡ is_some (alternative piece) → v ≡ false → stop_in_pieces (piece ∷ others) ≡ Some (record { at = Some piece; wanted = Alternative })
 piece_stops v piece others is none = ap (λ (b : Bool). option_map (λ (p : List ℕ). record { at = Some p; wanted = Alternative }) (if not b then Some piece else find (λ text. not (is_some (alternative text))) others)) (sym is ∙ none)
 
-piece_passes : (v : Bool) (piece : List ℕ) (others : List (List ℕ)) → v ≡ is_some (alternative piece) → v ≡ true → stop_in_pieces (piece ∷ others) ≡ stop_in_pieces others
-piece_passes v piece others is one = ap (λ (b : Bool). option_map (λ (p : List ℕ). record { at = Some p; wanted = Alternative }) (if not b then Some piece else find (λ text. not (is_some (alternative text))) others)) (sym is ∙ one)
-
 pub stops_at_piece : (texts so_far : List (List ℕ)) (k : ℕ) (piece : List ℕ) → so_far ≡ take k texts → k < length texts → piece ≡ get_or texts k piece → Passes so_far → (v : Bool) → v ≡ is_some (alternative piece) → v ≡ false
     → stop_in_pieces texts ≡ Some (record { at = Some piece; wanted = Alternative })
 stops_at_piece texts so_far k piece taken within is passes v of none =
@@ -108,7 +95,7 @@ stops_at_piece texts so_far k piece taken within is passes v of none =
     ∙ ap stop_in_pieces (drop-cons texts k piece within ∙ ap (λ (p : List ℕ). p ∷ drop (suc k) texts) (sym is)) ∙ piece_stops v piece (drop (suc k) texts) of none
 
 pub passes_piece : (so_far more : List (List ℕ)) (piece : List ℕ) → Passes so_far → more ≡ so_far ++ piece ∷ [] → (v : Bool) → v ≡ is_some (alternative piece) → v ≡ true → Passes more
-passes_piece so_far more piece passes is v of one = λ others. ap (λ ts. stop_in_pieces (ts ++ others)) is ∙ ap stop_in_pieces (append_assoc so_far (piece ∷ []) others) ∙ passes (piece ∷ others) ∙ piece_passes v piece others of one
+passes_piece so_far more piece passes is v of one = grind (arith, common_steps, append_assoc)
 
 pub passes_all : (text : List ℕ) (so_far : List (List ℕ)) → so_far ≡ pieces text → Passes so_far → None ≡ stop_in_pieces (pieces text)
 passes_all text so_far is passes = sym (ap stop_in_pieces (sym is ∙ sym (append-nil so_far)) ∙ passes [])

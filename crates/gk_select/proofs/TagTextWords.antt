@@ -1,28 +1,11 @@
 -- The words of a text, one after the other.
-use Rattle.gk_select.specs.declared.select_fault.SelectFault.{SelectFault}
-use Rattle.gk_select.specs.declared.select_fault.SelectFault.TheVariants.{TooMany, BadTagText, Memory}
-use Rattle.gk_select.specs.SelectFault.{AnswersOrLacksMemory}
-use Rattle.std.proofs.Common.{Err, inl, inr, ◌≡◌, ◌⊎◌, ℕ, zero, suc, ◌<◌, ◌≤◌, Bool, true, false, ◌||◌, if◌then◌else◌, List, [], ◌∷◌, ◌++◌, length, map, take, drop, get_or, Option, Some, None, IsSome, refl, ap, sym, subst, ◌∙◌, arith, append-nil}
-use Rattle.std.proofs.lemmas.Grind.{common_steps}
-use Rattle.std.proofs.lemmas.Bool.Decides.{nat_tests}
-use Rattle.std.proofs.lemmas.Str.{IsCharBoundary-after_ascii}
-use Rattle.std.specs.Str.{IsUtf8, IsCharBoundary}
-use Rattle.gk_gherkin.specs.Text.{is_blank}
-use Rattle.gk_select.specs.TagWords.{FirstWord, first_word, words_with_first, words_of_text, is_parenthesis, is_of_new_form, WordValue, word_value, word_said, AreWords}
-
-pub cut_ascii : (b : ℕ) → is_of_new_form b ≡ true → b < 128
-cut_ascii b h = grind (arith, nat_tests)
+use Rattle.gk_select.proofs.Common.{SelectFault, TooMany, BadTagText, Memory, AnswersOrLacksMemory, Err, inl, inr, ◌≡◌, ◌⊎◌, ℕ, zero, suc, ◌<◌, ◌≤◌, Bool, true, false, ◌||◌, if◌then◌else◌, List, [], ◌∷◌, ◌++◌, length, map, take, drop, get_or, Option, Some, None, IsSome, refl, ap, sym, subst, ◌∙◌, arith, append-nil, common_steps, IsCharBoundary-after_ascii, IsUtf8, IsCharBoundary, is_blank, FirstWord, first_word, words_with_first, words_of_text, is_parenthesis, is_of_new_form, WordValue, word_value, word_said, AreWords}
 
 -- What a byte does, by the tests of it.
 abbrev by_tests : Bool → Bool → ℕ → FirstWord → FirstWord
 by_tests x y b word =
     if x then record { front = []; after = words_with_first word } else
     (if y then record { front = []; after = (b ∷ []) ∷ words_with_first word } else record { front = b ∷ word.front; after = word.after })
-
-begins_none : (x y : Bool) (b : ℕ) (c : FirstWord) → x || y ≡ true → by_tests x y b c ≡ record { front = []; after = (by_tests x y b c).after }
-begins_none true y b c h = refl
-begins_none false true b c h = refl
-begins_none false false b c h = let no : ⊥ = cc h in absurd no
 
 goes_on : (x y : Bool) (b : ℕ) (c : FirstWord) → x || y ≡ false → by_tests x y b c ≡ record { front = b ∷ c.front; after = c.after }
 goes_on true y b c h = let no : ⊥ = cc h in absurd no
@@ -35,7 +18,7 @@ front_at : (t : List ℕ) (n : ℕ) → n ≤ length t → ((k : ℕ) → k < n 
 unfolding first_word
 front_at [] zero le before at = (refl, refl)
 front_at [] (suc n) le before at = absurd (omega arith)
-front_at (b ∷ t) zero le before at = let e = begins_none (is_blank b) (is_parenthesis b) b (first_word t) (at (omega arith)) in (e, e)
+front_at (b ∷ t) zero le before at = grind (arith, common_steps)
 front_at (b ∷ t) (suc n) le before at =
     let r = front_at t n (omega arith) (λ k l. before (suc k) (omega arith)) (λ l. at (omega arith)) in
     (goes_on (is_blank b) (is_parenthesis b) b (first_word t) (before 0 (omega arith)) ∙ ap (λ (c : FirstWord). record { front = b ∷ c.front; after = c.after }) r.0, r.1)
@@ -62,7 +45,7 @@ word_is t n some le before at = grind (arith, common_steps, front_at, some_word,
 pub byte_is : (t : List ℕ) → 0 < length t → is_of_new_form (get_or t 0 0) ≡ true → words_of_text t ≡ (if is_blank (get_or t 0 0) then [] else take 1 t ∷ []) ++ words_of_text (drop 1 t)
 unfolding first_word
 byte_is [] some at = absurd (omega arith)
-byte_is (b ∷ t) some at = one_byte (is_blank b) (is_parenthesis b) b (first_word t) at
+byte_is (b ∷ t) some at = grind (arith, common_steps)
 
 -- Words that are read, and those that are left.
 abbrev pub Reads : List ℕ → List WordValue → List ℕ → Type 0
@@ -94,7 +77,7 @@ at_start : (t : List ℕ) (n : ℕ) → n ≡ 0 → 0 < length t → (n < length
 at_start t n e some at = subst (λ (k : ℕ). is_of_new_form (get_or t k 0) ≡ true) e (at (omega arith))
 
 pub edge_one : (t : List ℕ) (n : ℕ) → n ≡ 0 → IsUtf8 t → 0 < length t → (n < length t → is_of_new_form (get_or t n 0) ≡ true) → IsCharBoundary t 1
-edge_one t n e u some at = IsCharBoundary-after_ascii t 0 u some (cut_ascii (get_or t 0 0) (at_start t n e some at))
+edge_one t n e u some at = grind (arith, common_steps, IsCharBoundary-after_ascii, at_start)
 
 pub byte_word : (t : List ℕ) (n : ℕ) → n ≡ 0 → 0 < length t → (n < length t → is_of_new_form (get_or t n 0) ≡ true) → words_of_text t ≡ (if is_blank (get_or t 0 0) then [] else take 1 t ∷ []) ++ words_of_text (drop 1 t)
 byte_word t n e some at = byte_is t some (at_start t n e some at)

@@ -1,7 +1,5 @@
 -- Under no header a text stays as it is.
-use Rattle.std.proofs.Common.{◌≡◌, ℕ, List, [], ◌∷◌, map, refl, ap}
-use Rattle.gk_gherkin.specs.Feature.{BlockValue, Empty, Text, Table, StepValue}
-use Rattle.gk_select.specs.Filling.{filled, filled_from, filled_block, filled_step}
+use Rattle.gk_select.proofs.Common.{◌≡◌, ℕ, List, [], ◌∷◌, map, refl, ap, BlockValue, Empty, Text, Table, StepValue, filled, filled_from, filled_block, filled_step}
 
 unfilled_text : (text : List ℕ) → filled [] [] text ≡ text
 unfolding filled filled_from

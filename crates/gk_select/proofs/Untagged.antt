@@ -1,14 +1,6 @@
 -- The cases of a feature without its tags.
-use Rattle.std.proofs.Common.{◌≡◌, ℕ, ◌+◌, List, [], ◌∷◌, length, map, flat_map, refl, sym, ap, ◌∙◌, arith}
-use Rattle.std.proofs.lemmas.Grind.{common_steps}
-use Rattle.std.proofs.lemmas.Bool.{cases_Bool}
-use Rattle.std.proofs.lemmas.List.{map-append, length-map}
-use Rattle.std.specs.List.{AllByRecursion, sum_by, enumerate_from}
-use Rattle.gk_gherkin.specs.Feature.{RowValue, ExamplesValue, ScenarioValue, RuleValue, FeatureValue}
-use Rattle.gk_select.specs.Case.{CaseValue}
-use Rattle.gk_select.specs.Inherited.{InheritedValue, inherited_in_feature, inherited_in_rule}
-use Rattle.gk_select.specs.Expansion.{row_case, examples_cases, scenario_cases, rule_cases, cases, RowsFit}
-use Rattle.gk_select.specs.OwnTags.{with_own_tags, untagged_rule, untagged, HasSameCasesUntagged}
+use Rattle.gk_select.proofs.Common.{◌≡◌, ℕ, ◌+◌, List, [], ◌∷◌, length, map, flat_map, refl, sym, ap, ◌∙◌, arith, common_steps, cases_Bool, map-append, length-map, AllByRecursion, sum_by, enumerate_from, RowValue, ExamplesValue, ScenarioValue, RuleValue, FeatureValue, CaseValue, InheritedValue, inherited_in_feature, inherited_in_rule, row_case, examples_cases, scenario_cases, rule_cases, cases, RowsFit, with_own_tags, untagged_rule, HasSameCasesUntagged}
+use Rattle.gk_select.specs.OwnTags.{untagged}
 
 abbrev untagged_part : InheritedValue → InheritedValue
 untagged_part i = record { rule = i.rule; tags = []; steps = i.steps }
@@ -50,7 +42,7 @@ steps_in cs = sum_by (λ (c : CaseValue). length c.steps) cs
 
 steps_kept : (cs : List CaseValue) → steps_in (map with_own_tags cs) ≡ steps_in cs
 steps_kept [] = refl
-steps_kept (c ∷ cs) = grind (arith, common_steps, steps_kept cs)
+steps_kept (c ∷ cs) = grind (arith, common_steps)
 
 rows_fit : (rules : List RuleValue) → AllByRecursion (λ (r : RuleValue). RowsFit r.scenarios) rules → AllByRecursion (λ (r : RuleValue). RowsFit r.scenarios) (map untagged_rule rules)
 rows_fit [] fit = tt

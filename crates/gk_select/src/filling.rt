@@ -67,7 +67,9 @@ pub fn fill(
     ensures { IfOk result (λ s.
         string_bytes s ≡ filled columns.now (texts row.now) text.now) }
 {
-    let mut filled = String::with_capacity(alloc, text.len())?;
+    // A cell may be a little longer than its placeholder.
+    let room = text.len().saturating_add(8);
+    let mut filled = String::with_capacity(alloc, room)?;
     push_filled(&mut filled, text, columns, row)?;
     Ok(filled)
 }

@@ -83,12 +83,9 @@ fn first_cut(text: &[u8]) -> usize
     ensures at { result < length text.now →
         spec.is_of_new_form (slice_index text.now result) ≡ true }
 {
-    for (i, byte) in text.iter().enumerate() {
-        if is_of_new_form(*byte) {
-            return i;
-        }
-    }
-    text.len()
+    text.iter()
+        .position(|byte| is_of_new_form(*byte))
+        .unwrap_or(text.len())
 }
 
 /// Returns the end of the word at the front of a text, or of the space or tab there.

@@ -1,8 +1,5 @@
 -- The table of actions, as the code has it.
-use Rattle.std.proofs.Common.{◌≡◌, ℕ, Bool, true, false, cond, List, [], ◌∷◌, map, find, Option, Some, option_map, refl}
-use Rattle.std.specs.Str.{bytes_eq}
-use Rattle.gk_steps.specs.declared.action.ActionRow.{ActionRow}
-use Rattle.gk_steps.specs.Action.{ActionRowValue, action_row_value, row_among}
+use Rattle.gk_steps.proofs.Common.{◌≡◌, ℕ, Bool, true, false, cond, List, [], ◌∷◌, map, find, Option, Some, option_map, refl, bytes_eq, ActionRow, ActionRowValue, action_row_value, row_among}
 
 value_here : (v : Bool) (row : ActionRow) (o : Option ActionRow) (q : Option ActionRowValue) → option_map action_row_value o ≡ q → option_map action_row_value (cond v (Some row) o) ≡ cond v (Some (action_row_value row)) q
 value_here true row o q e = refl

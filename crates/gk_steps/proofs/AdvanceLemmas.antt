@@ -1,20 +1,6 @@
 -- The steps that the code takes.
-use Rattle.std.proofs.Common.{◌≡◌, ℕ, zero, suc, ◌<◌, ◌≤◌, Bool, true, false, List, [], ◌∷◌, ◌++◌, length, drop, get_or, Option, Some, None, ap, ◌∙◌, arith}
-use Rattle.std.proofs.lemmas.Grind.{common_steps}
-use Rattle.std.specs.Prelude.{String, string_bytes, IsUtf8}
-use Rattle.std.proofs.lemmas.Str.{IsUtf8-between, IsUtf8-string_bytes}
-use Rattle.gk_steps.specs.declared.pattern.FieldKind.TheVariants.{Plain, Decimal}
-use Rattle.std.specs.declared.alloc.Global.{Global}
-use Rattle.gk_steps.specs.declared.pattern.FieldKind.{FieldKind}
-use Rattle.gk_steps.specs.declared.pattern.Piece.{Piece}
+use Rattle.gk_steps.proofs.Common.{◌≡◌, ℕ, zero, suc, ◌<◌, ◌≤◌, Bool, true, false, List, [], ◌∷◌, ◌++◌, length, drop, get_or, Option, Some, None, ap, ◌∙◌, arith, common_steps, String, string_bytes, IsUtf8, IsUtf8-between, IsUtf8-string_bytes, Plain, Decimal, Global, FieldKind, Piece, PieceValue, Literal, FieldPiece, piece_value, AllDigits, IsSpan, AreBoundaries, part, IsAdvanceTo, IsAdvance, IsNearest}
 use Rattle.gk_steps.specs.declared.pattern.Piece.TheVariants as pieces
-use Rattle.gk_steps.specs.Pattern.{PieceValue, Literal, FieldPiece, piece_value}
-use Rattle.std.specs.Char.{digit_value}
-use Rattle.std.specs.Str.Parse.{AllDigits}
-use Rattle.std.proofs.lemmas.Bool.Decides.{nat_tests}
-use Rattle.gk_steps.specs.Matching.{IsSpan}
-use Rattle.gk_steps.specs.CharBoundaries.{AreBoundaries}
-use Rattle.gk_steps.specs.Advances.{part, IsAdvanceTo, IsAdvance, IsNearest}
 use Rattle.gk_steps.proofs.TableLemmas.{IsTextPiece, cut_at, part_size}
 
 -- a step over a literal
@@ -50,12 +36,9 @@ named name text boundaries row c None none = λ d s. none d (rename_back name te
 named name text boundaries row c (Some d) s = (rename name text boundaries row c d s.0, λ e t. s.1 e (rename_back name text boundaries row c e t))
 
 -- the digits of a number
-digit_range : (b : ℕ) → digit_value b < 10 → (48 ≤ b) × (b < 58)
-digit_range b h = let low : 48 ≤ b = grind (arith, nat_tests) in let high : b < 58 = grind (arith, nat_tests) in (low, high)
-
 pub digits_range : (ds : List ℕ) → AllDigits 10 ds → (i : ℕ) → i < length ds → (48 ≤ get_or ds i 0) × (get_or ds i 0 < 58)
 digits_range [] h i l = absurd (omega arith)
-digits_range (b ∷ bs) h zero l = digit_range b h.0
+digits_range (b ∷ bs) h zero l = grind (arith, common_steps)
 digits_range (b ∷ bs) h (suc i) l = digits_range bs h.1 i (omega arith)
 
 pub decimal_some : (x : List ℕ) → IsSpan Decimal x → 0 < length x

@@ -1,16 +1,5 @@
 -- The computed match of a pattern is the preferred one.
-use Rattle.std.proofs.Common.{◌≡◌, ℕ, ◌+◌, ◌<◌, ◌⊎◌, inl, inr, Bool, true, false, nat_lt, List, [], ◌∷◌, ◌++◌, length, take, drop, nat_eq, Option, Some, None, option_map, refl, ap, sym, ◌∙◌, arith, append_assoc, length-append}
-use Rattle.std.proofs.lemmas.Grind.{common_steps}
-use Rattle.std.specs.List.{starts_with}
-use Rattle.std.specs.Str.{is_utf8}
-use Rattle.std.proofs.lemmas.Str.{IsUtf8-from_is_utf8, is_utf8-from_IsUtf8}
-use Rattle.std.proofs.lemmas.List.{take-append-drop}
-use Rattle.std.proofs.Math.Seq.{take-append_seam}
-use Rattle.std.proofs.lemmas.Slice.Eq.{bytes_eq-Decides}
-use Rattle.gk_steps.specs.declared.pattern.FieldKind.{FieldKind}
-use Rattle.gk_steps.specs.declared.pattern.FieldKind.TheVariants.{Plain, Decimal}
-use Rattle.gk_steps.specs.Pattern.{PieceValue, Literal, FieldPiece}
-use Rattle.gk_steps.specs.Matching.{IsSpan, woven, Matches, MatchesNot, IsPreferred, IsBestMatch, IsMatchResult, span_values, is_span, rest_where, spans_with, shortest_match, longest_match, field_match, best_match, match_of}
+use Rattle.gk_steps.proofs.Common.{◌≡◌, ℕ, ◌+◌, ◌<◌, ◌⊎◌, inl, inr, Bool, true, false, nat_lt, List, [], ◌∷◌, ◌++◌, length, take, drop, nat_eq, Option, Some, None, option_map, refl, ap, sym, ◌∙◌, arith, append_assoc, length-append, common_steps, starts_with, is_utf8, IsUtf8-from_is_utf8, is_utf8-from_IsUtf8, take-append-drop, take-append_seam, bytes_eq-Decides, FieldKind, Plain, Decimal, PieceValue, Literal, FieldPiece, IsSpan, woven, Matches, MatchesNot, IsPreferred, IsBestMatch, IsMatchResult, is_span, rest_where, spans_with, shortest_match, longest_match, field_match, best_match, match_of}
 use Rattle.gk_steps.proofs.DecimalLemmas.{and_left, and_right, both, less_so, less_test, number_so, number_test}
 use Rattle.gk_steps.proofs.MatchingLemmas.{same_prefix, same_back}
 
@@ -31,10 +20,6 @@ not_empty Decimal (c ∷ cs) h = omega arith
 abbrev pub IsBestResult : List PieceValue → List ℕ → Option (List (List ℕ)) → Type 0
 IsBestResult ps text None = MatchesNot ps text
 IsBestResult ps text (Some spans) = IsBestMatch ps text spans
-
-as_result : (ps : List PieceValue) (text : List ℕ) (o : Option (List (List ℕ))) → IsBestResult ps text o → IsMatchResult ps text (option_map (span_values ps) o)
-as_result ps text None h = h
-as_result ps text (Some spans) h = (spans, h, refl)
 
 -- a text that begins with a literal is the literal and the rest
 pub begins_so : (text word : List ℕ) → starts_with nat_eq text word ≡ true → text ≡ word ++ drop (length word) text
@@ -162,4 +147,4 @@ best_match_is (FieldPiece name kind ∷ ps) text = field_is name kind ps (best_m
 
 pub match_of_is : (ps : List PieceValue) (text : List ℕ) → IsMatchResult ps text (match_of ps text)
 unfolding match_of
-match_of_is ps text = as_result ps text (best_match ps text) (best_match_is ps text)
+match_of_is ps text = grind (arith, common_steps, best_match_is)

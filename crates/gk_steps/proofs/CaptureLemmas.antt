@@ -1,18 +1,6 @@
 -- What is kept of a match, and of what is found.
-use Rattle.std.proofs.Common.{◌≡◌, ◌<◌, inl, inr, ℕ, ◌++◌, Bool, true, false, List, [], ◌∷◌, length, ap, map, take, Option, Some, None, refl, sym, subst, ◌∙◌, arith}
-use Rattle.std.proofs.lemmas.Grind.{common_steps}
-use Rattle.std.proofs.lemmas.Bool.Decides.{nat_tests}
-use Rattle.std.proofs.lemmas.List.{append-nil, append_assoc, take-map}
-use Rattle.std.specs.Prelude.{Result, Ok, Err, IfOk, ◌==◌}
-use Rattle.std.specs.declared.alloc.AllocError.{AllocError}
-use Rattle.gk_gherkin.specs.declared.feature.StepType.{StepType}
-use Rattle.gk_steps.specs.declared.library.Entry.{Entry}
-use Rattle.gk_steps.specs.Pattern.{PieceValue, Literal}
-use Rattle.gk_steps.specs.Library.{are_for_each_from}
-use Rattle.gk_steps.specs.Matching.{FieldValue, IsMatchResult}
-use Rattle.gk_steps.specs.Finding.{FoundValue, LibraryValue, entry_value, found, found_any}
-use Rattle.gk_steps.specs.Captures.{AreKept, Hit, IsKeptResult, KeepsMore, KeepsRest, IsHit, HitsWhatIsFound, hit_of, kept_if}
-use Rattle.gk_steps.specs.Leftmost.{FindsRest}
+use Rattle.gk_steps.proofs.Common.{◌≡◌, ◌<◌, inl, inr, ℕ, ◌++◌, Bool, true, false, List, [], ◌∷◌, length, ap, map, take, Option, Some, None, refl, sym, subst, ◌∙◌, arith, common_steps, nat_tests, append-nil, take-map, Result, Ok, Err, IfOk, ◌==◌, AllocError, StepType, Entry, PieceValue, Literal, are_for_each_from, FieldValue, IsMatchResult, FoundValue, LibraryValue, entry_value, found, found_any, AreKept, Hit, IsKeptResult, KeepsMore, KeepsRest, IsHit, HitsWhatIsFound, hit_of, kept_if, FindsRest}
+use Rattle.std.proofs.lemmas.List.{append_assoc}
 use Rattle.gk_steps.proofs.LibraryLemmas.{get_before, get_taken, typed_found}
 use Rattle.gk_steps.proofs.LeftmostLemmas.{finds_last, left_after_start, left_nothing, left_over, IsCutOrWhole}
 use Rattle.gk_steps.proofs.FindingLemmas.{own_computed, any_computed, found_as_any}

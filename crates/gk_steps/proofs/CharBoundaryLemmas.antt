@@ -1,15 +1,5 @@
 -- The boundaries of a text.
-use Rattle.std.proofs.Common.{◌≡◌, ℕ, ◌+◌, ◌-◌, ◌<◌, ◌≤◌, ◌⊎◌, inl, inr, List, [], ◌∷◌, ◌++◌, length, take, drop, get_or, refl, ap, sym, subst, ◌∙◌, arith, append_assoc, length-append, length-drop, length-take}
-use Rattle.std.proofs.lemmas.Grind.{common_steps}
-use Rattle.std.specs.Prelude.{IsUtf8}
-use Rattle.std.specs.Str.{chars, IsCharBoundary}
-use lib.Utf8.{encodes, encode}
-use Rattle.std.specs.Char.{len_utf8}
-use Rattle.std.proofs.Math.Nat.{eq-or-lt_of_le}
-use Rattle.std.proofs.Math.Seq.{drop-length}
-use Rattle.std.proofs.lemmas.List.{take-append-drop, get_or_append_left, get_or_push}
-use Rattle.std.proofs.lemmas.Str.{IsUtf8-drop, IsUtf8-between, IsCharBoundary-past_char, IsCharBoundary-end, drop_past_char, chars_past_char, encode_same, length-encode, len_utf8_bounds, chars-nil}
-use Rattle.gk_steps.specs.CharBoundaries.{AreBoundariesFrom}
+use Rattle.gk_steps.proofs.Common.{◌≡◌, ℕ, ◌+◌, ◌-◌, ◌<◌, ◌≤◌, ◌⊎◌, inl, inr, List, [], ◌∷◌, ◌++◌, length, take, drop, get_or, refl, ap, sym, subst, ◌∙◌, arith, append_assoc, length-append, length-drop, length-take, common_steps, IsUtf8, chars, IsCharBoundary, encodes, encode, len_utf8, eq-or-lt_of_le, drop-length, take-append-drop, get_or_append_left, get_or_push, IsUtf8-drop, IsUtf8-between, IsCharBoundary-past_char, IsCharBoundary-end, drop_past_char, chars_past_char, encode_same, length-encode, len_utf8_bounds, chars-nil, AreBoundariesFrom}
 
 -- the first character of a text that isn't empty
 record HasFirst (bs : List ℕ) : Type 0 where

@@ -1,14 +1,5 @@
 -- Texts that spell numbers, as a property and as a test.
-use Rattle.std.specs.Prelude.{◌&&◌, nat_le, nat_lt, FitsSigned, IsSome, Option, Some, None, Result, Ok, Err, if◌then◌else◌}
-use Rattle.std.specs.Char.{is_digit}
-use Rattle.std.specs.Int.{w64}
-use Rattle.std.specs.List.{list_all}
-use Rattle.std.specs.Result.{result_ok}
-use Rattle.std.specs.Str.Parse.{IsNumeral, AllDigits, ParsesSigned, without_leading_sign, signed_digits_value}
-use Rattle.std.proofs.Common.{◌≡◌, ◌<◌, ◌≤◌, ℕ, ℤ, pos, negsuc, Bool, true, false, List, [], ◌∷◌, length, refl, sym, ap, ◌∙◌, arith}
-use Rattle.std.proofs.lemmas.Grind.{common_steps}
-use Rattle.std.proofs.lemmas.Bool.Decides.{nat_tests}
-use Rattle.gk_steps.specs.Decimal.{is_i64, is_numeral, IsNumber, is_number, number_of}
+use Rattle.gk_steps.proofs.Common.{◌&&◌, nat_lt, FitsSigned, IsSome, Option, Some, None, Result, Ok, Err, if◌then◌else◌, is_digit, w64, list_all, result_ok, IsNumeral, AllDigits, ParsesSigned, without_leading_sign, signed_digits_value, ◌≡◌, ◌<◌, ℕ, ℤ, pos, negsuc, Bool, true, false, List, [], ◌∷◌, length, refl, sym, ap, ◌∙◌, arith, common_steps, nat_tests, is_i64, is_numeral, IsNumber, is_number, number_of}
 
 -- tests
 pub and_left : (a b : Bool) → (a && b) ≡ true → a ≡ true
@@ -43,19 +34,13 @@ numeral_so ds e = (less_so 0 (length ds) (and_left (nat_lt 0 (length ds)) (list_
 numeral_test : (ds : List ℕ) → IsNumeral 10 ds → is_numeral ds ≡ true
 numeral_test ds h = both (nat_lt 0 (length ds)) (list_all (λ c. is_digit c 10) ds) (less_test 0 (length ds) h.0) (digits_test ds h.1)
 
-not_more_so : (a b : ℕ) → nat_le a b ≡ true → a ≤ b
-not_more_so a b e = grind (arith, nat_tests)
-
-not_more_test : (a b : ℕ) → a ≤ b → nat_le a b ≡ true
-not_more_test a b e = grind (arith, nat_tests)
-
 fits_so : (z : ℤ) → is_i64 z ≡ true → FitsSigned w64 z
-fits_so (pos n) e = let within = not_more_so n 9223372036854775807 e in record { sfits = omega arith }
-fits_so (negsuc n) e = let within = not_more_so n 9223372036854775807 e in record { sfits = omega arith }
+fits_so (pos n) e = grind (arith, common_steps)
+fits_so (negsuc n) e = grind (arith, common_steps)
 
 fits_test : (z : ℤ) → FitsSigned w64 z → is_i64 z ≡ true
-fits_test (pos n) h = not_more_test n 9223372036854775807 (omega (arith, h.sfits))
-fits_test (negsuc n) h = not_more_test n 9223372036854775807 (omega (arith, h.sfits))
+fits_test (pos n) h = grind (arith, common_steps)
+fits_test (negsuc n) h = grind (arith, common_steps)
 
 pub number_so : (x : List ℕ) → is_number x ≡ true → IsNumber x
 number_so x e = grind (arith, common_steps, numeral_so, and_left, fits_so, and_right)

@@ -1,25 +1,7 @@
 -- The default library is what its text says.
-use Rattle.std.proofs.Common.{◌≡◌, ℕ, ◌<◌, ◌≤◌, Bool, true, false, not, nat_lt, ◌&&◌, List, [], ◌∷◌, ◌++◌, length, map, option_map, flat_map, IsTrue, Option, Some, None, refl, arith, lit≤}
-use Rattle.std.proofs.lemmas.Grind.{common_steps}
-use Rattle.std.specs.Prelude.{⊤, is_some, filter}
-use Rattle.std.specs.List.{AllByRecursion, list_all}
-use Rattle.std.specs.Str.{bytes_eq, chars, is_utf8}
+use Rattle.gk_steps.proofs.Common.{◌≡◌, ℕ, ◌<◌, ◌≤◌, Bool, true, false, not, nat_lt, ◌&&◌, List, [], ◌∷◌, ◌++◌, length, map, option_map, flat_map, IsTrue, Option, Some, None, refl, arith, lit≤, common_steps, ⊤, is_some, filter, AllByRecursion, list_all, bytes_eq, chars, is_utf8, nat_tests, bytes_eq-Decides, StepType, LineValue, Lines, limit, lines_of, Action, PieceValue, Literal, FieldPiece, spelled_piece, is_field_name, field_names, field_kind, AreLongestRuns, SpellsPattern, MatchesNot, best_match, ActionRowValue, action_row, kind_of_field, EntryValue, LibraryValue, is_of_type, Sides, is_ignored, type_of, sides_of, last_arrow, NoneMatches, SpellsEntry, SpellEntries, ReadsLibrary, is_none_or_kind, is_pattern, default_text, default_entries}
 use lib.Utf8
-use Rattle.std.proofs.lemmas.Bool.Decides.{nat_tests}
-use Rattle.std.proofs.lemmas.Slice.Eq.{bytes_eq-Decides}
-use Rattle.gk_gherkin.specs.declared.feature.StepType.{StepType}
-use Rattle.gk_gherkin.specs.Lines.{LineValue, Lines, limit, lines_of}
-use Rattle.gk_steps.specs.declared.action.Action.{Action}
-use Rattle.gk_steps.specs.Pattern.{PieceValue, Literal, FieldPiece, spelled_piece, is_field_name, field_names, field_kind, AreLongestRuns, SpellsPattern}
-use Rattle.gk_steps.specs.Matching.{MatchesNot, best_match}
-use Rattle.gk_steps.specs.Action.{ActionRowValue, action_row, kind_of_field}
-use Rattle.gk_steps.specs.Finding.{EntryValue, LibraryValue, is_of_type}
-use Rattle.gk_steps.specs.LibraryFile.{Sides, is_ignored, type_of, sides_of, last_arrow, NoneMatches, SpellsEntry, SpellEntries, ReadsLibrary}
-use Rattle.gk_steps.specs.LibraryLine.{is_none_or_kind}
-use Rattle.gk_steps.specs.Spelling.{is_pattern}
-use Rattle.gk_steps.specs.DefaultFile.{default_text, default_entries}
-use Rattle.gk_steps.proofs.BestMatchLemmas.{IsBestResult, best_match_is}
-use Rattle.gk_steps.proofs.FindingLemmas.{of_type_itself}
+use Rattle.gk_steps.proofs.BestMatchLemmas.{best_match_is}
 use Rattle.gk_steps.proofs.SpellingLemmas.{spells}
 use Rattle.gk_steps.proofs.LibraryStagesLemmas.{some_same}
 use Rattle.gk_steps.proofs.LibraryLineLemmas.{needed_so, kinds_so}
@@ -60,13 +42,9 @@ spells_so text ps e = grind (arith, common_steps, and_so, flat_map, bytes_eq-Dec
 unfoldable pub passes : Option StepType → List ℕ → EntryValue → Bool
 passes step_type text e = not (is_of_type e.step_type step_type && is_some (best_match e.pattern text))
 
-no_match : (ps : List PieceValue) (text : List ℕ) (o : Option (List (List ℕ))) → not (is_some o) ≡ true → IsBestResult ps text o → MatchesNot ps text
-no_match ps text None e h = h
-no_match ps text (Some spans) e h = let bad : ⊥ = cc in absurd bad
-
 passes_so : (step_type : Option StepType) (text : List ℕ) (e : EntryValue) → passes step_type text e ≡ true → e.step_type ≡ step_type → MatchesNot e.pattern text
 unfolding passes
-passes_so step_type text e is same = grind (arith, common_steps, of_type_itself, no_match, best_match_is)
+passes_so step_type text e is same = grind (arith, common_steps, best_match_is)
 
 none_so : (earlier : LibraryValue) (step_type : Option StepType) (text : List ℕ) → list_all (passes step_type text) earlier ≡ true → NoneMatches earlier step_type text
 none_so [] step_type text e = tt

@@ -1,17 +1,5 @@
 -- Runs of digits between two columns.
-use Rattle.std.proofs.Common.{◌≡◌, ℕ, ◌+◌, ◌-◌, ◌*◌, ◌<◌, ◌≤◌, inl, inr, Bool, true, false, List, [], ◌∷◌, ◌++◌, length, take, drop, get_or, Option, Some, None, ap, sym, subst, ◌∙◌, arith, length-drop}
-use Rattle.std.proofs.lemmas.Grind.{common_steps}
-use Rattle.std.specs.Prelude.{IsUtf8}
-use Rattle.std.specs.Char.{digit_value}
-use Rattle.std.specs.Str.Parse.{AllDigits, digits_value}
-use Rattle.std.proofs.Math.Nat.{eq-or-lt_of_le}
-use Rattle.std.proofs.lemmas.List.{get_or-take, get_or-drop, take_more, take-take}
-use Rattle.std.proofs.lemmas.Str.{IsCharBoundary-after_ascii}
-use Rattle.std.proofs.lemmas.Bool.Decides.{nat_tests}
-use Rattle.std.proofs.lemmas.Int.Digits.{digits_value_push}
-use Rattle.std.proofs.lemmas.Str.Parse.{digits_value-take-le}
-use Rattle.gk_steps.specs.CharBoundaries.{AreBoundaries}
-use Rattle.gk_steps.specs.Advances.{part, IsDigitsTo, IsRunTo, IsLongestTo, IsLongest}
+use Rattle.gk_steps.proofs.Common.{◌≡◌, ℕ, ◌+◌, ◌-◌, ◌*◌, ◌<◌, ◌≤◌, inl, inr, Bool, true, false, List, [], ◌∷◌, ◌++◌, length, take, drop, get_or, Option, Some, None, ap, sym, subst, ◌∙◌, arith, length-drop, common_steps, IsUtf8, digit_value, AllDigits, digits_value, eq-or-lt_of_le, get_or-take, get_or-drop, take_more, take-take, IsCharBoundary-after_ascii, nat_tests, digits_value_push, digits_value-take-le, AreBoundaries, part, IsDigitsTo, IsRunTo, IsLongestTo, IsLongest}
 use Rattle.gk_steps.proofs.TableLemmas.{part_size}
 use Rattle.gk_steps.proofs.AdvanceLemmas.{digits_range}
 

@@ -1,21 +1,5 @@
 -- An index over the literals at the ends of patterns.
-use Rattle.std.proofs.Common.{◌≡◌, ℕ, Bool, zero, suc, ◌+◌, ◌-◌, ◌*◌, ◌%◌, ◌^◌, ◌<◌, ◌≤◌, ◌⊎◌, inl, inr, List, [], ◌∷◌, ◌++◌, length, take, drop, map, get_or, Option, Some, refl, ap, sym, subst, ◌∙◌, arith, length-append, None}
-use Rattle.std.proofs.lemmas.Grind.{common_steps}
-use Rattle.std.specs.Prelude.{slice_get, slice_set, is_some, true, false}
-use Rattle.std.proofs.Math.Nat.{eq-or-lt_of_le}
-use Rattle.std.proofs.lemmas.Bool.{cases_lt}
-use Rattle.std.proofs.lemmas.List.{append-nil, take_at, drop_at, take_all}
-use Rattle.gk_steps.specs.declared.library.Entry.{Entry}
-use Rattle.gk_steps.specs.declared.pattern.Piece.{Piece}
-use Rattle.gk_steps.specs.declared.entry_index.Index.{Index}
-use Rattle.gk_steps.specs.declared.entry_index.Head.{Head}
-use Rattle.gk_steps.specs.Pattern.{PieceValue, Literal, FieldPiece, piece_value, pattern_value}
-use Rattle.gk_steps.specs.Matching.{Matches, MatchesNot, woven}
-use Rattle.gk_steps.specs.LiteralEnds.{FitsEnd}
-use Rattle.gk_gherkin.specs.declared.feature.StepType.{StepType}
-use Rattle.gk_steps.specs.Finding.{EntryValue, entry_value, NoneBefore}
-use Rattle.gk_steps.specs.FilledCells.{cells_of_type}
-use Rattle.gk_steps.specs.EntryIndex.{literal_of, first_literal, last_literal, first_length, last_length, key_over, ends_key, items_under, IsAmong, IsMarked, Lists, AreListed, IsIndexOf, IsLeastFrom, Skips, CanStand, HasFirst, HasEnds, IsShorter, IsAny, SkipsEntries, word_of, head_of, IsOther, PassesHeads, StandsFor, AreHeads, AreSingle}
+use Rattle.gk_steps.proofs.Common.{◌≡◌, ℕ, Bool, zero, suc, ◌+◌, ◌-◌, ◌*◌, ◌%◌, ◌^◌, ◌<◌, ◌≤◌, ◌⊎◌, inl, inr, List, [], ◌∷◌, ◌++◌, length, take, drop, map, get_or, Option, Some, refl, ap, sym, subst, ◌∙◌, arith, length-append, None, common_steps, slice_get, slice_set, is_some, true, false, eq-or-lt_of_le, cases_lt, append-nil, take_at, drop_at, take_all, Entry, Piece, Index, Head, PieceValue, Literal, FieldPiece, piece_value, pattern_value, Matches, MatchesNot, woven, FitsEnd, StepType, EntryValue, entry_value, NoneBefore, cells_of_type, literal_of, first_literal, last_literal, first_length, last_length, key_over, ends_key, items_under, IsAmong, IsMarked, Lists, AreListed, IsIndexOf, IsLeastFrom, Skips, CanStand, HasFirst, HasEnds, IsShorter, IsAny, SkipsEntries, word_of, head_of, IsOther, PassesHeads, StandsFor, AreHeads, AreSingle}
 use Rattle.gk_steps.proofs.LiteralEndLemmas.{match_fits}
 
 -- the last literal
@@ -152,6 +136,9 @@ last_passed index first key last from most least size lasts text is l same_size 
     let there : IsMarked last lasts = subst (λ n. IsMarked n lasts) same (subst (IsMarked (last_length ps)) (sym is) (subst (λ k. IsMarked (last_length ps) (items_under index.lasts k)) (sym kind.1) lists.last)) in
     let stands : CanStand first last size = subst (λ n. CanStand n last size) (sym kind.0) (subst (λ n. CanStand (first_length ps) n size) same (subst (CanStand (first_length ps) (last_length ps)) (sym same_size) (can_stand ps text spans m))) in
     never (same_some (get_or lasts last false) true (sym (get_there lasts last false l) ∙ there)) stands)
+
+pub last_short : (index : Index) (first key last from most least : ℕ) (text : List ℕ) → length text < last → Skips (IsShorter (HasFirst first key) last_length last) index from most text least → Skips (HasFirst first key) index from most text least
+last_short index first key last from most least text short h = shorter_all (HasFirst first key) last_length index last from most least text h (λ position ps spans lists kind m. omega (arith, short, (fits_length ps text spans m).1))
 
 pub last_all : (index : Index) (first key last from most least : ℕ) (lasts : List Bool) (text : List ℕ) → lasts ≡ items_under index.lasts key → length lasts ≤ last → Skips (IsShorter (HasFirst first key) last_length last) index from most text least → Skips (HasFirst first key) index from most text least
 last_all index first key last from most least lasts text is past h = shorter_all (HasFirst first key) last_length index last from most least text h (λ position ps spans lists kind m.

@@ -1,17 +1,6 @@
 -- How many cells were filled.
-use Rattle.std.proofs.Common.{◌≡◌, inl, inr, ℕ, zero, suc, ◌+◌, ◌*◌, ◌<◌, ◌≤◌, List, [], ◌∷◌, length, take, drop, map, get_or, cond, Option, ap, sym, subst, ◌∙◌, arith, length-append}
-use Rattle.std.proofs.lemmas.Grind.{common_steps}
-use Rattle.std.specs.Str.{chars, IsCharBoundary, IsUtf8}
-use Rattle.std.proofs.Math.Nat.{mul-le-mul}
-use Rattle.std.proofs.lemmas.List.{take-append-drop, drop_more, length-map, take-map}
-use Rattle.std.proofs.lemmas.Str.{IsUtf8-take, chars-append}
-use Rattle.gk_gherkin.specs.declared.feature.StepType.{StepType}
-use Rattle.gk_steps.specs.declared.library.Entry.{Entry}
-use Rattle.gk_steps.specs.declared.pattern.Piece.{Piece}
-use Rattle.gk_steps.specs.Pattern.{PieceValue, piece_value}
-use Rattle.gk_steps.specs.CharBoundaries.{AreBoundaries}
-use Rattle.gk_steps.specs.Finding.{LibraryValue, is_of_type, entry_value}
-use Rattle.gk_steps.specs.FilledCells.{table_cells, cells_of_type, GoesOnBy}
+use Rattle.gk_steps.proofs.Common.{◌≡◌, inl, inr, ℕ, zero, suc, ◌+◌, ◌*◌, ◌<◌, ◌≤◌, List, [], ◌∷◌, length, take, drop, map, get_or, Option, ap, sym, subst, ◌∙◌, arith, length-append, common_steps, chars, IsCharBoundary, mul-le-mul, take-append-drop, length-map, take-map, IsUtf8-take, chars-append, StepType, Entry, Piece, PieceValue, piece_value, AreBoundaries, LibraryValue, entry_value, table_cells, cells_of_type, GoesOnBy}
+use Rattle.std.specs.Str.{IsUtf8}
 use Rattle.gk_steps.proofs.LeftmostLemmas.{IsCutOrWhole}
 use Rattle.gk_steps.proofs.TableLemmas.{width_is}
 
@@ -40,10 +29,6 @@ pub fewer_cells : (left ps : List PieceValue) (rest text : List ℕ) → length 
 fewer_cells left ps rest text l c = mul-le-mul {n₁ = length left + 1} {m₁ = length (chars rest) + 1} {n₂ = length ps + 1} {m₂ = length (chars text) + 1} (omega arith) (omega arith)
 
 -- the entries of a type
-pub cells_at : (entries : List Entry) (i : ℕ) (x : Entry) (step_type : Option StepType) (text : List ℕ) → i < length entries → x ≡ get_or entries i x
-    → cells_of_type (map entry_value (drop i entries)) step_type text ≡ cond (is_of_type x.step_type step_type) (table_cells (entry_value x).pattern text) 0 + cells_of_type (map entry_value (drop (i + 1) entries)) step_type text
-cells_at entries i x step_type text l e = ap (λ es. cells_of_type (map entry_value es) step_type text) (drop_more entries i x l ∙ ap (λ y. y ∷ drop (i + 1) entries) (sym e))
-
 pub first_cells : (entries : LibraryValue) (n : ℕ) (step_type : Option StepType) (text : List ℕ) → cells_of_type (take n entries) step_type text ≤ cells_of_type entries step_type text
 first_cells entries zero step_type text = omega arith
 first_cells [] (suc n) step_type text = omega arith
@@ -67,7 +52,7 @@ asked entries position x step_type text pieces start old new l e is same most h 
 
 pub passed_over : (entries : List Entry) (position : ℕ) (x : Entry) (step_type : Option StepType) (text : List ℕ) (start old : ℕ) → position < length entries → x ≡ get_or entries position x → old + cells_of_type (map entry_value (drop position entries)) step_type text ≤ start + cells_of_type (map entry_value entries) step_type text
     → old + cells_of_type (map entry_value (drop (position + 1) entries)) step_type text ≤ start + cells_of_type (map entry_value entries) step_type text
-passed_over entries position x step_type text start old l e h = omega (arith, h, cells_at entries position x step_type text l e)
+passed_over entries position x step_type text start old l e h = grind (arith, common_steps)
 
 pub within_all : (a b c d : ℕ) → a + b ≤ c + d → a ≤ c + d
 within_all a b c d h = omega (arith, h)

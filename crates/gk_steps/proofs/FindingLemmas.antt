@@ -1,20 +1,7 @@
 -- The search over a library.
-use Rattle.std.proofs.Common.{◌≡◌, ℕ, zero, suc, ◌+◌, ◌<◌, ◌≤◌, ◌⊎◌, inl, inr, Bool, true, false, List, [], ◌∷◌, length, map, get_or, Option, Some, None, refl, ap, sym, subst, ◌∙◌, arith}
-use Rattle.std.proofs.lemmas.Grind.{common_steps}
-use Rattle.std.specs.Prelude.{slice_get, Result, Ok, Err, IfErr}
-use Rattle.std.specs.Option.{option_or}
-use Rattle.std.proofs.Math.Nat.{eq-or-lt_of_le}
-use Rattle.std.proofs.lemmas.List.{length-map}
-use Rattle.gk_gherkin.specs.declared.feature.StepType.{StepType}
-use Rattle.gk_gherkin.specs.declared.feature.StepType.TheVariants.{Given, When, Then}
-use Rattle.gk_steps.specs.declared.pattern.FieldKind.TheVariants.{Plain, Decimal}
-use Rattle.gk_steps.specs.declared.library.Entry.{Entry}
-use Rattle.gk_steps.specs.Pattern.{PieceValue, Literal, FieldPiece}
-use Rattle.gk_steps.specs.LiteralEnds.{FitsStart, FitsEnd}
-use Rattle.gk_steps.specs.Matching.{AreSpans, MatchesNot, IsMatchResult, FieldValue, span_values, match_of}
+use Rattle.gk_steps.proofs.Common.{◌≡◌, ℕ, zero, suc, ◌+◌, ◌<◌, ◌≤◌, ◌⊎◌, inl, inr, Bool, true, false, List, [], ◌∷◌, length, map, get_or, Option, Some, None, refl, ap, sym, subst, ◌∙◌, arith, common_steps, slice_get, Result, Ok, Err, IfErr, option_or, eq-or-lt_of_le, length-map, StepType, Plain, Decimal, Entry, PieceValue, Literal, FieldPiece, FitsStart, FitsEnd, AreSpans, MatchesNot, IsMatchResult, FieldValue, span_values, EntryValue, LibraryValue, FoundValue, entry_value, HasCandidate, HasTableCandidate, MayNeedTable, NoneFound, NoneBefore, IsFirstFound, IsFoundOf, IsFound, IsFoundAny, is_of_type, match_where, found_at, found_from, found, found_any, HaveKindsOf, FitsLibrary, FindsWhatIsFound}
 use Rattle.gk_steps.proofs.MatchingLemmas.{one_result}
 use Rattle.gk_steps.proofs.BestMatchLemmas.{match_of_is}
-use Rattle.gk_steps.specs.Finding.{EntryValue, LibraryValue, FoundValue, entry_value, HasCandidate, HasTableCandidate, MayNeedTable, NoneFound, NoneBefore, IsFirstFound, IsFoundOf, IsFound, IsFoundAny, is_same_type, is_of_type, match_where, found_at, found_from, found, found_any, HaveKindsOf, FitsLibrary, FindsWhatIsFound}
 
 pub same_option : {A : Type 0} (x y : A) → ◌≡◌ {A = Option A} (Some x) (Some y) → x ≡ y
 same_option x y e = cc
@@ -69,46 +56,11 @@ either_more (Err e) A P Q f (inl a) = inl a
 either_more (Err e) A P Q f (inr p) = inr (f p)
 
 -- the computed test of types
-same_type_is : (a b : StepType) → is_same_type a b ≡ true → a ≡ b
-same_type_is Given Given e = refl
-same_type_is Given When e = let bad : ⊥ = cc in absurd bad
-same_type_is Given Then e = let bad : ⊥ = cc in absurd bad
-same_type_is When Given e = let bad : ⊥ = cc in absurd bad
-same_type_is When When e = refl
-same_type_is When Then e = let bad : ⊥ = cc in absurd bad
-same_type_is Then Given e = let bad : ⊥ = cc in absurd bad
-same_type_is Then When e = let bad : ⊥ = cc in absurd bad
-same_type_is Then Then e = refl
-
-same_type_test : (a : StepType) → is_same_type a a ≡ true
-same_type_test Given = refl
-same_type_test When = refl
-same_type_test Then = refl
-
-pub of_type_is : (a b : Option StepType) → is_of_type a b ≡ true → a ≡ b
-of_type_is None None e = refl
-of_type_is None (Some b) e = let bad : ⊥ = cc in absurd bad
-of_type_is (Some a) None e = let bad : ⊥ = cc in absurd bad
-of_type_is (Some a) (Some b) e = ap Some (same_type_is a b e)
-
-pub of_type_itself : (a : Option StepType) → is_of_type a a ≡ true
-of_type_itself None = refl
-of_type_itself (Some a) = same_type_test a
-
-pub of_type_not : (a b : Option StepType) → is_of_type a b ≡ false → a ≡ b → ⊥
-of_type_not a b e same = let no : true ≡ false = sym (of_type_itself a) ∙ ap (is_of_type a) same ∙ e in let bad : ⊥ = cc in bad
 
 -- what is found among entries of which the first has the position base
 abbrev IsFoundFrom : ℕ → LibraryValue → Option StepType → List ℕ → Option FoundValue → Type 0
 IsFoundFrom base es step_type text None = NoneFound es step_type text
 IsFoundFrom base es step_type text (Some f) = (k : ℕ) × (f.entry ≡ base + k) × IsFirstFound es step_type text (record { entry = k; fields = f.fields })
-
-no_option : {A : Type 0} (x : A) {P : Type 0} → ◌≡◌ {A = Option A} None (Some x) → P
-no_option x e = let no : ⊥ = cc in absurd no
-
-not_at : (e : EntryValue) (es : LibraryValue) (step_type : Option StepType) (text : List ℕ) → (e.step_type ≡ step_type → MatchesNot e.pattern text) → NoneFound es step_type text → NoneFound (e ∷ es) step_type text
-not_at e es step_type text h more zero other is same = subst (λ (x : EntryValue). MatchesNot x.pattern text) (same_option e other is) (h (ap (λ (x : EntryValue). x.step_type) (same_option e other is) ∙ same))
-not_at e es step_type text h more (suc k) other is same = more k other is same
 
 earlier_not : (e : EntryValue) (es : LibraryValue) (step_type : Option StepType) (text : List ℕ) (k : ℕ) → (e.step_type ≡ step_type → MatchesNot e.pattern text)
     → ((earlier : ℕ) (other : EntryValue) → earlier < k → slice_get es earlier ≡ Some other → other.step_type ≡ step_type → MatchesNot other.pattern text)
@@ -117,7 +69,7 @@ earlier_not e es step_type text k h more zero other less is same = subst (λ (x 
 earlier_not e es step_type text k h more (suc j) other less is same = more j other (omega arith) is same
 
 later_found : (e : EntryValue) (es : LibraryValue) (step_type : Option StepType) (text : List ℕ) (base : ℕ) (o : Option FoundValue) → (e.step_type ≡ step_type → MatchesNot e.pattern text) → IsFoundFrom (suc base) es step_type text o → IsFoundFrom base (e ∷ es) step_type text o
-later_found e es step_type text base None h more = not_at e es step_type text h more
+later_found e es step_type text base None h more = grind (arith, common_steps)
 later_found e es step_type text base (Some f) h more =
     let i = more.2 in
     (suc more.0, omega (arith, more.1), record { entry = i.entry; position = i.position; is_type = i.is_type; fields = i.fields; first = earlier_not e es step_type text more.0 h i.first })
@@ -127,13 +79,9 @@ abbrev IsWhere : EntryValue → Option StepType → List ℕ → Option (List Fi
 IsWhere e step_type text None = e.step_type ≡ step_type → MatchesNot e.pattern text
 IsWhere e step_type text (Some fields) = (e.step_type ≡ step_type) × IsMatchResult e.pattern text (Some fields)
 
-of_result : (e : EntryValue) (step_type : Option StepType) (text : List ℕ) (o : Option (List FieldValue)) → e.step_type ≡ step_type → IsMatchResult e.pattern text o → IsWhere e step_type text o
-of_result e step_type text None is h = λ same. h
-of_result e step_type text (Some fields) is h = (is, h)
-
 where_is : (e : EntryValue) (step_type : Option StepType) (text : List ℕ) (b : Bool) → is_of_type e.step_type step_type ≡ b → IsWhere e step_type text (match_where b e.pattern text)
-where_is e step_type text true is = of_result e step_type text (match_of e.pattern text) (of_type_is e.step_type step_type is) (match_of_is e.pattern text)
-where_is e step_type text false is = λ same. absurd (of_type_not e.step_type step_type is same)
+where_is e step_type text true is = grind (arith, common_steps, match_of_is)
+where_is e step_type text false is = grind (arith, common_steps)
 
 first_found : (e : EntryValue) (es : LibraryValue) (step_type : Option StepType) (text : List ℕ) (base : ℕ) (o : Option (List FieldValue)) (later : Option FoundValue) → IsWhere e step_type text o → IsFoundFrom (suc base) es step_type text later
     → IsFoundFrom base (e ∷ es) step_type text (elim o [ Some fields ↦ Some (found_at base fields) | None ↦ later ])
@@ -141,7 +89,7 @@ first_found e es step_type text base (Some fields) later h more = (0, omega arit
 first_found e es step_type text base None later h more = later_found e es step_type text base later h more
 
 found_from_is : (es : LibraryValue) (step_type : Option StepType) (text : List ℕ) (base : ℕ) → IsFoundFrom base es step_type text (found_from base es step_type text)
-found_from_is [] step_type text base = λ position entry is same. no_option entry is
+found_from_is [] step_type text base = grind (arith, common_steps)
 found_from_is (e ∷ es) step_type text base = grind (arith, common_steps, first_found, where_is, found_from_is es step_type text (suc base))
 
 from_zero : (es : LibraryValue) (step_type : Option StepType) (text : List ℕ) (o : Option FoundValue) → IsFoundFrom 0 es step_type text o → IsFoundOf es step_type text o
@@ -169,13 +117,10 @@ two_found es step_type text f g h k =
     let not_more : f.entry ≤ g.entry = omega (arith, same_position es step_type text g f k h) in
     elim (eq-or-lt_of_le not_more) [ inl e ↦ both_found es step_type text f g h k e | inr less ↦ absurd (same_position es step_type text f g h k less) ]
 
-none_or_first : (es : LibraryValue) (step_type : Option StepType) (text : List ℕ) (f : FoundValue) → NoneFound es step_type text → IsFirstFound es step_type text f → ⊥
-none_or_first es step_type text f h k = refuses k.entry text f.fields k.fields (h f.entry k.entry k.position k.is_type)
-
 pub one_of : (es : LibraryValue) (step_type : Option StepType) (text : List ℕ) (a b : Option FoundValue) → IsFoundOf es step_type text a → IsFoundOf es step_type text b → a ≡ b
 one_of es step_type text None None h k = refl
-one_of es step_type text None (Some g) h k = absurd (none_or_first es step_type text g h k)
-one_of es step_type text (Some f) None h k = absurd (none_or_first es step_type text f k h)
+one_of es step_type text None (Some g) h k = grind (arith, common_steps)
+one_of es step_type text (Some f) None h k = grind (arith, common_steps)
 one_of es step_type text (Some f) (Some g) h k = ap Some (two_found es step_type text f g h k)
 
 -- what the code finds among the entries of one type is what the definitions compute
@@ -195,23 +140,14 @@ unfolding found
 other_computed es step_type text a h k = of_computed es None text a k ∙ ap (λ o. option_or o (found_from 0 es None text)) (of_computed es (Some step_type) text None h)
 
 -- the laws
-two_parts : (es : LibraryValue) (step_type : StepType) (text : List ℕ) (a b : Option FoundValue) → IsFoundOf es (Some step_type) text a → IsFoundOf es None text b → IsFound es step_type text (option_or a b)
-two_parts es step_type text (Some f) b h k = inl h
-two_parts es step_type text None None h k = (h, k)
-two_parts es step_type text None (Some g) h k = inr (h, k)
-
 found_is : (es : LibraryValue) (step_type : StepType) (text : List ℕ) → IsFound es step_type text (found es step_type text)
 unfolding found
-found_is es step_type text = two_parts es step_type text (found_from 0 es (Some step_type) text) (found_from 0 es None text) (of_is es (Some step_type) text) (of_is es None text)
+found_is es step_type text = grind (arith, common_steps, of_is)
 
 found_only : (es : LibraryValue) (step_type : StepType) (text : List ℕ) (a : Option FoundValue) → IsFound es step_type text a → a ≡ found es step_type text
 found_only es step_type text None h = other_computed es step_type text None h.0 h.1
 found_only es step_type text (Some f) (inl h) = own_computed es step_type text f h
 found_only es step_type text (Some f) (inr h) = other_computed es step_type text (Some f) h.0 h.1
-
-any_is : (es : LibraryValue) (text : List ℕ) (a : Option FoundValue) → IsFoundOf es None text a → IsFoundAny es text a
-any_is es text None h = h
-any_is es text (Some f) h = h
 
 is_any : (es : LibraryValue) (text : List ℕ) (a : Option FoundValue) → IsFoundAny es text a → IsFoundOf es None text a
 is_any es text None h = h
@@ -219,7 +155,7 @@ is_any es text (Some f) h = h
 
 found_any_is : (es : LibraryValue) (text : List ℕ) → IsFoundAny es text (found_any es text)
 unfolding found_any
-found_any_is es text = any_is es text (found_from 0 es None text) (of_is es None text)
+found_any_is es text = grind (arith, common_steps, of_is)
 
 have_kinds : (ps : List PieceValue) (spans : List (List ℕ)) → AreSpans ps spans → HaveKindsOf ps (span_values ps spans)
 have_kinds [] [] h = tt

@@ -1,22 +1,7 @@
 -- What the first piece of a pattern takes, and how a match goes on after it.
-use Rattle.std.proofs.Common.{◌≡◌, ℕ, ◌+◌, ◌-◌, ◌<◌, ◌≤◌, ◌⊎◌, inl, inr, Bool, true, false, List, [], ◌∷◌, ◌++◌, length, take, drop, map, get_or, nat_eq, Option, Some, None, option_map, refl, ap, sym, subst, ◌∙◌, arith, append_assoc, length-append}
-use Rattle.std.proofs.lemmas.Grind.{common_steps}
-use Rattle.std.specs.Str.{IsCharBoundary, IsUtf8}
-use Rattle.std.specs.Prelude.{MatchBool, IsTrue, ◌↔◌}
-use Rattle.std.specs.List.{starts_with}
-use Rattle.std.proofs.lemmas.Str.{IsUtf8-append, IsUtf8-drop, IsUtf8-take, IsCharBoundary-from_take, IsCharBoundary-from_drop}
-use Rattle.std.proofs.lemmas.List.{append-nil, take-append-drop, length-take-le, length-drop}
-use Rattle.std.proofs.lemmas.Bool.{cases_lt}
-use Rattle.std.proofs.Math.Nat.{eq-or-lt_of_le}
-use Rattle.std.proofs.Math.Seq.{take-append_seam, drop-append_seam}
-use Rattle.gk_steps.specs.declared.pattern.FieldKind.TheVariants.{Plain, Decimal}
-use Rattle.gk_steps.specs.declared.pattern.Piece.{Piece}
-use Rattle.gk_steps.specs.Pattern.{PieceValue, Literal, FieldPiece, piece_value}
-use Rattle.gk_steps.specs.Matching.{AreSpans, IsSpan, Matches, MatchesNot, IsPreferred, IsBestMatch, IsMatchResult, FieldValue, TextField, span_value, span_values, woven}
-use Rattle.gk_steps.specs.Advances.{values_of}
-use Rattle.gk_steps.specs.Finding.{DependsOnMore, MayNeedTable}
-use Rattle.gk_steps.specs.Leftmost.{CanStandAt, StandsNowhereBefore, IsFirst, TakesUpTo, IsLeft, FindsRest}
-use Rattle.gk_steps.specs.LiteralEnds.{EndsWith, FitsEnd, IsAfterStart}
+use Rattle.gk_steps.proofs.Common.{◌≡◌, ℕ, ◌+◌, ◌-◌, ◌<◌, ◌≤◌, ◌⊎◌, inl, inr, Bool, true, false, List, [], ◌∷◌, ◌++◌, length, take, drop, map, get_or, nat_eq, Option, Some, None, option_map, refl, ap, sym, subst, ◌∙◌, arith, append_assoc, length-append, common_steps, IsCharBoundary, MatchBool, IsTrue, ◌↔◌, starts_with, IsUtf8-append, IsUtf8-drop, IsUtf8-take, IsCharBoundary-from_take, IsCharBoundary-from_drop, append-nil, take-append-drop, length-take-le, cases_lt, eq-or-lt_of_le, take-append_seam, drop-append_seam, Plain, Piece, PieceValue, Literal, FieldPiece, piece_value, AreSpans, IsSpan, Matches, MatchesNot, IsPreferred, IsBestMatch, IsMatchResult, FieldValue, TextField, span_value, span_values, woven, values_of, MayNeedTable, CanStandAt, StandsNowhereBefore, IsFirst, TakesUpTo, IsLeft, FindsRest, EndsWith, FitsEnd, IsAfterStart}
+use Rattle.std.specs.Str.{IsUtf8}
+use Rattle.std.proofs.lemmas.List.{length-drop}
 use Rattle.gk_steps.proofs.MatchingLemmas.{same_prefix, same_back, split, join, nothing_left, best_nothing}
 use Rattle.gk_steps.proofs.BestMatchLemmas.{after_literal, begins_so, begins_with_itself}
 
@@ -183,20 +168,10 @@ no_room literal text end short before = λ other some less here. elim (cases_lt 
 ]
 
 -- the pieces that are left
-left_start : (ps : List PieceValue) (text : List ℕ) → IsLeft ps text [] ps text
-left_start ps text None h = h
-left_start ps text (Some fields) h = h
-
-left_more : (ps : List PieceValue) (text : List ℕ) (fields fields' : List FieldValue) (piece : PieceValue) (others : List PieceValue) (rest : List ℕ) (position : ℕ) → IsLeft ps text fields (piece ∷ others) rest → TakesUpTo piece others rest position
-    → fields' ≡ fields ++ values_of piece (take position rest) → IsLeft ps text fields' others (drop position rest)
-left_more ps text fields fields' piece others rest position known cut e None h = known None (cut.goes_on None h)
-left_more ps text fields fields' piece others rest position known cut e (Some found) h =
-    subst (λ (v : List FieldValue). IsMatchResult ps text (Some v)) (sym (append_assoc fields (values_of piece (take position rest)) found) ∙ ap (λ (v : List FieldValue). v ++ found) (sym e))
-    (known (Some (values_of piece (take position rest) ++ found)) (cut.goes_on (Some found) h))
 
 pub finds_more : (fields fields' : List FieldValue) (piece : PieceValue) (others : List PieceValue) (rest : List ℕ) (position : ℕ) → TakesUpTo piece others rest position → fields' ≡ fields ++ values_of piece (take position rest)
     → (found : Option (List FieldValue)) → FindsRest fields' others (drop position rest) found → FindsRest fields (piece ∷ others) rest found
-finds_more fields fields' piece others rest position cut e found h = λ ps text known. h ps text (left_more ps text fields fields' piece others rest position known cut e)
+finds_more fields fields' piece others rest position cut e found h = grind (arith, common_steps)
 
 -- what is left after the literal that a pattern begins with, or from the beginning
 abbrev pub IsCutOrWhole : List PieceValue → List ℕ → List PieceValue → List ℕ → Type 0
@@ -208,7 +183,7 @@ cut_or_whole (Literal literal ∷ ps) text left rest cut = inr (literal, ap (λ 
 cut_or_whole (FieldPiece name kind ∷ ps) text left rest same = inl same
 
 pub left_after_start : (ps : List PieceValue) (text : List ℕ) (left : List PieceValue) (rest : List ℕ) → IsCutOrWhole ps text left rest → IsLeft ps text [] left rest
-left_after_start ps text left rest (inl same) = subst (λ ls. IsLeft ps text [] ls rest) (sym same.0) (subst (IsLeft ps text [] ps) (sym same.1) (left_start ps text))
+left_after_start ps text left rest (inl same) = grind (arith, common_steps)
 left_after_start ps text left rest (inr cut) = λ found h. subst (λ qs. IsMatchResult qs text (option_map (λ (fields : List FieldValue). fields) found)) (sym cut.1) (literal_goes_on cut.0 left text rest cut.2 found h)
 
 pub left_nothing : (ps : List PieceValue) (text : List ℕ) (fields : List FieldValue) (rest : List ℕ) → IsLeft ps text fields [] rest → length rest ≡ 0 → IsMatchResult ps text (Some fields)
@@ -297,19 +272,9 @@ finds_last fields ps literal text whole e found h = λ qs t known. h qs t (λ o 
 pub last_too_long : (ps : List PieceValue) (literal text : List ℕ) → length text < length literal → MatchesNot (ps ++ Literal literal ∷ []) text
 last_too_long ps literal text less = grind (arith, common_steps, woven_more, spans_less, length-append)
 
-table_before : (p : PieceValue) (ps : List PieceValue) (literal : List ℕ) → DependsOnMore p ps → DependsOnMore p (ps ++ Literal literal ∷ [])
-table_before (Literal text) ps literal h = h
-table_before (FieldPiece name Decimal) ps literal h = h
-table_before (FieldPiece name Plain) [] literal h = absurd h
-table_before (FieldPiece name Plain) (FieldPiece other kind ∷ ps) literal h = h
-table_before (FieldPiece name Plain) (Literal text ∷ []) literal h = absurd h
-table_before (FieldPiece name Plain) (Literal text ∷ FieldPiece other Plain ∷ ps) literal h = h
-table_before (FieldPiece name Plain) (Literal text ∷ FieldPiece other Decimal ∷ ps) literal h = h
-table_before (FieldPiece name Plain) (Literal text ∷ Literal other ∷ ps) literal h = h
-
 pub table_more : (ps : List PieceValue) (literal : List ℕ) → MayNeedTable ps → MayNeedTable (ps ++ Literal literal ∷ [])
 table_more [] literal h = absurd h
-table_more (p ∷ ps) literal (inl h) = inl (table_before p ps literal h)
+table_more (p ∷ ps) literal (inl h) = grind (arith, common_steps)
 table_more (p ∷ ps) literal (inr h) = inr (table_more ps literal h)
 
 pub table_of_left : (ps : List PieceValue) (text : List ℕ) (left : List PieceValue) (rest : List ℕ) → IsCutOrWhole ps text left rest → MayNeedTable left → MayNeedTable ps

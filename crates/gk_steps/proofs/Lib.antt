@@ -1,3 +1,4 @@
+pub mod Common
 mod DecimalLemmas
 mod MatchingLemmas
 mod BestMatchLemmas

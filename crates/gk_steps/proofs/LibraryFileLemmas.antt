@@ -1,19 +1,6 @@
 -- The lines of a step library.
-use Rattle.std.proofs.Common.{◌≡◌, ℕ, zero, suc, ◌+◌, ◌<◌, Bool, true, false, cond, not, List, [], ◌∷◌, ◌++◌, length, take, drop, get_or, Option, Some, refl, ap, sym, subst, ◌∙◌, arith, append_assoc}
-use Rattle.std.proofs.lemmas.Grind.{common_steps}
-use Rattle.std.specs.Prelude.{filter}
-use Rattle.std.proofs.lemmas.List.Elements.{filter-append}
-use Rattle.gk_gherkin.specs.declared.feature.StepType.{StepType}
-use Rattle.gk_gherkin.specs.Lines.{LineValue, Lines, lines_of, IsText}
-use Rattle.gk_steps.specs.declared.action.Action.{Action}
-use Rattle.gk_steps.specs.declared.library_fault.LibraryFault.{LibraryFault}
+use Rattle.gk_steps.proofs.Common.{◌≡◌, ℕ, zero, suc, ◌+◌, ◌<◌, Bool, true, false, cond, not, List, [], ◌∷◌, ◌++◌, length, take, drop, get_or, Option, Some, refl, ap, sym, subst, ◌∙◌, arith, append_assoc, common_steps, filter, filter-append, StepType, LineValue, Lines, lines_of, IsText, Action, LibraryFault, PieceValue, ActionRowValue, action_row, EntryValue, LibraryValue, Sides, is_ignored, SpellsEntry, SpellEntries, ReadsLibrary, IsReadableLibrary, IsBadType, IsBadPattern, IsUnknownAction, IsMissingField, IsOtherKind, IsAmbiguous, StopsLibraryAt, LibraryReadingIsUnique, EntryNeedsMemory, LibraryNeedsMemory, LibraryFaultSays, EntryFaultSays, AddsLine, Ignored, Spelled, LineFaultSays, LibraryLinesFaultSays}
 use Rattle.gk_steps.specs.declared.library_fault.LibraryFault.TheVariants as faults
-use Rattle.gk_steps.specs.Pattern.{PieceValue}
-use Rattle.gk_steps.specs.Action.{ActionRowValue, action_row}
-use Rattle.gk_steps.specs.Finding.{EntryValue, LibraryValue}
-use Rattle.gk_steps.specs.LibraryFile.{Sides, is_ignored, SpellsEntry, SpellEntries, ReadsLibrary, IsReadableLibrary, IsBadType, IsBadPattern, IsUnknownAction, IsMissingField, IsOtherKind, IsAmbiguous, StopsLibraryAt, LibraryReadingIsUnique, EntryNeedsMemory, LibraryNeedsMemory}
-use Rattle.gk_steps.specs.LibraryFault.{LibraryFaultSays}
-use Rattle.gk_steps.specs.LibraryLine.{EntryFaultSays, AddsLine, Ignored, Spelled, LineFaultSays, LibraryLinesFaultSays}
 use Rattle.gk_steps.proofs.SpellingLemmas.{spelling}
 use Rattle.gk_steps.proofs.LibraryStagesLemmas.{some_same, never_spelled}
 use Rattle.gk_steps.proofs.LibraryLineLemmas.{entry_needs}
@@ -74,10 +61,7 @@ kept xs l b e = filter-append (λ line. not (is_ignored line)) xs (l ∷ []) ∙
 
 none_more : (xs : Lines) → xs ++ [] ≡ xs
 none_more [] = refl
-none_more (x ∷ xs) = ap (λ (q : Lines). x ∷ q) (none_more xs)
-
-ignored_more : (xs : Lines) (l : LineValue) (es : LibraryValue) → is_ignored l ≡ true → ReadsLibrary xs es → ReadsLibrary (xs ++ l ∷ []) es
-ignored_more xs l es e h = subst (λ (q : Lines). SpellEntries [] q es) (sym (kept xs l true e ∙ none_more (filter (λ line. not (is_ignored line)) xs))) h
+none_more (x ∷ xs) = grind (arith, common_steps)
 
 entry_more : (xs : Lines) (l : LineValue) (es : LibraryValue) (x : EntryValue) → is_ignored l ≡ false → ReadsLibrary xs es → SpellsEntry es l x → ReadsLibrary (xs ++ l ∷ []) (es ++ x ∷ [])
 entry_more xs l es x e h s = subst (λ (q : Lines). SpellEntries [] q (es ++ x ∷ [])) (sym (kept xs l false e)) (one_more [] (filter (λ line. not (is_ignored line)) xs) es l x h s)
@@ -93,9 +77,6 @@ cut_at (y ∷ ys) (suc i) x l e = let c = cut_at ys i x (omega arith) e in recor
 
 values_more : (ls : Lines) (i : ℕ) (x : LineValue) → i < length ls → x ≡ get_or ls i x → take (i + 1) ls ≡ take i ls ++ x ∷ []
 values_more ls i x l e = grind (arith, common_steps)
-
-pub ignored_at : (ls : Lines) (i : ℕ) (x : LineValue) (es : LibraryValue) → i < length ls → x ≡ get_or ls i x → is_ignored x ≡ true → ReadsLibrary (take i ls) es → ReadsLibrary (take (i + 1) ls) es
-ignored_at ls i x es l e ignored h = subst (λ (q : Lines). ReadsLibrary q es) (sym (values_more ls i x l e)) (ignored_more (take i ls) x es ignored h)
 
 pub entry_at : (ls : Lines) (i : ℕ) (x : LineValue) (es : LibraryValue) (entry : EntryValue) → i < length ls → x ≡ get_or ls i x → is_ignored x ≡ false → ReadsLibrary (take i ls) es → SpellsEntry es x entry → ReadsLibrary (take (i + 1) ls) (es ++ entry ∷ [])
 entry_at ls i x es entry l e counts h s = subst (λ (q : Lines). ReadsLibrary q (es ++ entry ∷ [])) (sym (values_more ls i x l e)) (entry_more (take i ls) x es entry counts h s)
@@ -170,20 +151,9 @@ only_memory (faults.Ambiguous n) ls es f h = absurd (stops_whole IsAmbiguous n l
 only_memory (faults.NotUtf8 n) ls es f h = absurd f
 only_memory faults.TooLong ls es f h = absurd f
 
-pub says_so : (f : LibraryFault) (bytes : List ℕ) → IsText bytes → LibraryLinesFaultSays f (lines_of bytes) → LibraryFaultSays f bytes
-says_so faults.Memory bytes is f = (is, f)
-says_so (faults.BadType n) bytes is f = (is, f)
-says_so (faults.BadPattern n) bytes is f = (is, f)
-says_so (faults.UnknownAction n) bytes is f = (is, f)
-says_so (faults.MissingField n) bytes is f = (is, f)
-says_so (faults.FieldKind n) bytes is f = (is, f)
-says_so (faults.Ambiguous n) bytes is f = (is, f)
-says_so (faults.NotUtf8 n) bytes is f = absurd f
-says_so faults.TooLong bytes is f = absurd f
-
 -- a line more
 pub added_at : (ls : Lines) (i : ℕ) (x : LineValue) (es after : LibraryValue) → i < length ls → x ≡ get_or ls i x → ReadsLibrary (take i ls) es → AddsLine es x after → ReadsLibrary (take (i + 1) ls) after
-added_at ls i x es after l e h (Ignored ignored same) = subst (λ (q : LibraryValue). ReadsLibrary (take (i + 1) ls) q) (sym same) (ignored_at ls i x es l e ignored h)
+added_at ls i x es after l e h (Ignored ignored same) = grind (arith, common_steps)
 added_at ls i x es after l e h (Spelled counts a) = subst (λ (q : LibraryValue). ReadsLibrary (take (i + 1) ls) q) (sym a.added) (entry_at ls i x es a.entry l e counts h a.spells)
 
 pub stopped_at : (f : LibraryFault) (ls : Lines) (i : ℕ) (x : LineValue) (es : LibraryValue) → i < length ls → x ≡ get_or ls i x → ReadsLibrary (take i ls) es → LineFaultSays f es x → LibraryLinesFaultSays f (ls)
@@ -194,7 +164,7 @@ pub file_only : (bytes : List ℕ) (ls : Lines) (a : LibraryValue) → ls ≡ li
 file_only bytes ls a e h b k = one_reading (lines_of bytes) a b (subst (λ (q : Lines). ReadsLibrary q a) e h) k
 
 pub file_fault : (f : LibraryFault) (bytes : List ℕ) (ls : Lines) → IsText bytes → ls ≡ lines_of bytes → LibraryLinesFaultSays f ls → LibraryFaultSays f bytes
-file_fault f bytes ls is e h = says_so f bytes is (subst (λ (q : Lines). LibraryLinesFaultSays f q) e h)
+file_fault f bytes ls is e h = grind (arith, common_steps)
 
 pub file_memory : (f : LibraryFault) (bytes : List ℕ) (ls : Lines) → ls ≡ lines_of bytes → LibraryLinesFaultSays f ls → (b : LibraryValue) → ReadsLibrary (lines_of bytes) b → f ≡ faults.Memory
 file_memory f bytes ls e h b k = only_memory f (lines_of bytes) b (subst (λ (q : Lines). LibraryLinesFaultSays f q) e h) k

@@ -1,13 +1,5 @@
 -- What is found among entries of which those from a position on are for steps of each type.
-use Rattle.std.proofs.Common.{◌≡◌, ℕ, zero, suc, ◌<◌, ◌≤◌, inl, inr, Bool, true, false, ◌&&◌, List, [], ◌∷◌, take, map, Option, Some, None, refl, ap, sym, subst, ◌∙◌, arith}
-use Rattle.std.proofs.lemmas.Grind.{common_steps}
-use Rattle.std.specs.Prelude.{slice_get, is_none}
-use Rattle.std.proofs.lemmas.Bool.{cases_lt}
-use Rattle.std.proofs.lemmas.List.{take-map}
-use Rattle.gk_gherkin.specs.declared.feature.StepType.{StepType}
-use Rattle.gk_steps.specs.declared.library.Entry.{Entry}
-use Rattle.gk_steps.specs.Finding.{EntryValue, LibraryValue, FoundValue, HasCandidate, HasTableCandidate, IsFoundOf, entry_value}
-use Rattle.gk_steps.specs.Library.{are_for_each_from}
+use Rattle.gk_steps.proofs.Common.{◌≡◌, ℕ, zero, suc, ◌<◌, ◌≤◌, inl, inr, Bool, true, false, ◌&&◌, List, [], ◌∷◌, take, map, Option, Some, None, refl, sym, subst, ◌∙◌, arith, common_steps, slice_get, is_none, cases_lt, take-map, StepType, Entry, EntryValue, LibraryValue, FoundValue, HasCandidate, HasTableCandidate, IsFoundOf, entry_value, are_for_each_from}
 use Rattle.gk_steps.proofs.DecimalLemmas.{and_left, and_right}
 
 -- elements before a position
@@ -28,14 +20,11 @@ none_so : (o : Option StepType) → is_none o ≡ true → o ≡ None
 none_so None e = refl
 none_so (Some t) e = let bad : ⊥ = cc in absurd bad
 
-same_entry : (x y : EntryValue) → ◌≡◌ {A = Option EntryValue} (Some x) (Some y) → y ≡ x
-same_entry x y e = cc
-
 for_each_at : (entries : List Entry) (typed position : ℕ) (entry : EntryValue) → are_for_each_from typed entries ≡ true → typed ≤ position → slice_get (map entry_value entries) position ≡ Some entry → entry.step_type ≡ None
 for_each_at [] typed position entry all le e = let bad : ⊥ = cc in absurd bad
 for_each_at (x ∷ xs) (suc n) zero entry all le e = absurd (omega arith)
 for_each_at (x ∷ xs) (suc n) (suc p) entry all le e = for_each_at xs n p entry all (omega arith) e
-for_each_at (x ∷ xs) zero zero entry all le e = ap (λ (v : EntryValue). v.step_type) (same_entry (entry_value x) entry e) ∙ none_so x.step_type (and_left (is_none x.step_type) (are_for_each_from 0 xs) all)
+for_each_at (x ∷ xs) zero zero entry all le e = grind (arith, common_steps, none_so, and_left)
 for_each_at (x ∷ xs) zero (suc p) entry all le e = for_each_at xs zero p entry (and_right (is_none x.step_type) (are_for_each_from 0 xs) all) (omega arith) e
 
 -- what is found before a position is found
@@ -72,10 +61,7 @@ both_true : (a b : Bool) → a ≡ true → b ≡ true → (a && b) ≡ true
 both_true true b e f = f
 both_true false b e f = let bad : ⊥ = cc in absurd bad
 
-same_one : (x y : Entry) → ◌≡◌ {A = Option Entry} (Some x) (Some y) → x ≡ y
-same_one x y e = cc
-
 pub one_less : (entries : List Entry) (typed : ℕ) (x : Entry) → slice_get entries typed ≡ Some x → is_none x.step_type ≡ true → are_for_each_from (suc typed) entries ≡ true → are_for_each_from typed entries ≡ true
 one_less [] typed x e none all = let bad : ⊥ = cc in absurd bad
-one_less (y ∷ ys) zero x e none all = both_true (is_none y.step_type) (are_for_each_from 0 ys) (ap (λ (v : Entry). is_none v.step_type) (same_one y x e) ∙ none) all
+one_less (y ∷ ys) zero x e none all = grind (arith, common_steps, both_true)
 one_less (y ∷ ys) (suc n) x e none all = one_less ys n x e none all

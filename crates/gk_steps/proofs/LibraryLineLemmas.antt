@@ -1,44 +1,21 @@
 -- One line of a step library.
-use Rattle.std.proofs.Common.{◌≡◌, ℕ, zero, suc, ◌+◌, ◌-◌, ◌<◌, ◌≤◌, Bool, true, false, ◌&&◌, nat_eq, List, [], ◌∷◌, ◌++◌, length, take, drop, get_or, codes, Option, Some, None, refl, ap, sym, subst, ◌∙◌, arith, Bor, length-drop}
-use Rattle.std.proofs.lemmas.Grind.{common_steps}
-use Rattle.std.specs.Prelude.{is_some, IsSome, slice_get, Result, Ok, Err, IfErr, IsErrAnd}
-use Rattle.std.specs.List.{AllByRecursion, list_all}
-use Rattle.std.specs.Str.{IsUtf8, IsCharBoundary}
-use Rattle.std.proofs.lemmas.Bool.Decides.{nat_tests}
-use Rattle.std.proofs.lemmas.List.{take_all, drop_all}
-use Rattle.std.proofs.lemmas.Str.{IsCharBoundary-after_ascii, IsCharBoundary-before_ascii}
-use Rattle.gk_gherkin.specs.declared.feature.StepType.{StepType}
-use Rattle.gk_gherkin.specs.Lines.{LineValue}
-use Rattle.gk_gherkin.specs.Text.{begins}
-use Rattle.gk_steps.specs.declared.action.Action.{Action}
-use Rattle.gk_steps.specs.declared.pattern.FieldKind.{FieldKind}
-use Rattle.gk_steps.specs.declared.pattern.FieldKind.TheVariants.{Plain, Decimal}
-use Rattle.gk_steps.specs.declared.library_fault.LibraryFault.{LibraryFault}
+use Rattle.gk_steps.proofs.Common.{◌≡◌, ℕ, zero, suc, ◌+◌, ◌-◌, ◌<◌, ◌≤◌, Bool, true, false, ◌&&◌, nat_eq, List, [], ◌∷◌, ◌++◌, length, take, drop, get_or, codes, Option, Some, None, refl, ap, sym, subst, arith, Bor, length-drop, common_steps, is_some, IsSome, slice_get, Result, Ok, Err, IfErr, IsErrAnd, AllByRecursion, list_all, IsCharBoundary, nat_tests, take_all, drop_all, IsCharBoundary-after_ascii, IsCharBoundary-before_ascii, StepType, LineValue, begins, Action, FieldKind, LibraryFault, PieceValue, SpellsPattern, field_kind, ActionRowValue, action_row, kind_of_field, words_said, EntryValue, LibraryValue, FoundValue, NoneFound, IsFirstFound, IsFoundOf, Sides, last_arrow, NoneMatches, SpellsEntry, HasPattern, IsAmbiguous, EntryNeedsMemory, is_none_or_kind, has_needed, has_right_kinds, FitsAction, LacksField, HasOtherKind, IsEntryText, EntryTextFaultSays, EntryFaultSays}
+use Rattle.std.specs.Str.{IsUtf8}
 use Rattle.gk_steps.specs.declared.library_fault.LibraryFault.TheVariants as faults
-use Rattle.gk_steps.specs.Pattern.{PieceValue, SpellsPattern, field_kind}
-use Rattle.gk_steps.specs.Action.{ActionRowValue, action_row, kind_of_field, words_said}
-use Rattle.gk_steps.specs.Finding.{EntryValue, LibraryValue, FoundValue, NoneFound, IsFirstFound, IsFoundOf}
-use Rattle.gk_steps.specs.LibraryFile.{Sides, into_sides, last_arrow, NoneMatches, SpellsEntry, HasPattern, IsAmbiguous, EntryNeedsMemory}
-use Rattle.gk_steps.specs.LibraryLine.{is_same_kind, is_none_or_kind, has_needed, has_right_kinds, FitsAction, LacksField, HasOtherKind, IsEntryText, EntryTextFaultSays, EntryFaultSays}
 use Rattle.gk_steps.proofs.SpellingLemmas.{pattern_begins}
 
 -- the last arrow
-arrow_not_here : (b : ℕ) (bs : List ℕ) (o : Option Sides) → o ≡ None → begins (b ∷ bs) (codes "=>") ≡ false → into_sides (b ∷ bs) o ≡ None
-arrow_not_here b bs o e f = grind (arith, common_steps)
-
-arrow_here : (b : ℕ) (bs : List ℕ) (o : Option Sides) → o ≡ None → begins (b ∷ bs) (codes "=>") ≡ true → into_sides (b ∷ bs) o ≡ Some (record { pattern = []; action = drop 1 bs })
-arrow_here b bs o e f = grind (arith, common_steps)
 
 pub arrow_none : (text : List ℕ) (i : ℕ) → i < length text → last_arrow (drop (suc i) text) ≡ None → begins (drop i text) (codes "=>") ≡ false → last_arrow (drop i text) ≡ None
 unfolding last_arrow
 arrow_none [] i l h e = absurd (omega arith)
-arrow_none (b ∷ bs) zero l h e = arrow_not_here b bs (last_arrow bs) h e
+arrow_none (b ∷ bs) zero l h e = grind (arith, common_steps)
 arrow_none (b ∷ bs) (suc i) l h e = arrow_none bs i (omega arith) h e
 
 pub arrow_some : (text : List ℕ) (i : ℕ) → i < length text → last_arrow (drop (suc i) text) ≡ None → begins (drop i text) (codes "=>") ≡ true → last_arrow text ≡ Some (record { pattern = take i text; action = drop (i + 2) text })
 unfolding last_arrow
 arrow_some [] i l h e = absurd (omega arith)
-arrow_some (b ∷ bs) zero l h e = arrow_here b bs (last_arrow bs) h e
+arrow_some (b ∷ bs) zero l h e = grind (arith, common_steps)
 arrow_some (b ∷ bs) (suc i) l h e = grind (arith, common_steps, arrow_some bs i (omega arith) h e)
 
 -- tests
@@ -60,15 +37,9 @@ needed_test : (ps : List PieceValue) (names : List (List ℕ)) → AllByRecursio
 needed_test ps [] h = refl
 needed_test ps (name ∷ names) h = and_both (is_some (field_kind ps name)) (list_all (λ n. is_some (field_kind ps n)) names) h.0 (needed_test ps names h.1)
 
-same_kind_so : (a b : FieldKind) → is_same_kind a b ≡ true → a ≡ b
-same_kind_so Plain Plain e = refl
-same_kind_so Plain Decimal e = let bad : ⊥ = cc in absurd bad
-same_kind_so Decimal Plain e = let bad : ⊥ = cc in absurd bad
-same_kind_so Decimal Decimal e = refl
-
 kind_so : (o : Option FieldKind) (kind : FieldKind) → is_none_or_kind o kind ≡ true → (k : FieldKind) → o ≡ Some k → k ≡ kind
 kind_so None kind e k is = let bad : ⊥ = cc in absurd bad
-kind_so (Some other) kind e k is = let same : other ≡ k = cc in sym same ∙ same_kind_so other kind e
+kind_so (Some other) kind e k is = grind (arith, common_steps)
 
 pub kinds_so : (ps : List PieceValue) (names : List (List ℕ)) → list_all (λ name. is_none_or_kind (field_kind ps name) (kind_of_field name)) names ≡ true
     → AllByRecursion (λ name. (kind : FieldKind) → field_kind ps name ≡ Some kind → kind ≡ kind_of_field name) names
@@ -101,12 +72,9 @@ lacks_field name ps row e needs = record { row = row; is_action = e; bad = λ h.
 pub other_kind : (name : List ℕ) (ps : List PieceValue) (row : ActionRowValue) → action_row name ≡ Some row → has_needed row.needs ps ≡ true → has_right_kinds row.uses ps ≡ false → HasOtherKind name ps
 other_kind name ps row e needs kinds = record { row = row; is_action = e; needs = needed_so ps row.needs needs; bad = λ h. true_not_false (has_right_kinds row.uses ps) (kinds_test ps row.uses h) kinds }
 
-no_sides : (a : Sides) → ◌≡◌ {A = Option Sides} None (Some a) → ⊥
-no_sides a e = let bad : ⊥ = cc in bad
-
 pub cut_fault : (f : LibraryFault) (earlier : LibraryValue) (line : LineValue) → EntryTextFaultSays f line → EntryFaultSays f earlier line
 cut_fault (faults.BadType n) earlier line h = h
-cut_fault (faults.BadPattern n) earlier line h = (h.0, record { step_type = h.1; is_type = h.2; bad = λ sides ps cut s. no_sides sides (sym h.3 ∙ cut) })
+cut_fault (faults.BadPattern n) earlier line h = grind (arith, common_steps)
 cut_fault (faults.NotUtf8 n) earlier line h = absurd h
 cut_fault (faults.UnknownAction n) earlier line h = absurd h
 cut_fault (faults.MissingField n) earlier line h = absurd h

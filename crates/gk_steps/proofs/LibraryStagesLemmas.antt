@@ -1,21 +1,9 @@
 -- How far a line of a library is good before its fault, and that no line has two faults.
-use Rattle.std.proofs.Common.{◌≡◌, ℕ, zero, suc, ◌<◌, ◌≤◌, inl, inr, List, [], ◌∷◌, ◌++◌, Option, Some, None, ap, sym, subst, ◌∙◌, arith}
-use Rattle.std.proofs.lemmas.Grind.{common_steps}
-use Rattle.std.proofs.Math.Nat.{eq-or-lt_of_le}
-use Rattle.gk_gherkin.specs.declared.feature.StepType.{StepType}
-use Rattle.gk_gherkin.specs.Lines.{LineValue}
-use Rattle.gk_steps.specs.Pattern.{PieceValue}
-use Rattle.gk_steps.specs.Matching.{MatchesNot}
-use Rattle.gk_steps.specs.Action.{ActionRowValue, action_row}
-use Rattle.gk_steps.specs.Finding.{EntryValue, LibraryValue}
-use Rattle.gk_steps.specs.LibraryFile.{Sides, type_of, sides_of, HasNeededFields, HasRightKinds, NoneMatches, SpellsEntry, HasPattern, IsBadType, IsBadPattern, IsUnknownAction, IsMissingField, IsOtherKind, IsAmbiguous}
+use Rattle.gk_steps.proofs.Common.{◌≡◌, ℕ, zero, suc, ◌<◌, ◌≤◌, inl, inr, List, [], ◌∷◌, ◌++◌, Option, Some, sym, subst, ◌∙◌, arith, common_steps, eq-or-lt_of_le, StepType, LineValue, PieceValue, MatchesNot, ActionRowValue, action_row, EntryValue, LibraryValue, Sides, type_of, sides_of, HasNeededFields, HasRightKinds, NoneMatches, SpellsEntry, HasPattern, IsBadType, IsBadPattern, IsUnknownAction, IsMissingField, IsOtherKind, IsAmbiguous}
 use Rattle.gk_steps.proofs.SpellingLemmas.{spelling}
 
 pub some_same : {A : Type 0} (x y : A) → ◌≡◌ {A = Option A} (Some x) (Some y) → x ≡ y
 some_same x y e = cc
-
-pub some_not : {A : Type 0} (x : A) → ◌≡◌ {A = Option A} (Some x) None → ⊥
-some_not x e = let bad : ⊥ = cc in bad
 
 -- a line that is good up to its action, up to the fields that this needs, and up to their kinds
 record HasAction (line : LineValue) : Type 0 where
@@ -108,9 +96,9 @@ unambiguous : (earlier : LibraryValue) (line : LineValue) → IsAmbiguous earlie
 unambiguous earlier line f e s = grind (arith, common_steps, sides_same, some_same, none_there)
 
 denied : (k : ℕ) (earlier : LibraryValue) (line : LineValue) → FaultAfter k earlier line → Reaches (suc k) earlier line → ⊥
-denied zero earlier line f r = some_not r.0 (sym r.1 ∙ f)
+denied zero earlier line f r = grind (arith, common_steps)
 denied (suc zero) earlier line f r = f.bad r.1 r.2 r.3.is_cut r.3.is_pattern
-denied (suc (suc zero)) earlier line f r = some_not r.row (sym r.is_action ∙ ap (λ (x : Sides). action_row x.action) (sym (sides_same line f.step_type f.sides r.sides f.ps f.good r.good.is_cut)) ∙ f.bad)
+denied (suc (suc zero)) earlier line f r = grind (arith, common_steps, sides_same)
 denied (suc (suc (suc zero))) earlier line f r =
     let same = same_action line f.step_type f.sides f.ps f.row f.good f.is_action r.before in
     f.bad (subst (λ (q : List PieceValue). HasNeededFields f.row q) same.pieces (subst (λ (x : ActionRowValue). HasNeededFields x r.before.ps) same.rows r.needs))

@@ -1,7 +1,5 @@
 -- The lines of a text, as a loop over its parts meets them.
-use Rattle.std.proofs.Common.{◌≡◌, ℕ, zero, suc, ◌+◌, ◌<◌, ◌≤◌, List, [], ◌∷◌, length, take, get_or, refl, ap, ◌∙◌, arith}
-use Rattle.std.proofs.lemmas.Grind.{common_steps}
-use Rattle.gk_gherkin.specs.Lines.{Lines, line_at, numbered_from}
+use Rattle.gk_steps.proofs.Common.{◌≡◌, ℕ, zero, suc, ◌+◌, ◌<◌, ◌≤◌, List, [], ◌∷◌, length, take, get_or, refl, ap, ◌∙◌, arith, common_steps, Lines, line_at, numbered_from}
 
 -- a part is the line of its number
 pub line_there : (n : ℕ) (texts : List (List ℕ)) (i : ℕ) (text : List ℕ) → i < length texts → text ≡ get_or texts i text → (i < length (numbered_from n texts)) × (line_at (n + i) text ≡ get_or (numbered_from n texts) i (line_at (n + i) text))

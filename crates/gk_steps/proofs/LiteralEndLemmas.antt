@@ -1,15 +1,6 @@
 -- The ends of a text that a pattern matches.
-use Rattle.std.proofs.Common.{◌≡◌, ℕ, zero, suc, ◌+◌, ◌-◌, ◌<◌, ◌≤◌, refl, get_or, Bool, true, false, List, [], ◌∷◌, ◌++◌, length, take, drop, map, nat_eq, Option, Some, ap, sym, subst, ◌∙◌, arith, length-append, append_assoc}
-use Rattle.std.proofs.lemmas.Grind.{common_steps}
-use Rattle.std.specs.Prelude.{slice_get, MatchBool}
-use Rattle.std.specs.List.{starts_with, ends_with}
-use Rattle.std.proofs.Math.Seq.{drop-append_seam}
-use Rattle.std.proofs.lemmas.List.{take-append-drop, append-nil, get_or-take, get_or-drop, length-drop}
-use Rattle.std.proofs.lemmas.Slice.Eq.{bytes_eq-Decides}
-use Rattle.gk_steps.specs.declared.pattern.Piece.{Piece}
-use Rattle.gk_steps.specs.Pattern.{PieceValue, Literal, FieldPiece, piece_value}
-use Rattle.gk_steps.specs.Matching.{Matches, MatchesNot}
-use Rattle.gk_steps.specs.LiteralEnds.{EndsWithPiece, FitsEnd}
+use Rattle.gk_steps.proofs.Common.{◌≡◌, ℕ, zero, suc, ◌+◌, ◌-◌, ◌<◌, ◌≤◌, refl, get_or, Bool, true, false, List, [], ◌∷◌, ◌++◌, length, take, drop, map, nat_eq, Some, ap, sym, subst, ◌∙◌, arith, length-append, append_assoc, common_steps, slice_get, MatchBool, starts_with, ends_with, drop-append_seam, take-append-drop, append-nil, get_or-take, get_or-drop, bytes_eq-Decides, Piece, PieceValue, Literal, FieldPiece, piece_value, Matches, MatchesNot, EndsWithPiece, FitsEnd}
+use Rattle.std.proofs.lemmas.List.{length-drop}
 use Rattle.gk_steps.proofs.MatchingLemmas.{split}
 use Rattle.gk_steps.proofs.BestMatchLemmas.{begins_so, begins_with_itself}
 
@@ -38,12 +29,9 @@ match_false true A B h e = let bad : ⊥ = cc in absurd bad
 match_false false A B h e = h
 
 -- the last piece says it
-same_piece : (p q : Piece) → ◌≡◌ {A = Option Piece} (Some p) (Some q) → p ≡ q
-same_piece p q e = cc
-
 last_says : (pieces : List Piece) (n : ℕ) (p : Piece) (text : List ℕ) → length pieces ≡ suc n → slice_get pieces n ≡ Some p → (EndsWithPiece (piece_value p) text → FitsEnd (map piece_value pieces) text) × (FitsEnd (map piece_value pieces) text → EndsWithPiece (piece_value p) text)
 last_says [] n p text size e = absurd (omega arith)
-last_says (q ∷ []) zero p text size e = let same = same_piece q p e in (subst (λ r. EndsWithPiece (piece_value r) text) (sym same), subst (λ r. EndsWithPiece (piece_value r) text) same)
+last_says (q ∷ []) zero p text size e = grind (arith, common_steps)
 last_says (q ∷ []) (suc n) p text size e = absurd (omega arith)
 last_says (q ∷ r ∷ rest) zero p text size e = absurd (omega arith)
 last_says (q ∷ r ∷ rest) (suc n) p text size e = last_says (r ∷ rest) n p text (omega arith) e

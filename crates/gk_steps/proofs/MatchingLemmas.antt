@@ -1,11 +1,5 @@
 -- Matches of a pattern, taken apart at its first piece; and that the preferred one is unique.
-use Rattle.std.proofs.Common.{◌≡◌, ℕ, inl, inr, List, [], ◌∷◌, ◌++◌, length, take, drop, Option, Some, None, refl, ap, sym, ◌∙◌, arith}
-use Rattle.std.proofs.lemmas.Grind.{common_steps}
-use Rattle.std.proofs.Math.Seq.{take-append_seam, drop-append_seam}
-use Rattle.gk_steps.specs.declared.pattern.FieldKind.TheVariants.{Plain, Decimal}
-use Rattle.gk_steps.specs.Pattern.{PieceValue, Literal, FieldPiece}
-use Rattle.gk_steps.specs.Matching.{woven, AreSpans, Matches, IsPreferred, IsBestMatch, IsMatchResult, FieldValue, span_values}
-use Rattle.gk_steps.specs.Advances.{Takes}
+use Rattle.gk_steps.proofs.Common.{◌≡◌, ℕ, inl, inr, List, [], ◌∷◌, ◌++◌, length, take, drop, Option, Some, None, refl, ap, sym, ◌∙◌, arith, common_steps, take-append_seam, drop-append_seam, Plain, Decimal, PieceValue, Literal, FieldPiece, woven, Matches, IsPreferred, IsBestMatch, IsMatchResult, FieldValue, span_values, Takes}
 
 -- two ways to cut a list after as many elements are one
 pub same_prefix : (a b x y : List ℕ) → a ++ x ≡ b ++ y → length a ≡ length b → a ≡ b
@@ -66,9 +60,5 @@ one_result ps text (Some a) (Some b) h k = ap Some (h.2 ∙ ap (span_values ps) 
 pub nothing_left : (text : List ℕ) (spans : List (List ℕ)) → Matches [] text spans → text ≡ []
 nothing_left text spans m = m.whole
 
-no_spans : (spans : List (List ℕ)) → AreSpans [] spans → spans ≡ []
-no_spans [] fit = refl
-no_spans (x ∷ xs) fit = absurd fit
-
 pub best_nothing : (text : List ℕ) → text ≡ [] → IsBestMatch [] text []
-best_nothing text e = record { matches = record { spans_fit = tt; whole = e }; best = λ others m. inl (no_spans others m.spans_fit) }
+best_nothing text e = grind (arith, common_steps)

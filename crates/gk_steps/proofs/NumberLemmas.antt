@@ -1,19 +1,5 @@
 -- Numbers from their digits: a zero or a sign in prefix.
-use Rattle.std.proofs.Common.{◌≡◌, ℕ, zero, suc, cond, ◌==◌, ◌+◌, ◌-◌, ◌<◌, ◌≤◌, inl, inr, Bool, true, false, List, [], ◌∷◌, length, take, drop, get_or, Option, Some, None, ap, sym, subst, ◌∙◌, arith}
-use Rattle.std.proofs.lemmas.Grind.{common_steps}
-use Rattle.std.specs.Prelude.{FitsSigned, IsUtf8}
-use Rattle.std.specs.Int.{w64}
-use lib.IntN.{pos, neg_ℤ}
-use Rattle.std.specs.Str.Parse.{AllDigits, IsNumeral, digits_value}
-use Rattle.std.proofs.Math.Nat.{eq-or-lt_of_le}
-use Rattle.std.proofs.lemmas.Bool.Decides.{eqb_tells}
-use Rattle.std.proofs.lemmas.List.{drop_more}
-use Rattle.gk_steps.specs.declared.pattern.FieldKind.TheVariants.{Decimal}
-use Rattle.gk_steps.specs.Pattern.{FieldPiece}
-use Rattle.gk_steps.specs.Matching.{IsSpan}
-use Rattle.gk_steps.specs.CharBoundaries.{AreBoundaries}
-use Rattle.gk_steps.specs.Advances.{part, IsAdvanceTo, IsAdvance, IsDigitsTo, HasDigits, IsLongest}
-use Rattle.gk_steps.specs.Digits.{HasNumber}
+use Rattle.gk_steps.proofs.Common.{◌≡◌, ℕ, zero, suc, cond, ◌==◌, ◌+◌, ◌-◌, ◌<◌, ◌≤◌, inl, inr, Bool, true, false, List, [], ◌∷◌, length, take, drop, get_or, Option, Some, None, ap, sym, subst, ◌∙◌, arith, common_steps, IsUtf8, AllDigits, IsNumeral, digits_value, eq-or-lt_of_le, eqb_tells, drop_more, Decimal, FieldPiece, IsSpan, AreBoundaries, part, IsAdvanceTo, IsAdvance, IsDigitsTo, HasDigits, IsLongest, HasNumber}
 use Rattle.gk_steps.proofs.TableLemmas.{part_size}
 use Rattle.gk_steps.proofs.AdvanceLemmas.{before, decimal_some}
 use Rattle.gk_steps.proofs.DigitLemmas.{part_none, next_position}
@@ -61,25 +47,6 @@ zero_only most text boundaries below c d h l next is not_here none s =
     ]
 
 -- a sign in prefix
-plus_digits : (x : List ℕ) → IsSpan Decimal (43 ∷ x) → IsNumeral 10 x × (digits_value 10 x ≤ 9223372036854775807)
-plus_digits x h = let small : digits_value 10 x < 9223372036854775808 = h.1.sfits in (h.0, omega arith)
-
-digits_plus : (x : List ℕ) → IsNumeral 10 x → digits_value 10 x ≤ 9223372036854775807 → IsSpan Decimal (43 ∷ x)
-digits_plus x h small = (h, record { sfits = let less : digits_value 10 x < 9223372036854775808 = omega arith in less })
-
-negative_small : (n : ℕ) → FitsSigned w64 (neg_ℤ (pos n)) → n ≤ 9223372036854775808
-negative_small zero h = omega arith
-negative_small (suc m) h = let small : m < 9223372036854775808 = h.sfits in omega arith
-
-small_negative : (n : ℕ) → n ≤ 9223372036854775808 → FitsSigned w64 (neg_ℤ (pos n))
-small_negative zero h = record { sfits = let less : 0 < 9223372036854775808 = omega arith in less }
-small_negative (suc m) h = record { sfits = let less : m < 9223372036854775808 = omega arith in less }
-
-minus_digits : (x : List ℕ) → IsSpan Decimal (45 ∷ x) → IsNumeral 10 x × (digits_value 10 x ≤ 9223372036854775808)
-minus_digits x h = (h.0, negative_small (digits_value 10 x) h.1)
-
-digits_minus : (x : List ℕ) → IsNumeral 10 x → digits_value 10 x ≤ 9223372036854775808 → IsSpan Decimal (45 ∷ x)
-digits_minus x h small = (h, small_negative (digits_value 10 x) small)
 
 -- no sign in prefix
 abbrev bare : Bool → Bool → List ℕ → List ℕ
@@ -108,10 +75,10 @@ pub record IsSign (sign : ℕ) (most : ℕ) : Type 0 where
   pub span : (x : List ℕ) → IsNumeral 10 x → digits_value 10 x ≤ most → IsSpan Decimal (sign ∷ x)
 
 pub is_plus : IsSign 43 9223372036854775807
-is_plus = record { low = omega arith; digits = plus_digits; span = digits_plus }
+is_plus = grind (arith, common_steps)
 
 pub is_minus : IsSign 45 9223372036854775808
-is_minus = record { low = omega arith; digits = minus_digits; span = digits_minus }
+is_minus = grind (arith, common_steps)
 
 -- a sign at the column after one
 pub record IsSignAt (sign : ℕ) (text : List ℕ) (boundaries : List ℕ) (c : ℕ) : Type 0 where

@@ -1,11 +1,6 @@
 -- No library file has two faults.
-use Rattle.std.proofs.Common.{◌≡◌, ◌≢◌, ℕ, zero, suc, ◌≤◌, List, [], ◌∷◌, ◌++◌, length, refl, ap, sym, subst, ◌∙◌, arith}
-use Rattle.gk_gherkin.specs.Lines.{LineValue, Lines, lines_of, limit, IsText, IsTooLong, IsNotUtf8At}
-use Rattle.gk_steps.specs.declared.library_fault.LibraryFault.{LibraryFault}
+use Rattle.gk_steps.proofs.Common.{◌≡◌, ◌≢◌, ℕ, zero, suc, ◌≤◌, List, [], ◌∷◌, ◌++◌, length, refl, ap, sym, subst, ◌∙◌, arith, LineValue, Lines, lines_of, limit, IsText, IsTooLong, IsNotUtf8At, LibraryFault, LibraryValue, ReadsLibrary, StopsLibraryAt, LibraryFaultSays, LibraryFaultIsUnique, common_steps}
 use Rattle.gk_steps.specs.declared.library_fault.LibraryFault.TheVariants as faults
-use Rattle.gk_steps.specs.Finding.{LibraryValue}
-use Rattle.gk_steps.specs.LibraryFile.{ReadsLibrary, StopsLibraryAt}
-use Rattle.gk_steps.specs.LibraryFault.{LibraryFaultSays, LibraryFaultIsUnique}
 use Rattle.gk_steps.proofs.LibraryStagesLemmas.{FaultAfter, same_stage}
 use Rattle.gk_steps.proofs.LibraryFileLemmas.{one_reading}
 
@@ -36,7 +31,7 @@ same_tail : (a b : LineValue) (xs ys : Lines) → ◌≡◌ {A = Lines} (a ∷ x
 same_tail a b xs ys e = cc
 
 cuts : (xs : Lines) (x : LineValue) (us ys : Lines) (y : LineValue) (vs : Lines) → xs ++ x ∷ us ≡ ys ++ y ∷ vs → Cuts xs x ys y
-cuts [] x us [] y vs e = Here refl (same_head x y us vs e)
+cuts [] x us [] y vs e = grind (arith, common_steps)
 cuts [] x us (b ∷ ys) y vs e = Later ys (ap (λ z. z ∷ ys) (sym (same_head x b us (ys ++ y ∷ vs) e)))
 cuts (a ∷ xs) x us [] y vs e = Earlier xs (ap (λ z. z ∷ xs) (same_head a y (xs ++ x ∷ us) vs e))
 cuts (a ∷ xs) x us (b ∷ ys) y vs e = one_longer a b xs x ys y (same_head a b (xs ++ x ∷ us) (ys ++ y ∷ vs) e) (cuts xs x us ys y vs (same_tail a b (xs ++ x ∷ us) (ys ++ y ∷ vs) e))

@@ -1,16 +1,5 @@
 -- The computed pieces of a text are those that it spells.
-use Rattle.std.proofs.Common.{◌≡◌, ℕ, Bool, true, false, cond, ◌&&◌, List, [], ◌∷◌, ◌++◌, flat_map, IsTrue, Some, None, refl, ap, sym, ◌∙◌, arith, append_assoc}
-use Rattle.std.proofs.lemmas.Grind.{common_steps}
-use Rattle.std.specs.Prelude.{nat_eq}
-use Rattle.std.specs.List.{AllByRecursion, list_all}
-use Rattle.std.specs.Str.{bytes_eq}
-use Rattle.std.proofs.lemmas.Slice.Eq.{bytes_eq-Decides}
-use Rattle.std.proofs.lemmas.Bool.Decides.{nat_tests}
-use Rattle.gk_steps.specs.declared.pattern.FieldKind.{FieldKind}
-use Rattle.gk_steps.specs.declared.pattern.FieldKind.TheVariants.{Plain, Decimal}
-use Rattle.gk_steps.specs.Pattern.{PieceValue, Literal, FieldPiece, spelled_literal, spelled_piece, is_name_letter, is_name_byte, is_field_name, field_names, AreLongestRuns, SpellsPattern}
-use Rattle.gk_steps.specs.Spelling.{is_brace, is_pattern, field_tail, IsSpelled}
-use Rattle.gk_steps.specs.PatternReading.{Outside, AfterBrace, InName, AfterColon, after_byte, pieces_from, are_longest_runs, spells_pattern, pieces_of}
+use Rattle.gk_steps.proofs.Common.{◌≡◌, ℕ, Bool, true, false, cond, ◌&&◌, List, [], ◌∷◌, ◌++◌, flat_map, IsTrue, Some, None, refl, ap, sym, ◌∙◌, arith, append_assoc, common_steps, nat_eq, AllByRecursion, list_all, bytes_eq, bytes_eq-Decides, nat_tests, FieldKind, Plain, Decimal, PieceValue, Literal, FieldPiece, spelled_literal, spelled_piece, is_name_letter, is_name_byte, is_field_name, field_names, AreLongestRuns, SpellsPattern, is_brace, is_pattern, field_tail, IsSpelled, Outside, AfterBrace, InName, AfterColon, after_byte, pieces_from, are_longest_runs, spells_pattern, pieces_of}
 use Rattle.gk_steps.proofs.SpellingLemmas.{field_text, spells, spells_test}
 
 and_both : (a b : Bool) → a ≡ true → b ≡ true → (a && b) ≡ true

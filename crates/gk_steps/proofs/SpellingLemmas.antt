@@ -1,28 +1,13 @@
 -- What a text spells, taken apart from its start.
-use Rattle.std.proofs.Common.{◌≡◌, ℕ, zero, suc, ◌+◌, ◌-◌, ◌<◌, ◌≤◌, ◌⊎◌, inl, inr, Bool, true, false, cond, not, ◌||◌, ◌&&◌, List, [], ◌∷◌, ◌++◌, length, take, drop, get_or, codes, flat_map, IsTrue, Option, Some, None, refl, ap, sym, subst, ◌∙◌, arith, append_assoc, eq-eqb}
-use Rattle.std.proofs.lemmas.Grind.{common_steps}
-use Rattle.std.specs.Prelude.{is_some, nat_lt, nat_eq}
-use Rattle.std.specs.Str.{IsUtf8, IsCharBoundary, bytes_eq}
-use Rattle.std.proofs.lemmas.Slice.Eq.{bytes_eq-Decides}
-use Rattle.std.specs.List.{AllByRecursion, list_all, prefix_len, position_or_len}
-use Rattle.std.proofs.lemmas.Bool.{eqb-true}
-use Rattle.std.proofs.lemmas.Bool.Decides.{nat_tests}
-use Rattle.std.proofs.lemmas.List.Sums.{prefix_len_passes, prefix_len-le-length, passes_at_first}
-use Rattle.std.proofs.lemmas.Str.{IsCharBoundary-start, IsCharBoundary-after_ascii, IsCharBoundary-before_ascii}
-use Rattle.gk_steps.specs.declared.pattern.FieldKind.{FieldKind}
-use Rattle.gk_steps.specs.declared.pattern.FieldKind.TheVariants.{Plain, Decimal}
-use Rattle.gk_steps.specs.Pattern.{PieceValue, Literal, FieldPiece, spelled_literal, spelled_piece, is_name_letter, is_name_byte, is_field_name, BeginsWithPiece, field_names, AreDistinctNames, AreLongestRuns, SpellsPattern, field_kind}
-use Rattle.gk_steps.specs.Spelling.{is_brace, BeginsAtBrace, EndsLiteral, EndsName, field_tail, literal_pieces, IsSpelled, HasLiteral, HasField, HasNoField, AddsLiteral, AddsField, BeginWithField, ArePiecesLeft, IsReadTo, are_distinct, is_pattern}
+use Rattle.gk_steps.proofs.Common.{◌≡◌, ℕ, zero, suc, ◌+◌, ◌-◌, ◌<◌, ◌≤◌, ◌⊎◌, inl, inr, Bool, true, false, cond, not, ◌||◌, ◌&&◌, List, [], ◌∷◌, ◌++◌, length, take, drop, get_or, codes, flat_map, IsTrue, Option, Some, None, refl, ap, sym, subst, ◌∙◌, arith, append_assoc, eq-eqb, common_steps, is_some, nat_lt, nat_eq, IsCharBoundary, bytes_eq, bytes_eq-Decides, AllByRecursion, list_all, prefix_len, position_or_len, eqb-true, nat_tests, prefix_len_passes, prefix_len-le-length, passes_at_first, IsCharBoundary-start, IsCharBoundary-after_ascii, IsCharBoundary-before_ascii, FieldKind, Plain, Decimal, PieceValue, Literal, FieldPiece, spelled_literal, spelled_piece, is_name_byte, is_field_name, BeginsWithPiece, field_names, AreDistinctNames, AreLongestRuns, SpellsPattern, field_kind, is_brace, BeginsAtBrace, EndsLiteral, EndsName, field_tail, literal_pieces, IsSpelled, HasLiteral, HasField, HasNoField, AddsLiteral, AddsField, BeginWithField, ArePiecesLeft, IsReadTo, are_distinct, is_pattern}
+use Rattle.std.specs.Str.{IsUtf8}
 
 -- where a text may be cut
-brace_ascii : (b : ℕ) → is_brace b ≡ true → b < 128
-brace_ascii b h = grind (arith, nat_tests)
-
 name_ascii : (b : ℕ) → is_name_byte b ≡ true → b < 128
 name_ascii b h = grind (arith, nat_tests)
 
 pub brace_boundary : (bs : List ℕ) (n : ℕ) → n ≡ position_or_len is_brace bs → n < length bs → IsCharBoundary bs n
-brace_boundary bs n e h = grind (arith, common_steps, brace_ascii, passes_at_first, IsCharBoundary-before_ascii)
+brace_boundary bs n e h = grind (arith, common_steps, passes_at_first, IsCharBoundary-before_ascii)
 
 pub name_boundary : (bs : List ℕ) (n : ℕ) → IsUtf8 bs → n ≤ prefix_len is_name_byte bs → IsCharBoundary bs n
 name_boundary bs zero u le = IsCharBoundary-start bs u
@@ -51,19 +36,10 @@ begins_at [] = tt
 begins_at (b ∷ bs) = brace_drop (is_brace b) b (position_or_len is_brace bs) bs (begins_at bs) refl
 
 -- a literal is determined by the text
-not_plain : (b : ℕ) (bs rest : List ℕ) → is_brace b ≡ false → rest ≡ b ∷ bs → EndsLiteral rest → ⊥
-not_plain b bs [] no_brace e h = let bad : ⊥ = cc in bad
-not_plain b bs (x ∷ []) no_brace e h = let same : is_brace x ≡ is_brace b = ap is_brace (let s : x ≡ b = cc in s) in let no : true ≡ false = sym h ∙ same ∙ no_brace in let bad : ⊥ = cc in bad
-not_plain b bs (x ∷ y ∷ ys) no_brace e h = let same : is_brace x ≡ is_brace b = ap is_brace (let s : x ≡ b = cc in s) in let no : true ≡ false = sym h.0 ∙ same ∙ no_brace in let bad : ⊥ = cc in bad
-
-not_doubled : (b : ℕ) (bs rest : List ℕ) → rest ≡ b ∷ b ∷ bs → EndsLiteral rest → ⊥
-not_doubled b bs [] e h = let bad : ⊥ = cc in bad
-not_doubled b bs (x ∷ []) e h = let bad : ⊥ = cc in bad
-not_doubled b bs (x ∷ y ∷ ys) e h = h.1 (let s : y ≡ x = cc in s)
 
 not_more : (v : Bool) (b : ℕ) (bs rest : List ℕ) → is_brace b ≡ v → rest ≡ cond v (b ∷ b ∷ []) (b ∷ []) ++ bs → EndsLiteral rest → ⊥
-not_more true b bs rest e whole h = not_doubled b bs rest whole h
-not_more false b bs rest e whole h = not_plain b bs rest e whole h
+not_more true b bs rest e whole h = grind (arith, common_steps)
+not_more false b bs rest e whole h = grind (arith, common_steps)
 
 doubled_or_not : (v w : Bool) (a b : ℕ) (xs ys : List ℕ) → is_brace a ≡ v → is_brace b ≡ w → cond v (a ∷ a ∷ []) (a ∷ []) ++ xs ≡ cond w (b ∷ b ∷ []) (b ∷ []) ++ ys → (a ≡ b) × (xs ≡ ys)
 doubled_or_not true true a b xs ys ea eb e = (cc, cc)
@@ -130,24 +106,13 @@ pub name_bytes : (name : List ℕ) → IsTrue (is_field_name name) → list_all 
 name_bytes [] h = refl
 name_bytes (b ∷ bs) h = grind (arith, common_steps)
 
-letter_no_brace : (b : ℕ) → is_name_letter b ≡ true → b ≡ 123 → ⊥
-letter_no_brace b h e = let other : is_name_letter 123 ≡ true = ap is_name_letter (sym e) ∙ h in let bad : ⊥ = cc in bad
-
-field_ends : (name : List ℕ) (kind : FieldKind) (rest : List ℕ) → IsTrue (is_field_name name) → EndsLiteral (spelled_piece (FieldPiece name kind) ++ rest)
-field_ends [] kind rest h = let bad : ⊥ = cc in absurd bad
-field_ends (b ∷ bs) Plain rest h = (refl, λ e. letter_no_brace b (and_so (is_name_letter b) (list_all is_name_byte bs) h).0 e)
-field_ends (b ∷ bs) Decimal rest h = (refl, λ e. letter_no_brace b (and_so (is_name_letter b) (list_all is_name_byte bs) h).0 e)
-
 same_rest : (b : ℕ) (x y : List ℕ) → b ∷ x ≡ b ∷ y → x ≡ y
 same_rest b x y e = cc
 
-same_start : (b c : ℕ) (x y : List ℕ) → b ∷ x ≡ c ∷ y → b ≡ c
-same_start b c x y e = cc
-
 one_tail : (a b : FieldKind) (x y : List ℕ) → field_tail a ++ x ≡ field_tail b ++ y → (a ≡ b) × (x ≡ y)
 one_tail Plain Plain x y e = (refl, same_rest 125 x y e)
-one_tail Plain Decimal x y e = absurd (omega (arith, same_start 125 58 x (100 ∷ 125 ∷ y) e))
-one_tail Decimal Plain x y e = absurd (omega (arith, same_start 58 125 (100 ∷ 125 ∷ x) y e))
+one_tail Plain Decimal x y e = grind (arith, common_steps)
+one_tail Decimal Plain x y e = grind (arith, common_steps)
 one_tail Decimal Decimal x y e = (refl, same_rest 125 x y (same_rest 100 (125 ∷ x) (125 ∷ y) (same_rest 58 (100 ∷ 125 ∷ x) (100 ∷ 125 ∷ y) e)))
 
 pub record IsSameField (a : List ℕ) (j : FieldKind) (x : List ℕ) (b : List ℕ) (k : FieldKind) (y : List ℕ) : Type 0 where
@@ -170,7 +135,7 @@ one_field text a j x b k y h i =
 no_literal_ends : (text : List ℕ) (ps : List PieceValue) → IsSpelled text ps → BeginWithField ps → EndsLiteral text
 no_literal_ends text [] s f = subst EndsLiteral (sym s.spelled) tt
 no_literal_ends text (Literal l ∷ ps) s f = absurd f
-no_literal_ends text (FieldPiece name kind ∷ ps) s f = subst EndsLiteral (sym s.spelled) (field_ends name kind (flat_map spelled_piece ps) s.names.0)
+no_literal_ends text (FieldPiece name kind ∷ ps) s f = grind (arith, common_steps, flat_map)
 
 -- a literal before such pieces
 with_literal : (literal text rest : List ℕ) (ps : List PieceValue) → text ≡ flat_map spelled_literal literal ++ rest → IsSpelled rest ps → BeginWithField ps → IsSpelled text (literal_pieces literal ++ ps)
@@ -189,12 +154,9 @@ as_pieces : (l : List ℕ) → 0 < length l → Literal l ∷ [] ≡ literal_pie
 as_pieces [] h = absurd (omega arith)
 as_pieces (b ∷ bs) h = refl
 
-after_field_first : (literal text rest : List ℕ) (ps : List PieceValue) → HasLiteral text literal rest → IsSpelled text ps → BeginWithField ps → ArePiecesLeft (literal_pieces literal) rest ps
-after_field_first literal text rest ps h s f = grind (arith, common_steps)
-
 pub take_literal : (literal text rest : List ℕ) (ps : List PieceValue) → HasLiteral text literal rest → IsSpelled text ps → ArePiecesLeft (literal_pieces literal) rest ps
-take_literal literal text rest [] h s = after_field_first literal text rest [] h s tt
-take_literal literal text rest (FieldPiece name kind ∷ ps) h s = after_field_first literal text rest (FieldPiece name kind ∷ ps) h s tt
+take_literal literal text rest [] h s = grind (arith, common_steps)
+take_literal literal text rest (FieldPiece name kind ∷ ps) h s = grind (arith, common_steps)
 take_literal literal text rest (Literal l ∷ ps) h s = grind (arith, common_steps, literal_or_none, flat_map, one_literal, no_literal_ends, as_pieces)
 
 -- reading begins

@@ -1,22 +1,5 @@
 -- Rows of the table, and steps through it.
-use Rattle.std.proofs.Common.{◌≡◌, ℕ, zero, suc, cond, ◌==◌, ◌+◌, ◌-◌, ◌<◌, ◌≤◌, ◌⊎◌, inl, inr, Bool, true, false, List, [], ◌∷◌, ◌++◌, length, take, drop, get_or, Option, Some, None, is_some, refl, ap, sym, subst, ◌∙◌, arith, length-append}
-use Rattle.std.proofs.lemmas.Grind.{common_steps}
-use Rattle.std.specs.Prelude.{IsUtf8}
-use Rattle.std.specs.Str.{chars, IsCharBoundary}
-use Rattle.std.proofs.Math.Nat.{eq-or-lt_of_le}
-use Rattle.std.proofs.Math.Seq.{take-append_seam, drop-append_seam, drop-length}
-use Rattle.std.proofs.lemmas.List.{take-append-drop, drop-drop}
-use Rattle.std.proofs.lemmas.Str.{IsUtf8-drop, IsCharBoundary-from_take, IsCharBoundary-from_rest, IsUtf8-from_ascii, IsCharBoundary-end, IsCharBoundary-start, chars-nil}
-use Rattle.std.specs.Char.{digit_value}
-use Rattle.std.specs.Str.Parse.{AllDigits, IsNumeral, without_leading_sign, without_leading_plus}
-use Rattle.std.proofs.lemmas.Bool.{eqb-true}
-use Rattle.std.proofs.lemmas.Bool.Decides.{nat_tests}
-use Rattle.gk_steps.specs.declared.pattern.FieldKind.TheVariants.{Plain, Decimal}
-use Rattle.gk_steps.specs.Pattern.{PieceValue, Literal, FieldPiece}
-use Rattle.gk_steps.specs.Matching.{IsSpan, Matches, MatchesNot, IsPreferred, IsBestMatch}
-use Rattle.gk_steps.specs.CharBoundaries.{AreBoundaries}
-use Rattle.gk_steps.specs.Advances.{part, Takes, IsAdvanceTo, IsNotAfter, IsAdvance}
-use Rattle.gk_steps.specs.TableRows.{IsCell, IsRowTo, IsRow}
+use Rattle.gk_steps.proofs.Common.{◌≡◌, ℕ, zero, suc, cond, ◌==◌, ◌+◌, ◌-◌, ◌<◌, ◌≤◌, ◌⊎◌, inl, inr, Bool, true, false, List, [], ◌∷◌, ◌++◌, length, take, drop, get_or, Option, Some, None, is_some, refl, ap, sym, subst, ◌∙◌, arith, length-append, common_steps, IsUtf8, chars, IsCharBoundary, eq-or-lt_of_le, take-append_seam, drop-append_seam, drop-length, take-append-drop, drop-drop, IsUtf8-drop, IsCharBoundary-from_take, IsCharBoundary-from_rest, IsUtf8-from_ascii, IsCharBoundary-end, IsCharBoundary-start, chars-nil, AllDigits, IsNumeral, without_leading_sign, without_leading_plus, eqb-true, Plain, Decimal, PieceValue, Literal, FieldPiece, IsSpan, Matches, MatchesNot, IsPreferred, IsBestMatch, AreBoundaries, part, Takes, IsAdvanceTo, IsNotAfter, IsAdvance, IsCell, IsRowTo, IsRow}
 use Rattle.gk_steps.proofs.MatchingLemmas.{same_prefix, same_back, with_span, IsSplit, split, join}
 
 -- a literal is text
@@ -24,12 +7,9 @@ abbrev pub IsTextPiece : PieceValue → Type 0
 IsTextPiece (Literal literal) = IsUtf8 literal
 IsTextPiece (FieldPiece name kind) = Unit {0}
 
-digit_small : (c : ℕ) → digit_value c < 10 → c < 58
-digit_small c h = grind (arith, nat_tests)
-
 digits_small : (ds : List ℕ) → AllDigits 10 ds → (i : ℕ) → get_or ds i 0 < 58
 digits_small [] h i = omega arith
-digits_small (c ∷ cs) h zero = digit_small c h.0
+digits_small (c ∷ cs) h zero = grind (arith, common_steps)
 digits_small (c ∷ cs) h (suc i) = digits_small cs h.1 i
 
 drop_small : (x : List ℕ) → AllDigits 10 (drop 1 x) → get_or x 0 0 < 128 → (i : ℕ) → get_or x i 0 < 128

@@ -1,16 +1,5 @@
 -- The whole table, and what is read from it.
-use Rattle.std.proofs.Common.{◌≡◌, ℕ, ◌+◌, ◌-◌, ◌<◌, ◌≤◌, inl, inr, Bool, true, false, List, [], ◌∷◌, ◌++◌, length, drop, map, get_or, Some, refl, ap, sym, subst, ◌∙◌, arith, length-append, append_assoc}
-use Rattle.std.proofs.lemmas.Grind.{common_steps}
-use Rattle.std.specs.Prelude.{IsUtf8, Vec}
-use Rattle.std.specs.declared.alloc.Global.{Global}
-use Rattle.std.proofs.Math.Nat.{eq-or-lt_of_le}
-use Rattle.std.proofs.lemmas.List.{get_or_append_left, get_or_push, get_or_read, get_or-map, drop_more, length-map}
-use Rattle.gk_steps.specs.declared.pattern.Piece.{Piece}
-use Rattle.gk_steps.specs.Pattern.{PieceValue, Literal, FieldPiece, piece_value}
-use Rattle.gk_steps.specs.Matching.{Matches, MatchesNot, IsBestMatch, FieldValue, span_values}
-use Rattle.gk_steps.specs.CharBoundaries.{AreBoundaries}
-use Rattle.gk_steps.specs.Advances.{IsAdvance, IsMatchedTo, part, values_of}
-use Rattle.gk_steps.specs.TableRows.{IsCell, IsRow, IsTable}
+use Rattle.gk_steps.proofs.Common.{◌≡◌, ℕ, ◌+◌, ◌-◌, ◌<◌, ◌≤◌, inl, inr, Bool, true, false, List, [], ◌∷◌, ◌++◌, length, drop, map, get_or, Some, refl, ap, sym, subst, ◌∙◌, arith, length-append, append_assoc, common_steps, IsUtf8, Vec, Global, eq-or-lt_of_le, get_or_append_left, get_or_push, get_or_read, get_or-map, drop_more, length-map, Piece, PieceValue, Literal, FieldPiece, piece_value, Matches, MatchesNot, IsBestMatch, FieldValue, span_values, AreBoundaries, IsAdvance, IsMatchedTo, part, values_of, IsCell, IsRow, IsTable}
 use Rattle.gk_steps.proofs.MatchingLemmas.{with_span}
 use Rattle.gk_steps.proofs.TableLemmas.{IsTextPiece, best_step, true_cell, last_cell}
 

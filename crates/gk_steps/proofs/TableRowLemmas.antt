@@ -1,17 +1,7 @@
 -- A row with one cell more, as the code fills it.
-use Rattle.std.proofs.Common.{◌≡◌, ℕ, ◌==◌, ◌+◌, ◌<◌, ◌≤◌, inl, inr, Bool, true, false, List, [], ◌∷◌, ◌++◌, length, drop, get_or, Option, is_some, ap, sym, subst, ◌∙◌, arith, length-append}
-use Rattle.std.proofs.lemmas.Grind.{common_steps}
-use Rattle.std.specs.Prelude.{IsUtf8, Result, Ok, Err, IfOk}
-use Rattle.std.proofs.Math.Nat.{eq-or-lt_of_le}
-use Rattle.std.proofs.lemmas.Bool.{eqb-true, eq-eqb}
-use Rattle.std.proofs.lemmas.List.{get_or_append_left, get_or_push}
-use Rattle.gk_steps.specs.declared.pattern.FieldKind.TheVariants.{Plain, Decimal}
-use Rattle.gk_steps.specs.Pattern.{PieceValue, FieldPiece}
-use Rattle.gk_steps.specs.CharBoundaries.{AreBoundaries}
-use Rattle.gk_steps.specs.Advances.{IsAdvance}
-use Rattle.gk_steps.specs.TableRows.{IsCell, IsRow, IsRowTo, IsAnyBefore, IsPlainRow}
+use Rattle.gk_steps.proofs.Common.{◌≡◌, ℕ, ◌==◌, ◌+◌, ◌<◌, ◌≤◌, inl, inr, Bool, true, false, List, [], ◌∷◌, ◌++◌, length, drop, get_or, Option, is_some, ap, sym, subst, ◌∙◌, arith, length-append, common_steps, IsUtf8, Result, Ok, Err, IfOk, eq-or-lt_of_le, eqb-true, get_or_append_left, get_or_push, Plain, Decimal, PieceValue, FieldPiece, AreBoundaries, IsAdvance, IsCell, IsRow, IsRowTo, IsAnyBefore, IsPlainRow, HasNumber, IsNumberRow}
+use Rattle.std.proofs.lemmas.Bool.{eq-eqb}
 use Rattle.gk_steps.proofs.TableLemmas.{IsTextPiece, cell_more, end_cell, step_cell, no_step_cell, cell_of_step}
-use Rattle.gk_steps.specs.Digits.{HasNumber, IsNumberRow}
 use Rattle.gk_steps.proofs.AdvanceLemmas.{plain_takes, before, rename, rename_back}
 
 pub end_more : (text boundaries : List ℕ) (c : ℕ) (row row' : List Bool) → AreBoundaries text boundaries → c < length boundaries → row' ≡ row ++ (c == 0) ∷ [] → IsRowTo c [] text boundaries row → IsRowTo (c + 1) [] text boundaries row'

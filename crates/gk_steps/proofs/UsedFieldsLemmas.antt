@@ -1,18 +1,5 @@
 -- The first fields of the names that actions use.
-use Rattle.std.proofs.Common.{◌≡◌, ℕ, ◌++◌, Bool, true, false, List, [], ◌∷◌, if◌then◌else◌, Option, Some, None, refl, ap, subst, ◌∙◌, arith}
-use Rattle.std.proofs.lemmas.Grind.{common_steps}
-use Rattle.std.specs.Prelude.{slice_get}
-use Rattle.std.specs.Option.{option_or}
-use Rattle.std.specs.Str.{bytes_eq}
-use Rattle.gk_steps.specs.declared.pattern.FieldKind.{FieldKind}
-use Rattle.gk_steps.specs.declared.pattern.FieldKind.TheVariants.{Plain, Decimal}
-use Rattle.gk_steps.specs.declared.used_fields.FirstFields.{FirstFields}
-use Rattle.gk_steps.specs.declared.used_fields.FoundUse.{FoundUse}
-use Rattle.gk_steps.specs.Pattern.{PieceValue, Literal, FieldPiece}
-use Rattle.gk_steps.specs.Matching.{FieldValue, TextField, NumberField, span_value}
-use Rattle.gk_steps.specs.Finding.{EntryValue, FoundValue, LibraryValue, HasUsedFields, HaveKindsOf, IsUseOf, action_of, field_named, field_of, found_at}
-use Rattle.gk_steps.specs.Captures.{Hit, IsHit}
-use Rattle.gk_steps.specs.UsedFields.{AreFirst, AreJoined, IsAdded, KeepsFirst}
+use Rattle.gk_steps.proofs.Common.{◌≡◌, ℕ, ◌++◌, List, [], ◌∷◌, Option, Some, None, refl, ap, subst, ◌∙◌, arith, common_steps, slice_get, option_or, FieldKind, Plain, Decimal, FirstFields, FoundUse, PieceValue, Literal, FieldPiece, FieldValue, TextField, NumberField, span_value, EntryValue, FoundValue, LibraryValue, HasUsedFields, HaveKindsOf, IsUseOf, action_of, field_named, field_of, found_at, Hit, IsHit, AreFirst, AreJoined, IsAdded, KeepsFirst}
 
 -- fields of pieces, and those of the pieces after them
 kinds_more : (ps qs : List PieceValue) (fs gs : List FieldValue) → HaveKindsOf ps fs → HaveKindsOf qs gs → HaveKindsOf (ps ++ qs) (fs ++ gs)
@@ -26,20 +13,16 @@ kinds_more (FieldPiece name Decimal ∷ ps) qs [] gs h k = absurd h
 kinds_more (FieldPiece name Decimal ∷ ps) qs (TextField text ∷ fs) gs h k = absurd h
 kinds_more (FieldPiece name Decimal ∷ ps) qs (NumberField n ∷ fs) gs h k = kinds_more ps qs fs gs h k
 
-or_where : (is : Bool) (f : FieldValue) (x y z : Option FieldValue) → x ≡ option_or y z → (if is then Some f else x) ≡ option_or (if is then Some f else y) z
-or_where true f x y z e = refl
-or_where false f x y z e = e
-
 named_more : (n : List ℕ) (ps qs : List PieceValue) (fs gs : List FieldValue) → HaveKindsOf ps fs → field_named n (ps ++ qs) (fs ++ gs) ≡ option_or (field_named n ps fs) (field_named n qs gs)
 named_more n [] qs [] gs h = refl
 named_more n [] qs (f ∷ fs) gs h = absurd h
 named_more n (Literal text ∷ ps) qs fs gs h = named_more n ps qs fs gs h
 named_more n (FieldPiece name Plain ∷ ps) qs [] gs h = absurd h
-named_more n (FieldPiece name Plain ∷ ps) qs (TextField text ∷ fs) gs h = or_where (bytes_eq name n) (TextField text) (field_named n (ps ++ qs) (fs ++ gs)) (field_named n ps fs) (field_named n qs gs) (named_more n ps qs fs gs h)
+named_more n (FieldPiece name Plain ∷ ps) qs (TextField text ∷ fs) gs h = grind (arith, common_steps, named_more n ps qs fs gs h)
 named_more n (FieldPiece name Plain ∷ ps) qs (NumberField i ∷ fs) gs h = absurd h
 named_more n (FieldPiece name Decimal ∷ ps) qs [] gs h = absurd h
 named_more n (FieldPiece name Decimal ∷ ps) qs (TextField text ∷ fs) gs h = absurd h
-named_more n (FieldPiece name Decimal ∷ ps) qs (NumberField i ∷ fs) gs h = or_where (bytes_eq name n) (NumberField i) (field_named n (ps ++ qs) (fs ++ gs)) (field_named n ps fs) (field_named n qs gs) (named_more n ps qs fs gs h)
+named_more n (FieldPiece name Decimal ∷ ps) qs (NumberField i ∷ fs) gs h = grind (arith, common_steps, named_more n ps qs fs gs h)
 
 -- the first fields of pieces and of those after them
 or_both : {x y a b : Option FieldValue} → x ≡ a → y ≡ b → option_or x y ≡ option_or a b
@@ -49,22 +32,14 @@ pub joined_first : (ps qs : List PieceValue) (fs gs : List FieldValue) (old late
 joined_first ps qs fs gs old later new is h k = grind (arith, common_steps, kinds_more, or_both, named_more)
 
 -- with a literal, and with a field
-or_nothing : (o : Option FieldValue) → option_or o None ≡ o
-or_nothing None = refl
-or_nothing (Some f) = refl
-
 or_none : (n : List ℕ) (ps : List PieceValue) (fs : List FieldValue) (literal : List ℕ) → HaveKindsOf ps fs → field_named n (ps ++ Literal literal ∷ []) (fs ++ []) ≡ field_named n ps fs
-or_none n ps fs literal h = named_more n ps (Literal literal ∷ []) fs [] h ∙ or_nothing (field_named n ps fs)
+or_none n ps fs literal h = grind (arith, common_steps, named_more)
 
 pub with_literal : (ps : List PieceValue) (fs : List FieldValue) (literal : List ℕ) (firsts : FirstFields) → KeepsFirst ps firsts fs → KeepsFirst (ps ++ Literal literal ∷ []) firsts (fs ++ [])
 with_literal ps fs literal firsts h = grind (arith, common_steps, kinds_more, or_none)
 
-one_kind : (name span : List ℕ) (kind : FieldKind) → HaveKindsOf (FieldPiece name kind ∷ []) (span_value kind span ∷ [])
-one_kind name span Plain = tt
-one_kind name span Decimal = tt
-
 pub with_named : (ps : List PieceValue) (fs : List FieldValue) (name span : List ℕ) (kind : FieldKind) (old new : FirstFields) → IsAdded name (span_value kind span) old new → KeepsFirst ps old fs → KeepsFirst (ps ++ FieldPiece name kind ∷ []) new (fs ++ span_value kind span ∷ [])
-with_named ps fs name span kind old new is h = grind (arith, common_steps, kinds_more, one_kind, or_both, named_more)
+with_named ps fs name span kind old new is h = grind (arith, common_steps, kinds_more, or_both, named_more)
 
 -- what a step's action works with, where there is a hit
 first_in : (library : LibraryValue) (f : FoundValue) (e : EntryValue) (firsts : FirstFields) → slice_get library f.entry ≡ Some e → AreFirst (λ n. field_named n e.pattern f.fields) firsts → AreFirst (field_of library f) firsts

@@ -320,6 +320,9 @@ impl Index {
         let lasts = items_under(&self.lasts, key);
         let mut least = most;
         for last in 0..lasts.len() {
+            if size < last {
+                return least;
+            }
             if can_end(lasts[last], first, last, size) {
                 least = self.next_by_ends(key, last, from, least, text);
             }

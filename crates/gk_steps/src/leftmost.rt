@@ -34,12 +34,7 @@ fn stands_at(literal: &str, text: &str, position: usize) -> bool
 fn first_boundary(literal: &str, text: &str) -> Option<usize>
     ensures { IsFirstPosition literal.now text.now result }
 {
-    for position in 1..text.len() + 1 {
-        if stands_at(literal, text, position) {
-            return Some(position);
-        }
-    }
-    None
+    (1..text.len() + 1).find(|position| stands_at(literal, text, *position))
 }
 
 // Returns the first position after one or more characters at which a literal occurs that begins with this byte.

@@ -1,9 +1,5 @@
 -- How lists of undos rewind.
-use Rattle.std.proofs.Common.{◌≡◌, ℕ, zero, suc, ◌+◌, ◌<◌, ◌≤◌, Option, Some, Result, Ok, Err, is_ok, true≢false, option_to_list, List, [], ◌∷◌, ◌++◌, length, drop, take, refl, sym, ap, subst, ◌∙◌, arith, length-append}
-use Rattle.std.proofs.lemmas.List.{drop-append-le, take-append-le, take-append-drop, length-take-le}
-use Rattle.std.proofs.Math.Seq.{take-length, drop-length}
-use Rattle.std.specs.Prelude.{if◌then◌else◌}
-use Rattle.gk_world.specs.Journal.{rewound, FitAll}
+use Rattle.gk_world.proofs.Common.{◌≡◌, ℕ, zero, suc, ◌+◌, ◌<◌, ◌≤◌, Option, Some, Result, Ok, Err, is_ok, true≢false, option_to_list, List, [], ◌∷◌, ◌++◌, length, drop, take, refl, sym, ap, subst, ◌∙◌, arith, length-append, drop-append-le, take-append-le, take-append-drop, length-take-le, take-length, drop-length, if◌then◌else◌, rewound, FitAll}
 
 -- the entries after one more
 pub pushed : {U A B : Type 0} (inside us vs ws : List U) (u : U) (r : Result A B) (x : A) → inside ≡ us → vs ≡ inside → ws ≡ (if is_ok r then vs ++ u ∷ [] else vs) → r ≡ Ok x → ws ≡ us ++ u ∷ []

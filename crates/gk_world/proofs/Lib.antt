@@ -1,3 +1,4 @@
+pub mod Common
 pub mod SandboxLemmas
 pub mod ListingLemmas
 pub mod ReversibleLemmas

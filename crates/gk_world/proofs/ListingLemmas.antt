@@ -1,25 +1,7 @@
 -- What a listing says.
-use Rattle.std.specs.Global.{Vec}
-use Rattle.std.proofs.Common.{Result, Ok, Err, IfOk, ◌≡◌, ℕ, zero, suc, ◌+◌, ◌<◌, Bool, true, false, ◌||◌, cond, List, [], ◌∷◌, map, take, length, Option, Some, None, option_map, String, string_bytes, bytes_eq, refl, ap, sym, ◌∙◌, arith}
-use Rattle.std.proofs.lemmas.Grind.{common_steps}
-use Rattle.std.specs.Map.{lookup}
-use Rattle.std.specs.BTreeMap.{BTreeMap, is_at, get_by_text}
+use Rattle.gk_world.proofs.Common.{Vec, Result, Ok, Err, IfOk, ◌≡◌, ℕ, zero, suc, ◌+◌, ◌<◌, Bool, true, false, ◌||◌, cond, List, [], ◌∷◌, map, take, length, Option, Some, None, option_map, String, string_bytes, bytes_eq, refl, ap, sym, ◌∙◌, arith, common_steps, lookup, BTreeMap, is_at, get_by_text, string_cmp, nat_cmp, slice_cmp, eq_by_cmp_equiv, option_or, find, get-from_entries, take-length, nat_list_cmp_total, is_eq-slice_cmp, btree_map_updates_text, Slot, Map, laid, see, map_at, layers_of, name_at, IsMissing, state_at, texts_of, Lists, AreEntries, Notes, is_named}
 use Rattle.std.specs.BTreeMap as tree
-use Rattle.std.specs.String.{string_cmp}
-use Rattle.std.specs.Ordering.{nat_cmp}
-use Rattle.std.specs.Cmp.Lexicographic.{slice_cmp}
-use Rattle.std.specs.Cmp.{eq_by_cmp_equiv}
-use Rattle.std.specs.Option.{option_or}
 use Rattle.std.specs.FinMap as finite
-use Rattle.std.specs.FinMap.{find, get-from_entries}
-use Rattle.std.proofs.Math.Seq.{take-length}
-use Rattle.std.proofs.lemmas.Cmp.{nat_list_cmp_total}
-use Rattle.std.proofs.lemmas.Map.Text.{is_eq-slice_cmp, btree_map_updates_text}
-use Rattle.gk_world.specs.Cells.{Slot}
-use Rattle.gk_world.specs.State.{Map, laid, see}
-use Rattle.gk_world.specs.Slots.{map_at, layers_of, name_at, IsMissing}
-use Rattle.gk_world.specs.Values.{state_at}
-use Rattle.gk_world.specs.Listing.{texts_of, Lists, AreEntries, Notes, is_named}
 use Rattle.gk_world.proofs.SlotsLemmas.{get-map_at-missing, bytes_self}
 
 -- ---- what a map of the program has at a name

@@ -1,6 +1,5 @@
 -- What a removal ensures where its absence is a fault.
-use Rattle.std.proofs.Common.{◌≡◌, sym, subst, Option, Some, None, Result, IfSome, IfNone, IfOk, IfErr, OnOk, OnErr}
-use Rattle.std.specs.Prelude.{ok_or}
+use Rattle.gk_world.proofs.Common.{◌≡◌, sym, subst, Option, Some, None, Result, IfSome, IfNone, IfOk, IfErr, OnOk, OnErr, ok_or}
 
 module _ {A E : Type 0} (e : E) (o : Option A) (r : Result A E) (is : r ≡ ok_or o e) where
   pub found_only : (P : A → Type 0) → IfSome o P → IfOk r P

@@ -1,19 +1,10 @@
 -- What the undos of a sandbox are on its contents.
-use Rattle.std.proofs.Common.{◌≡◌, ℕ, zero, suc, ◌+◌, List, [], ◌∷◌, ◌++◌, length, drop, refl, sym, ap, subst, ◌∙◌, arith}
-use Rattle.std.proofs.lemmas.Grind.{common_steps}
-use Rattle.gk_world.specs.Journal.{rewound, FitAll}
+use Rattle.gk_world.proofs.Common.{◌≡◌, ℕ, zero, suc, ◌+◌, List, [], ◌∷◌, ◌++◌, length, drop, refl, sym, ap, subst, ◌∙◌, arith, common_steps, rewound, FitAll, World, WorldUndo, File, Env, Value, with_layer, layers, map_at, layers_of, contents_of, Fits, undone, IsClear, rewind, SandboxValue, with_layers, Rewinds, UndosGiveBack, seen_undo, seen_undos, saved_of, value_of, AreStarts, IsSound}
 use Rattle.gk_world.proofs.JournalLemmas.{rewound-append, FitAll-drop}
-use Rattle.gk_world.specs.declared.world.World.{World}
-use Rattle.gk_world.specs.declared.world.WorldUndo.{WorldUndo}
-use Rattle.gk_world.specs.declared.world.WorldUndo.TheVariants.{File, Env, Value}
-use Rattle.gk_world.specs.State.{with_layer, layers}
-use Rattle.gk_world.specs.Slots.{map_at, layers_of}
 use Rattle.gk_world.specs.Slots as slot
-use Rattle.gk_world.specs.World.{contents_of, Fits, undone, IsClear, NamesDiffer}
+use Rattle.gk_world.specs.World.{NamesDiffer}
 use Rattle.gk_world.specs.Reversible as contents
-use Rattle.gk_world.specs.Reversible.{rewind}
 use Rattle.gk_world.proofs.UndoLemmas.{undo_writes, map_undone, layers_put, differ_undone}
-use Rattle.gk_world.specs.Sandbox.{SandboxValue, with_layers, Rewinds, UndosGiveBack, seen_undo, seen_undos, saved_of, value_of, AreStarts, IsSound}
 
 -- an undo, on the contents
 pub contents_undone : (d : ℕ) (u : WorldUndo) (w : World) → NamesDiffer w → Fits u w → contents_of d (undone u w) ≡ contents.undone (seen_undo w u) (contents_of d w)

@@ -1,12 +1,5 @@
 -- The entries of an index map as slots.
-use Rattle.std.proofs.Common.{◌≡◌, ℕ, zero, suc, ◌+◌, ◌<◌, Bool, true, false, cond, List, [], ◌∷◌, ◌++◌, get_or, set, length, take, option_to_list, Option, None, Some, is_some, IsSome, MatchOption, String, string_bytes, position, slice_get, bytes_eq, string_eq, refl, sym, ap, ◌∙◌, subst, true≢false, arith, length-append}
-use Rattle.std.proofs.lemmas.List.Quantifiers.{position-Some}
-use Rattle.std.specs.Global.{Global}
-use Rattle.std.specs.Map.{lookup, keys_of, values_of}
-use Rattle.indexmap.specs.IndexMap.{IndexMap, set_value_at, insert_entry}
-use Rattle.indexmap.proofs.CallerLemmas.{insert_entry-new}
-use Rattle.gk_world.specs.Cells.{Slot, Cell, cell_at}
-use Rattle.gk_world.specs.Slots.{Writes, HasCell, cells_of, name_at, with_cells, with_cell, IsPosition, IsMissing, IsAt, IsNew, NamesDiffer, seen, slots_of}
+use Rattle.gk_world.proofs.Common.{◌≡◌, ℕ, zero, suc, ◌+◌, ◌<◌, Bool, true, false, cond, List, [], ◌∷◌, ◌++◌, get_or, set, length, take, option_to_list, Option, None, Some, is_some, IsSome, MatchOption, String, string_bytes, position, slice_get, bytes_eq, string_eq, refl, sym, ap, ◌∙◌, subst, true≢false, arith, length-append, position-Some, Global, lookup, keys_of, values_of, IndexMap, set_value_at, insert_entry, insert_entry-new, Slot, Cell, cell_at, Writes, HasCell, cells_of, name_at, with_cells, with_cell, IsPosition, IsMissing, IsAt, IsNew, NamesDiffer, seen, slots_of}
 use Rattle.gk_world.proofs.SlotsLemmas.{position_is, writes, has_cell, cell-back, differ-with_cells, differ-front, push-back}
 
 -- whether a key is this name

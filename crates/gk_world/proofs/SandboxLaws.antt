@@ -1,9 +1,6 @@
 -- What changes and ended layers leave of the layers further out, and what changes are to the plain state.
-use Rattle.std.proofs.Common.{◌≡◌, ℕ, ◌<◌, List, [], ◌∷◌, length, refl, ◌∙◌, arith}
-use Rattle.std.proofs.lemmas.Grind.{common_steps}
+use Rattle.gk_world.proofs.Common.{◌≡◌, ℕ, ◌<◌, List, [], ◌∷◌, length, refl, ◌∙◌, arith, common_steps, Texts, Contents, with_text, without, laid, own_of, outer_of, state_of, SandboxValue, LeadsTo, done, change, layer, LayersGiveBack, ChangesAreOfState, with_value, without_value}
 use Rattle.std.specs.FinMap as finite
-use Rattle.gk_world.specs.State.{Texts, Contents, with_text, without, laid, own_of, outer_of, state_of}
-use Rattle.gk_world.specs.Sandbox.{SandboxValue, LeadsTo, done, change, layer, LayersGiveBack, ChangesAreOfState, with_value, without_value}
 use Rattle.gk_world.proofs.StateLemmas.{inserted, removed}
 
 -- changes and ended layers leave what the ends of the open layers give

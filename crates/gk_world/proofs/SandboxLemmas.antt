@@ -1,24 +1,10 @@
 -- How a sandbox keeps what is seen of it.
-use Rattle.std.proofs.Common.{◌≡◌, ◌⊎◌, inl, inr, ℕ, zero, suc, ◌+◌, ◌-◌, ◌<◌, ◌≤◌, None, Result, Ok, Err, OnOk, OnErr, IfErr, List, [], ◌∷◌, ◌++◌, length, drop, take, set, get_or, get_or-set_other, get_or-set_same, refl, sym, ap, subst, ◌∙◌, arith}
-use Rattle.std.proofs.lemmas.Grind.{common_steps}
-use Rattle.std.proofs.lemmas.List.{length-take-le, length-append, take-append-drop}
-use Rattle.std.specs.List.{AllByRecursion}
-use Rattle.std.proofs.Math.Seq.{drop-length}
-use Rattle.gk_world.specs.Journal.{rewound, FitAll, StaysFit}
+use Rattle.gk_world.proofs.Common.{◌≡◌, ◌⊎◌, inl, inr, ℕ, zero, suc, ◌+◌, ◌-◌, ◌<◌, ◌≤◌, None, Result, Ok, Err, OnOk, OnErr, IfErr, List, [], ◌∷◌, ◌++◌, length, drop, take, set, get_or, get_or-set_other, get_or-set_same, refl, sym, ap, subst, ◌∙◌, arith, common_steps, length-take-le, take-append-drop, AllByRecursion, drop-length, rewound, FitAll, StaysFit, WorldFault, Memory, World, WorldUndo, WorldChange, map_at, layers_of, IsFault, IsAnswer, delete_refusal, state_of, layers, state_at, IsLayer, contents_of, Fits, undone, Steps, Refuses, CanApply, IsHere, changed, refusal, IsClear, SandboxValue, depth, layer_begun, EndsLayer, EndsByUndos, Becomes, Records, NoneTooLong, HasShortTexts, TextsAreShort, seen_undo, seen_undos, open_starts, saved_of, value_of, AreStarts, IsSound}
+use Rattle.std.proofs.lemmas.List.{length-append}
 use Rattle.gk_world.proofs.UndoLemmas.{length-layers_of}
 use Rattle.gk_world.proofs.JournalLemmas.{FitAll-drop}
-use Rattle.gk_world.specs.declared.refusals.WorldFault.{WorldFault}
-use Rattle.gk_world.specs.declared.refusals.WorldFault.TheVariants.{Memory}
-use Rattle.gk_world.specs.declared.world.World.{World}
-use Rattle.gk_world.specs.declared.world.WorldUndo.{WorldUndo}
-use Rattle.gk_world.specs.declared.world.WorldChange.{WorldChange}
-use Rattle.gk_world.specs.Slots.{map_at, layers_of}
-use Rattle.gk_world.specs.Refusals.{IsFault, IsAnswer, delete_refusal}
-use Rattle.gk_world.specs.State.{state_of, layers}
-use Rattle.gk_world.specs.Values.{state_at, IsLayer}
-use Rattle.gk_world.specs.World.{contents_of, Fits, undone, Steps, Refuses, CanApply, IsHere, changed, refusal, IsClear, NamesDiffer}
+use Rattle.gk_world.specs.World.{NamesDiffer}
 use Rattle.gk_world.proofs.WorldLemmas.{contents_changed, contents_allow, contents_refuse, clear_still, here_applies}
-use Rattle.gk_world.specs.Sandbox.{SandboxValue, depth, layer_begun, EndsLayer, EndsByUndos, Becomes, Records, NoneTooLong, HasShortTexts, TextsAreShort, seen_undo, seen_undos, open_starts, saved_of, value_of, AreStarts, IsSound}
 use Rattle.gk_world.proofs.TextsLemmas.{short_empty, short_changed, short_begun, short_ended}
 use Rattle.gk_world.proofs.ReversibleLemmas.{contents_undone, contents_rewound, seen_undos-append}
 

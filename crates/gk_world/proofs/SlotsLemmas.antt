@@ -1,16 +1,7 @@
 -- Slots and the maps that they stand for.
-use Rattle.std.proofs.Common.{◌≡◌, ℕ, zero, suc, ◌<◌, Bool, true, false, cond, List, [], ◌∷◌, ◌++◌, Option, None, Some, MatchOption, length, take, refl, sym, ap, subst, ◌∙◌, bytes_eq, get_or, set, arith, get_or-set_other, get_or-set_same}
-use Rattle.std.proofs.lemmas.Grind.{common_steps}
+use Rattle.gk_world.proofs.Common.{◌≡◌, ℕ, zero, suc, ◌<◌, Bool, true, false, cond, List, [], ◌∷◌, ◌++◌, Option, None, Some, MatchOption, length, take, refl, sym, ap, subst, ◌∙◌, bytes_eq, get_or, set, arith, get_or-set_other, get_or-set_same, common_steps, get, get-empty, get-insert, get-remove, same_map, slice_cmp-IsAntisymmetric, nat_cmp-IsAntisymmetric, nat_list_cmp_total, is_eq-slice_cmp, bytes_eq-Decides, take-append-le, take-length, Slot, Cell, cell_at, IsOnly, Texts, with_entry, map_at, Writes, with_cells, with_cell, cells_of, name_at, IsPosition, IsMissing, IsAt, IsNew, HasCell, IsNewest, NamesDiffer}
 use Rattle.std.specs.FinMap as map
-use Rattle.std.specs.FinMap.{get, get-empty, get-insert, get-remove, same_map, slice_cmp-IsAntisymmetric, nat_cmp-IsAntisymmetric}
-use Rattle.std.proofs.lemmas.Cmp.{nat_list_cmp_total}
-use Rattle.std.proofs.lemmas.Map.Text.{is_eq-slice_cmp}
-use Rattle.std.proofs.lemmas.Slice.Eq.{bytes_eq-Decides}
-use Rattle.std.proofs.lemmas.List.{take-append-le, length-append}
-use Rattle.std.proofs.Math.Seq.{take-length}
-use Rattle.gk_world.specs.Cells.{Slot, Cell, cell_at, IsOnly}
-use Rattle.gk_world.specs.State.{Texts, with_entry}
-use Rattle.gk_world.specs.Slots.{map_at, Writes, with_cells, with_cell, cells_of, name_at, IsPosition, IsMissing, IsAt, IsNew, HasCell, IsNewest, NamesDiffer}
+use Rattle.std.proofs.lemmas.List.{length-append}
 
 pub same_texts : (m n : Texts) → ((q : List ℕ) → get m q ≡ get n q) → m ≡ n
 same_texts m n h = same_map nat_list_cmp_total (slice_cmp-IsAntisymmetric nat_cmp-IsAntisymmetric) m n h
@@ -22,10 +13,6 @@ get-with_entry m n (Some t) q = get-insert nat_list_cmp_total m n t q ∙ ap (λ
 
 pub bytes_self : (n m : List ℕ) → bytes_eq n m ≡ true → n ≡ m
 bytes_self n m e = (bytes_eq-Decides n m).0 e
-
-cond_twice : {A : Type 0} (b : Bool) (x y z : A) → cond b x z ≡ cond b x (cond b y z)
-cond_twice true x y z = refl
-cond_twice false x y z = refl
 
 cond_apart : {A : Type 0} (b c : Bool) (x y z : A) → (b ≡ true → c ≡ true → ⊥) → cond b x (cond c y z) ≡ cond c y (cond b x z)
 cond_apart true true x y z h = absurd (h refl refl)
@@ -39,7 +26,7 @@ apart n m q f a b = grind (arith, common_steps, bytes_eq-Decides)
 -- to write the slot of a name is to set that name
 get-map_at-with_cells : (j : ℕ) (n : List ℕ) (s : List Slot) (i : ℕ) (c : List Cell) → IsPosition n s i → (q : List ℕ) → get (map_at j (with_cells s i c)) q ≡ cond (bytes_eq q n) (cell_at j c) (get (map_at j s) q)
 get-map_at-with_cells j n [] i c h q = absurd h
-get-map_at-with_cells j n (s ∷ ss) zero c h q = grind (arith, common_steps, get-with_entry, bytes_eq, bytes_eq-Decides, cond_twice)
+get-map_at-with_cells j n (s ∷ ss) zero c h q = grind (arith, common_steps, get-with_entry, bytes_eq, bytes_eq-Decides)
 get-map_at-with_cells j n (s ∷ ss) (suc i) c h q = grind (arith, common_steps, get-with_entry, bytes_eq, get-map_at-with_cells j n ss i c h.1 q, cond_apart, apart)
 
 get-map_at-push : (j : ℕ) (n : List ℕ) (s : List Slot) (c : List Cell) → IsMissing n s → (q : List ℕ) → get (map_at j (s ++ (n, c) ∷ [])) q ≡ cond (bytes_eq q n) (cell_at j c) (get (map_at j s) q)
@@ -165,14 +152,9 @@ cells-written [] i cs lt = absurd (omega arith)
 cells-written (w ∷ s) zero cs lt = refl
 cells-written (w ∷ s) (suc i) cs lt = cells-written s i cs (omega arith)
 
-length-set : (cs : List Cell) (j : ℕ) (c : Cell) → length (set cs j c) ≡ length cs
-length-set [] j c = refl
-length-set (d ∷ cs) zero c = refl
-length-set (d ∷ cs) (suc j) c = ap suc (length-set cs j c)
-
 -- a slot whose cell is written has that cell
 pub has_cell : (w : ℕ) (s t : List Slot) (i j : ℕ) (c : Cell) → t ≡ with_cell s i j c → i < length s → j < length (cells_of s i) → j < w → HasCell w t i j
-has_cell w s t i j c e there within allowed = grind (arith, common_steps, length-with_cells, cells-written, length-set)
+has_cell w s t i j c e there within allowed = grind (arith, common_steps, length-with_cells, cells-written)
 
 -- a slot that is added is the newest
 pub newest : (width : ℕ) (n : List ℕ) (s t : List Slot) (cells : List Cell) (i j : ℕ) (c : Cell) → t ≡ s ++ (n, cells) ∷ [] → i ≡ length s → IsOnly j c cells → j < width → IsNewest width t i j
@@ -207,18 +189,13 @@ set-twice [] j c d = refl
 set-twice (b ∷ cs) zero c d = refl
 set-twice (b ∷ cs) (suc j) c d = ap (λ l. b ∷ l) (set-twice cs j c d)
 
-set-same : (cs : List Cell) (j : ℕ) → set cs j (get_or cs j None) ≡ cs
-set-same [] j = refl
-set-same (b ∷ cs) zero = refl
-set-same (b ∷ cs) (suc j) = ap (λ l. b ∷ l) (set-same cs j)
-
 -- two writes of one cell are the later one
 pub cell-twice : (s t r : List Slot) (i j : ℕ) (c d : Cell) → t ≡ with_cell s i j c → r ≡ with_cell t i j d → i < length s → r ≡ with_cell s i j d
 cell-twice s t r i j c d e f lt = grind (arith, common_steps, cells-written, set-twice, written-twice)
 
 -- what was there, written again
 pub cell-same : (s : List Slot) (i j : ℕ) → with_cell s i j (cell_at j (cells_of s i)) ≡ s
-cell-same s i j = ap (with_cells s i) (set-same (cells_of s i) j) ∙ written-same s i
+cell-same s i j = grind (arith, common_steps, written-same)
 
 pub within-written : (s t : List Slot) (i j : ℕ) (c : Cell) → t ≡ with_cell s i j c → i < length s → i < length t
 within-written s t i j c e lt = subst (λ t. i < length t) (sym e) (subst (λ n. i < n) (sym (length-with_cells s i (set (cells_of s i) j c))) lt)

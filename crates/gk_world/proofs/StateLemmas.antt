@@ -1,13 +1,6 @@
 -- What changes of finite maps are to the plain state.
-use Rattle.std.specs.Prelude.{◌≡◌, ℕ, cond, List, [], ◌∷◌, Some, None, refl}
-use Rattle.std.proofs.Common.{◌∙◌, ap}
-use Rattle.std.specs.Ordering.{nat_cmp}
-use Rattle.std.specs.Cmp.Lexicographic.{slice_cmp}
+use Rattle.gk_world.proofs.Common.{◌≡◌, ℕ, cond, List, [], ◌∷◌, Some, None, refl, ◌∙◌, ap, nat_cmp, slice_cmp, get-empty, get-insert, get-remove, nat_list_cmp_total, is_eq-slice_cmp, Texts, Contents, with_layer, with_text, without, laid_over, enter, laid, own_of, outer_of, state_of}
 use Rattle.std.specs.FinMap as finite
-use Rattle.std.specs.FinMap.{get-empty, get-insert, get-remove}
-use Rattle.std.proofs.lemmas.Cmp.{nat_list_cmp_total}
-use Rattle.std.proofs.lemmas.Map.Text.{is_eq-slice_cmp}
-use Rattle.gk_world.specs.State.{Texts, Contents, with_layer, with_text, without, laid_over, enter, laid, own_of, outer_of, state_of}
 
 -- a map with a text put in
 pub inserted : (m : Texts) (name text : List ℕ) → finite.get (finite.insert m name text) ≡ with_text (finite.get m) name text

@@ -1,14 +1,7 @@
 -- What undos are on maps.
-use Rattle.std.proofs.Common.{◌≡◌, ℕ, zero, suc, ◌+◌, ◌<◌, Bool, true, false, cond, List, [], ◌∷◌, ◌++◌, get_or, take, length, None, option_map, string_bytes, bytes_eq, refl, sym, ap, ◌∙◌, arith}
-use Rattle.std.proofs.lemmas.Grind.{common_steps}
-use Rattle.std.proofs.lemmas.Bool.Decides.{Decides-eqb}
+use Rattle.gk_world.proofs.Common.{◌≡◌, ℕ, zero, suc, ◌+◌, ◌<◌, Bool, true, false, cond, List, [], ◌∷◌, ◌++◌, get_or, take, length, None, option_map, string_bytes, bytes_eq, refl, sym, ap, ◌∙◌, arith, common_steps, Decides-eqb, Slot, Cell, SlotUndo, Restore, Created, Cut, Texts, with_entry, map_at, layers_of, name_at, Writes, name_of, old_of, NamesDiffer, Undoes, with_values}
 use Rattle.std.specs.FinMap as map
-use Rattle.gk_world.specs.Cells.{Slot, Cell}
-use Rattle.gk_world.specs.declared.slots.SlotUndo.{SlotUndo}
-use Rattle.gk_world.specs.declared.slots.SlotUndo.TheVariants.{Restore, Created, Cut}
-use Rattle.gk_world.specs.State.{Texts, with_entry}
-use Rattle.gk_world.specs.Slots.{map_at, layers_of, name_at, Writes, Fits, undone, name_of, cell_of, old_of, NamesDiffer, Undoes}
-use Rattle.gk_world.specs.Reversible.{with_values}
+use Rattle.gk_world.specs.Slots.{Fits, undone}
 use Rattle.gk_world.proofs.SlotsLemmas.{writes, map_at-push, same_write, get-map_at-missing, same_texts, get-with_entry, bytes_self, first_of, missing_before, differ-with_cells, differ-take}
 
 -- the last slot, split off
@@ -16,7 +9,7 @@ last_off : (s : List Slot) (n : ℕ) → length s ≡ n + 1 → s ≡ take n s +
 last_off [] n h = absurd (omega arith)
 last_off (w ∷ []) zero h = refl
 last_off (w ∷ x ∷ s) zero h = absurd (omega arith)
-last_off (w ∷ s) (suc n) h = ap (λ l. w ∷ l) (last_off s n (omega arith))
+last_off (w ∷ s) (suc n) h = grind (arith, common_steps)
 
 taken_back : (m : Texts) (n : List ℕ) (c : Cell) → map.get m n ≡ None → m ≡ with_entry (with_entry m n c) n None
 taken_back m n c none = same_texts _ _ (λ q. by (bytes_eq q n) q refl ∙ sym (get-with_entry (with_entry m n c) n None q ∙ ap (cond (bytes_eq q n) None) (get-with_entry m n c q)))
@@ -50,12 +43,6 @@ differ_undone (Restore position cell old) s d = differ-with_cells s position _ d
 differ_undone (Created position cell) s d = differ-take position s d
 differ_undone (Cut position cell kept) s d = differ-with_cells s position _ d
 
--- an undo that fits is of one of so many cells
-pub cell_within : (w : ℕ) (u : SlotUndo) (s : List Slot) → Fits w u s → cell_of u < w
-cell_within w (Restore position cell old) s h = h.allowed
-cell_within w (Created position cell) s h = h.allowed
-cell_within w (Cut position cell kept) s h = h.has.allowed
-
 -- where there is one cell alone, an undo sets its name to the old text
 pub map_undone : (u : SlotUndo) (s : List Slot) → NamesDiffer s → Fits 1 u s → map_at 0 (undone u s) ≡ with_entry (map_at 0 s) (name_of s u) (old_of s u)
-map_undone u s d h = grind (arith, common_steps, cell_within, undo_writes)
+map_undone u s d h = grind (arith, common_steps, undo_writes)

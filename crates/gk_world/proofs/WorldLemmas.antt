@@ -1,18 +1,8 @@
 -- What changes of the world are on its contents.
-use Rattle.std.proofs.Common.{◌≡◌, ℕ, zero, suc, ◌-◌, ◌<◌, ◌≤◌, List, ◌∷◌, None, refl, sym, ap, subst, ◌∙◌, arith}
-use Rattle.std.proofs.lemmas.Grind.{common_steps}
-use Rattle.gk_world.specs.Cells.{Slot, Cell}
-use Rattle.gk_world.specs.declared.refusals.WorldFault.{WorldFault}
-use Rattle.gk_world.specs.State.{layers, state_of, with_entry, with_innermost}
-use Rattle.gk_world.specs.declared.world.World.{World}
-use Rattle.gk_world.specs.declared.world.WorldChange.{WorldChange}
+use Rattle.gk_world.proofs.Common.{◌≡◌, ℕ, zero, suc, ◌-◌, ◌<◌, ◌≤◌, List, ◌∷◌, None, refl, sym, ap, subst, ◌∙◌, arith, common_steps, Slot, Cell, WorldFault, layers, state_of, with_entry, with_innermost, World, WorldChange, ValueChange, IsFault, map_at, layers_of, Writes, contents_of, Steps, Refuses, IsHere, CanApply, changed, refusal, IsClear}
 use Rattle.gk_world.specs.declared.world.WorldChange.TheVariants as changes
-use Rattle.gk_world.specs.declared.values.ValueChange.{ValueChange}
 use Rattle.gk_world.specs.declared.values.ValueChange.TheVariants as values
-use Rattle.gk_world.specs.Refusals.{IsFault}
-use Rattle.gk_world.specs.Slots.{map_at, layers_of, Writes}
 use Rattle.gk_world.specs.Values as value
-use Rattle.gk_world.specs.World.{contents_of, Steps, Refuses, IsHere, CanApply, changed, refusal, IsClear}
 
 -- layers further out stay
 layers_same : (d : ℕ) (s t : List Slot) → ((k : ℕ) → k < d → map_at k t ≡ map_at k s) → layers_of d t ≡ layers_of d s

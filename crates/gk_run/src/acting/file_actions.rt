@@ -14,6 +14,7 @@ use gk_world::{Sandbox, is_bad_name};
 use std::alloc::{AllocError, Global};
 
 // Writes a text to a file.
+#[tactic(auto, using(crate::proofs::ActingLemmas::acted, crate::proofs::ActingLemmas::put_tests, crate::proofs::ActingLemmas::file_put, crate::proofs::ActingLemmas::file_written))]
 fn put(sandbox: &mut Sandbox, name: &str, text: &str) -> Outcome
     ensures acted { IsActed (words.put (state_of sandbox.old.now) name.now text.now
         (words.with_file (state_of sandbox.old.now) name.now text.now))
@@ -23,6 +24,7 @@ fn put(sandbox: &mut Sandbox, name: &str, text: &str) -> Outcome
     outcome_of(sandbox.put_file(name, text))
 }
 
+#[tactic(auto, using(crate::proofs::ActingLemmas::acted, crate::proofs::ActingLemmas::remove_tests, crate::proofs::ActingLemmas::file_removed))]
 pub fn remove_file(sandbox: &mut Sandbox, name: &str) -> Outcome
     ensures { IsActed (words.remove_file (state_of sandbox.old.now) name.now)
         sandbox.old result sandbox.new }
@@ -39,6 +41,7 @@ pub fn write_file(sandbox: &mut Sandbox, arguments: &Arguments<'_>) -> Outcome
     }
 }
 
+#[tactic(auto, using(crate::proofs::ActingLemmas::acted, crate::proofs::ActingLemmas::append_tests, crate::proofs::ActingLemmas::file_extended))]
 pub fn append_file(sandbox: &mut Sandbox, arguments: &Arguments<'_>) -> Outcome
     ensures { Performs actions.AppendFile arguments.now sandbox.old result sandbox.new }
 {

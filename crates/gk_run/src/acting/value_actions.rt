@@ -13,6 +13,7 @@ use gk_steps::number_of;
 use gk_world::{Sandbox, is_bad_name};
 use std::alloc::{AllocError, Global};
 
+#[tactic(auto, using(crate::proofs::ActingLemmas::acted, crate::proofs::ActingLemmas::put_tests, crate::proofs::ActingLemmas::env_put))]
 pub fn set_env(sandbox: &mut Sandbox, arguments: &Arguments<'_>) -> Outcome
     ensures { Performs actions.SetEnv arguments.now sandbox.old result sandbox.new }
 {
@@ -22,6 +23,7 @@ pub fn set_env(sandbox: &mut Sandbox, arguments: &Arguments<'_>) -> Outcome
     }
 }
 
+#[tactic(auto, using(crate::proofs::ActingLemmas::acted, crate::proofs::ActingLemmas::remove_tests, crate::proofs::ActingLemmas::env_removed))]
 pub fn remove_env(sandbox: &mut Sandbox, arguments: &Arguments<'_>) -> Outcome
     ensures { Performs actions.RemoveEnv arguments.now sandbox.old result sandbox.new }
 {
@@ -29,6 +31,7 @@ pub fn remove_env(sandbox: &mut Sandbox, arguments: &Arguments<'_>) -> Outcome
 }
 
 // Sets the innermost layer's value to a text.
+#[tactic(auto, using(crate::proofs::ActingLemmas::acted, crate::proofs::ActingLemmas::put_tests, crate::proofs::ActingLemmas::value_put))]
 fn set(sandbox: &mut Sandbox, name: &str, text: &str) -> Outcome
     requires { 0 < depth sandbox.old }
     ensures { IsActed (put (state_of sandbox.old.now) name.now text.now
@@ -50,6 +53,7 @@ pub fn set_value(sandbox: &mut Sandbox, arguments: &Arguments<'_>) -> Outcome
     }
 }
 
+#[tactic(auto, using(crate::proofs::ActingLemmas::acted, crate::proofs::ActingLemmas::delete_tests, crate::proofs::ActingLemmas::value_removed))]
 pub fn delete_value(sandbox: &mut Sandbox, arguments: &Arguments<'_>) -> Outcome
     requires { 0 < depth sandbox.old }
     ensures { Performs actions.DeleteValue arguments.now sandbox.old result sandbox.new }

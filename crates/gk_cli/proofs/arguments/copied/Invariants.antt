@@ -1,4 +1,4 @@
-use Rattle.std.proofs.Common.{◌≡◌, ◌++◌, drop, map, string_bytes}
+use Rattle.gk_cli.proofs.Common.{◌≡◌, ◌++◌, drop, map, string_bytes}
 use Rattle.gk_cli.proofs.arguments.copied.Given as goal
 
 -- the copies so far and the texts that are left are all the texts

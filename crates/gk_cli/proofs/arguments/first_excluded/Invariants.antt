@@ -1,8 +1,5 @@
-use Rattle.std.proofs.Common.{◌≡◌, map, drop}
-use Rattle.std.specs.List.{list_any}
-use Rattle.clap.specs.Words.{found_of, rows_of}
+use Rattle.gk_cli.proofs.Common.{◌≡◌, map, drop, list_any, found_of, rows_of, option_value}
 use Rattle.gk_cli.specs.Arguments as spec
-use Rattle.gk_cli.specs.OptionTable.{option_value}
 use Rattle.gk_cli.proofs.arguments.first_excluded.Given as goal
 
 -- the rows that are left have an excluded option exactly if all rows have one

@@ -1,8 +1,4 @@
-use Rattle.std.proofs.Common.{◌∙◌, ap, codes, false}
-use Rattle.std.specs.Option.{option_map_or}
-use Rattle.std.specs.Str.{bytes_eq}
-use Rattle.clap.specs.Words.{found_of}
-use Rattle.clap.proofs.WalkLemmas.{one_text-rows}
+use Rattle.gk_cli.proofs.Common.{◌∙◌, ap, codes, false, option_map_or, bytes_eq, found_of, one_text-rows}
 use Rattle.gk_cli.proofs.ArgumentsLemmas.{flag_read}
 use Rattle.gk_cli.proofs.arguments.flag.Goals as goal
 

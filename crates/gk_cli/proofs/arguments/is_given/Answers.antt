@@ -1,4 +1,4 @@
-use Rattle.clap.specs.Words.{found_of}
+use Rattle.gk_cli.proofs.Common.{found_of}
 use Rattle.gk_cli.proofs.ArgumentsLemmas.{some_read}
 use Rattle.gk_cli.proofs.arguments.is_given.Goals as goal
 

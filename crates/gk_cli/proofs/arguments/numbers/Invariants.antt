@@ -1,5 +1,4 @@
-use Rattle.std.proofs.Common.{◌≡◌, ◌++◌, drop, map}
-use Rattle.gk_cli.specs.Arguments.{line_number}
+use Rattle.gk_cli.proofs.Common.{◌≡◌, ◌++◌, drop, map, line_number}
 use Rattle.gk_cli.proofs.arguments.numbers.Given as goal
 
 -- the numbers so far and those of the texts that are left are all the numbers

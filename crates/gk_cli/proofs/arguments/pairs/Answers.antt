@@ -1,5 +1,4 @@
-use Rattle.std.proofs.Common.{arith, [], get_or, map, subst, sym, true, ◌≡◌}
-use Rattle.gk_cli.specs.Arguments.{IsFirstWithout, SaysPair, has_equals, pair_value}
+use Rattle.gk_cli.proofs.Common.{arith, [], get_or, subst, true, ◌≡◌, SaysPair, has_equals, pair_value, common_steps}
 use Rattle.gk_cli.proofs.ArgumentsLemmas.{first_without, holds_of_one_more, one_pair_more, all_pairs}
 use Rattle.gk_cli.proofs.arguments.pairs.Goals as goal
 
@@ -15,7 +14,4 @@ pub returns : goal.returns
 returns c = all_pairs pair_value c.loop-text.pairs.items c.args.texts.now c.loop-text.text-index (omega arith) c.loop-text.invariant.split c.loop-text.invariant.equals
 
 pub returns-in-None : goal.returns-in-None
-returns-in-None c =
-    let says = subst (SaysPair (get_or c.args.texts.now c.loop-text.text-index record { ref_ptr = (0, 0); now = [] }).now) c.in-None.is c.in_ok-pair.ensures in
-    subst (IsFirstWithout (map (λ text. text.now) c.args.texts.now)) (sym c.in_ok-from_str-in-None.ensures.ok)
-    (first_without c.args.texts.now c.loop-text.text-index _ c.loop-text-test.true c.loop-text.invariant.equals says)
+returns-in-None c = grind (arith, common_steps, first_without)

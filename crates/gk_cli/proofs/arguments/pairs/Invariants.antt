@@ -1,6 +1,4 @@
-use Rattle.std.proofs.Common.{◌≡◌, ◌++◌, drop, map, take, true}
-use Rattle.std.specs.List.{All}
-use Rattle.gk_cli.specs.Arguments.{split_at_equals, has_equals, pair_value}
+use Rattle.gk_cli.proofs.Common.{◌≡◌, ◌++◌, drop, map, take, true, All, split_at_equals, has_equals, pair_value}
 use Rattle.gk_cli.proofs.arguments.pairs.Given as goal
 
 -- the pairs so far and those of the texts that are left are all the pairs, and each text so far has an `=`

@@ -1,4 +1,4 @@
-use Rattle.std.proofs.Common.{◌∙◌}
+use Rattle.gk_cli.proofs.Common.{◌∙◌}
 use Rattle.gk_cli.proofs.ArgumentsLemmas.{adds, one_rule_more}
 use Rattle.gk_cli.proofs.arguments.with_options.Goals as goal
 

@@ -1,8 +1,5 @@
-use Rattle.std.proofs.Common.{◌≡◌, fold, map, drop}
-use Rattle.clap.specs.Words.{App, with_rule}
+use Rattle.gk_cli.proofs.Common.{◌≡◌, fold, map, drop, App, with_rule, IsCommand, option_value, rule_of_option}
 use Rattle.gk_cli.specs.Arguments as spec
-use Rattle.gk_cli.specs.Arguments.{IsCommand}
-use Rattle.gk_cli.specs.OptionTable.{option_value, rule_of_option}
 use Rattle.gk_cli.proofs.arguments.with_options.Given as goal
 
 -- the command so far with the rows that are left is the whole command

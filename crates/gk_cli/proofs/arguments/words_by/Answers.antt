@@ -1,6 +1,4 @@
-use Rattle.std.proofs.Common.{◌∙◌, rules, ap, is_some, map, refl, string_bytes, sym}
-use Rattle.clap.specs.Words.{found_of}
-use Rattle.gk_cli.specs.Arguments.{is_format}
+use Rattle.gk_cli.proofs.Common.{◌∙◌, rules, ap, is_some, map, refl, string_bytes, sym, found_of, is_format}
 use Rattle.gk_cli.proofs.ArgumentsLemmas.{format_read, found_lines, says_clash, says_fault, says_found, says_unknown}
 use Rattle.gk_cli.proofs.arguments.words_by.Goals as goal
 

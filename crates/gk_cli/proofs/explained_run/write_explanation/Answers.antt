@@ -1,10 +1,4 @@
-use Rattle.std.proofs.Common.{map}
-use Rattle.gk_select.specs.ExampleRows.{row_lists}
-use Rattle.gk_run.specs.Chosen.{chosen_value}
-use Rattle.gk_request.specs.Inputs.{inputs_value}
-use Rattle.gk_cli.specs.ExplainedSuite.{explained_by}
-use Rattle.gk_cli.specs.Writing.{device_of}
-use Rattle.gk_request.proofs.ResultLemmas.{if_ok, if_err}
+use Rattle.gk_cli.proofs.Common.{map, row_lists, chosen_value, inputs_value, explained_by, device_of, if_ok, if_err}
 use Rattle.gk_cli.proofs.ExplainedSuiteLemmas.{told_up_to}
 use Rattle.gk_cli.proofs.explained_run.write_explanation.Goals as goal
 

@@ -1,10 +1,5 @@
-use Rattle.std.proofs.Common.{List, ℕ, subst, sym}
-use Rattle.gk_run.specs.Results.{feature_row}
-use Rattle.gk_report.specs.Report.{part}
-use Rattle.gk_report.specs.PartPieces.{rest, IsPiece}
-use Rattle.gk_cli.specs.Writing.{device_of, IsStopped}
+use Rattle.gk_cli.proofs.Common.{List, ℕ, subst, sym, arith, feature_row, part, rest, IsPiece, device_of, IsStopped, passed_on, common_steps}
 use Rattle.gk_cli.proofs.GrowingReportLemmas.{none_written, piece_refused, piece_stopped, piece_written}
-use Rattle.gk_request.proofs.ResultLemmas.{passed_on}
 use Rattle.gk_cli.proofs.growing_report.write_part.Goals as goal
 
 pub loop-piece-init : goal.loop-piece-init
@@ -33,13 +28,4 @@ returns-in_err-write_piece-clause-err g c =
     (piece_stopped old middle new c.args.is_first c.loop-piece.still_first whole left c.as_str.result.now later c.in_err-write_piece.field-0.0 c.loop-piece.invariant piece c.in_err-write_piece.ensures.err))
 
 pub loop-piece-preserved : goal.loop-piece-preserved
-loop-piece-preserved g c =
-    let old = device_of g.W.Write.contents c.args.out.now in
-    let middle = device_of g.W.Write.contents c.loop-piece.out in
-    let new = device_of g.W.Write.contents c.write_piece.new.out in
-    let whole = part c.args.style c.args.is_first (feature_row c.args.feature.now) in
-    let left = rest c.loop-piece.left in
-    let later = rest c.next.new.self in
-    let made = rw c.in-Some.is at c.in_ok-piece.ensures.piece in
-    let piece = subst (λ (text : List ℕ). IsPiece left text later) (sym c.as_str.ensures.value) made in
-    piece_written old middle new c.args.is_first c.loop-piece.still_first whole left c.as_str.result.now later c.loop-piece.invariant piece c.in_ok-write_piece.ensures.ok
+loop-piece-preserved g c = grind (arith, common_steps, piece_written)

@@ -1,8 +1,4 @@
-use Rattle.std.proofs.Common.{length}
-use Rattle.gk_run.specs.Results.{feature_row}
-use Rattle.gk_report.specs.Report.{part}
-use Rattle.gk_report.specs.PartPieces.{rest}
-use Rattle.gk_cli.specs.Writing.{device_of}
+use Rattle.gk_cli.proofs.Common.{length, feature_row, part, rest, device_of}
 use Rattle.gk_cli.proofs.GrowingReportLemmas.{IsWrittenUpTo}
 use Rattle.gk_cli.proofs.growing_report.write_part.Given as goal
 

@@ -1,12 +1,6 @@
-use Rattle.std.proofs.Common.{◌≡◌, ◌∙◌, ap}
-use Rattle.gk_cli.specs.ExplainedSuite.{ExplainedInPart}
-use Rattle.gk_select.specs.ExampleRows.{row_lists}
-use Rattle.gk_request.specs.Inputs.{inputs_value}
-use Rattle.gk_request.specs.Request.{name_of, suite_value, request_of_files, hooks_name}
-use Rattle.gk_cli.specs.Writing.{device_of}
+use Rattle.gk_cli.proofs.Common.{◌≡◌, ◌∙◌, ap, arith, ExplainedInPart, row_lists, inputs_value, name_of, suite_value, request_of_files, hooks_name, device_of, if_ok, if_err, ok_known, common_steps}
 use Rattle.gk_cli.proofs.ExplainedSuiteLemmas.{unflushed_so, why_stopped}
 use Rattle.gk_cli.proofs.GrowingReportLemmas.{untouched}
-use Rattle.gk_request.proofs.ResultLemmas.{if_ok, if_err, ok_known}
 use Rattle.gk_cli.proofs.SuiteLemmas.{cut_says, left_by_run, unread_says, used_by_run}
 use Rattle.gk_cli.proofs.suite.explain_suite.Goals as goal
 
@@ -27,10 +21,7 @@ returns-in-Ok-clause-fault g c =
     if_err c.write_explanation.result (λ fault part. cut_says (ExplainedInPart request hooks c.args.sandbox.now.now old new) request old new fault (why_stopped _ _ _ _ _ old new fault part) (inputs_value c.in-Ok.inputs, row_lists c.in-Ok.inputs.rows.items, (c.in-Ok.ensures.read, c.in-Ok.ensures.rows), part)) done
 
 pub returns-in-Err-clause-fault : goal.returns-in-Err-clause-fault
-returns-in-Err-clause-fault g c =
-    let request = request_of_files c.args.options.now (suite_value g.S.FeatureSource.value c.args.files.now) in
-    let device = device_of g.W.Write.contents c.args.out.now in
-    unread_says (ExplainedInPart request (hooks_name (suite_value g.S.FeatureSource.value c.args.files.now)) c.args.sandbox.now.now device device) request device device c.in-Err.fault c.in-Err.ensures.fault (untouched device)
+returns-in-Err-clause-fault g c = grind (arith, common_steps, unread_says, untouched)
 
 pub returns-in-Ok-clause-left : goal.returns-in-Ok-clause-left
 returns-in-Ok-clause-left g c =
@@ -43,7 +34,4 @@ returns-in-Ok-clause-left g c =
     }
 
 pub returns-in-Ok-clause-used : goal.returns-in-Ok-clause-used
-returns-in-Ok-clause-used g c =
-    let old = device_of g.W.Write.contents c.args.out.now in
-    let new = device_of g.W.Write.contents c.write_explanation.new.out in
-    used_by_run c.write_explanation.result old new (λ status said. (said.text, said.written)) (λ fault part. unflushed_so _ _ _ _ _ old new fault part) c.write_explanation.ensures.ok c.write_explanation.ensures.err
+returns-in-Ok-clause-used g c = grind (arith, common_steps, used_by_run, unflushed_so)

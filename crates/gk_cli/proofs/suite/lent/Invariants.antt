@@ -1,5 +1,4 @@
-use Rattle.std.proofs.Common.{◌≡◌, map, take}
-use Rattle.gk_request.specs.Source.{borrowed_value, source_value}
+use Rattle.gk_cli.proofs.Common.{◌≡◌, map, take, borrowed_value, source_value}
 use Rattle.gk_cli.proofs.suite.lent.Given as goal
 
 abbrev pub invariant-loop-source : goal.invariant-loop-source

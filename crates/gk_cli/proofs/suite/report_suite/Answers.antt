@@ -1,18 +1,10 @@
-use Rattle.gk_request.specs.Inputs.{inputs_value}
-use Rattle.gk_cli.specs.Suite.{ReportedInPart}
-use Rattle.gk_request.specs.Request.{suite_value, request_of_files}
-use Rattle.gk_cli.specs.Writing.{device_of}
+use Rattle.gk_cli.proofs.Common.{inputs_value, ReportedInPart, suite_value, request_of_files, device_of, if_ok, if_err, ok_known, arith, common_steps}
 use Rattle.gk_cli.proofs.SuiteLemmas.{cut_says, left_by_run, reported_in_part, unread_says, used_by_run, whole_is_judged, whole_is_only}
 use Rattle.gk_cli.proofs.GrowingReportLemmas.{untouched}
-use Rattle.gk_request.proofs.ResultLemmas.{if_ok, if_err, ok_known}
 use Rattle.gk_cli.proofs.suite.report_suite.Goals as goal
 
 pub returns-in-Ok-clause-judged : goal.returns-in-Ok-clause-judged
-returns-in-Ok-clause-judged g c =
-    let request = request_of_files c.args.options.now (suite_value g.S.FeatureSource.value c.args.files.now) in
-    let old = device_of g.W.Write.contents c.args.out.now in
-    let new = device_of g.W.Write.contents c.write_run.new.out in
-    if_ok c.write_run.result (λ status whole. whole_is_judged request c.args.sandbox.now.now old new (inputs_value c.in-Ok.inputs) status c.in-Ok.ensures.read whole) c.write_run.ensures.ok
+returns-in-Ok-clause-judged g c = grind (arith, common_steps, if_ok, whole_is_judged)
 
 pub returns-in-Ok-clause-plain : goal.returns-in-Ok-clause-plain
 returns-in-Ok-clause-plain g c =
@@ -30,10 +22,7 @@ returns-in-Ok-clause-fault g c =
     if_err c.write_run.result (λ fault part. cut_says (ReportedInPart request contents old new) request old new fault part.2.why (reported_in_part request contents old new (inputs_value c.in-Ok.inputs) fault c.in-Ok.ensures.read part)) c.write_run.ensures.err
 
 pub returns-in-Err-clause-fault : goal.returns-in-Err-clause-fault
-returns-in-Err-clause-fault g c =
-    let request = request_of_files c.args.options.now (suite_value g.S.FeatureSource.value c.args.files.now) in
-    let device = device_of g.W.Write.contents c.args.out.now in
-    unread_says (ReportedInPart request c.args.sandbox.now.now device device) request device device c.in-Err.fault c.in-Err.ensures.fault (untouched device)
+returns-in-Err-clause-fault g c = grind (arith, common_steps, unread_says, untouched)
 
 pub returns-in-Ok-clause-left : goal.returns-in-Ok-clause-left
 returns-in-Ok-clause-left g c =
@@ -46,7 +35,4 @@ returns-in-Ok-clause-left g c =
     }
 
 pub returns-in-Ok-clause-used : goal.returns-in-Ok-clause-used
-returns-in-Ok-clause-used g c =
-    let old = device_of g.W.Write.contents c.args.out.now in
-    let new = device_of g.W.Write.contents c.write_run.new.out in
-    used_by_run c.write_run.result old new (λ status whole. (_, whole.2.written)) (λ fault part. part.2.unflushed) c.write_run.ensures.ok c.write_run.ensures.err
+returns-in-Ok-clause-used g c = grind (arith, common_steps, used_by_run)

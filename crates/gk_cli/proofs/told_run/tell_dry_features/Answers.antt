@@ -1,12 +1,4 @@
-use Rattle.std.proofs.Common.{◌≡◌, ◌∷◌, [], ◌++◌, ◌∙◌, true, List, length, map, arith, ap, sym, subst, refl}
-use Rattle.std.specs.List.{AllByRecursion}
-use Rattle.std.specs.Vec.Iter.{into_iter_items}
-use Rattle.gk_steps.specs.Finding.{library_value}
-use Rattle.gk_run.specs.Chosen.{ChosenValue, chosen_value, IsFormed}
-use Rattle.gk_run.specs.DryRun.{AreDryFeatures}
-use Rattle.gk_cli.specs.Writing.{device_of}
-use Rattle.gk_cli.specs.ToldRun.{TellsDryFeature, IsDryResult, AreToldUpTo, stays_begun}
-use Rattle.gk_request.proofs.ResultLemmas.{passed_on}
+use Rattle.gk_cli.proofs.Common.{◌≡◌, ◌∷◌, [], ◌++◌, ◌∙◌, true, List, length, map, arith, ap, sym, subst, refl, AllByRecursion, into_iter_items, library_value, ChosenValue, chosen_value, IsFormed, AreDryFeatures, device_of, TellsDryFeature, IsDryResult, AreToldUpTo, stays_begun, passed_on, common_steps}
 use Rattle.gk_cli.proofs.SuiteLemmas.{nothing_in}
 use Rattle.gk_cli.proofs.ToldRunLemmas.{DryRowsSoFar, dry_rows_first, dry_rows_next, dry_rows_last, TellingDryRun, telling_first, telling_next, telling_last, telling_stopped}
 use Rattle.gk_cli.proofs.told_run.tell_dry_features.Goals as goal
@@ -26,9 +18,7 @@ loop-feature-init g c =
     }
 
 pub tell_dry_next-requires : goal.tell_dry_next-requires
-tell_dry_next-requires g c =
-    let all : AllByRecursion IsFormed (c.in-Some.feature ∷ into_iter_items c.next.new.self) = subst (AllByRecursion IsFormed) c.in-Some.ensures.steps.0 c.loop-feature.invariant.formed in
-    record { formed = all.0 }
+tell_dry_next-requires g c = grind (arith, common_steps)
 
 pub loop-feature-preserved : goal.loop-feature-preserved
 loop-feature-preserved g c =

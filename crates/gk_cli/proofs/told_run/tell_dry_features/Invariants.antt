@@ -1,10 +1,4 @@
-use Rattle.std.proofs.Common.{◌≡◌, map, length}
-use Rattle.std.specs.List.{AllByRecursion}
-use Rattle.std.specs.Vec.Iter.{into_iter_items, into_iter_len}
-use Rattle.gk_steps.specs.Finding.{library_value}
-use Rattle.gk_run.specs.Chosen.{chosen_value, IsFormed}
-use Rattle.gk_cli.specs.Writing.{device_of}
-use Rattle.gk_cli.specs.ToldRun.{TellsDryFeature}
+use Rattle.gk_cli.proofs.Common.{◌≡◌, map, length, AllByRecursion, into_iter_items, into_iter_len, library_value, chosen_value, IsFormed, device_of, TellsDryFeature}
 use Rattle.gk_cli.proofs.ToldRunLemmas.{TellingDryRun}
 use Rattle.gk_cli.proofs.told_run.tell_dry_features.Given as goal
 

@@ -1,15 +1,4 @@
-use Rattle.std.proofs.Common.{◌≡◌, ◌∷◌, [], ◌++◌, ◌∙◌, Bool, List, length, map, arith, ap, sym, subst, refl}
-use Rattle.std.specs.List.{AllByRecursion}
-use Rattle.std.specs.Vec.Iter.{into_iter_items}
-use Rattle.gk_world.specs.State.{State, state_of}
-use Rattle.gk_run.specs.OpenSection.{run_of}
-use Rattle.gk_run.specs.Chosen.{ChosenValue, chosen_value, IsFormed}
-use Rattle.gk_run.specs.Running.{stays_open_by}
-use Rattle.gk_run.specs.Features.{IsFeatureResult}
-use Rattle.gk_run.specs.OpenRun.{AreFeatures, SuiteValue, opens_features}
-use Rattle.gk_cli.specs.Writing.{device_of}
-use Rattle.gk_cli.specs.ToldRun.{TellsFeature, TellsNext, EndsNext, IsNextResult, AreToldUpTo, stays}
-use Rattle.gk_request.proofs.ResultLemmas.{passed_on}
+use Rattle.gk_cli.proofs.Common.{◌≡◌, ◌∷◌, [], ◌++◌, ◌∙◌, Bool, List, length, map, arith, ap, sym, subst, refl, AllByRecursion, into_iter_items, State, state_of, run_of, ChosenValue, chosen_value, IsFormed, stays_open_by, IsFeatureResult, AreFeatures, SuiteValue, opens_features, device_of, TellsFeature, TellsNext, EndsNext, IsNextResult, AreToldUpTo, stays, passed_on, common_steps}
 use Rattle.gk_cli.proofs.SuiteLemmas.{nothing_in, and_left, kept_through, same_through}
 use Rattle.gk_cli.proofs.ToldRunLemmas.{RowsSoFar, rows_first, rows_next, rows_last, TellingRun, telling_first, telling_next, telling_last, telling_stopped}
 use Rattle.gk_cli.proofs.told_run.tell_features.Goals as goal
@@ -37,9 +26,7 @@ pub tell_next-requires-clause-innermost : goal.tell_next-requires-clause-innermo
 tell_next-requires-clause-innermost g c = ap (λ (s : SuiteValue). s.layer) c.loop-feature.invariant.kept ∙ c.requires.innermost ∙ ap length (sym c.loop-feature.invariant.same.saved)
 
 pub tell_next-requires-clause-formed : goal.tell_next-requires-clause-formed
-tell_next-requires-clause-formed g c =
-    let all : AllByRecursion IsFormed (c.in-Some.feature ∷ into_iter_items c.next.new.self) = subst (AllByRecursion IsFormed) c.in-Some.ensures.steps.0 c.loop-feature.invariant.formed in
-    all.0
+tell_next-requires-clause-formed g c = grind (arith, common_steps)
 
 pub loop-feature-preserved : goal.loop-feature-preserved
 loop-feature-preserved g c =

@@ -1,13 +1,4 @@
-use Rattle.std.proofs.Common.{◌≡◌, true, map, length}
-use Rattle.std.specs.List.{AllByRecursion}
-use Rattle.std.specs.Vec.Iter.{into_iter_items, into_iter_len}
-use Rattle.gk_world.specs.State.{state_of}
-use Rattle.gk_world.specs.Sandbox.{IsSame}
-use Rattle.gk_run.specs.OpenSection.{run_of}
-use Rattle.gk_run.specs.Chosen.{chosen_value, IsFormed}
-use Rattle.gk_run.specs.OpenRun.{IsKept, opens_features}
-use Rattle.gk_cli.specs.Writing.{device_of}
-use Rattle.gk_cli.specs.ToldRun.{TellsFeature}
+use Rattle.gk_cli.proofs.Common.{◌≡◌, true, map, length, AllByRecursion, into_iter_items, into_iter_len, state_of, IsSame, run_of, chosen_value, IsFormed, IsKept, opens_features, device_of, TellsFeature}
 use Rattle.gk_cli.proofs.ToldRunLemmas.{TellingRun}
 use Rattle.gk_cli.proofs.told_run.tell_features.Given as goal
 

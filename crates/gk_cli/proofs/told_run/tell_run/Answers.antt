@@ -1,13 +1,4 @@
-use Rattle.std.specs.List.{FoldsTo}
-use Rattle.std.proofs.Common.{Bool, ap, map, rules, subst, sym, ◌∙◌}
-use Rattle.gk_world.specs.State.{state_of}
-use Rattle.gk_run.specs.OpenSection.{run_of}
-use Rattle.gk_run.specs.Chosen.{chosen_value}
-use Rattle.gk_run.specs.OpenRun.{AreFeatures, IsFinishTold, SuiteValue, opens_features}
-use Rattle.gk_cli.specs.declared.told_run.CountingReporter.{CountingReporter}
-use Rattle.gk_cli.specs.Writing.{device_of}
-use Rattle.gk_cli.specs.ToldRun.{TellsFeature, TellsFeatures, AreTold, AreToldUpTo, stays}
-use Rattle.gk_request.proofs.ResultLemmas.{if_ok, if_err}
+use Rattle.gk_cli.proofs.Common.{FoldsTo, Bool, ap, map, rules, subst, sym, ◌∙◌, state_of, run_of, chosen_value, AreFeatures, IsFinishTold, SuiteValue, opens_features, CountingReporter, device_of, TellsFeature, TellsFeatures, AreTold, AreToldUpTo, stays, if_ok, if_err}
 use Rattle.gk_cli.proofs.ToldRunLemmas.{run_told, whole_told, whole_stopped, part_told}
 use Rattle.gk_cli.proofs.told_run.tell_run.Goals as goal
 

@@ -1,12 +1,4 @@
-use Rattle.std.proofs.Common.{Bool, false, ap, map, rules, sym, subst, ◌∙◌}
-use Rattle.gk_run.specs.OpenSection.{Run}
-use Rattle.gk_run.specs.Chosen.{chosen_value}
-use Rattle.gk_request.specs.Inputs.{inputs_value}
-use Rattle.gk_cli.specs.Suite.{run_by}
-use Rattle.gk_cli.specs.Writing.{device_of}
-use Rattle.gk_cli.specs.GrowingReport.{style_of, prints_nothing}
-use Rattle.gk_cli.specs.WrittenRun.{IsWhole, IsPrefix}
-use Rattle.gk_request.proofs.ResultLemmas.{if_ok, if_err, passed_on}
+use Rattle.gk_cli.proofs.Common.{Bool, false, ap, map, rules, sym, subst, ◌∙◌, Run, chosen_value, inputs_value, run_by, device_of, style_of, prints_nothing, IsWhole, IsPrefix, if_ok, if_err, passed_on}
 use Rattle.gk_cli.proofs.GrowingReportLemmas.{head_stopped, run_reported, run_stopped, dry_reported, dry_close_stopped, dry_run_stopped}
 use Rattle.gk_cli.proofs.written_run.write_run.Goals as goal
 

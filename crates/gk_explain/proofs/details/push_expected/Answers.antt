@@ -1,6 +1,4 @@
-use Rattle.std.proofs.Common.{◌∙◌, ◌++◌, ℤ, string_bytes, ap}
-use Rattle.std.proofs.Math.Facts.{to_z-of_z}
-use Rattle.gk_explain.specs.Details.{expected_number}
+use Rattle.gk_explain.proofs.Common.{◌∙◌, ◌++◌, ℤ, string_bytes, ap, to_z-of_z, expected_number}
 use Rattle.gk_explain.proofs.details.push_expected.Goals as goal
 
 pub returns : goal.returns

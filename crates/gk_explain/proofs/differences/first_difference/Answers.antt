@@ -1,13 +1,9 @@
-use Rattle.std.proofs.Common.{◌∙◌, sym}
-use Rattle.std.proofs.lemmas.Str.{IsUtf8-past_char}
+use Rattle.gk_explain.proofs.Common.{IsUtf8-past_char, arith, common_steps}
 use Rattle.gk_explain.proofs.DifferencesLemmas.{no_chars, none_found, same_here, other_here, closer}
 use Rattle.gk_explain.proofs.differences.first_difference.Goals as goal
 
 pub returns-in_default : goal.returns-in_default
-returns-in_default c =
-    let held = c.loop-c.invariant in
-    let none = no_chars _ c.in_default.ensures.steps.0.0 in
-    sym (none_found c.loop-c.position _) ∙ rw none at held.4
+returns-in_default c = grind (arith, common_steps, no_chars, none_found)
 
 pub returns-then-other-c : goal.returns-then-other-c
 returns-then-other-c c =
@@ -26,6 +22,4 @@ loop-c-preserved c =
     )
 
 pub returns : goal.returns
-returns c =
-    let none = no_chars _ c.in-None.ensures.steps.0.0 in
-    rw none at c.loop-c.invariant.4
+returns c = grind (arith, common_steps, no_chars)

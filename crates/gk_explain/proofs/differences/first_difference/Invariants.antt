@@ -1,6 +1,4 @@
-use Rattle.std.proofs.Common.{◌≡◌, ◌≤◌, ◌+◌, IsUtf8, chars, length}
-use Rattle.std.specs.Str.Iter.{chars_rest}
-use Rattle.gk_explain.specs.Differences.{common_start, position_past, first_difference}
+use Rattle.gk_explain.proofs.Common.{◌≡◌, ◌≤◌, ◌+◌, IsUtf8, chars, length, chars_rest, common_start, position_past, first_difference}
 use Rattle.gk_explain.proofs.differences.first_difference.Given as goal
 
 abbrev pub invariant-loop-c : goal.invariant-loop-c

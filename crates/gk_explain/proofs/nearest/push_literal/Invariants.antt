@@ -1,6 +1,4 @@
-use Rattle.std.proofs.Common.{◌≡◌, ◌++◌, IsUtf8, string_bytes}
-use Rattle.std.specs.Str.Iter.{chars_rest}
-use Rattle.gk_explain.specs.Nearest.{literal_shown}
+use Rattle.gk_explain.proofs.Common.{◌≡◌, ◌++◌, IsUtf8, string_bytes, chars_rest, literal_shown}
 use Rattle.gk_explain.proofs.nearest.push_literal.Given as goal
 
 abbrev pub invariant-loop-c : goal.invariant-loop-c

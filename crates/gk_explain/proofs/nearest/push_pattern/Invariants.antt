@@ -1,6 +1,4 @@
-use Rattle.std.proofs.Common.{◌≡◌, ◌++◌, drop, string_bytes}
-use Rattle.gk_steps.specs.Pattern.{pieces_said}
-use Rattle.gk_explain.specs.Nearest.{pattern_shown}
+use Rattle.gk_explain.proofs.Common.{◌≡◌, ◌++◌, drop, string_bytes, pieces_said, pattern_shown}
 use Rattle.gk_explain.proofs.nearest.push_pattern.Given as goal
 
 abbrev pub invariant-loop-piece : goal.invariant-loop-piece

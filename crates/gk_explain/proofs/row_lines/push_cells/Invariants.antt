@@ -1,7 +1,4 @@
-use Rattle.std.proofs.Common.{◌≡◌, ◌++◌, map, flat_map, drop, string_bytes}
-use Rattle.std.specs.List.{enumerate_from}
-use Rattle.gk_select.specs.ExampleRows.{cell_value}
-use Rattle.gk_explain.specs.RowLines.{cell_text, cells_text}
+use Rattle.gk_explain.proofs.Common.{◌≡◌, ◌++◌, map, flat_map, drop, string_bytes, enumerate_from, cell_value, cell_text, cells_text}
 use Rattle.gk_explain.proofs.row_lines.push_cells.Given as goal
 
 abbrev pub invariant-loop-index : goal.invariant-loop-index

@@ -1,6 +1,4 @@
-use Rattle.std.proofs.Common.{◌≡◌, map, drop}
-use Rattle.gk_select.specs.ExampleRows.{example_row_value}
-use Rattle.gk_explain.specs.RowLines.{rows_from}
+use Rattle.gk_explain.proofs.Common.{◌≡◌, map, drop, example_row_value, rows_from}
 use Rattle.gk_explain.proofs.row_lines.rows_from.Given as goal
 
 abbrev pub invariant-loop-i : goal.invariant-loop-i

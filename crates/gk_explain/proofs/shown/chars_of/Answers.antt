@@ -1,4 +1,4 @@
-use Rattle.std.proofs.lemmas.Iterator.{items_from_collect, YieldsList-from_chars}
+use Rattle.gk_explain.proofs.Common.{items_from_collect, YieldsList-from_chars}
 use Rattle.gk_explain.proofs.shown.chars_of.Goals as goal
 
 pub returns : goal.returns

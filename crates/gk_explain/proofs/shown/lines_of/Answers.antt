@@ -1,6 +1,4 @@
-use Rattle.std.proofs.Common.{arith}
-use Rattle.std.proofs.lemmas.Iterator.Consumers.{map_from_collect}
-use Rattle.std.proofs.lemmas.Iterator.Splits.{YieldsList-from_str_split}
+use Rattle.gk_explain.proofs.Common.{arith, map_from_collect, YieldsList-from_str_split}
 use Rattle.gk_explain.proofs.shown.lines_of.Goals as goal
 
 pub returns : goal.returns

@@ -1,5 +1,4 @@
-use Rattle.std.proofs.Common.{◌≡◌, ◌++◌, drop, flat_map, string_bytes}
-use Rattle.gk_explain.specs.Shown.{shown_char}
+use Rattle.gk_explain.proofs.Common.{◌≡◌, ◌++◌, drop, flat_map, string_bytes, shown_char}
 use Rattle.gk_explain.proofs.shown.push_chars.Given as goal
 
 abbrev pub invariant-loop-c : goal.invariant-loop-c

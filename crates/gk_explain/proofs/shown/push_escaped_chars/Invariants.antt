@@ -1,6 +1,4 @@
-use Rattle.std.proofs.Common.{◌≡◌, ◌++◌, IsUtf8, string_bytes}
-use Rattle.std.specs.Str.Iter.{chars_rest}
-use Rattle.gk_explain.specs.Shown.{escaped}
+use Rattle.gk_explain.proofs.Common.{◌≡◌, ◌++◌, IsUtf8, string_bytes, chars_rest, escaped}
 use Rattle.gk_explain.proofs.shown.push_escaped_chars.Given as goal
 
 abbrev pub invariant-loop-c : goal.invariant-loop-c

@@ -1,5 +1,4 @@
-use Rattle.std.proofs.Common.{◌≡◌, ◌++◌, drop, map, string_bytes}
-use Rattle.gk_explain.specs.Shown.{marked_lines, row}
+use Rattle.gk_explain.proofs.Common.{◌≡◌, ◌++◌, drop, map, string_bytes, marked_lines, row}
 use Rattle.gk_explain.proofs.shown.push_lines.Given as goal
 
 abbrev pub invariant-loop-line : goal.invariant-loop-line

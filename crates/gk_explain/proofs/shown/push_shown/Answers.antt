@@ -1,6 +1,4 @@
-use Rattle.std.proofs.Common.{sym, ◌∙◌, append_assoc, append-nil}
-use Rattle.std.proofs.lemmas.Str.{IsUtf8-past_char}
-use Rattle.gk_explain.specs.Shown.{shown_char}
+use Rattle.gk_explain.proofs.Common.{sym, ◌∙◌, append_assoc, append-nil, IsUtf8-past_char, shown_char}
 use Rattle.gk_explain.proofs.ShownLemmas.{shown_none, shown_first}
 use Rattle.gk_explain.proofs.shown.push_shown.Goals as goal
 

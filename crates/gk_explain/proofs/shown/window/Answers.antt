@@ -1,4 +1,4 @@
-use Rattle.std.proofs.Common.{◌∙◌, sym, ap, ℕ, take, drop, take_all}
+use Rattle.gk_explain.proofs.Common.{◌∙◌, sym, ap, ℕ, take, drop, take_all}
 use Rattle.gk_explain.proofs.shown.window.Goals as goal
 
 pub returns-else-rest-gt60 : goal.returns-else-rest-gt60

@@ -1,6 +1,4 @@
-use Rattle.std.proofs.Common.{◌≡◌, map, drop}
-use Rattle.gk_gherkin.specs.Feature.{texts}
-use Rattle.gk_explain.specs.Tables.{first_refused}
+use Rattle.gk_explain.proofs.Common.{◌≡◌, map, drop, texts, first_refused}
 use Rattle.gk_explain.proofs.tables.first_refused.Given as goal
 
 abbrev pub invariant-loop-row : goal.invariant-loop-row

@@ -1,6 +1,4 @@
-use Rattle.std.proofs.Common.{◌≡◌, ◌++◌, drop, string_bytes}
-use Rattle.gk_gherkin.specs.Feature.{texts}
-use Rattle.gk_explain.specs.Tables.{quoted_cells}
+use Rattle.gk_explain.proofs.Common.{◌≡◌, ◌++◌, drop, string_bytes, texts, quoted_cells}
 use Rattle.gk_explain.proofs.tables.push_cells.Given as goal
 
 abbrev pub invariant-loop-cell : goal.invariant-loop-cell

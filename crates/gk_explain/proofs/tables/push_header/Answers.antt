@@ -1,8 +1,4 @@
-use Rattle.std.proofs.Common.{◌∙◌, ◌++◌, List, ℕ, codes, refl, ap, append_assoc, string_bytes}
-use Rattle.std.proofs.lemmas.Slice.{pushed}
-use Rattle.gk_gherkin.specs.Feature.{texts}
-use Rattle.gk_report.specs.ReportTexts.{line_feed}
-use Rattle.gk_explain.specs.Tables.{header_line, quoted_cells}
+use Rattle.gk_explain.proofs.Common.{◌∙◌, ◌++◌, List, ℕ, codes, refl, ap, append_assoc, string_bytes, pushed, texts, line_feed, header_line, quoted_cells}
 use Rattle.gk_explain.proofs.tables.push_header.Goals as goal
 
 pub returns : goal.returns

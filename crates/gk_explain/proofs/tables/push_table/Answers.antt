@@ -1,8 +1,4 @@
-use Rattle.std.proofs.Common.{◌∙◌, ◌++◌, List, ℕ, map, codes, refl, ap, append_assoc, string_bytes}
-use Rattle.std.proofs.lemmas.Slice.{pushed}
-use Rattle.std.proofs.lemmas.Result.{on_ok_weaker}
-use Rattle.gk_gherkin.specs.Feature.{texts}
-use Rattle.gk_explain.specs.Tables.{found_header}
+use Rattle.gk_explain.proofs.Common.{◌∙◌, ◌++◌, List, ℕ, map, codes, refl, ap, append_assoc, string_bytes, pushed, on_ok_weaker, texts, found_header}
 use Rattle.gk_explain.proofs.tables.push_table.Goals as goal
 
 pub returns-in_ok-push_str-in-Table : goal.returns-in_ok-push_str-in-Table

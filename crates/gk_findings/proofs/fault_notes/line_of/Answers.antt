@@ -1,8 +1,4 @@
-use Rattle.std.proofs.Common.{◌∙◌, ap}
-use Rattle.std.proofs.lemmas.Iterator.Consumers.{nth_from_yields_List}
-use Rattle.std.proofs.lemmas.Iterator.Splits.{YieldsList-from_lines}
-use Rattle.std.specs.Prelude.{slice_get}
-use Rattle.std.specs.Str.Lines.{lines}
+use Rattle.gk_findings.proofs.Common.{◌∙◌, ap, nth_from_yields_List, YieldsList-from_lines, slice_get, lines}
 use Rattle.gk_findings.proofs.fault_notes.line_of.Goals as goal
 
 pub returns : goal.returns

@@ -1,5 +1,4 @@
-use Rattle.std.proofs.Common.{◌≡◌, ◌++◌, drop, string_bytes}
-use Rattle.gk_findings.specs.FindingLines.{finding_lines}
+use Rattle.gk_findings.proofs.Common.{◌≡◌, ◌++◌, drop, string_bytes, finding_lines}
 use Rattle.gk_findings.proofs.finding_lines.push_findings.Given as goal
 
 abbrev pub invariant-loop-finding : goal.invariant-loop-finding

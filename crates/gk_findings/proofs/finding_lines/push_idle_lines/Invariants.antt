@@ -1,5 +1,4 @@
-use Rattle.std.proofs.Common.{◌≡◌, ◌++◌, drop, string_bytes}
-use Rattle.gk_findings.specs.FindingLines.{idle_lines}
+use Rattle.gk_findings.proofs.Common.{◌≡◌, ◌++◌, drop, string_bytes, idle_lines}
 use Rattle.gk_findings.proofs.finding_lines.push_idle_lines.Given as goal
 
 abbrev pub invariant-loop-line : goal.invariant-loop-line

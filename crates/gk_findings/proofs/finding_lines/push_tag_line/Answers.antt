@@ -1,8 +1,4 @@
-use Rattle.std.proofs.Common.{codes, ◌≡◌, ◌∙◌, ◌++◌, List, ℕ, Result, Ok, Err, OnOk, if◌then◌else◌, ap, append_assoc, string_bytes}
-use Rattle.std.proofs.lemmas.Result.{on_ok_weaker}
-use Rattle.std.specs.Result.{is_ok}
-use Rattle.gk_explain.specs.Shown.{shown}
-use Rattle.gk_findings.specs.FindingLines.{tag_line}
+use Rattle.gk_findings.proofs.Common.{codes, ◌≡◌, ◌∙◌, ◌++◌, List, ℕ, Result, Ok, Err, OnOk, if◌then◌else◌, ap, append_assoc, string_bytes, on_ok_weaker, is_ok, shown, tag_line}
 use Rattle.gk_findings.proofs.finding_lines.push_tag_line.Goals as goal
 
 -- What was pushed where the call succeeded.

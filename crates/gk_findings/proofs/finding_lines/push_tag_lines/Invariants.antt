@@ -1,5 +1,4 @@
-use Rattle.std.proofs.Common.{◌≡◌, ◌++◌, map, drop, string_bytes}
-use Rattle.gk_findings.specs.FindingLines.{tag_lines}
+use Rattle.gk_findings.proofs.Common.{◌≡◌, ◌++◌, map, drop, string_bytes, tag_lines}
 use Rattle.gk_findings.proofs.finding_lines.push_tag_lines.Given as goal
 
 abbrev pub invariant-loop-tag : goal.invariant-loop-tag

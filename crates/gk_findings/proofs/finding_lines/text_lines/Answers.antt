@@ -1,5 +1,4 @@
-use Rattle.std.proofs.lemmas.Iterator.Consumers.{map_from_collect}
-use Rattle.std.proofs.lemmas.Iterator.Splits.{YieldsList-from_lines}
+use Rattle.gk_findings.proofs.Common.{map_from_collect, YieldsList-from_lines}
 use Rattle.gk_findings.proofs.finding_lines.text_lines.Goals as goal
 
 pub returns : goal.returns

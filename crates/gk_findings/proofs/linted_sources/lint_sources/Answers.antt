@@ -1,7 +1,4 @@
-use Rattle.std.proofs.Common.{map, take, sym, subst, string_bytes}
-use Rattle.gk_findings.specs.FindingLines.{noted_library_value}
-use Rattle.gk_findings.specs.LintedSources.{IsLintOf}
-use Rattle.gk_request.proofs.InputsLemmas.{at_place, take_one, first_unread}
+use Rattle.gk_findings.proofs.Common.{map, take, sym, subst, string_bytes, noted_library_value, IsLintOf, at_place, take_one, first_unread}
 use Rattle.gk_findings.proofs.LintedSourcesLemmas.{are_read, lint_of_more}
 use Rattle.gk_findings.proofs.linted_sources.lint_sources.Goals as goal
 

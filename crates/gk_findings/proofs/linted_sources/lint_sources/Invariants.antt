@@ -1,6 +1,4 @@
-use Rattle.std.proofs.Common.{map, take}
-use Rattle.gk_findings.specs.FindingLines.{noted_library_value}
-use Rattle.gk_findings.specs.LintedSources.{IsLintOf}
+use Rattle.gk_findings.proofs.Common.{map, take, noted_library_value, IsLintOf}
 use Rattle.gk_findings.proofs.linted_sources.lint_sources.Given as goal
 
 -- what was found is that of the sources so far

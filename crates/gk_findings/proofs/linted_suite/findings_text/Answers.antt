@@ -1,13 +1,4 @@
-use Rattle.std.proofs.Common.{map, ap, sym, ◌∙◌, subst}
-use Rattle.gk_gherkin.specs.Hooks.{hooks_value}
-use Rattle.gk_select.specs.Choice.{is_chosen}
-use Rattle.gk_select.specs.TagRules.{tag_rule_value}
-use Rattle.gk_steps.specs.Finding.{library_value}
-use Rattle.gk_findings.specs.FindingLines.{NotedLibraryValue, noted_library_value}
-use Rattle.gk_request.specs.Inputs.{IsLibrary}
-use Rattle.gk_request.specs.Request.{bytes_of, library_name, suite_value, request_of_files}
-use Rattle.gk_findings.specs.LintedSuite.{noted_library, read_of}
-use Rattle.gk_request.proofs.InputsLemmas.{sources_unread}
+use Rattle.gk_findings.proofs.Common.{map, ap, sym, ◌∙◌, subst, hooks_value, is_chosen, tag_rule_value, library_value, NotedLibraryValue, noted_library_value, IsLibrary, bytes_of, library_name, suite_value, request_of_files, noted_library, read_of, sources_unread}
 use Rattle.gk_findings.proofs.linted_suite.findings_text.Goals as goal
 
 pub returns-in-Ok-lint_sources-clause-linted : goal.returns-in-Ok-lint_sources-clause-linted

@@ -1,16 +1,4 @@
-use Rattle.std.proofs.Common.{◌++◌, ◌∙◌, map, ap, ap₂, subst, string_bytes}
-use Rattle.gk_gherkin.specs.Feature.{feature_value}
-use Rattle.gk_gherkin.specs.Hooks.{hooks_value}
-use Rattle.gk_select.specs.TagRules.{tag_rule_value}
-use Rattle.gk_lint.specs.Findings.{AreInOrder}
-use Rattle.gk_lint.specs.NamedTags.{nowhere}
-use Rattle.gk_lint.specs.ScenarioLines.{without_scenario}
-use Rattle.gk_lint.specs.TagUse.{hooks_of_no_tag}
-use Rattle.gk_lint.specs.WrittenSteps.{of_hooks, found_in}
-use Rattle.gk_request.specs.Request.{bytes_of, hooks_name, suite_value}
-use Rattle.gk_findings.specs.FindingLines.{noted_library_value, noted_lines, tag_lines, idle_lines}
-use Rattle.gk_findings.specs.LintedSources.{looked_up}
-use Rattle.gk_findings.specs.LintedSuite.{noted_hooks, library_lines}
+use Rattle.gk_findings.proofs.Common.{◌++◌, ◌∙◌, map, ap, ap₂, subst, string_bytes, feature_value, hooks_value, tag_rule_value, AreInOrder, nowhere, without_scenario, hooks_of_no_tag, of_hooks, found_in, bytes_of, hooks_name, suite_value, noted_library_value, noted_lines, tag_lines, idle_lines, looked_up, noted_hooks, library_lines}
 use Rattle.gk_findings.proofs.LintedSuiteLemmas.{five_parts}
 use Rattle.gk_findings.proofs.linted_suite.whole_text.Goals as goal
 

@@ -1,7 +1,4 @@
-use Rattle.std.proofs.Common.{ℕ, List, ap, sym, ◌∙◌}
-use Rattle.std.specs.List.{after_first}
-use Rattle.gk_gherkin.specs.Text.{trim}
-use Rattle.gk_gherkin.specs.Class.{is_colon, heading_name}
+use Rattle.gk_gherkin.proofs.Common.{ℕ, List, ap, sym, ◌∙◌, after_first, trim, is_colon, heading_name}
 use Rattle.gk_gherkin.proofs.ClassWords.{at_colon, no_colon}
 use Rattle.gk_gherkin.proofs.class.heading_name.Goals as goal
 

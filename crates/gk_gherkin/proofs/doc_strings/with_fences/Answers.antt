@@ -1,8 +1,4 @@
-use Rattle.std.proofs.Common.{rules, ◌≡◌, ◌++◌, ◌∙◌, ℕ, List, ap, arith}
-use Rattle.std.proofs.lemmas.Grind.{common_steps}
-use Rattle.std.specs.String.{string_bytes}
-use Rattle.gk_gherkin.specs.Class.{fence_text}
-use Rattle.gk_gherkin.specs.DocStrings.{fences_read}
+use Rattle.gk_gherkin.proofs.Common.{rules, ◌≡◌, ◌++◌, ◌∙◌, ℕ, List, ap, arith, common_steps, string_bytes, fence_text, fences_read}
 use Rattle.gk_gherkin.proofs.FenceTexts.{found_fence, missed_fence}
 use Rattle.gk_gherkin.proofs.TextEnds.{two_more, last_piece}
 use Rattle.gk_gherkin.proofs.doc_strings.with_fences.Goals as goal

@@ -1,8 +1,4 @@
-use Rattle.std.proofs.Common.{◌≡◌, ◌++◌, length}
-use denote.Text.{Utf8}
-use denote.Shadow.{shadow}
-use Rattle.std.specs.String.{string_bytes}
-use Rattle.gk_gherkin.specs.DocStrings.{fences_read}
+use Rattle.gk_gherkin.proofs.Common.{◌≡◌, ◌++◌, length, Utf8, shadow, string_bytes, fences_read}
 use Rattle.gk_gherkin.proofs.doc_strings.with_fences.Given as goal
 
 abbrev pub invariant-fences : goal.invariant-fences

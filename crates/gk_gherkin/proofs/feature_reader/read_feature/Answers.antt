@@ -1,6 +1,4 @@
-use Rattle.std.proofs.Common.{option_map}
-use Rattle.gk_gherkin.specs.Feature.{feature_value}
-use Rattle.gk_gherkin.specs.Lines.{lines_of}
+use Rattle.gk_gherkin.proofs.Common.{option_map, feature_value, lines_of}
 use Rattle.gk_gherkin.proofs.ReadingWhole.{if_ok, if_err}
 use Rattle.gk_gherkin.proofs.FeatureReaderSound.{sound}
 use Rattle.gk_gherkin.proofs.FeatureReaderStops.{feature_said, feature_only}

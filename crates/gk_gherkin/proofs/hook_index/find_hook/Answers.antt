@@ -1,6 +1,4 @@
-use Rattle.std.proofs.Common.{◌∙◌, ap, option_copied}
-use Rattle.std.specs.Prelude.{option_map}
-use Rattle.gk_gherkin.specs.Hooks.{hook_value}
+use Rattle.gk_gherkin.proofs.Common.{◌∙◌, ap, option_copied, option_map, hook_value}
 use Rattle.gk_gherkin.proofs.HookIndexed.{found_is, looked_up, read_behind}
 use Rattle.gk_gherkin.proofs.hook_index.find_hook.Goals as goal
 

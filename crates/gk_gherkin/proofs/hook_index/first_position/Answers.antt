@@ -1,8 +1,4 @@
-use Rattle.std.proofs.Common.{◌≡◌, ◌+◌, ◌<◌, ◌∙◌, Bool, get_or, length, Some, subst, sym, option_copied, arith}
-use Rattle.std.specs.Prelude.{slice_get}
-use Rattle.gk_gherkin.specs.declared.hooks.Hook.{Hook}
-use Rattle.gk_gherkin.specs.Hooks.{hook_value, is_for}
-use Rattle.gk_gherkin.specs.HookIndex.{IsFirst}
+use Rattle.gk_gherkin.proofs.Common.{◌≡◌, ◌+◌, ◌<◌, ◌∙◌, Bool, get_or, length, Some, subst, sym, option_copied, arith, slice_get, Hook, hook_value, is_for, IsFirst}
 use Rattle.gk_gherkin.proofs.HookIndexed.{first_taken, first_passed, get_number, got_at, never_both}
 use Rattle.gk_gherkin.proofs.hook_index.first_position.Goals.{then-position-first+then-is_for, else-position-first, else-position-first-via-then-position-first+else-is_for, else-position-first-via-else-position-first}
 use Rattle.gk_gherkin.proofs.hook_index.first_position.Goals as goal

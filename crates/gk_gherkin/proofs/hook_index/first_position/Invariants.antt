@@ -1,6 +1,4 @@
-use Rattle.std.proofs.Common.{option_copied}
-use Rattle.gk_gherkin.specs.Hooks.{hook_value, is_for}
-use Rattle.gk_gherkin.specs.HookIndex.{IsFirst}
+use Rattle.gk_gherkin.proofs.Common.{option_copied, hook_value, is_for, IsFirst}
 use Rattle.gk_gherkin.proofs.hook_index.first_position.Given as goal
 
 abbrev pub invariant-loop-k : goal.invariant-loop-k

@@ -1,5 +1,4 @@
-use Rattle.std.proofs.Common.{◌∙◌, ap, get_or, Some}
-use Rattle.gk_gherkin.specs.declared.hooks.Hook.{Hook}
+use Rattle.gk_gherkin.proofs.Common.{◌∙◌, ap, get_or, Some, Hook}
 use Rattle.gk_gherkin.proofs.HookIndexed.{got_at, listed_next, only_next}
 use Rattle.gk_gherkin.proofs.hook_index.index_of.Goals as goal
 

@@ -1,4 +1,4 @@
-use Rattle.gk_gherkin.specs.HookIndex.{AreListedTo, ListsOnly}
+use Rattle.gk_gherkin.proofs.Common.{AreListedTo, ListsOnly}
 use Rattle.gk_gherkin.proofs.hook_index.index_of.Given as goal
 
 abbrev pub invariant-loop-position : goal.invariant-loop-position

@@ -1,5 +1,4 @@
-use Rattle.std.proofs.Common.{◌≡◌, drop, find, map, option_copied}
-use Rattle.gk_gherkin.specs.Hooks.{HookValue, hook_value, is_for}
+use Rattle.gk_gherkin.proofs.Common.{◌≡◌, drop, find, map, option_copied, HookValue, hook_value, is_for}
 use Rattle.gk_gherkin.proofs.hook_table.look_through.Given as goal
 
 abbrev pub invariant-loop-hook : goal.invariant-loop-hook

@@ -1,5 +1,4 @@
-use Rattle.gk_gherkin.specs.Hooks.{hooks_value}
-use Rattle.gk_gherkin.specs.Lines.{lines_of}
+use Rattle.gk_gherkin.proofs.Common.{hooks_value, lines_of}
 use Rattle.gk_gherkin.proofs.ReadingWhole.{if_ok, if_err}
 use Rattle.gk_gherkin.proofs.HooksReaderSound.{hooks_sound}
 use Rattle.gk_gherkin.proofs.HooksReaderStops.{hooks_said, hooks_only}

@@ -1,6 +1,4 @@
-use Rattle.std.proofs.Common.{◌-◌, arith}
-use Rattle.std.proofs.lemmas.Grind.{common_steps}
-use Rattle.std.proofs.lemmas.Str.{IsCharBoundary-after_ascii}
+use Rattle.gk_gherkin.proofs.Common.{◌-◌, arith, common_steps, IsCharBoundary-after_ascii}
 use Rattle.gk_gherkin.proofs.FirstLines.{up_to_end, without_end}
 use Rattle.gk_gherkin.proofs.lines.first_line.Goals as goal
 

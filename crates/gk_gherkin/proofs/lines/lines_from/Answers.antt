@@ -1,11 +1,4 @@
-use Rattle.std.proofs.Common.{length, ap, ◌∙◌, arith}
-use Rattle.std.proofs.lemmas.Grind.{common_steps}
-use Rattle.std.proofs.lemmas.Iterator.Splits.{YieldsList-from_lines}
-use Rattle.std.proofs.lemmas.Iterator.Consumers.{YieldsList-turn, YieldsList-end}
-use Rattle.std.proofs.lemmas.Result.{err_from_is_err_and}
-use Rattle.std.specs.Str.Lines.{lines}
-use Rattle.std.proofs.lemmas.List.{map_push, length_push, length-map}
-use Rattle.gk_gherkin.specs.Lines.{numbered_from}
+use Rattle.gk_gherkin.proofs.Common.{length, ap, ◌∙◌, arith, common_steps, YieldsList-from_lines, YieldsList-turn, YieldsList-end, err_from_is_err_and, lines, map_push, length_push, length-map, numbered_from}
 use Rattle.gk_gherkin.proofs.LineNumbering.{numbered_from-push, numbered_from-some}
 use Rattle.gk_gherkin.proofs.lines.lines_from.Goals as goal
 

@@ -1,5 +1,4 @@
-use Rattle.std.proofs.Common.{◌≡◌, ◌+◌, map, length}
-use Rattle.gk_gherkin.specs.Lines.{line_value, numbered_from}
+use Rattle.gk_gherkin.proofs.Common.{◌≡◌, ◌+◌, map, length, line_value, numbered_from}
 use Rattle.gk_gherkin.proofs.lines.lines_from.Given as goal
 
 abbrev pub invariant-loop-part : goal.invariant-loop-part

@@ -1,8 +1,5 @@
-use Rattle.std.proofs.Common.{Option, Ok, refl, ap, sym, ◌∙◌}
-use Rattle.gk_gherkin.specs.declared.doc_strings.DocString.{DocString}
-use Rattle.gk_gherkin.specs.Lines.{borrowed_value}
+use Rattle.gk_gherkin.proofs.Common.{Option, Ok, refl, ap, sym, ◌∙◌, DocString, borrowed_value, state_value, text_value}
 use Rattle.gk_gherkin.specs.Reading as spec
-use Rattle.gk_gherkin.specs.Reading.Views.{state_value, text_value}
 use Rattle.gk_gherkin.proofs.ReadingStates.{step_closes}
 use Rattle.gk_gherkin.proofs.reading.next_line.Goals as goal
 

@@ -1,6 +1,4 @@
-use Rattle.std.proofs.Common.{ap}
-use Rattle.std.specs.Str.Lines.{lines}
-use Rattle.gk_gherkin.specs.Lines.{numbered_from}
+use Rattle.gk_gherkin.proofs.Common.{ap, lines, numbered_from}
 use Rattle.gk_gherkin.proofs.ReadingWhole.{read_fault}
 use Rattle.gk_gherkin.proofs.reading.read.Goals as goal
 

@@ -1,7 +1,4 @@
-use Rattle.std.proofs.Common.{subst}
-use Rattle.std.proofs.lemmas.Result.{err_from_is_err_and}
-use Rattle.std.specs.Str.Lines.{lines}
-use Rattle.gk_gherkin.specs.Lines.{numbered_from}
+use Rattle.gk_gherkin.proofs.Common.{subst, err_from_is_err_and, lines, numbered_from}
 use Rattle.gk_gherkin.specs.Reading as spec
 use Rattle.gk_gherkin.proofs.ReadingWhole.{if_err}
 use Rattle.gk_gherkin.proofs.reading.read_text.Goals as goal

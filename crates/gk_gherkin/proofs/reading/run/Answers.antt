@@ -1,11 +1,5 @@
-use Rattle.std.proofs.Common.{rules, ap, sym, ◌∙◌, subst, arith}
-use Rattle.std.proofs.lemmas.Grind.{common_steps}
-use Rattle.std.proofs.lemmas.Result.{err_from_is_err_and}
-use Rattle.std.specs.Str.Lines.{lines}
-use Rattle.gk_gherkin.specs.Results.{Fails}
-use Rattle.gk_gherkin.specs.Lines.{LineValue}
+use Rattle.gk_gherkin.proofs.Common.{rules, ap, sym, ◌∙◌, subst, arith, common_steps, err_from_is_err_and, lines, Fails, LineValue, state_value}
 use Rattle.gk_gherkin.specs.Reading as spec
-use Rattle.gk_gherkin.specs.Reading.Views.{state_value}
 use Rattle.gk_gherkin.proofs.FirstLines.{no_lines}
 use Rattle.gk_gherkin.proofs.ReadingLoop.{rest_of_run, ends, is_done, needed_here, needed_later, needed_at_end}
 use Rattle.gk_gherkin.proofs.reading.run.Goals as goal

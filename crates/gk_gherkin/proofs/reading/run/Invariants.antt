@@ -1,10 +1,5 @@
-use Rattle.std.proofs.Common.{◌≡◌, ◌≤◌, ◌+◌, length}
-use denote.Text.{Utf8}
-use denote.Shadow.{shadow}
-use Rattle.std.specs.Str.Lines.{lines}
-use Rattle.gk_gherkin.specs.Lines.{numbered_from}
+use Rattle.gk_gherkin.proofs.Common.{◌≡◌, ◌≤◌, ◌+◌, length, Utf8, shadow, lines, numbered_from, state_value}
 use Rattle.gk_gherkin.specs.Reading as spec
-use Rattle.gk_gherkin.specs.Reading.Views.{state_value}
 use Rattle.gk_gherkin.proofs.reading.run.Given as goal
 
 abbrev pub invariant-lines : goal.invariant-lines

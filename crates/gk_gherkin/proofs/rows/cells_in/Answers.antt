@@ -1,9 +1,4 @@
-use Rattle.std.proofs.Common.{◌<◌, ◌≤◌, ◌∙◌, length, vec_len, ap, Ok, arith}
-use Rattle.std.proofs.lemmas.Grind.{common_steps}
-use Rattle.std.proofs.lemmas.Bool.Decides.{nat_tests}
-use Rattle.std.proofs.lemmas.List.{length-map}
-use Rattle.std.specs.String.{string_bytes}
-use Rattle.gk_gherkin.specs.Feature.{texts}
+use Rattle.gk_gherkin.proofs.Common.{◌<◌, ◌≤◌, ◌∙◌, length, vec_len, ap, Ok, arith, common_steps, nat_tests, length-map, string_bytes, texts}
 use Rattle.gk_gherkin.proofs.LineCuts.{after_bar}
 use Rattle.gk_gherkin.proofs.TagWords.{none_left, some_left}
 use Rattle.gk_gherkin.proofs.RowParts.{all_cells, some_are_some, none_are_none}

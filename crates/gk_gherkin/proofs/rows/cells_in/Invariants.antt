@@ -1,8 +1,4 @@
-use Rattle.std.proofs.Common.{◌≡◌, length}
-use denote.Text.{Utf8}
-use denote.Shadow.{shadow}
-use Rattle.gk_gherkin.specs.Feature.{texts}
-use Rattle.gk_gherkin.specs.Rows.{parts_of}
+use Rattle.gk_gherkin.proofs.Common.{◌≡◌, length, Utf8, shadow, texts, parts_of}
 use Rattle.gk_gherkin.proofs.RowParts.{cells_all, onto}
 use Rattle.gk_gherkin.proofs.rows.cells_in.Given as goal
 

@@ -1,7 +1,4 @@
-use Rattle.std.proofs.Common.{◌∙◌, ap, Ok, arith}
-use Rattle.std.proofs.lemmas.Grind.{common_steps}
-use Rattle.std.proofs.lemmas.Str.Pattern.{strip_prefix_char}
-use Rattle.gk_gherkin.specs.Lines.{borrowed_value}
+use Rattle.gk_gherkin.proofs.Common.{◌∙◌, ap, Ok, arith, common_steps, strip_prefix_char, borrowed_value}
 use Rattle.gk_gherkin.proofs.RowParts.{row_cells, no_row}
 use Rattle.gk_gherkin.proofs.rows.cells_of.Goals as goal
 

@@ -1,5 +1,4 @@
-use Rattle.std.proofs.Common.{arith}
-use Rattle.std.proofs.lemmas.Str.Pattern.{strip_prefix_char}
+use Rattle.gk_gherkin.proofs.Common.{arith, strip_prefix_char}
 use Rattle.gk_gherkin.proofs.RowParts.{newline, bar, backslash, no_meaning}
 use Rattle.gk_gherkin.proofs.rows.escape.Goals as goal
 

@@ -1,5 +1,4 @@
-use Rattle.std.proofs.Common.{arith}
-use Rattle.std.proofs.lemmas.Grind.{common_steps}
+use Rattle.gk_gherkin.proofs.Common.{arith, common_steps}
 use Rattle.gk_gherkin.proofs.RowParts.{at_bar, after_escape, no_mark, mark_within, to_mark, is_escape}
 use Rattle.gk_gherkin.proofs.rows.part_len.Goals as goal
 

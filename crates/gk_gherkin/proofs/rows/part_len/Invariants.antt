@@ -1,5 +1,4 @@
-use Rattle.std.proofs.Common.{◌≡◌, ◌-◌, ◌≤◌, length, take, drop}
-use Rattle.gk_gherkin.specs.Rows.{parts_of}
+use Rattle.gk_gherkin.proofs.Common.{◌≡◌, ◌-◌, ◌≤◌, length, take, drop, parts_of}
 use Rattle.gk_gherkin.proofs.RowParts.{into_all}
 use Rattle.gk_gherkin.proofs.rows.part_len.Given as goal
 

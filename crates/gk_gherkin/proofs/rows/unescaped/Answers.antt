@@ -1,7 +1,4 @@
-use Rattle.std.proofs.Common.{rules, ◌≡◌, ◌++◌, ◌∙◌, ℕ, List, ap, arith}
-use Rattle.std.proofs.lemmas.Grind.{common_steps}
-use Rattle.std.specs.String.{string_bytes}
-use Rattle.gk_gherkin.specs.Rows.{unescaped}
+use Rattle.gk_gherkin.proofs.Common.{rules, ◌≡◌, ◌++◌, ◌∙◌, ℕ, List, ap, arith, common_steps, string_bytes, unescaped}
 use Rattle.gk_gherkin.proofs.RowParts.{to_escape, no_escape_left}
 use Rattle.gk_gherkin.proofs.TextEnds.{two_more, last_piece}
 use Rattle.gk_gherkin.proofs.rows.unescaped.Goals as goal

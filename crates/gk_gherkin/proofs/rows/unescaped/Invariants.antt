@@ -1,8 +1,4 @@
-use Rattle.std.proofs.Common.{◌≡◌, ◌++◌, length}
-use denote.Text.{Utf8}
-use denote.Shadow.{shadow}
-use Rattle.std.specs.String.{string_bytes}
-use Rattle.gk_gherkin.specs.Rows.{unescaped}
+use Rattle.gk_gherkin.proofs.Common.{◌≡◌, ◌++◌, length, Utf8, shadow, string_bytes, unescaped}
 use Rattle.gk_gherkin.proofs.rows.unescaped.Given as goal
 
 abbrev pub invariant-escapes : goal.invariant-escapes

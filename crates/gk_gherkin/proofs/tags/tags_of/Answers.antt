@@ -1,11 +1,4 @@
-use Rattle.std.proofs.Common.{inl, inr, ◌≡◌, ◌<◌, ◌-◌, ◌∙◌, ◌++◌, ◌∷◌, [], ℕ, List, length, take, drop, ap, sym, Ok, arith}
-use Rattle.std.proofs.lemmas.Grind.{common_steps}
-use Rattle.std.specs.List.{position_or_len, prefix_len}
-use Rattle.gk_gherkin.specs.Lines.{borrowed_value}
-use Rattle.gk_gherkin.specs.Text.{is_blank, trim_front}
-use Rattle.gk_gherkin.specs.Feature.{texts}
-use Rattle.gk_gherkin.specs.ReadFault.{BeginsWithTag}
-use Rattle.gk_gherkin.specs.Tags.{tags_of, words_of, is_tag}
+use Rattle.gk_gherkin.proofs.Common.{inl, inr, ◌≡◌, ◌<◌, ◌-◌, ◌∙◌, ◌++◌, ◌∷◌, [], ℕ, List, length, take, drop, ap, sym, Ok, arith, common_steps, position_or_len, prefix_len, borrowed_value, is_blank, trim_front, texts, BeginsWithTag, tags_of, words_of, is_tag}
 use Rattle.gk_gherkin.proofs.LineCuts.{before_first_blank}
 use Rattle.gk_gherkin.proofs.FirstTags.{first_tag, whatever}
 use Rattle.gk_gherkin.proofs.TagWords.{onto_tags, tags_by, starts, no_blank_left, takes_tag, refuses_word, some_left}

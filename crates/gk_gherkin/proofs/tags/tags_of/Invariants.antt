@@ -1,12 +1,4 @@
-use Rattle.std.proofs.Common.{◌≡◌, ◌⊎◌, length}
-use denote.Text.{Utf8}
-use denote.Shadow.{shadow}
-use Rattle.std.specs.List.{prefix_len}
-use Rattle.gk_gherkin.specs.Lines.{borrowed_value}
-use Rattle.gk_gherkin.specs.Text.{is_blank, trim_front}
-use Rattle.gk_gherkin.specs.Feature.{texts}
-use Rattle.gk_gherkin.specs.ReadFault.{BeginsWithTag}
-use Rattle.gk_gherkin.specs.Tags.{tags_of, words_of}
+use Rattle.gk_gherkin.proofs.Common.{◌≡◌, ◌⊎◌, length, Utf8, shadow, prefix_len, borrowed_value, is_blank, trim_front, texts, BeginsWithTag, tags_of, words_of}
 use Rattle.gk_gherkin.proofs.TagWords.{onto_tags, tags_by}
 use Rattle.gk_gherkin.proofs.tags.tags_of.Given as goal
 

@@ -1,6 +1,4 @@
-use Rattle.std.proofs.Common.{◌≡◌, ◌+◌, drop}
-use Rattle.std.specs.List.{prefix_len}
-use Rattle.gk_gherkin.specs.Text.{is_blank}
+use Rattle.gk_gherkin.proofs.Common.{◌≡◌, ◌+◌, drop, prefix_len, is_blank}
 use Rattle.gk_gherkin.proofs.text.leading_blanks.Given as goal
 
 abbrev pub invariant-loop-i : goal.invariant-loop-i

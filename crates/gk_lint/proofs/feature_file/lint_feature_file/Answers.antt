@@ -1,9 +1,4 @@
-use Rattle.std.proofs.Common.{rules, ℕ, List, option_map, subst}
-use Rattle.std.specs.Str.Lines.{lines}
-use Rattle.gk_gherkin.specs.Lines.{numbered_from}
-use Rattle.gk_gherkin.specs.Feature.{feature_value}
-use Rattle.gk_lint.specs.Findings.{AreInOrder}
-use Rattle.gk_lint.specs.FeatureFile.{file_findings, IsFeatureFile}
+use Rattle.gk_lint.proofs.Common.{rules, ℕ, List, option_map, subst, lines, numbered_from, feature_value, AreInOrder, file_findings, IsFeatureFile}
 use Rattle.gk_lint.proofs.feature_file.lint_feature_file.Goals as goal
 
 pub returns-clause-found : goal.returns-clause-found

@@ -1,5 +1,4 @@
-use Rattle.std.proofs.Common.{◌≡◌, ◌++◌, drop}
-use Rattle.gk_lint.specs.Findings.{named_once}
+use Rattle.gk_lint.proofs.Common.{◌≡◌, ◌++◌, drop, named_once}
 use Rattle.gk_lint.proofs.findings.add_once.Given as goal
 
 abbrev pub invariant-loop-fault : goal.invariant-loop-fault

@@ -1,6 +1,4 @@
-use Rattle.std.proofs.Common.{rules}
-use Rattle.std.proofs.lemmas.List.Sorted.{IsNonDecreasingBy-from_sort_by_key}
-use Rattle.gk_lint.specs.declared.findings.Finding.{Finding}
+use Rattle.gk_lint.proofs.Common.{rules, IsNonDecreasingBy-from_sort_by_key, Finding}
 use Rattle.gk_lint.proofs.LineOrder as order
 use Rattle.gk_lint.proofs.findings.in_order.Goals as goal
 

@@ -1,5 +1,4 @@
-use Rattle.std.proofs.Common.{◌≡◌, ◌++◌, drop}
-use Rattle.gk_lint.specs.LibraryUse.{is_among, unused_from}
+use Rattle.gk_lint.proofs.Common.{◌≡◌, ◌++◌, drop, is_among, unused_from}
 use Rattle.gk_lint.proofs.library_use.unused_at.Given as goal
 
 abbrev pub invariant-loop-position : goal.invariant-loop-position

@@ -1,8 +1,4 @@
-use Rattle.std.proofs.Common.{ℕ, List, length, sym, ◌∙◌, arith}
-use Rattle.std.proofs.lemmas.Iterator.Splits.{YieldsList-from_lines}
-use Rattle.std.proofs.lemmas.Iterator.Consumers.{YieldsList-turn, YieldsList-end}
-use Rattle.std.proofs.lemmas.List.{length_push}
-use Rattle.std.specs.Str.Lines.{lines}
+use Rattle.gk_lint.proofs.Common.{ℕ, List, length, sym, ◌∙◌, arith, YieldsList-from_lines, YieldsList-turn, YieldsList-end, length_push, lines}
 use Rattle.gk_lint.proofs.OneLine.{one_line, whole}
 use Rattle.gk_lint.proofs.line_ends.is_one_with_cr.Goals as goal
 

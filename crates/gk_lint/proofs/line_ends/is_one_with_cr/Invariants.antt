@@ -1,7 +1,4 @@
-use Rattle.std.proofs.Common.{◌≡◌, ◌||◌, ◌+◌, length, drop}
-use Rattle.std.specs.Str.Lines.{lines}
-use Rattle.gk_gherkin.specs.Lines.{numbered_from}
-use Rattle.gk_lint.specs.LineEnds.{have_cr}
+use Rattle.gk_lint.proofs.Common.{◌≡◌, ◌||◌, ◌+◌, length, drop, lines, numbered_from, have_cr}
 use Rattle.gk_lint.proofs.line_ends.is_one_with_cr.Given as goal
 
 abbrev pub invariant-loop-part : goal.invariant-loop-part

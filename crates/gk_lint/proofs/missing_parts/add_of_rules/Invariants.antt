@@ -1,5 +1,4 @@
-use Rattle.std.proofs.Common.{◌≡◌, ◌++◌, map, drop}
-use Rattle.gk_gherkin.specs.Feature.{rule_value}
+use Rattle.gk_lint.proofs.Common.{◌≡◌, ◌++◌, map, drop, rule_value}
 use Rattle.gk_lint.specs.MissingParts.{of_rules}
 use Rattle.gk_lint.proofs.missing_parts.add_of_rules.Given as goal
 

@@ -1,5 +1,4 @@
-use Rattle.std.proofs.Common.{◌≡◌, ◌++◌, map, drop}
-use Rattle.gk_gherkin.specs.Feature.{scenario_value}
+use Rattle.gk_lint.proofs.Common.{◌≡◌, ◌++◌, map, drop, scenario_value}
 use Rattle.gk_lint.specs.MissingParts.{of_scenarios}
 use Rattle.gk_lint.proofs.missing_parts.add_of_scenarios.Given as goal
 

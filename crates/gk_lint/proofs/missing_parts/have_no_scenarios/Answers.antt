@@ -1,7 +1,4 @@
-use Rattle.std.proofs.Common.{sym, ◌∙◌}
-use Rattle.std.proofs.lemmas.List.Folds.{list_all-map}
-use Rattle.gk_gherkin.specs.Feature.{rule_value}
-use Rattle.gk_lint.specs.MissingParts.{has_no_scenarios}
+use Rattle.gk_lint.proofs.Common.{sym, ◌∙◌, list_all-map, rule_value, has_no_scenarios}
 use Rattle.gk_lint.proofs.missing_parts.have_no_scenarios.Goals as goal
 
 pub returns : goal.returns

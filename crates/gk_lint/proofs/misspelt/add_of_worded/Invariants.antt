@@ -1,5 +1,4 @@
-use Rattle.std.proofs.Common.{◌≡◌, ◌++◌, false, drop}
-use Rattle.gk_lint.specs.Misspelt.{IsAbove, of_worded}
+use Rattle.gk_lint.proofs.Common.{◌≡◌, ◌++◌, false, drop, IsAbove, of_worded}
 use Rattle.gk_lint.proofs.misspelt.add_of_worded.Given as goal
 
 abbrev pub invariant-loop-index : goal.invariant-loop-index

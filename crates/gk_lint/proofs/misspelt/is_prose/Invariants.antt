@@ -1,5 +1,4 @@
-use Rattle.std.proofs.Common.{◌≡◌, drop}
-use Rattle.gk_lint.specs.Misspelt.{is_prose}
+use Rattle.gk_lint.proofs.Common.{◌≡◌, drop, is_prose}
 use Rattle.gk_lint.proofs.misspelt.is_prose.Given as goal
 
 abbrev pub invariant-loop-line : goal.invariant-loop-line

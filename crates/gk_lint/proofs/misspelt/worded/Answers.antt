@@ -1,11 +1,4 @@
-use Rattle.std.proofs.Common.{◌≡◌, ℕ, [], ◌∷◌, ◌++◌, List, length, sym, ap, ◌∙◌, arith}
-use Rattle.std.proofs.lemmas.Iterator.Splits.{YieldsList-from_lines}
-use Rattle.std.proofs.lemmas.Iterator.Consumers.{YieldsList-turn, YieldsList-end}
-use Rattle.std.proofs.lemmas.List.{length_push}
-use Rattle.std.specs.Str.Lines.{lines}
-use Rattle.gk_gherkin.specs.Lines.{LineValue, line_at}
-use Rattle.gk_lint.specs.LineContext.{after}
-use Rattle.gk_lint.specs.Misspelt.{wording}
+use Rattle.gk_lint.proofs.Common.{◌≡◌, ℕ, [], ◌∷◌, ◌++◌, List, length, sym, ap, ◌∙◌, arith, YieldsList-from_lines, YieldsList-turn, YieldsList-end, length_push, lines, LineValue, line_at, after, wording}
 use Rattle.gk_lint.proofs.MisspeltLoop.{one_line, no_line}
 use Rattle.gk_lint.proofs.misspelt.worded.Goals as goal
 

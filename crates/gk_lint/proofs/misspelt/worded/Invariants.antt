@@ -1,8 +1,4 @@
-use Rattle.std.proofs.Common.{◌≡◌, ◌+◌, ◌++◌, length, drop}
-use Rattle.std.specs.Str.Lines.{lines}
-use Rattle.gk_gherkin.specs.Lines.{numbered_from}
-use Rattle.gk_lint.specs.Misspelt.{worded}
-use Rattle.gk_lint.specs.declared.line_context.LineContext.TheVariants.{Elsewhere}
+use Rattle.gk_lint.proofs.Common.{◌≡◌, ◌+◌, ◌++◌, length, drop, lines, numbered_from, worded, Elsewhere}
 use Rattle.gk_lint.proofs.misspelt.worded.Given as goal
 
 abbrev pub invariant-loop-part : goal.invariant-loop-part

@@ -1,6 +1,4 @@
-use Rattle.std.proofs.Common.{◌≡◌, ◌++◌, map, drop}
-use Rattle.gk_select.specs.TagRules.{tag_rule_value}
-use Rattle.gk_lint.specs.NamedTags.{named_by}
+use Rattle.gk_lint.proofs.Common.{◌≡◌, ◌++◌, map, drop, tag_rule_value, named_by}
 use Rattle.gk_lint.proofs.named_tags.named_by.Given as goal
 
 abbrev pub invariant-loop-rule : goal.invariant-loop-rule

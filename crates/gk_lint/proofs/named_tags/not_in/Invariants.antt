@@ -1,6 +1,4 @@
-use Rattle.std.proofs.Common.{◌≡◌, ◌++◌, map, drop}
-use Rattle.gk_lint.specs.TextSets.{in_set}
-use Rattle.gk_lint.specs.NamedTags.{without}
+use Rattle.gk_lint.proofs.Common.{◌≡◌, ◌++◌, map, drop, in_set, without}
 use Rattle.gk_lint.proofs.named_tags.not_in.Given as goal
 
 abbrev pub invariant-loop-tag : goal.invariant-loop-tag

@@ -1,6 +1,4 @@
-use Rattle.std.proofs.Common.{◌≡◌, ◌++◌, map, drop}
-use Rattle.gk_gherkin.specs.Feature.{feature_value}
-use Rattle.gk_lint.specs.ScenarioLines.{lines_of_features}
+use Rattle.gk_lint.proofs.Common.{◌≡◌, ◌++◌, map, drop, feature_value, lines_of_features}
 use Rattle.gk_lint.proofs.scenario_lines.lines_of_features.Given as goal
 
 abbrev pub invariant-loop-feature : goal.invariant-loop-feature

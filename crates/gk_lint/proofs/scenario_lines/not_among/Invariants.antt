@@ -1,5 +1,4 @@
-use Rattle.std.proofs.Common.{◌≡◌, ◌++◌, not, filter, drop}
-use Rattle.gk_lint.specs.LibraryUse.{is_among}
+use Rattle.gk_lint.proofs.Common.{◌≡◌, ◌++◌, not, filter, drop, is_among}
 use Rattle.gk_lint.proofs.scenario_lines.not_among.Given as goal
 
 abbrev pub invariant-loop-line : goal.invariant-loop-line

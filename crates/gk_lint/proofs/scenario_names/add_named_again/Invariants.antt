@@ -1,7 +1,4 @@
-use Rattle.std.proofs.Common.{◌≡◌, ◌++◌, false, map, drop}
-use Rattle.gk_gherkin.specs.Feature.{scenario_value}
-use Rattle.gk_lint.specs.TextSets.{in_set}
-use Rattle.gk_lint.specs.ScenarioNames.{named_again}
+use Rattle.gk_lint.proofs.Common.{◌≡◌, ◌++◌, false, map, drop, scenario_value, in_set, named_again}
 use Rattle.gk_lint.proofs.scenario_names.add_named_again.Given as goal
 
 abbrev pub invariant-loop-scenario : goal.invariant-loop-scenario

@@ -1,6 +1,4 @@
-use Rattle.std.proofs.Common.{◌≡◌, ◌++◌, map, drop}
-use Rattle.gk_gherkin.specs.Feature.{scenario_value, rule_value}
-use Rattle.gk_lint.specs.ScenarioNames.{scenarios_of_rules}
+use Rattle.gk_lint.proofs.Common.{◌≡◌, ◌++◌, map, drop, scenario_value, rule_value, scenarios_of_rules}
 use Rattle.gk_lint.proofs.scenario_names.push_rules.Given as goal
 
 abbrev pub invariant-loop-rule : goal.invariant-loop-rule

@@ -1,5 +1,4 @@
-use Rattle.std.proofs.Common.{◌≡◌, ◌++◌, map, drop}
-use Rattle.gk_gherkin.specs.Feature.{scenario_value}
+use Rattle.gk_lint.proofs.Common.{◌≡◌, ◌++◌, map, drop, scenario_value}
 use Rattle.gk_lint.proofs.scenario_names.push_scenarios.Given as goal
 
 abbrev pub invariant-loop-scenario : goal.invariant-loop-scenario

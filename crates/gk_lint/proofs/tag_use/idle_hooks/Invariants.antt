@@ -1,7 +1,4 @@
-use Rattle.std.proofs.Common.{◌≡◌, ◌++◌, map, drop}
-use Rattle.gk_gherkin.specs.Hooks.{hook_value}
-use Rattle.gk_lint.specs.TextSets.{in_set}
-use Rattle.gk_lint.specs.TagUse.{idle_hooks}
+use Rattle.gk_lint.proofs.Common.{◌≡◌, ◌++◌, map, drop, hook_value, in_set, idle_hooks}
 use Rattle.gk_lint.proofs.tag_use.idle_hooks.Given as goal
 
 abbrev pub invariant-loop-hook : goal.invariant-loop-hook

@@ -1,6 +1,4 @@
-use Rattle.std.proofs.Common.{◌≡◌, ◌++◌, map, drop}
-use Rattle.gk_gherkin.specs.Feature.{examples_value}
-use Rattle.gk_lint.specs.TagUse.{tags_of_examples}
+use Rattle.gk_lint.proofs.Common.{◌≡◌, ◌++◌, map, drop, examples_value, tags_of_examples}
 use Rattle.gk_lint.proofs.tag_use.push_examples.Given as goal
 
 abbrev pub invariant-loop-part : goal.invariant-loop-part

@@ -1,6 +1,4 @@
-use Rattle.std.proofs.Common.{◌≡◌, ◌++◌, map, drop}
-use Rattle.gk_gherkin.specs.Feature.{rule_value}
-use Rattle.gk_lint.specs.TagUse.{tags_of_rules}
+use Rattle.gk_lint.proofs.Common.{◌≡◌, ◌++◌, map, drop, rule_value, tags_of_rules}
 use Rattle.gk_lint.proofs.tag_use.push_rules.Given as goal
 
 abbrev pub invariant-loop-rule : goal.invariant-loop-rule

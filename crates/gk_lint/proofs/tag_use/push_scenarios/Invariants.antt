@@ -1,6 +1,4 @@
-use Rattle.std.proofs.Common.{◌≡◌, ◌++◌, map, drop}
-use Rattle.gk_gherkin.specs.Feature.{scenario_value}
-use Rattle.gk_lint.specs.TagUse.{tags_of_scenarios}
+use Rattle.gk_lint.proofs.Common.{◌≡◌, ◌++◌, map, drop, scenario_value, tags_of_scenarios}
 use Rattle.gk_lint.proofs.tag_use.push_scenarios.Given as goal
 
 abbrev pub invariant-loop-scenario : goal.invariant-loop-scenario

@@ -1,6 +1,4 @@
-use Rattle.std.proofs.Common.{◌≡◌, ◌++◌, map, drop}
-use Rattle.gk_gherkin.specs.Feature.{feature_value}
-use Rattle.gk_lint.specs.TagUse.{tags_in}
+use Rattle.gk_lint.proofs.Common.{◌≡◌, ◌++◌, map, drop, feature_value, tags_in}
 use Rattle.gk_lint.proofs.tag_use.tags_in.Given as goal
 
 abbrev pub invariant-loop-feature : goal.invariant-loop-feature

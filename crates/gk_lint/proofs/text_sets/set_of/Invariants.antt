@@ -1,5 +1,4 @@
-use Rattle.std.proofs.Common.{◌≡◌, ◌||◌, ℕ, List, map, drop}
-use Rattle.gk_lint.specs.TextSets.{in_set, is_one_of}
+use Rattle.gk_lint.proofs.Common.{◌≡◌, ◌||◌, ℕ, List, map, drop, in_set, is_one_of}
 use Rattle.gk_lint.proofs.text_sets.set_of.Given as goal
 
 abbrev pub invariant-loop-text : goal.invariant-loop-text

@@ -1,6 +1,4 @@
-use Rattle.std.proofs.Common.{◌≡◌, ◌++◌, map, drop}
-use Rattle.gk_lint.specs.UnexpectedLines.{kinds_from}
-use Rattle.gk_lint.specs.declared.line_context.LineContext.TheVariants.{Elsewhere}
+use Rattle.gk_lint.proofs.Common.{◌≡◌, ◌++◌, map, drop, kinds_from, Elsewhere}
 use Rattle.gk_lint.proofs.unexpected_lines.kinds_of.Given as goal
 
 abbrev pub invariant-loop-text : goal.invariant-loop-text

@@ -1,6 +1,4 @@
-use Rattle.std.proofs.Common.{◌≡◌, ◌++◌, map, drop}
-use Rattle.gk_gherkin.specs.Hooks.{hook_value}
-use Rattle.gk_lint.specs.WrittenSteps.{found_in, used_in, of_hooks}
+use Rattle.gk_lint.proofs.Common.{◌≡◌, ◌++◌, map, drop, hook_value, found_in, used_in, of_hooks}
 use Rattle.gk_lint.proofs.written_steps.add_hooks.Given as goal
 
 abbrev pub invariant-loop-hook : goal.invariant-loop-hook

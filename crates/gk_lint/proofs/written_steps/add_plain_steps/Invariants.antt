@@ -1,6 +1,4 @@
-use Rattle.std.proofs.Common.{◌≡◌, ◌++◌, map, drop}
-use Rattle.gk_gherkin.specs.Feature.{step_value}
-use Rattle.gk_lint.specs.WrittenSteps.{found_in, used_in, as_written}
+use Rattle.gk_lint.proofs.Common.{◌≡◌, ◌++◌, map, drop, step_value, found_in, used_in, as_written}
 use Rattle.gk_lint.proofs.written_steps.add_plain_steps.Given as goal
 
 abbrev pub invariant-loop-step : goal.invariant-loop-step

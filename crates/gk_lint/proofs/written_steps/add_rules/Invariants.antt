@@ -1,8 +1,4 @@
-use Rattle.std.proofs.Common.{◌≡◌, ◌++◌, map, drop}
-use Rattle.std.specs.List.{AllByRecursion}
-use Rattle.gk_gherkin.specs.Feature.{RuleValue, rule_value}
-use Rattle.gk_select.specs.Expansion.{RowsFit}
-use Rattle.gk_lint.specs.WrittenSteps.{found_in, used_in, of_rules}
+use Rattle.gk_lint.proofs.Common.{◌≡◌, ◌++◌, map, drop, AllByRecursion, RuleValue, rule_value, RowsFit, found_in, used_in, of_rules}
 use Rattle.gk_lint.proofs.written_steps.add_rules.Given as goal
 
 abbrev pub invariant-loop-rule : goal.invariant-loop-rule

@@ -1,7 +1,4 @@
-use Rattle.std.proofs.Common.{◌≡◌, ◌++◌, map, drop}
-use Rattle.gk_gherkin.specs.Feature.{scenario_value}
-use Rattle.gk_select.specs.Expansion.{RowsFit}
-use Rattle.gk_lint.specs.WrittenSteps.{found_in, used_in, of_scenarios}
+use Rattle.gk_lint.proofs.Common.{◌≡◌, ◌++◌, map, drop, scenario_value, RowsFit, found_in, used_in, of_scenarios}
 use Rattle.gk_lint.proofs.written_steps.add_scenarios.Given as goal
 
 abbrev pub invariant-loop-scenario : goal.invariant-loop-scenario

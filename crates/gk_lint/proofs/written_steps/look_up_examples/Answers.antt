@@ -1,10 +1,5 @@
+use Rattle.gk_lint.proofs.Common.{◌≡◌, ◌+◌, ◌∷◌, drop, map, List, ap, common_steps, Examples, step_value, examples_value, step_hint, cleanup_hint, in_rows, in_examples}
 use native.Mathlib.Omega.{arith}
-use Rattle.std.proofs.Common.{◌≡◌, ◌+◌, ◌∷◌, drop, map, List, ap}
-use Rattle.std.proofs.lemmas.Grind.{common_steps}
-use Rattle.gk_gherkin.specs.declared.feature.Examples.{Examples}
-use Rattle.gk_gherkin.specs.Feature.{step_value, examples_value}
-use Rattle.gk_lint.specs.StepHints.{step_hint, cleanup_hint}
-use Rattle.gk_lint.specs.WrittenSteps.{in_rows, in_examples}
 use Rattle.gk_lint.proofs.FirstHints.{next_hints}
 use Rattle.gk_lint.proofs.written_steps.look_up_examples.Goals as goal
 

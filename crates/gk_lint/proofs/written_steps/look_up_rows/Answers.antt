@@ -1,12 +1,5 @@
+use Rattle.gk_lint.proofs.Common.{◌≡◌, ◌+◌, ◌∷◌, drop, map, List, ap, common_steps, Row, step_value, row_value, examples_value, Scenario, faults_of, positions_of, step_hint, cleanup_hint, in_rows}
 use native.Mathlib.Omega.{arith}
-use Rattle.std.proofs.Common.{◌≡◌, ◌+◌, ◌∷◌, drop, map, List, ap}
-use Rattle.std.proofs.lemmas.Grind.{common_steps}
-use Rattle.gk_gherkin.specs.declared.feature.Row.{Row}
-use Rattle.gk_gherkin.specs.Feature.{step_value, row_value, examples_value}
-use Rattle.gk_lint.specs.declared.step_sites.StepSite.TheVariants.{Scenario}
-use Rattle.gk_lint.specs.Lookups.{faults_of, positions_of}
-use Rattle.gk_lint.specs.StepHints.{step_hint, cleanup_hint}
-use Rattle.gk_lint.specs.WrittenSteps.{in_rows}
 use Rattle.gk_lint.proofs.FirstHints.{next_hint, next_results}
 use Rattle.gk_lint.proofs.written_steps.look_up_rows.Goals as goal
 

@@ -1,12 +1,5 @@
-use Rattle.std.proofs.Common.{◌≡◌, ◌++◌, map, drop}
-use Rattle.std.specs.List.{AllByRecursion}
-use Rattle.std.specs.Option.{option_or}
-use Rattle.gk_gherkin.specs.Feature.{step_value, row_value, examples_value}
-use Rattle.gk_select.specs.Outline.{FitsHeader}
+use Rattle.gk_lint.proofs.Common.{◌≡◌, ◌++◌, map, drop, AllByRecursion, option_or, step_value, row_value, examples_value, FitsHeader, faults_in, positions_in, step_hint, cleanup_hint, first_hint, in_rows}
 use Rattle.gk_lint.specs.declared.step_sites.StepSite.TheVariants as sites
-use Rattle.gk_lint.specs.Lookups.{faults_in, positions_in}
-use Rattle.gk_lint.specs.StepHints.{step_hint, cleanup_hint, first_hint}
-use Rattle.gk_lint.specs.WrittenSteps.{in_rows}
 use Rattle.gk_lint.proofs.written_steps.look_up_rows.Given as goal
 
 abbrev pub invariant-loop-row : goal.invariant-loop-row

@@ -1,6 +1,4 @@
-use Rattle.std.proofs.Common.{◌≡◌, ◌++◌, map, string_bytes}
-use Rattle.std.specs.Vec.Iter.{into_iter_items}
-use Rattle.gk_cli.specs.Arguments.{pair_value}
+use Rattle.gk_program.proofs.Common.{◌≡◌, ◌++◌, map, string_bytes, into_iter_items, pair_value}
 use Rattle.gk_program.proofs.asked.paths_of.Given as goal
 
 -- the paths so far and those of the files that are left are all paths

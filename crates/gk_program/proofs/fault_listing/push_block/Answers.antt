@@ -1,8 +1,4 @@
-use Rattle.std.proofs.lemmas.Result.{on_ok_weaker}
-use Rattle.gk_request.specs.Source.{source_value}
-use Rattle.gk_request.specs.Request.{suite_value}
-use Rattle.gk_request.specs.FaultLine.{name_at_fault}
-use Rattle.gk_program.specs.Fault.{said_line}
+use Rattle.gk_program.proofs.Common.{on_ok_weaker, source_value, suite_value, name_at_fault, said_line}
 use Rattle.gk_program.proofs.FaultListingLemmas.{block_pushed}
 use Rattle.gk_program.proofs.fault_listing.push_block.Goals as goal
 

@@ -1,7 +1,4 @@
-use Rattle.std.proofs.Common.{◌≡◌, ◌++◌, drop, string_bytes}
-use Rattle.gk_request.specs.Source.{source_value}
-use Rattle.gk_request.specs.Request.{suite_value}
-use Rattle.gk_program.specs.FaultListing.{blocks}
+use Rattle.gk_program.proofs.Common.{◌≡◌, ◌++◌, drop, string_bytes, source_value, suite_value, blocks}
 use Rattle.gk_program.proofs.fault_listing.push_blocks.Given as goal
 
 abbrev pub invariant-loop-fault : goal.invariant-loop-fault

@@ -1,8 +1,4 @@
-use Rattle.std.proofs.Common.{rules, ◌∷◌, ◌∙◌, ◌++◌, ap, arith, length, map, refl, sym, subst, string_bytes, []}
-use Rattle.std.specs.List.{Any}
-use Rattle.std.specs.Vec.Iter.{into_iter_items}
-use Rattle.gk_program.specs.Files.{AreRead, IsFileFault, StopsReading, name_of}
-use Rattle.gk_request.specs.Source.{source_value}
+use Rattle.gk_program.proofs.Common.{rules, ◌∷◌, ◌∙◌, ◌++◌, ap, arith, length, map, refl, sym, subst, string_bytes, [], Any, into_iter_items, AreRead, IsFileFault, StopsReading, name_of, source_value}
 use Rattle.gk_program.proofs.FilesLemmas.{any_first, any_later, names_of_values, one_source_more, passed_on, reads_one_more, stops_at, stops_for_memory, stops_later}
 use Rattle.gk_program.proofs.files.read_files.Goals as goal
 

@@ -1,9 +1,4 @@
-use Rattle.std.proofs.Common.{◌≡◌, ◌++◌, length, map, string_bytes}
-use Rattle.std.specs.List.{Any}
-use Rattle.std.specs.Vec.Iter.{into_iter_items, into_iter_len}
-use Rattle.gk_request.specs.Source.{source_value}
-use Rattle.gk_program.specs.Files.{AreRead, IsFileFault, name_of}
-use Rattle.gk_program.specs.declared.fault.Fault.{Fault}
+use Rattle.gk_program.proofs.Common.{◌≡◌, ◌++◌, length, map, string_bytes, Any, into_iter_items, into_iter_len, source_value, AreRead, IsFileFault, name_of, Fault}
 use Rattle.gk_program.proofs.files.read_files.Given as goal
 
 -- the sources so far and the names that are left have all the names; a fault of a name that is left is one of a name

@@ -1,32 +1,19 @@
-use Rattle.std.proofs.Common.{inl, inr, map, option_map, subst, sym}
-use Rattle.std.specs.Prelude.{string_bytes}
-use Rattle.gk_request.specs.Source.{source_value}
-use Rattle.gk_program.specs.Files.{IsFaultOfFiles, IsFileFault, StopsReading, names_in_order, one_of}
+use Rattle.gk_program.proofs.Common.{inr, map, option_map, subst, sym, arith, string_bytes, source_value, IsFaultOfFiles, StopsReading, names_in_order, one_of, common_steps}
 use Rattle.gk_program.proofs.FilesLemmas.{err_is_not_ok, named_file, one_named, passed_on, reads_both, stops_later, stops_sooner}
 use Rattle.gk_program.proofs.files.read_run_files.Goals as goal
 
 pub returns-in_err-library-clause-fault : goal.returns-in_err-library-clause-fault
-returns-in_err-library-clause-fault g c =
-    passed_on c.from_residual.result c.from_residual.ensures.1 (λ fault same. subst (IsFaultOfFiles c.args.library c.args.hooks c.args.names.items) (sym same)
-    (inl (named_file (λ name. IsFileFault (string_bytes name) c.in_err-library.field-0.0) c.args.library c.in_err-library.ensures.fault (λ none. err_is_not_ok _ _ (c.in_err-library.ensures.unnamed none)))))
+returns-in_err-library-clause-fault g c = grind (arith, common_steps, passed_on, named_file, err_is_not_ok)
 
 pub returns-in_err-hooks-clause-fault : goal.returns-in_err-hooks-clause-fault
-returns-in_err-hooks-clause-fault g c =
-    passed_on c.from_residual-in_err-hooks.result c.from_residual-in_err-hooks.ensures.1 (λ fault same. subst (IsFaultOfFiles c.args.library c.args.hooks c.args.names.items) (sym same)
-    (inr (inl (named_file (λ name. IsFileFault (string_bytes name) c.in_err-hooks.field-0.0) c.args.hooks c.in_err-hooks.ensures.fault (λ none. err_is_not_ok _ _ (c.in_err-hooks.ensures.unnamed none))))))
+returns-in_err-hooks-clause-fault g c = grind (arith, common_steps, passed_on, named_file, err_is_not_ok)
 
 pub returns-in_err-sources-clause-fault : goal.returns-in_err-sources-clause-fault
 returns-in_err-sources-clause-fault g c =
     passed_on c.from_residual-in_err-sources.result c.from_residual-in_err-sources.ensures.1 (λ fault same. subst (IsFaultOfFiles c.args.library c.args.hooks c.args.names.items) (sym same) (inr (inr c.in_err-sources.ensures.fault)))
 
 pub returns-in_err-library-clause-first : goal.returns-in_err-library-clause-first
-returns-in_err-library-clause-first g c =
-    let reads = g.S.System.reads in
-    let start = c.args.system.now in
-    let end = c.read_named_file.new.system in
-    passed_on c.from_residual.result c.from_residual.ensures.1 (λ fault same.
-    subst (λ f. StopsReading reads start (names_in_order c.args.library c.args.hooks c.args.names.items) end f) (sym same)
-    (stops_sooner reads start end (one_of (option_map string_bytes c.args.library)) _ c.in_err-library.field-0.0 c.in_err-library.ensures.first))
+returns-in_err-library-clause-first g c = grind (arith, common_steps, passed_on, stops_sooner, option_map)
 
 pub returns-in_err-hooks-clause-first : goal.returns-in_err-hooks-clause-first
 returns-in_err-hooks-clause-first g c =
@@ -60,11 +47,4 @@ returns-in_err-sources-clause-first g c =
     c.in_ok-hooks.ensures.read (one_named hooks c.args.hooks c.in_ok-hooks.ensures.named) c.in_err-sources.ensures.first)))
 
 pub returns-clause-read : goal.returns-clause-read
-returns-clause-read g c =
-    let reads = g.S.System.reads in
-    let start = c.args.system.now in
-    let middle = c.read_named_file.new.system in
-    let later = c.read_named_file-2.new.system in
-    let end = c.read_files.new.system in
-    reads_both reads start middle end (one_of (option_map source_value c.in_ok-library.library)) _ c.in_ok-library.ensures.read
-    (reads_both reads middle later end (one_of (option_map source_value c.in_ok-hooks.hooks)) _ c.in_ok-hooks.ensures.read c.in_ok-sources.ensures.read)
+returns-clause-read g c = grind (arith, common_steps, reads_both, option_map)

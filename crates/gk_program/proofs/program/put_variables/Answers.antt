@@ -1,8 +1,4 @@
-use Rattle.std.proofs.Common.{◌≡◌, ◌∙◌, ap, ap₂, map, take, sym, None, subst}
-use Rattle.gk_world.specs.Refusals.{IsFault, put_refusal}
-use Rattle.gk_world.specs.Sandbox.{with_env}
-use Rattle.gk_cli.specs.Arguments.{pair_value}
-use Rattle.gk_program.specs.EnvFault.{IsFaultOfVariable}
+use Rattle.gk_program.proofs.Common.{◌≡◌, ◌∙◌, ap, ap₂, map, take, sym, None, subst, arith, IsFault, put_refusal, with_env, pair_value, IsFaultOfVariable, common_steps}
 use Rattle.gk_program.proofs.ProgramLemmas.{all_taken, all_put, next_variable, taken_more, put_more, refused}
 use Rattle.gk_program.proofs.program.put_variables.Goals as goal
 
@@ -31,8 +27,4 @@ loop-variable-preserved c =
     }
 
 pub returns : goal.returns
-returns c = (
-  all_put pair_value c.args.variables.now c.loop-variable.variable-index c.args.sandbox.now.now _ c.loop-variable-test.false c.loop-variable.invariant.put,
-  c.loop-variable.invariant.layers,
-  all_taken (λ v. put_refusal v.name v.text ≡ None) pair_value c.args.variables.now c.loop-variable.variable-index c.loop-variable-test.false c.loop-variable.invariant.taken,
-)
+returns c = grind (arith, common_steps, all_put, all_taken)

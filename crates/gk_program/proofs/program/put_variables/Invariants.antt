@@ -1,8 +1,4 @@
-use Rattle.std.proofs.Common.{◌≡◌, map, take, None}
-use Rattle.std.specs.List.{All}
-use Rattle.gk_world.specs.Refusals.{put_refusal}
-use Rattle.gk_cli.specs.Arguments.{pair_value}
-use Rattle.gk_program.specs.Program.{with_variables}
+use Rattle.gk_program.proofs.Common.{◌≡◌, map, take, None, All, put_refusal, pair_value, with_variables}
 use Rattle.gk_program.proofs.program.put_variables.Given as goal
 
 -- the variables so far are in the sandbox, and were not refused

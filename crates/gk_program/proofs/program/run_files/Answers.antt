@@ -1,8 +1,4 @@
-use Rattle.std.proofs.Common.{subst, sym}
-use Rattle.gk_cli.specs.Writing.{device_of}
-use Rattle.gk_request.specs.Source.{source_value}
-use Rattle.gk_request.specs.Request.{suite_value}
-use Rattle.gk_program.specs.Program.{SaysCallsOfRun, SaysRunFrom}
+use Rattle.gk_program.proofs.Common.{subst, sym, device_of, source_value, suite_value, SaysCallsOfRun, SaysRunFrom}
 use Rattle.gk_program.proofs.ProgramLemmas.{are_given, calls_of_files, fails, from_run_files, runs}
 use Rattle.gk_program.proofs.program.run_files.Goals as goal
 

@@ -1,6 +1,4 @@
-use Rattle.std.proofs.Common.{◌∙◌, ap, inr, refl, rules}
-use Rattle.gk_request.specs.Counted.{one_more}
-use Rattle.gk_cli.specs.Writing.{device_of}
+use Rattle.gk_program.proofs.Common.{◌∙◌, ap, inr, refl, rules, one_more, device_of}
 use Rattle.gk_program.proofs.program.show_text.Goals as goal
 
 pub returns-in-Ok-flush-clause-shown : goal.returns-in-Ok-flush-clause-shown

@@ -1,5 +1,4 @@
-use Rattle.std.proofs.Common.{drop, map}
-use Rattle.gk_cli.specs.Arguments.{pair_value}
+use Rattle.gk_program.proofs.Common.{drop, map, pair_value}
 use Rattle.gk_program.proofs.WorldFilesLemmas.{ArePutSoFar}
 use Rattle.gk_program.proofs.world_files.put_files.Given as goal
 

@@ -1,8 +1,4 @@
-use Rattle.std.proofs.Common.{string_bytes}
-use Rattle.std.proofs.lemmas.Result.{IfOk-weaker}
-use Rattle.serde_json.proofs.FreeTexts.{text_of_value}
-use Rattle.gk_run.specs.Results.{case_row}
-use Rattle.gk_report.specs.JsonReport.{case_data}
+use Rattle.gk_report.proofs.Common.{string_bytes, IfOk-weaker, text_of_value, case_row, case_data}
 use Rattle.gk_report.proofs.JsonReportLemmas.{case_whole}
 use Rattle.gk_report.proofs.json_report.case_text.Goals as goal
 

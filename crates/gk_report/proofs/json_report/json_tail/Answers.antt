@@ -1,7 +1,4 @@
-use Rattle.std.proofs.Common.{ap, ◌∙◌}
-use Rattle.std.proofs.lemmas.Result.{IfOk-weaker}
-use Rattle.serde_json.specs.Data.{string}
-use Rattle.serde_json.specs.Written.{compact_text}
+use Rattle.gk_report.proofs.Common.{ap, ◌∙◌, IfOk-weaker, string, compact_text}
 use Rattle.gk_report.proofs.JsonReportLemmas.{tail_from}
 use Rattle.gk_report.proofs.json_report.json_tail.Goals as goal
 

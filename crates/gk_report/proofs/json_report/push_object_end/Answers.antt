@@ -1,7 +1,4 @@
-use Rattle.std.proofs.Common.{◌++◌, ap, string_bytes, ◌∙◌}
-use Rattle.serde_json.specs.Data.{string}
-use Rattle.serde_json.specs.Written.{compact_text}
-use Rattle.gk_report.specs.JsonReport.{object_end}
+use Rattle.gk_report.proofs.Common.{◌++◌, ap, string_bytes, ◌∙◌, string, compact_text, object_end}
 use Rattle.gk_report.proofs.JsonReportLemmas.{end_written}
 use Rattle.gk_report.proofs.json_report.push_object_end.Goals as goal
 

@@ -1,8 +1,4 @@
-use Rattle.std.proofs.Common.{map, string_bytes}
-use Rattle.std.proofs.lemmas.Result.{IfOk-weaker}
-use Rattle.serde_json.proofs.FreeTexts.{text_of_value}
-use Rattle.gk_run.specs.Results.{rule_row}
-use Rattle.gk_report.specs.JsonReport.{rules_data}
+use Rattle.gk_report.proofs.Common.{map, string_bytes, IfOk-weaker, text_of_value, rule_row, rules_data}
 use Rattle.gk_report.proofs.JsonReportLemmas.{rules_data_whole}
 use Rattle.gk_report.proofs.json_report.rules_text.Goals as goal
 

@@ -1,7 +1,4 @@
-use Rattle.std.proofs.Common.{string_bytes}
-use Rattle.std.proofs.lemmas.Result.{IfOk-weaker}
-use Rattle.serde_json.proofs.FreeTexts.{text_of_value}
-use Rattle.gk_report.specs.JsonReport.{summary_data}
+use Rattle.gk_report.proofs.Common.{string_bytes, IfOk-weaker, text_of_value, summary_data}
 use Rattle.gk_report.proofs.JsonReportLemmas.{summary_whole}
 use Rattle.gk_report.proofs.json_report.summary_text.Goals as goal
 

@@ -1,8 +1,4 @@
-use Rattle.std.proofs.Common.{codes, map, subst}
-use Rattle.std.proofs.lemmas.Result.{on_ok_weaker}
-use Rattle.serde_json.specs.Data.{string, member}
-use Rattle.gk_run.specs.Results.{step_row, case_row}
-use Rattle.gk_report.specs.JsonReport.{number_data, array_data, step_data, AddsMembers}
+use Rattle.gk_report.proofs.Common.{codes, map, subst, on_ok_weaker, string, member, step_row, case_row, number_data, array_data, step_data, AddsMembers}
 use Rattle.gk_report.proofs.JsonReportLemmas.{case_sent}
 use Rattle.gk_report.proofs.json_report.write_case.Goals as goal
 

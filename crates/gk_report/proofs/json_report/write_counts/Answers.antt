@@ -1,4 +1,4 @@
-use Rattle.std.proofs.lemmas.Result.{on_ok_weaker}
+use Rattle.gk_report.proofs.Common.{on_ok_weaker}
 use Rattle.gk_report.proofs.JsonReportLemmas.{counts_sent}
 use Rattle.gk_report.proofs.json_report.write_counts.Goals as goal
 

@@ -1,8 +1,4 @@
-use Rattle.std.proofs.Common.{codes, subst}
-use Rattle.std.proofs.lemmas.Result.{on_ok_weaker}
-use Rattle.serde_json.specs.Data.{member}
-use Rattle.gk_run.specs.Results.{rule_row}
-use Rattle.gk_report.specs.JsonReport.{number_data, AddsMembers}
+use Rattle.gk_report.proofs.Common.{codes, subst, on_ok_weaker, member, rule_row, number_data, AddsMembers}
 use Rattle.gk_report.proofs.JsonReportLemmas.{rule_sent}
 use Rattle.gk_report.proofs.json_report.write_rule.Goals as goal
 

@@ -1,9 +1,4 @@
-use Rattle.std.proofs.Common.{drop, map}
-use Rattle.serde.specs.Event.{Log}
-use Rattle.serde_json.specs.View.{items_of}
-use Rattle.serde_json.specs.Events.{SendsItems}
-use Rattle.gk_run.specs.Results.{rule_row}
-use Rattle.gk_report.specs.JsonReport.{rule_data}
+use Rattle.gk_report.proofs.Common.{drop, map, Log, items_of, SendsItems, rule_row, rule_data}
 use Rattle.gk_report.proofs.json_report.write_rules.Given as goal
 
 -- whatever ends the rules that are left ends all of them

@@ -1,8 +1,4 @@
-use Rattle.std.proofs.Common.{codes, subst}
-use Rattle.std.proofs.lemmas.Result.{on_ok_weaker}
-use Rattle.serde_json.specs.Data.{string, member}
-use Rattle.gk_run.specs.Results.{step_row}
-use Rattle.gk_report.specs.JsonReport.{number_data, AddsMembers}
+use Rattle.gk_report.proofs.Common.{codes, subst, on_ok_weaker, string, member, step_row, number_data, AddsMembers}
 use Rattle.gk_report.proofs.JsonReportLemmas.{step_sent}
 use Rattle.gk_report.proofs.json_report.write_step.Goals as goal
 

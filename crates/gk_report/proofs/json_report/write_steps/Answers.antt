@@ -1,10 +1,4 @@
-use Rattle.std.proofs.Common.{Some, map, sym, subst}
-use Rattle.std.proofs.lemmas.Result.{on_ok_weaker}
-use Rattle.serde.specs.Event.{Logs, seq_begins}
-use Rattle.serde_json.specs.View.{items_of}
-use Rattle.serde_json.specs.Events.{SendsItems}
-use Rattle.gk_run.specs.Results.{step_row}
-use Rattle.gk_report.specs.JsonReport.{step_data}
+use Rattle.gk_report.proofs.Common.{Some, map, sym, subst, on_ok_weaker, Logs, seq_begins, items_of, SendsItems, step_row, step_data}
 use Rattle.gk_report.proofs.PrintedLemmas.{left_none}
 use Rattle.gk_report.proofs.JsonReportLemmas.{items_len_by}
 use Rattle.gk_report.proofs.json_report.write_steps.Goals as goal

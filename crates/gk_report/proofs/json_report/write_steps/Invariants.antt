@@ -1,9 +1,4 @@
-use Rattle.std.proofs.Common.{drop, map}
-use Rattle.serde.specs.Event.{Log}
-use Rattle.serde_json.specs.View.{items_of}
-use Rattle.serde_json.specs.Events.{SendsItems}
-use Rattle.gk_run.specs.Results.{step_row}
-use Rattle.gk_report.specs.JsonReport.{step_data}
+use Rattle.gk_report.proofs.Common.{drop, map, Log, items_of, SendsItems, step_row, step_data}
 use Rattle.gk_report.proofs.json_report.write_steps.Given as goal
 
 -- whatever ends the steps that are left ends all of them

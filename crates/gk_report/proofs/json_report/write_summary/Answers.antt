@@ -1,4 +1,4 @@
-use Rattle.std.proofs.lemmas.Result.{on_ok_weaker}
+use Rattle.gk_report.proofs.Common.{on_ok_weaker}
 use Rattle.gk_report.proofs.JsonReportLemmas.{summary_sent}
 use Rattle.gk_report.proofs.json_report.write_summary.Goals as goal
 

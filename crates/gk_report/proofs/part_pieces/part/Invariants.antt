@@ -1,5 +1,4 @@
-use Rattle.std.proofs.Common.{◌≡◌, ◌++◌, string_bytes}
-use Rattle.gk_report.specs.PartPieces.{rest, to_go}
+use Rattle.gk_report.proofs.Common.{◌≡◌, ◌++◌, string_bytes, rest, to_go}
 use Rattle.gk_report.proofs.part_pieces.part.Given as goal
 
 abbrev pub invariant-loop-out : goal.invariant-loop-out

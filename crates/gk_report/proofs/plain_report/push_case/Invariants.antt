@@ -1,6 +1,4 @@
-use Rattle.std.proofs.Common.{◌≡◌, ◌++◌, drop, map, string_bytes, flat_map}
-use Rattle.gk_report.specs.PlainReport.{step_line}
-use Rattle.gk_run.specs.Results.{step_row}
+use Rattle.gk_report.proofs.Common.{◌≡◌, ◌++◌, drop, map, string_bytes, flat_map, step_line, step_row}
 use Rattle.gk_report.proofs.plain_report.push_case.Given as goal
 
 abbrev pub invariant-loop-step : goal.invariant-loop-step

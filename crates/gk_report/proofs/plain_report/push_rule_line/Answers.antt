@@ -1,6 +1,4 @@
-use Rattle.std.proofs.Common.{◌≡◌, false, string_bytes, rules}
-use Rattle.std.proofs.lemmas.Result.{on_ok_weaker}
-use Rattle.gk_run.specs.Results.{rule_row, is_passed}
+use Rattle.gk_report.proofs.Common.{◌≡◌, false, string_bytes, rules, on_ok_weaker, rule_row, is_passed}
 use Rattle.gk_report.proofs.RuleLemmas.{rule_written}
 use Rattle.gk_report.proofs.plain_report.push_rule_line.Goals as goal
 

@@ -1,6 +1,4 @@
-use Rattle.std.proofs.Common.{◌≡◌, ◌++◌, drop, map, string_bytes}
-use Rattle.gk_report.specs.ProgressReport.{case_marks}
-use Rattle.gk_run.specs.Results.{case_row}
+use Rattle.gk_report.proofs.Common.{◌≡◌, ◌++◌, drop, map, string_bytes, case_marks, case_row}
 use Rattle.gk_report.proofs.progress_report.push_marks.Given as goal
 
 abbrev pub invariant-loop-case : goal.invariant-loop-case

@@ -1,6 +1,4 @@
-use Rattle.std.proofs.Common.{◌∷◌, [], rules, ap, ◌∙◌, arith}
-use Rattle.std.proofs.lemmas.Grind.{common_steps}
-use Rattle.gk_report.specs.ReportTexts.{one_line}
+use Rattle.gk_report.proofs.Common.{◌∷◌, [], rules, ap, ◌∙◌, arith, common_steps, one_line}
 use Rattle.gk_report.proofs.PushLemmas.{cut, uncut, pushed, one_line_to, one_line_end, one_line_feed}
 use Rattle.gk_report.proofs.report_texts.push_lines.Goals as goal
 

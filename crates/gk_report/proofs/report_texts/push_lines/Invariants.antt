@@ -1,8 +1,5 @@
-use Rattle.std.proofs.Common.{◌≡◌, ◌++◌, length}
-use denote.Text.{Utf8}
-use denote.Shadow.{shadow}
+use Rattle.gk_report.proofs.Common.{◌≡◌, ◌++◌, length, Utf8, shadow, one_line}
 use Rattle.std.specs.String.{string_bytes}
-use Rattle.gk_report.specs.ReportTexts.{one_line}
 use Rattle.gk_report.proofs.report_texts.push_lines.Given as goal
 
 abbrev pub invariant-loop-line : goal.invariant-loop-line

@@ -1,6 +1,4 @@
-use Rattle.std.proofs.Common.{◌≡◌, drop, map, fold}
-use Rattle.gk_run.specs.Results.{case_row}
-use Rattle.gk_report.specs.Summary.{one_case_more}
+use Rattle.gk_report.proofs.Common.{◌≡◌, drop, map, fold, case_row, one_case_more}
 use Rattle.gk_report.proofs.summary.add_cases.Given as goal
 
 abbrev pub invariant-loop-case : goal.invariant-loop-case

@@ -1,6 +1,4 @@
-use Rattle.std.proofs.Common.{◌≡◌, drop, map, fold}
-use Rattle.gk_run.specs.Results.{step_row}
-use Rattle.gk_report.specs.Summary.{one_status_more}
+use Rattle.gk_report.proofs.Common.{◌≡◌, drop, map, fold, step_row, one_status_more}
 use Rattle.gk_report.proofs.summary.add_steps.Given as goal
 
 abbrev pub invariant-loop-step : goal.invariant-loop-step

@@ -1,7 +1,4 @@
-use Rattle.std.proofs.Common.{map, option_map}
-use Rattle.std.proofs.lemmas.Result.{on_ok_weaker}
-use Rattle.gk_request.specs.AllFaults.{hooks_files, sources_from}
-use Rattle.gk_request.specs.Source.{source_value}
+use Rattle.gk_request.proofs.Common.{map, option_map, on_ok_weaker, hooks_files, sources_from, source_value}
 use Rattle.gk_request.proofs.AllFaultsLemmas.{added_more}
 use Rattle.gk_request.proofs.all_faults.add_after_library.Goals as goal
 

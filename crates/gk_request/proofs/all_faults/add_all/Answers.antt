@@ -1,8 +1,4 @@
-use Rattle.std.proofs.Common.{option_map}
-use Rattle.std.proofs.lemmas.Result.{on_ok_weaker}
-use Rattle.gk_request.specs.AllFaults.{library_files, after_library}
-use Rattle.gk_request.specs.Source.{source_value}
-use Rattle.gk_request.specs.Request.{suite_value}
+use Rattle.gk_request.proofs.Common.{option_map, on_ok_weaker, library_files, after_library, source_value, suite_value}
 use Rattle.gk_request.proofs.AllFaultsLemmas.{added_more}
 use Rattle.gk_request.proofs.all_faults.add_all.Goals as goal
 

@@ -1,7 +1,4 @@
-use Rattle.std.proofs.Common.{◌+◌, [], ◌∷◌, drop, map, refl, sym, subst, arith}
-use Rattle.std.proofs.lemmas.List.{drop_all, length-map}
-use Rattle.gk_request.specs.Source.{source_value}
-use Rattle.gk_request.specs.AllFaults.{source_at, sources_from, AreAdded}
+use Rattle.gk_request.proofs.Common.{◌+◌, [], ◌∷◌, drop, map, refl, sym, subst, arith, drop_all, length-map, source_value, source_at, sources_from, AreAdded}
 use Rattle.gk_request.proofs.InputsLemmas.{at_place}
 use Rattle.gk_request.proofs.AllFaultsLemmas.{added_more, none_found, source_next}
 use Rattle.gk_request.proofs.all_faults.add_sources.Goals as goal

@@ -1,7 +1,4 @@
-use Rattle.std.proofs.Common.{List, drop, map}
-use Rattle.gk_request.specs.declared.run_fault.RunFault.{RunFault}
-use Rattle.gk_request.specs.Source.{source_value}
-use Rattle.gk_request.specs.AllFaults.{sources_from, AreAdded}
+use Rattle.gk_request.proofs.Common.{List, drop, map, RunFault, source_value, sources_from, AreAdded}
 use Rattle.gk_request.proofs.all_faults.add_sources.Given as goal
 
 -- with the faults of the sources that are left, all are added

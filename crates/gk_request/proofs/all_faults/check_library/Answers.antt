@@ -1,6 +1,4 @@
-use Rattle.std.proofs.Common.{Err, ap, option_map, subst, sym}
-use Rattle.gk_request.specs.AllFaults.{SaysOfFiles, library_files}
-use Rattle.gk_request.specs.Source.{source_value}
+use Rattle.gk_request.proofs.Common.{Err, ap, option_map, subst, sym, SaysOfFiles, library_files, source_value}
 use Rattle.gk_request.proofs.AllFaultsLemmas.{says_of_given}
 use Rattle.gk_request.proofs.all_faults.check_library.Goals as goal
 

@@ -1,5 +1,4 @@
-use Rattle.std.proofs.Common.{◌≡◌, ◌≤◌, ◌+◌, ◌-◌, length, take}
-use Rattle.std.specs.Io.KnownBytes.{Appends}
+use Rattle.gk_request.proofs.Common.{◌≡◌, ◌≤◌, ◌+◌, ◌-◌, length, take, Appends}
 use Rattle.gk_request.proofs.counted.write_whole.Given as goal
 
 abbrev pub invariant-loop-done : goal.invariant-loop-done

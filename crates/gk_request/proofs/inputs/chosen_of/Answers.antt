@@ -1,25 +1,9 @@
-use Rattle.std.proofs.Common.{◌≡◌, ℕ, List, Option, map, length, ap, subst, sym, ◌∙◌}
-use Rattle.std.proofs.lemmas.List.{length-map}
-use Rattle.gk_gherkin.specs.Feature.{feature_value}
-use Rattle.gk_select.specs.Expansion.{cases}
-use Rattle.gk_select.specs.OwnTags.{with_own_tags, untagged, untagged_rule}
-use Rattle.gk_select.specs.RuleOrder.{FallIntoRules}
-use Rattle.gk_select.specs.declared.case.Case.{Case}
-use Rattle.gk_select.specs.Case.{CaseValue, case_value}
-use Rattle.gk_select.specs.Choice.{chosen_by}
-use Rattle.gk_run.specs.Chosen.{head_value, members_of}
-use Rattle.gk_request.specs.Inputs.{head_of}
+use Rattle.gk_request.proofs.Common.{◌≡◌, ℕ, List, Option, map, length, ap, subst, sym, ◌∙◌, arith, length-map, feature_value, cases, with_own_tags, untagged, untagged_rule, FallIntoRules, Case, CaseValue, case_value, chosen_by, head_value, head_of, common_steps}
 use Rattle.gk_request.proofs.InputsLemmas.{members_chosen, chosen_again, rules_said}
 use Rattle.gk_request.proofs.inputs.chosen_of.Goals as goal
 
 pub returns-clause-chosen : goal.returns-clause-chosen
-returns-clause-chosen c =
-    let chooses = chosen_by c.args.choice.now in
-    let feature = feature_value c.args.feature in
-    let cs = c.in_ok-cases.cases.items in
-    let built = c.in_ok-cases.ensures.ok ∙ ap cases c.in_ok-heads.ensures.taken ∙ (c.cases_keep_without_tags.ensures feature).cases in
-    let members = ap (members_of cs) c.in_ok-selected.ensures.chosen ∙ members_chosen chooses cs (cases feature) built in
-    chosen_again c.in_ok-source.ensures.ok (c.in_ok-name.ensures.ok ∙ c.as_str.ensures.value) c.in_ok-heads.ensures.tags c.in_ok-heads.ensures.rules members
+returns-clause-chosen c = grind (arith, common_steps, members_chosen, chosen_again)
 
 pub returns-clause-formed : goal.returns-clause-formed
 returns-clause-formed c =

@@ -1,9 +1,4 @@
-use Rattle.std.proofs.Common.{sym, subst}
-use Rattle.std.specs.String.{string_bytes}
-use Rattle.gk_gherkin.specs.Feature.{texts}
-use Rattle.gk_select.specs.TagGrammar.{Expression}
-use Rattle.gk_select.specs.TagRules.{ReadsTags, tag_rule_value}
-use Rattle.gk_request.specs.Inputs.{IsFirstBadText}
+use Rattle.gk_request.proofs.Common.{sym, subst, string_bytes, texts, Expression, ReadsTags, tag_rule_value, IsFirstBadText}
 use Rattle.gk_request.proofs.InputsLemmas.{at_place, first_bad, is_bad, one_rule_more}
 use Rattle.gk_request.proofs.inputs.first_bad_tags.Goals as goal
 

@@ -1,14 +1,10 @@
-use Rattle.std.proofs.Common.{option_map, ap}
-use Rattle.gk_gherkin.specs.Feature.{feature_value}
-use Rattle.gk_select.specs.Choice.{chosen_by}
+use Rattle.gk_request.proofs.Common.{option_map, ap, arith, feature_value, chosen_by, common_steps}
 use Rattle.gk_request.proofs.InputsLemmas.{added_onto, reading_of, too_many_of}
 use Rattle.gk_request.proofs.ResultLemmas.{if_err}
 use Rattle.gk_request.proofs.inputs.read_onto.Goals as goal
 
 pub returns-in_ok-add_rows-in-Ok-Some-clause-fault : goal.returns-in_ok-add_rows-in-Ok-Some-clause-fault
-returns-in_ok-add_rows-in-Ok-Some-clause-fault g c =
-    let reading = reading_of _ _ _ c.in-Ok-Some.feature c.bytes.ensures c.in-Ok-Some.field-0-is c.in-Ok-Some.ensures.read in
-    if_err c.add_feature.result (λ fault says. too_many_of c.args.input _ _ fault reading says) c.add_feature.ensures.fault
+returns-in_ok-add_rows-in-Ok-Some-clause-fault g c = grind (arith, common_steps, reading_of, if_err, too_many_of)
 
 pub add_feature-requires : goal.add_feature-requires
 add_feature-requires g c = c.in-Ok-Some.ensures.read.expandable (feature_value c.in-Ok-Some.feature) (ap (option_map feature_value) c.in-Ok-Some.field-0-is)

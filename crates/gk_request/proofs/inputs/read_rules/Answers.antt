@@ -1,11 +1,5 @@
-use Rattle.gk_select.specs.declared.select_fault.SelectFault.TheVariants.{BadTagText, Memory}
-use Rattle.std.proofs.Common.{◌≡◌, ◌⊎◌, ◌∷◌, [], ◌++◌, map, take, ap, sym, subst, ◌∙◌}
-use Rattle.std.specs.String.{string_bytes}
-use Rattle.std.proofs.lemmas.List.{map_push}
-use Rattle.gk_gherkin.specs.Feature.{texts}
-use Rattle.gk_select.specs.TagGrammar.{Expression}
-use Rattle.gk_select.specs.TagRules.{ReadsTags, tag_rule_value}
-use Rattle.gk_request.specs.Inputs.{AreRules}
+use Rattle.gk_request.proofs.Common.{BadTagText, ◌≡◌, ◌⊎◌, ◌∷◌, [], ◌++◌, map, take, ap, sym, subst, ◌∙◌, string_bytes, map_push, texts, Expression, ReadsTags, tag_rule_value, AreRules}
+use Rattle.gk_select.specs.declared.select_fault.SelectFault.TheVariants.{Memory}
 use Rattle.gk_request.proofs.InputsLemmas.{at_place, take_one, rules_one, says_tags}
 use Rattle.gk_request.proofs.inputs.read_rules.Goals as goal
 

@@ -1,10 +1,4 @@
-use Rattle.std.proofs.Common.{◌≡◌, ◌∙◌, ◌+◌, ◌++◌, ◌∷◌, [], ap, map, take, get_or, set, subst, sym, refl, arith}
-use Rattle.std.proofs.lemmas.List.{length-map, take_all}
-use Rattle.gk_select.specs.Choice.{chosen_by}
-use Rattle.gk_select.specs.ExampleRows.{row_lists}
-use Rattle.gk_run.specs.Chosen.{chosen_value}
-use Rattle.gk_request.specs.Source.{SourceValue, names_of, without_bytes}
-use Rattle.gk_request.specs.Inputs.{AreRead, AreRowsIf}
+use Rattle.gk_request.proofs.Common.{◌∙◌, ◌+◌, ◌++◌, ◌∷◌, [], ap, map, take, get_or, set, subst, sym, refl, arith, length-map, take_all, chosen_by, row_lists, chosen_value, SourceValue, names_of, without_bytes, AreRead, AreRowsIf, common_steps}
 use Rattle.gk_request.proofs.InputsLemmas.{read_one, rows_one, take_one, first_unread, left_at}
 use Rattle.gk_request.proofs.TakenSourcesLemmas.{all_changed, changed_first, kept, next_place, one_more_changed}
 use Rattle.gk_request.proofs.inputs.read_sources.Goals as goal
@@ -49,23 +43,13 @@ loop-input-preserved g c =
     }
 
 pub returns-clause-read : goal.returns-clause-read
-returns-clause-read g c =
-    let sources = map g.S.FeatureSource.value c.args.sources.now in
-    let all : take c.loop-input.input sources ≡ sources =
-    take_all c.loop-input.input sources (omega (arith, length-map c.args.sources.now g.S.FeatureSource.value, c.loop-input.auto.sources, c.loop-input.auto.input-end, c.loop-input-test.false)) in
-    subst (λ ss. AreRead (chosen_by c.args.choice.now) ss (map chosen_value c.loop-input.features.items)) all c.loop-input.invariant.read
+returns-clause-read g c = grind (arith, common_steps, take_all, length-map)
 
 pub returns-clause-rows : goal.returns-clause-rows
-returns-clause-rows g c =
-    let sources = map g.S.FeatureSource.value c.args.sources.now in
-    let all : take c.loop-input.input sources ≡ sources =
-    take_all c.loop-input.input sources (omega (arith, length-map c.args.sources.now g.S.FeatureSource.value, c.loop-input.auto.sources, c.loop-input.auto.input-end, c.loop-input-test.false)) in
-    subst (λ ss. AreRowsIf c.args.with_rows ss (row_lists c.loop-input.rows.items)) all c.loop-input.invariant.rows
+returns-clause-rows g c = grind (arith, common_steps, take_all, length-map)
 
 pub returns-clause-names : goal.returns-clause-names
 returns-clause-names g c = ap names_of c.loop-input.invariant.left ∙ kept without_bytes (λ (s : SourceValue). s.name) (λ s. refl) c.loop-input.input (map g.S.FeatureSource.value c.args.sources.now)
 
 pub returns-clause-given_up : goal.returns-clause-given_up
-returns-clause-given_up g c =
-    c.loop-input.invariant.left
-    ∙ all_changed without_bytes (map g.S.FeatureSource.value c.args.sources.now) c.loop-input.input (omega (arith, length-map c.args.sources.now g.S.FeatureSource.value, c.loop-input.auto.sources, c.loop-input.auto.input-end, c.loop-input-test.false))
+returns-clause-given_up g c = grind (arith, common_steps, all_changed, length-map)

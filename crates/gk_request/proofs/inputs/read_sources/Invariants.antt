@@ -1,10 +1,4 @@
-use Rattle.std.proofs.Common.{◌≡◌, map, take}
-use Rattle.std.specs.List.{AllByRecursion}
-use Rattle.gk_select.specs.Choice.{chosen_by}
-use Rattle.gk_select.specs.ExampleRows.{row_lists}
-use Rattle.gk_run.specs.Chosen.{chosen_value, IsFormed}
-use Rattle.gk_request.specs.Source.{without_bytes}
-use Rattle.gk_request.specs.Inputs.{AreRead, AreRowsIf}
+use Rattle.gk_request.proofs.Common.{◌≡◌, map, take, AllByRecursion, chosen_by, row_lists, chosen_value, IsFormed, without_bytes, AreRead, AreRowsIf}
 use Rattle.gk_request.proofs.TakenSourcesLemmas.{changed_to}
 use Rattle.gk_request.proofs.inputs.read_sources.Given as goal
 

@@ -1,9 +1,4 @@
-use Rattle.std.proofs.Common.{◌≡◌, ◌++◌, map}
-use Rattle.std.specs.Vec.Iter.{into_iter_items}
-use Rattle.gk_gherkin.specs.Feature.{rule_value}
-use Rattle.gk_select.specs.OwnTags.{untagged_rule}
-use Rattle.gk_run.specs.Chosen.{head_value}
-use Rattle.gk_request.specs.Inputs.{head_of}
+use Rattle.gk_request.proofs.Common.{◌≡◌, ◌++◌, map, into_iter_items, rule_value, untagged_rule, head_value, head_of}
 use Rattle.gk_request.proofs.inputs.take_heads.Given as goal
 
 -- the headings and the rules so far, and those of the rules that are left

@@ -1,12 +1,9 @@
-use Rattle.std.proofs.Common.{◌≡◌, length, arith, rules}
+use Rattle.gk_request.proofs.Common.{arith, rules, common_steps}
 use Rattle.gk_request.proofs.SourceLemmas.{given_within, stops_after}
 use Rattle.gk_request.proofs.source.read_source.Goals as goal
 
 pub returns-clause-long : goal.returns-clause-long
-returns-clause-long g c = λ _.
-    let v = c.loop-piece.bytes.ok.0 in
-    let size : length c.loop-piece.bytes.items ≡ 16777217 = omega (arith, c.len.ensures, c.loop-piece.invariant.within) in
-    stops_after _ _ _ c.loop-piece.bytes.items c.loop-piece.invariant.taken size
+returns-clause-long g c = grind (arith, common_steps, stops_after)
 
 pub returns-then-is_err-clause-given : goal.returns-then-is_err-clause-given
 returns-then-is_err-clause-given g c =

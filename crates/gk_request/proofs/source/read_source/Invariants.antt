@@ -1,7 +1,4 @@
-use Rattle.std.proofs.Common.{◌≡◌, ◌≤◌, ◌+◌, ◌-◌, vec_len}
-use Rattle.std.specs.Io.KnownBytes.{Consumes}
-use Rattle.gk_gherkin.specs.declared.lines.TheConstants.{LIMIT}
-use Rattle.gk_request.specs.Counted.{inner_of, calls_of, failures_of, idle_of}
+use Rattle.gk_request.proofs.Common.{◌≡◌, ◌≤◌, ◌+◌, ◌-◌, vec_len, Consumes, LIMIT, inner_of, calls_of, failures_of, idle_of}
 use Rattle.gk_request.proofs.source.read_source.Given as goal
 
 abbrev pub invariant-loop-piece : goal.invariant-loop-piece

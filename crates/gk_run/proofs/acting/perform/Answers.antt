@@ -1,11 +1,6 @@
-use Rattle.std.proofs.Common.{rules, ◌≡◌, refl, sym, ◌∙◌, ap, subst, option_copied, w64, ℤ, FitsSigned, to_z-of_z}
-use Rattle.std.specs.Prelude.{bytes_eq}
+use Rattle.gk_run.proofs.Common.{refl, sym, ◌∙◌, ap, subst, option_copied, to_z-of_z, arith, bytes_eq, see, state_of, stands_in, Action, Performs, arguments_value, agrees, exists, is_absent, common_steps}
 use Rattle.std.specs.FinMap as finite
-use Rattle.gk_world.specs.State.{see, state_of}
-use Rattle.gk_gherkin.specs.Text.{stands_in}
-use Rattle.gk_steps.specs.declared.action.Action.{Action}
 use Rattle.gk_steps.specs.declared.action.Action.TheVariants as actions
-use Rattle.gk_run.specs.Acting.{Performs, arguments_value, agrees, exists, is_absent, is_number}
 use Rattle.gk_run.proofs.ActingLemmas.{absent_free, agrees_free, checked, exists_free, number_free}
 use Rattle.gk_run.proofs.acting.perform.Goals as goal
 
@@ -37,8 +32,4 @@ pub returns-in-ValueAbsent : goal.returns-in-ValueAbsent
 returns-in-ValueAbsent c = checked c.args.action actions.ValueAbsent c.args.arguments.now c.args.sandbox.now _ _ c.in-ValueAbsent.is (c.is_absent-in-ValueAbsent.ensures ∙ ap is_absent c.value-in-ValueAbsent.ensures) (absent_free _) refl
 
 pub returns-in-NumberIs : goal.returns-in-NumberIs
-returns-in-NumberIs c =
-    let n = c.args.arguments.now.number in
-    let fits : FitsSigned w64 n = search rules in
-    let same = subst (λ (z : ℤ). c.is_number.result ≡ is_number (option_copied c.value-in-NumberIs.result) z) (to_z-of_z fits) c.is_number.ensures in
-    checked c.args.action actions.NumberIs c.args.arguments.now c.args.sandbox.now _ _ c.in-NumberIs.is (same ∙ ap (λ held. is_number held n) c.value-in-NumberIs.ensures) (number_free (see (state_of c.args.sandbox.now.now) c.args.arguments.now.name.now) n) refl
+returns-in-NumberIs c = grind (arith, common_steps, option_copied, to_z-of_z, checked, number_free)

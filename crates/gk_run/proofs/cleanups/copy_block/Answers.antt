@@ -1,6 +1,4 @@
-use Rattle.std.proofs.Common.{◌≡◌, ◌∙◌, ◌∷◌, [], List, Vec, String, Global, vec_len, map, ap, refl, sym, string_bytes}
-use Rattle.std.specs.List.{AllZip}
-use Rattle.gk_gherkin.specs.Feature.{Table, block_value, texts}
+use Rattle.gk_run.proofs.Common.{◌≡◌, ◌∙◌, ◌∷◌, [], List, Vec, String, Global, vec_len, map, ap, refl, sym, string_bytes, AllZip, Table, block_value, texts}
 use Rattle.gk_run.proofs.cleanups.copy_block.Goals as goal
 
 -- what is cloned says the same

@@ -1,9 +1,4 @@
-use Rattle.std.proofs.Common.{◌≡◌, ◌∷◌, [], ◌++◌, ◌∙◌, List, length, map, arith, ap, sym, subst, inl, inr}
-use Rattle.std.specs.Vec.Iter.{into_iter_items, into_iter_len}
-use Rattle.std.proofs.lemmas.List.{map_push}
-use Rattle.gk_steps.specs.Finding.{library_value}
-use Rattle.gk_run.specs.Results.{CaseRow, case_row}
-use Rattle.gk_run.specs.Chosen.{MemberValue, member_of, members_of}
+use Rattle.gk_run.proofs.Common.{◌≡◌, ◌∷◌, [], ◌++◌, ◌∙◌, List, length, map, arith, ap, sym, subst, inl, inr, into_iter_items, into_iter_len, map_push, library_value, CaseRow, case_row, MemberValue, member_of, members_of}
 use Rattle.gk_run.proofs.CasesLemmas.{members_are, members_end}
 use Rattle.gk_run.proofs.DryRunLemmas.{GoesDryCases, dry_cases_first, dry_cases_on, dry_cases_last}
 use Rattle.gk_run.proofs.dry_run.dry_cases.Goals as goal

@@ -1,8 +1,4 @@
-use Rattle.std.proofs.Common.{◌≡◌, ◌+◌, ◌≤◌, map, length, vec_len, vec_capacity}
-use Rattle.std.specs.Vec.Iter.{into_iter_items, into_iter_len}
-use Rattle.gk_steps.specs.Finding.{library_value}
-use Rattle.gk_run.specs.Results.{case_row}
-use Rattle.gk_run.specs.Chosen.{members_of}
+use Rattle.gk_run.proofs.Common.{◌≡◌, ◌+◌, ◌≤◌, map, length, vec_len, vec_capacity, into_iter_items, into_iter_len, library_value, case_row, members_of}
 use Rattle.gk_run.proofs.DryRunLemmas.{GoesDryCases}
 use Rattle.gk_run.proofs.dry_run.dry_cases.Given as goal
 

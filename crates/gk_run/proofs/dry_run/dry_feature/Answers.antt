@@ -1,15 +1,5 @@
-use Rattle.std.proofs.Common.{◌≡◌, ◌∙◌, List, map, ap, subst}
-use Rattle.gk_steps.specs.Finding.{library_value}
-use Rattle.gk_run.specs.declared.results.CaseResult.{CaseResult}
+use Rattle.gk_run.proofs.Common.{◌≡◌, ◌∙◌, List, map, ap, subst, library_value, CaseResult, case_row, rule_row, Cut, MemberValue, chosen_value, head_value, members_of, RuleResult, RuleHead, case_statuses, feature_verdict, rule_statuses, dry_cases_of, dry_rules_of}
 use Rattle.gk_run.specs.declared.results.Status.TheVariants as statuses
-use Rattle.gk_run.specs.Results.{case_row, rule_row}
-use Rattle.gk_run.specs.Section.{Cut}
-use Rattle.gk_run.specs.Chosen.{MemberValue, chosen_value, head_value, members_of}
-use Rattle.gk_run.specs.declared.results.RuleResult.{RuleResult}
-use Rattle.gk_run.specs.declared.chosen.RuleHead.{RuleHead}
-use Rattle.gk_run.specs.Running.{case_statuses}
-use Rattle.gk_run.specs.Features.{feature_verdict, rule_statuses}
-use Rattle.gk_run.specs.DryRun.{dry_cases_of, dry_rules_of}
 use Rattle.gk_run.proofs.DryRunLemmas.{dry_feature_is}
 use Rattle.gk_run.proofs.dry_run.dry_feature.Goals as goal
 

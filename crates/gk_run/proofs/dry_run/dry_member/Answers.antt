@@ -1,23 +1,11 @@
-use Rattle.std.proofs.Common.{◌≡◌, ◌∙◌, false, List, map, ap, subst}
-use Rattle.gk_steps.specs.Finding.{library_value}
-use Rattle.gk_run.specs.declared.results.CaseResult.{CaseResult}
-use Rattle.gk_run.specs.Results.{case_row, CaseRow, step_row}
-use Rattle.gk_run.specs.Section.{Cut, nowhere}
-use Rattle.gk_run.specs.Chosen.{member_of}
-use Rattle.gk_run.specs.DryRun.{dry_case_of, AreDrySteps}
+use Rattle.gk_run.proofs.Common.{◌∙◌, false, List, map, ap, subst, arith, library_value, CaseRow, step_row, member_of, AreDrySteps, StepValue, step_value, case_value, Outcome, common_steps}
 use Rattle.gk_run.proofs.CasesLemmas.{of_ok}
 use Rattle.gk_run.proofs.DryRunLemmas.{dry_unselected, dry_selected, dry_is}
-use Rattle.gk_gherkin.specs.Feature.{StepValue, step_value}
-use Rattle.gk_select.specs.Case.{case_value}
-use Rattle.gk_run.specs.declared.results.Outcome.{Outcome}
 use Rattle.gk_run.specs.declared.results.Status.TheVariants as statuses
 use Rattle.gk_run.proofs.dry_run.dry_member.Goals as goal
 
 pub returns-then-not-selected : goal.returns-then-not-selected
-returns-then-not-selected c =
-    let library = library_value c.args.library.now in
-    let m = member_of c.args.case c.args.selected in
-    of_ok (λ (r : CaseResult). (x : Cut) × (case_row r ≡ dry_case_of library x m)) c.unrun_case.result c.unrun_case.ensures (λ r e. (nowhere, dry_unselected library m (case_row r) c.if-not-selected.true e))
+returns-then-not-selected c = grind (arith, common_steps, of_ok, dry_unselected)
 
 pub returns : goal.returns
 returns c =

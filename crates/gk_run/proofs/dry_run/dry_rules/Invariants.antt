@@ -1,8 +1,4 @@
-use Rattle.std.proofs.Common.{◌≡◌, ◌+◌, ◌≤◌, ◌++◌, map, length, vec_len, vec_capacity}
-use Rattle.std.specs.Vec.Iter.{into_iter_items, into_iter_len}
-use Rattle.gk_run.specs.Chosen.{head_value}
-use Rattle.gk_run.specs.DryRun.{dry_rules_of}
-use Rattle.gk_run.specs.Results.{rule_row}
+use Rattle.gk_run.proofs.Common.{◌≡◌, ◌+◌, ◌≤◌, ◌++◌, map, length, vec_len, vec_capacity, into_iter_items, into_iter_len, head_value, dry_rules_of, rule_row}
 use Rattle.gk_run.proofs.dry_run.dry_rules.Given as goal
 
 -- the rows so far and those of the rules that are left are those of all

@@ -1,26 +1,10 @@
-use Rattle.std.proofs.Common.{◌≡◌, ◌∷◌, [], ◌++◌, List, length, map, arith, ap, sym, subst, ◌∙◌, Bool, false, ◌||◌}
-use Rattle.std.specs.Vec.Iter.{into_iter_items}
-use Rattle.std.proofs.lemmas.List.{map_push}
-use Rattle.gk_gherkin.specs.Feature.{StepValue, step_value}
-use Rattle.gk_steps.specs.Finding.{library_value}
-use Rattle.gk_run.specs.Results.{StepRow, step_row}
-use Rattle.gk_run.specs.Walk.{row_of_step}
+use Rattle.gk_run.proofs.Common.{◌≡◌, ◌∷◌, [], ◌++◌, List, length, map, arith, ap, subst, ◌∙◌, Bool, ◌||◌, into_iter_items, map_push, StepValue, step_value, library_value, StepRow, step_row, row_of_step, common_steps}
 use Rattle.gk_run.proofs.DryRunLemmas.{GoesDrySteps, dry_steps_first, dry_steps_on, dry_steps_last}
 use Rattle.gk_run.proofs.Nothing.{nothing_in}
 use Rattle.gk_run.proofs.dry_run.dry_steps.Goals as goal
 
 pub loop-step-init : goal.loop-step-init
-loop-step-init c =
-    let here : into_iter_items c.into_iter-step-iterator.result ≡ c.args.steps.list.items = c.into_iter-step-iterator.ensures.into_iter_gives.0 in
-    let library = library_value c.args.library.now in
-    let steps = map step_value c.args.steps.list.items in
-    record {
-      goes =
-          subst (λ (rows : List StepRow). GoesDrySteps library false (map step_value (into_iter_items c.into_iter-step-iterator.result)) rows steps) (sym (ap (map step_row) c.args.steps.empty))
-          (subst (λ (left : List StepValue). GoesDrySteps library false left [] steps) (sym (ap (map step_value) here)) (dry_steps_first library steps));
-      room = let e : length c.args.steps.results.items ≡ 0 = ap length c.args.steps.empty in let f = ap length here in let v = c.args.steps.results.ok.0 in omega (arith, c.args.steps.room);
-      counted = let l = c.into_iter-step-iterator.ensures.into_iter_gives.1 in let v = c.args.steps.list.ok.0 in let f = ap length here in omega arith;
-    }
+loop-step-init c = grind (arith, common_steps, dry_steps_first)
 
 pub loop-step-preserved : goal.loop-step-preserved
 loop-step-preserved c =
@@ -44,6 +28,4 @@ loop-step-preserved c =
     }
 
 pub returns : goal.returns
-returns c =
-    let none : into_iter_items c.loop-step.step-iterator ≡ [] = nothing_in (into_iter_items c.loop-step.step-iterator) (c.loop-step.invariant.counted ∙ c.in-None.ensures.steps.0) in
-    dry_steps_last (library_value c.args.library.now) (map step_value c.args.steps.list.items) c.loop-step.is_refused (map step_value (into_iter_items c.loop-step.step-iterator)) (map step_row c.loop-step.results.items) (ap (map step_value) none) c.loop-step.invariant.goes
+returns c = grind (arith, common_steps, nothing_in, dry_steps_last)

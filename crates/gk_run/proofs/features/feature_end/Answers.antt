@@ -1,12 +1,5 @@
-use Rattle.std.proofs.Common.{◌∙◌, Bool, inl, map, refl, subst, sym}
-use Rattle.gk_gherkin.specs.Feature.{texts}
-use Rattle.gk_world.specs.State.{State, state_of}
+use Rattle.gk_run.proofs.Common.{◌∙◌, Bool, inl, map, refl, subst, sym, texts, State, state_of, head_value, groups_from, members_of_rank, inside_value, members_in, inside_by, Inside, IsToldInPart, section_now, IsRan, Ran, tells, IsBegun, section_of, section_state, run_value}
 use Rattle.gk_run.specs.declared.section.Level.TheVariants as levels
-use Rattle.gk_run.specs.Chosen.{head_value, groups_from, members_of_rank}
-use Rattle.gk_run.specs.PrivateContracts.{inside_value, members_in}
-use Rattle.gk_run.specs.Features.{inside_by, Inside, IsToldInPart}
-use Rattle.gk_run.specs.Events.{section_now, IsRan, Ran, tells}
-use Rattle.gk_run.specs.OpenSection.{IsBegun, section_of, section_state, run_value}
 use Rattle.gk_run.proofs.FeaturesLemmas.{feature_unbegun, unbegun_in_part}
 use Rattle.gk_run.proofs.PartLemmas.{at_err, section_in_part}
 use Rattle.gk_run.proofs.SectionLemmas.{begun_still, passed_state, ready}

@@ -1,26 +1,12 @@
-use Rattle.std.proofs.Common.{◌≡◌, ◌∙◌, ◌&&◌, ℕ, Bool, List, map, sym, ap, subst, true}
-use Rattle.std.specs.List.{list_any}
-use Rattle.gk_gherkin.specs.Feature.{texts}
-use Rattle.gk_select.specs.declared.case.Case.{Case}
-use Rattle.gk_world.specs.State.{state_of}
-use Rattle.gk_run.specs.declared.results.CaseResult.{CaseResult}
-use Rattle.gk_run.specs.declared.results.RuleResult.{RuleResult}
-use Rattle.gk_run.specs.Running.{case_statuses}
-use Rattle.gk_run.specs.PrivateContracts.{IsFeatureEnd, IsFeatureEndInPart, inside_value, members_in}
-use Rattle.gk_run.specs.Chosen.{HeadValue, MemberValue, chosen_value, has_selected, head_value, members_of, falls_from, groups_from, members_of_rank}
-use Rattle.gk_run.specs.Features.{feature_verdict, rule_statuses, Inside}
-use Rattle.gk_run.specs.OpenSection.{SectionRow, run_value}
-use Rattle.gk_run.specs.Results.{case_row, rule_row}
+use Rattle.gk_run.proofs.Common.{◌≡◌, ◌∙◌, ◌&&◌, ℕ, Bool, List, map, sym, ap, subst, arith, list_any, texts, Case, state_of, CaseResult, RuleResult, case_statuses, IsFeatureEnd, IsFeatureEndInPart, inside_value, members_in, HeadValue, MemberValue, chosen_value, has_selected, head_value, members_of, groups_from, members_of_rank, feature_verdict, rule_statuses, Inside, SectionRow, run_value, case_row, rule_row, tells, common_steps}
 use Rattle.gk_run.proofs.CasesLemmas.{selected_any}
 use Rattle.gk_run.proofs.FeaturesLemmas.{feature_in_part, feature_is, feature_untold}
 use Rattle.gk_run.proofs.PartLemmas.{at_err}
 use Rattle.gk_run.proofs.GroupingLemmas.{falls_into}
-use Rattle.gk_run.specs.Events.{tells}
 use Rattle.gk_run.proofs.features.feature_in.Goals as goal
 
 pub new-cases-requires-clause-falls : goal.new-cases-requires-clause-falls
-new-cases-requires-clause-falls g c =
-    subst (λ (cs : List Case). falls_from 0 cs ≡ true) (sym (ap (λ cs. cs.items) c.in_ok-reserve.ensures)) (falls_into _ 0 c.args.chosen.cases.items c.requires.formed.falls)
+new-cases-requires-clause-falls g c = grind (arith, common_steps, falls_into)
 
 pub returns-clause-ran : goal.returns-clause-ran
 returns-clause-ran g c =

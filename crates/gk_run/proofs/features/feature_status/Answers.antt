@@ -1,5 +1,4 @@
-use Rattle.std.proofs.Common.{sym, ◌∙◌}
-use Rattle.gk_run.specs.Results.{is_passed, is_untested}
+use Rattle.gk_run.proofs.Common.{sym, ◌∙◌, is_passed, is_untested}
 use Rattle.gk_run.proofs.CasesLemmas.{statuses_any}
 use Rattle.gk_run.proofs.features.feature_status.Goals as goal
 

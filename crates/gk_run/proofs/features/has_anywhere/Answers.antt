@@ -1,5 +1,4 @@
-use Rattle.std.proofs.Common.{sym, ◌∙◌}
-use Rattle.gk_run.specs.Results.{is_status}
+use Rattle.gk_run.proofs.Common.{sym, ◌∙◌, is_status}
 use Rattle.gk_run.proofs.CasesLemmas.{around_or, statuses_any}
 use Rattle.gk_run.proofs.features.has_anywhere.Goals as goal
 

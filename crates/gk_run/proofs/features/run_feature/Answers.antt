@@ -1,12 +1,4 @@
-use Rattle.std.proofs.Common.{◌∙◌, ap, true}
-use Rattle.gk_gherkin.specs.declared.hooks.HookFile.{HookFile}
-use Rattle.gk_world.specs.State.{state_of}
-use Rattle.gk_run.specs.declared.results.FeatureResult.{FeatureResult}
-use Rattle.gk_run.specs.Chosen.{chosen_value}
-use Rattle.gk_run.specs.Features.{IsFeatureResult, feature_of}
-use Rattle.gk_run.specs.Events.{result_of}
-use Rattle.gk_run.specs.Results.{feature_row}
-use Rattle.gk_run.specs.OpenSection.{run_of}
+use Rattle.gk_run.proofs.Common.{◌∙◌, ap, true, HookFile, state_of, FeatureResult, chosen_value, IsFeatureResult, feature_of, result_of, feature_row, run_of}
 use Rattle.gk_run.proofs.CasesLemmas.{of_ok}
 use Rattle.gk_run.proofs.features.run_feature.Goals as goal
 

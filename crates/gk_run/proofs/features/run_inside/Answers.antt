@@ -1,9 +1,4 @@
-use Rattle.std.proofs.Common.{map, ap}
-use Rattle.gk_world.specs.State.{state_of}
-use Rattle.gk_run.specs.Chosen.{groups_from, head_value}
-use Rattle.gk_run.specs.Events.{tells}
-use Rattle.gk_run.specs.OpenSection.{run_value}
-use Rattle.gk_run.specs.PrivateContracts.{members_in}
+use Rattle.gk_run.proofs.Common.{map, ap, state_of, groups_from, head_value, tells, run_value, members_in}
 use Rattle.gk_run.proofs.FeaturesLemmas.{inside_is, own_in_part, rules_in_part}
 use Rattle.gk_run.proofs.PartLemmas.{at_err}
 use Rattle.gk_run.proofs.features.run_inside.Goals as goal

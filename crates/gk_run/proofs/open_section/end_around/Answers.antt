@@ -1,9 +1,4 @@
-use Rattle.std.proofs.Common.{◌∙◌, ap, subst, sym}
-use Rattle.gk_gherkin.specs.Feature.{texts}
-use Rattle.gk_run.specs.declared.results.Status.{Status}
-use Rattle.gk_run.specs.Ending.{around_status}
-use Rattle.gk_run.specs.Events.{section_now}
-use Rattle.gk_run.specs.OpenSection.{run_value, EndsAround}
+use Rattle.gk_run.proofs.Common.{◌∙◌, ap, subst, sym, texts, Status, around_status, section_now, run_value, EndsAround}
 use Rattle.gk_run.proofs.SectionLemmas.{section_ends}
 use Rattle.gk_run.proofs.open_section.end_around.Goals as goal
 

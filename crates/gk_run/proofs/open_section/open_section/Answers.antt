@@ -1,14 +1,5 @@
-use Rattle.std.proofs.Common.{[], ap, rules, subst, ◌∙◌, ◌≡◌}
-use Rattle.gk_gherkin.specs.Feature.{texts}
-use Rattle.gk_gherkin.specs.Hooks.{hooks_value}
-use Rattle.gk_steps.specs.Finding.{library_value}
-use Rattle.gk_world.specs.State.{enter, state_of}
+use Rattle.gk_run.proofs.Common.{[], ap, rules, subst, ◌∙◌, ◌≡◌, texts, hooks_value, library_value, enter, state_of, SectionNow, section_now, before_of, before_list, entered, walk, Happens}
 use Rattle.gk_run.specs.declared.ending.Ending.TheVariants as endings
-use Rattle.gk_run.specs.Events.{SectionNow, section_now}
-use Rattle.gk_run.specs.Section.{before_of}
-use Rattle.gk_run.specs.SectionHooks.{before_list, entered}
-use Rattle.gk_run.specs.Walk.{walk}
-use Rattle.gk_run.specs.PrivateContracts.{Happens}
 use Rattle.gk_run.proofs.WalkLemmas.{at}
 use Rattle.gk_run.proofs.open_section.open_section.Goals as goal
 

@@ -1,13 +1,5 @@
-use Rattle.std.proofs.Common.{◌∙◌, ◌&&◌, Bool, List, ap, inr, refl, sym}
-use Rattle.gk_gherkin.specs.Feature.{texts}
-use Rattle.gk_world.specs.State.{State, state_of}
+use Rattle.gk_run.proofs.Common.{◌∙◌, ◌&&◌, Bool, List, ap, inr, refl, sym, texts, State, state_of, all_stay_open, cases_of, stays_open, head_value, Group, members_of_rank, members_in, section_now, Ran, tells, section_state, run_value, CaseRow}
 use Rattle.gk_run.specs.declared.section.Level.TheVariants as levels
-use Rattle.gk_run.specs.Running.{all_stay_open, cases_of, stays_open}
-use Rattle.gk_run.specs.Chosen.{head_value, Group, members_of_rank}
-use Rattle.gk_run.specs.PrivateContracts.{members_in}
-use Rattle.gk_run.specs.Events.{section_now, Ran, tells}
-use Rattle.gk_run.specs.OpenSection.{section_state, run_value}
-use Rattle.gk_run.specs.Results.{CaseRow}
 use Rattle.gk_run.proofs.PartLemmas.{at_err, section_in_part}
 use Rattle.gk_run.proofs.RulesLemmas.{passed_stays, rule_begun, rule_begun_in_part, rule_unbegun, rule_unbegun_in_part}
 use Rattle.gk_run.proofs.SectionLemmas.{begun_still, passed_state, ready}

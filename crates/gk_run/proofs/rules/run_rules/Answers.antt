@@ -1,32 +1,11 @@
-use Rattle.std.proofs.Common.{◌≡◌, ◌∙◌, ◌∷◌, List, [], ap, arith, length, map, refl, subst, sym}
-use Rattle.std.specs.Vec.Iter.{into_iter_items}
-use Rattle.gk_world.specs.State.{state_of}
-use Rattle.gk_run.specs.declared.chosen.RuleHead.{RuleHead}
-use Rattle.gk_run.specs.declared.results.RuleResult.{RuleResult}
-use Rattle.gk_run.specs.Chosen.{head_value, members_of}
-use Rattle.gk_run.specs.OpenSection.{run_of}
+use Rattle.gk_run.proofs.Common.{◌≡◌, ◌∙◌, ◌∷◌, List, [], ap, arith, length, map, refl, subst, into_iter_items, state_of, RuleHead, head_value, members_of, run_of, common_steps}
 use Rattle.gk_run.proofs.Nothing.{nothing_in}
 use Rattle.gk_run.proofs.PartLemmas.{at_err}
 use Rattle.gk_run.proofs.RulesLemmas.{GoesRules, rules_first, rules_last, rules_on, rules_stopped}
 use Rattle.gk_run.proofs.rules.run_rules.Goals as goal
 
 pub loop-head-init : goal.loop-head-init
-loop-head-init g c =
-    let run = run_of c.args.run.now.library.now c.args.run.now.hooks.now.file.now c.args.run.now.stop in
-    let first = state_of c.args.sandbox.now.now in
-    let old = c.args.cases.now in
-    let heads = map head_value c.args.rules.list.items in
-    let here : into_iter_items c.into_iter-head-iterator.result ≡ c.args.rules.list.items = c.into_iter-head-iterator.ensures.into_iter_gives.0 in
-    let none : c.args.rules.results.items ≡ [] = c.args.rules.empty in
-    let begin = c.args.observer.now in
-    record {
-      goes = subst (λ (rs : List RuleResult). GoesRules g.O.Observer.hears g.O.Observer.ends run first c.args.is_open heads old old c.args.is_open rs (map head_value (into_iter_items c.into_iter-head-iterator.result)) begin begin) (sym none)
-          (subst (λ (hs : List RuleHead). GoesRules g.O.Observer.hears g.O.Observer.ends run first c.args.is_open heads old old c.args.is_open [] (map head_value hs) begin begin) (sym here) (rules_first g.O.Observer.hears g.O.Observer.ends run first c.args.is_open heads old begin c.requires.falls));
-      same = record { contents = refl; saved = refl; starts = refl; recorded = refl };
-      room = omega (arith, c.args.rules.room, c.args.rules.results.ok.0, ap length none, ap length here);
-      ranks = omega (arith, c.args.rules.room, c.requires.first, ap length here);
-      counted = omega (arith, c.args.rules.list.ok.0, ap length here, c.into_iter-head-iterator.ensures.into_iter_gives.1);
-    }
+loop-head-init g c = grind (arith, common_steps, GoesRules, rules_first)
 
 pub loop-head-preserved : goal.loop-head-preserved
 loop-head-preserved g c =

@@ -1,9 +1,4 @@
-use Rattle.std.proofs.Common.{◌≡◌, ◌+◌, ◌≤◌, map, length, vec_len, vec_capacity}
-use Rattle.std.specs.Vec.Iter.{into_iter_items, into_iter_len}
-use Rattle.gk_world.specs.State.{state_of}
-use Rattle.gk_run.specs.Chosen.{head_value}
-use Rattle.gk_run.specs.OpenSection.{run_of}
-use Rattle.gk_world.specs.Sandbox.{IsSame}
+use Rattle.gk_run.proofs.Common.{◌≡◌, ◌+◌, ◌≤◌, map, length, vec_len, vec_capacity, into_iter_items, into_iter_len, state_of, head_value, run_of, IsSame}
 use Rattle.gk_run.proofs.RulesLemmas.{GoesRules}
 use Rattle.gk_run.proofs.rules.run_rules.Given as goal
 

@@ -1,17 +1,6 @@
-use Rattle.std.proofs.Common.{List, ℕ, ◌∙◌, ◌≡◌, ap, map, subst, sym}
-use Rattle.gk_gherkin.specs.Feature.{StepValue, step_value, texts}
-use Rattle.gk_select.specs.Case.{case_value}
-use Rattle.gk_world.specs.State.{state_of}
-use Rattle.gk_run.specs.Events.{section_now}
+use Rattle.gk_run.proofs.Common.{List, ℕ, ◌∙◌, ◌≡◌, ap, map, subst, sym, StepValue, step_value, texts, case_value, state_of, section_now, Status, around_status, verdict_status, worse, CaseRow, step_row, run_value, after_lists, before_events, entered, Happens, IsClosing, AreEventsTold}
 use Rattle.gk_run.specs.declared.ending.Ending.TheVariants as endings
-use Rattle.gk_run.specs.declared.results.Status.{Status}
 use Rattle.gk_run.specs.declared.section.Level.TheVariants as levels
-use Rattle.gk_run.specs.Ending.{around_status, verdict_status, worse}
-use Rattle.gk_run.specs.Results.{CaseRow, step_row}
-use Rattle.gk_run.specs.OpenSection.{run_value}
-use Rattle.gk_run.specs.SectionHooks.{after_lists, before_events, entered}
-use Rattle.gk_run.specs.PrivateContracts.{Happens, IsClosing}
-use Rattle.gk_run.specs.Running.{AreEventsTold}
 use Rattle.gk_run.proofs.SectionLemmas.{case_told}
 use Rattle.gk_run.proofs.WalkLemmas.{AllSteps}
 use Rattle.gk_run.proofs.running.case_in.Goals as goal

@@ -1,8 +1,4 @@
-use Rattle.std.proofs.Common.{◌≡◌, ◌+◌, ◌≤◌, ◌++◌, map, length, vec_len, vec_capacity}
-use Rattle.std.specs.Vec.Iter.{into_iter_items, into_iter_len}
-use Rattle.gk_gherkin.specs.Feature.{StepValue, step_value}
-use Rattle.gk_run.specs.Results.{step_row}
-use Rattle.gk_run.specs.Walk.{row_of_step}
+use Rattle.gk_run.proofs.Common.{◌≡◌, ◌+◌, ◌≤◌, ◌++◌, map, length, vec_len, vec_capacity, into_iter_items, into_iter_len, StepValue, step_value, step_row, row_of_step}
 use Rattle.gk_run.proofs.running.unrun_steps.Given as goal
 
 -- the rows so far and those of the steps that are left are those of all

@@ -1,16 +1,5 @@
-use Rattle.std.proofs.Common.{◌≡◌, ◌∙◌, ◌++◌, ◌∷◌, [], List, ap, arith, length, map, refl, reverse, subst, sym}
-use Rattle.std.proofs.lemmas.List.{map_push, reverse-append}
-use Rattle.gk_steps.specs.Finding.{library_value}
-use Rattle.gk_world.specs.State.{state_of}
-use Rattle.gk_run.specs.Events.{section_now}
-use Rattle.gk_run.specs.declared.ending.Ending.{Ending}
+use Rattle.gk_run.proofs.Common.{◌≡◌, ◌∙◌, ◌++◌, ◌∷◌, [], List, ap, arith, length, map, refl, reverse, subst, sym, map_push, reverse-append, library_value, state_of, section_now, Ending, Cleanup, Acted, Outcome, CleanupValue, cleanup_value, clean_each, cleaned, ending_of, worse}
 use Rattle.gk_run.specs.declared.ending.Ending.TheVariants as endings
-use Rattle.gk_run.specs.declared.cleanups.Cleanup.{Cleanup}
-use Rattle.gk_run.specs.declared.results.Mark.TheVariants.{Acted}
-use Rattle.gk_run.specs.declared.results.Outcome.{Outcome}
-use Rattle.gk_run.specs.Acting.{CleanupValue, cleanup_value}
-use Rattle.gk_run.specs.SectionHooks.{clean_each, cleaned}
-use Rattle.gk_run.specs.Ending.{ending_of, worse}
 use Rattle.gk_run.proofs.Nothing.{nothing_in}
 use Rattle.gk_run.proofs.CleanLemmas.{CleansSoFar, cleans_first, cleans_on}
 use Rattle.gk_run.proofs.GoesLemmas.{with_rest}

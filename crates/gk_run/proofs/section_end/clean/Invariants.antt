@@ -1,10 +1,4 @@
-use Rattle.std.proofs.Common.{◌+◌, ◌≤◌, length, map, reverse, vec_capacity}
-use Rattle.gk_steps.specs.Finding.{library_value}
-use Rattle.gk_world.specs.State.{state_of}
-use Rattle.gk_world.specs.Sandbox.{KeepsLayers}
-use Rattle.gk_run.specs.Events.{section_now}
-use Rattle.gk_run.specs.Acting.{cleanup_value}
-use Rattle.gk_run.specs.SectionHooks.{clean_each, cleaned}
+use Rattle.gk_run.proofs.Common.{◌+◌, ◌≤◌, length, map, reverse, vec_capacity, library_value, state_of, KeepsLayers, section_now, cleanup_value, clean_each, cleaned}
 use Rattle.gk_run.proofs.CleanLemmas.{CleansSoFar}
 use Rattle.gk_run.proofs.section_end.clean.Given as goal
 

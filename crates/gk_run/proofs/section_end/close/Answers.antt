@@ -1,10 +1,4 @@
-use Rattle.std.proofs.Common.{◌∙◌, ap, refl, sym, append-nil}
-use Rattle.gk_gherkin.specs.Feature.{texts}
-use Rattle.gk_gherkin.specs.Hooks.{hooks_value}
-use Rattle.gk_steps.specs.Finding.{library_value}
-use Rattle.gk_run.specs.SectionHooks.{cleaned, after_lists, walk_each}
-use Rattle.gk_run.specs.Events.{ended_in, section_now}
-use Rattle.gk_run.specs.Ending.{worse}
+use Rattle.gk_run.proofs.Common.{◌∙◌, ap, refl, sym, append-nil, texts, hooks_value, library_value, cleaned, after_lists, walk_each, ended_in, section_now, worse}
 use Rattle.gk_run.proofs.GoesLemmas.{behind, nothing, under, unrefused, worse_told}
 use Rattle.gk_run.proofs.section_end.close.Goals as goal
 

@@ -1,7 +1,4 @@
-use Rattle.std.proofs.Common.{◌∙◌, [], Option, ap, map, option_copied}
-use Rattle.std.specs.Option.{option_map_or}
-use Rattle.gk_gherkin.specs.Feature.{step_value}
-use Rattle.gk_gherkin.specs.Hooks.{HookValue, hooks_value}
+use Rattle.gk_run.proofs.Common.{◌∙◌, [], Option, ap, map, option_copied, option_map_or, step_value, HookValue, hooks_value}
 use Rattle.gk_run.proofs.WalkLemmas.{steps_found}
 use Rattle.gk_run.proofs.section_hooks.hook_steps.Goals as goal
 

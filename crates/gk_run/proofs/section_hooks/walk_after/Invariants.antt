@@ -1,12 +1,5 @@
-use Rattle.std.proofs.Common.{drop}
-use Rattle.gk_gherkin.specs.Feature.{texts}
-use Rattle.gk_gherkin.specs.Hooks.{hooks_value}
-use Rattle.gk_steps.specs.Finding.{library_value}
-use Rattle.gk_world.specs.Sandbox.{KeepsLayers}
-use Rattle.gk_run.specs.Events.{section_now}
+use Rattle.gk_run.proofs.Common.{drop, texts, hooks_value, library_value, KeepsLayers, section_now, after_lists, tag_lists, walk_each, Goes}
 use Rattle.gk_run.specs.declared.ending.Ending.TheVariants as endings
-use Rattle.gk_run.specs.SectionHooks.{after_lists, tag_lists, walk_each}
-use Rattle.gk_run.specs.PrivateContracts.{Goes}
 use Rattle.gk_run.proofs.section_hooks.walk_after.Given as goal
 
 -- the section's own list and those of the tags so far were walked through, and those of the tags that are left are to be

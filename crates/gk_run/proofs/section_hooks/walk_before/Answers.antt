@@ -1,19 +1,6 @@
-use Rattle.std.proofs.Common.{[], ◌∙◌, ◌≡◌, ◌+◌, ◌<◌, Bool, Global, List, None, Some, String, ℕ, ap, append-nil, cond, drop, get_or, length, map, refl, string_bytes, subst, sym}
+use Rattle.gk_run.proofs.Common.{[], ◌∙◌, ◌≡◌, ◌+◌, ◌<◌, Bool, Global, List, None, Some, String, ℕ, ap, append-nil, cond, drop, get_or, length, map, refl, string_bytes, subst, sym, arith, StepValue, step_value, texts, HookValue, hooks_value, LibraryValue, library_value, State, state_of, CleanupValue, Event, SectionNow, section_now, Ending, Level, has_passed, before_of, before_kind, before_list, hook_steps, walk, Goes, Happens, common_steps}
 use Rattle.gk_gherkin.specs.declared.hooks.HookKind.TheVariants as kinds
-use Rattle.gk_gherkin.specs.Feature.{StepValue, step_value, texts}
-use Rattle.gk_gherkin.specs.Hooks.{HookValue, hooks_value}
-use Rattle.gk_steps.specs.Finding.{LibraryValue, library_value}
-use Rattle.gk_world.specs.State.{State, state_of}
-use Rattle.gk_run.specs.Acting.{CleanupValue}
-use Rattle.gk_run.specs.Events.{Event, SectionNow, section_now}
-use Rattle.gk_run.specs.declared.ending.Ending.{Ending}
 use Rattle.gk_run.specs.declared.ending.Ending.TheVariants as endings
-use Rattle.gk_run.specs.declared.section.Level.{Level}
-use Rattle.gk_run.specs.Ending.{has_passed}
-use Rattle.gk_run.specs.Section.{before_of}
-use Rattle.gk_run.specs.SectionHooks.{before_kind, before_list, hook_steps}
-use Rattle.gk_run.specs.Walk.{walk}
-use Rattle.gk_run.specs.PrivateContracts.{Goes, Happens}
 use Rattle.gk_run.proofs.GoesLemmas.{begin, chain, passing, with_rest}
 use Rattle.gk_run.proofs.WalkLemmas.{at, drop_next, drop_none, list_on}
 use Rattle.gk_run.proofs.section_hooks.walk_before.Goals as goal
@@ -23,11 +10,7 @@ tag_on : {S : Type 0} (hears : S → Event → S → Type 0) (library : LibraryV
     i < length tags → tag ≡ get_or tags i tag → steps ≡ hook_steps hooks kinds.BeforeTag (Some (string_bytes tag)) →
     Goes hears endings.Passed all (walk library (before_of level) s (before_list hooks level (texts (drop i tags)))) start (at s cs) endings.Passed first here → Happens hears endings.Passed (walk library (before_of level) s steps) (at s cs) now e here last →
     Goes hears endings.Passed all (cond (has_passed e) (walk library (before_of level) now.state (before_list hooks level (texts (drop (i + 1) tags)))) []) start now e first last
-tag_on hears library hooks level tags i tag steps s cs now e all start first here last some is are goes walked =
-    let of_tag = hook_steps hooks kinds.BeforeTag (Some (string_bytes tag)) in
-    list_on hears library (before_of level) of_tag (before_list hooks level (texts (drop (i + 1) tags))) s cs now e all start first here last
-    (subst (λ (ts : List (List ℕ)). Goes hears endings.Passed all (walk library (before_of level) s (before_list hooks level ts)) start (at s cs) endings.Passed first here) (drop_next string_bytes tags i tag some is) goes)
-    (subst (λ (xs : List StepValue). Happens hears endings.Passed (walk library (before_of level) s xs) (at s cs) now e here last) are walked)
+tag_on hears library hooks level tags i tag steps s cs now e all start first here last some is are goes walked = grind (arith, common_steps, string_bytes, list_on, drop_next)
 
 pub loop-tag-init : goal.loop-tag-init
 loop-tag-init g c = record { goes = begin g.O.Observer.hears endings.Passed _ _ _; layers = record { layers = refl; starts = refl } }

@@ -1,15 +1,5 @@
-use Rattle.std.proofs.Common.{drop}
-use Rattle.gk_gherkin.specs.Feature.{texts}
-use Rattle.gk_gherkin.specs.Hooks.{hooks_value}
-use Rattle.gk_steps.specs.Finding.{library_value}
-use Rattle.gk_world.specs.State.{state_of}
-use Rattle.gk_world.specs.Sandbox.{KeepsLayers}
-use Rattle.gk_run.specs.Events.{section_now}
+use Rattle.gk_run.proofs.Common.{drop, texts, hooks_value, library_value, state_of, KeepsLayers, section_now, before_of, before_list, walk, Goes}
 use Rattle.gk_run.specs.declared.ending.Ending.TheVariants as endings
-use Rattle.gk_run.specs.Section.{before_of}
-use Rattle.gk_run.specs.SectionHooks.{before_list}
-use Rattle.gk_run.specs.Walk.{walk}
-use Rattle.gk_run.specs.PrivateContracts.{Goes}
 use Rattle.gk_run.proofs.section_hooks.walk_before.Given as goal
 
 -- the lists of the tags so far passed, and that of those that are left is to be walked through

@@ -1,13 +1,4 @@
-use Rattle.std.proofs.Common.{◌≡◌, ◌∷◌, [], ◌++◌, List, length, map, arith, ap, sym, subst, ◌∙◌, refl}
-use Rattle.std.specs.Vec.Iter.{into_iter_items}
-use Rattle.std.proofs.lemmas.List.{map_push}
-use Rattle.gk_gherkin.specs.Feature.{StepValue, step_value}
-use Rattle.gk_steps.specs.Finding.{library_value}
-use Rattle.gk_world.specs.State.{state_of}
-use Rattle.gk_run.specs.Events.{section_now}
-use Rattle.gk_run.specs.Ending.{worse}
-use Rattle.gk_run.specs.Results.{StepRow, step_row}
-use Rattle.gk_run.specs.Walk.{row_of_step}
+use Rattle.gk_run.proofs.Common.{◌≡◌, ◌∷◌, [], ◌++◌, List, length, map, arith, ap, sym, subst, ◌∙◌, refl, into_iter_items, map_push, StepValue, step_value, library_value, state_of, section_now, worse, StepRow, step_row, row_of_step}
 use Rattle.gk_run.proofs.Nothing.{nothing_in}
 use Rattle.gk_run.proofs.WalkLemmas.{StepsSoFar, at, steps_first, steps_last, steps_on}
 use Rattle.gk_run.proofs.walk.run_steps.Goals as goal

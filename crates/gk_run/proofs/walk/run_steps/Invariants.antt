@@ -1,10 +1,4 @@
-use Rattle.std.proofs.Common.{◌≡◌, ◌+◌, ◌≤◌, map, length, vec_len, vec_capacity}
-use Rattle.std.specs.Vec.Iter.{into_iter_items, into_iter_len}
-use Rattle.gk_gherkin.specs.Feature.{step_value}
-use Rattle.gk_steps.specs.Finding.{library_value}
-use Rattle.gk_world.specs.Sandbox.{KeepsLayers}
-use Rattle.gk_run.specs.Events.{section_now}
-use Rattle.gk_run.specs.Results.{step_row}
+use Rattle.gk_run.proofs.Common.{◌≡◌, ◌+◌, ◌≤◌, map, length, vec_len, vec_capacity, into_iter_items, into_iter_len, step_value, library_value, KeepsLayers, section_now, step_row}
 use Rattle.gk_run.proofs.WalkLemmas.{StepsSoFar}
 use Rattle.gk_run.proofs.walk.run_steps.Given as goal
 

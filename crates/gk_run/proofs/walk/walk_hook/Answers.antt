@@ -1,15 +1,6 @@
-use Rattle.std.proofs.Common.{Bool, ◌+◌, ◌∙◌, List, [], ap, cond, drop, map, refl, subst, sym}
-use Rattle.gk_gherkin.specs.Feature.{StepValue, step_value}
-use Rattle.gk_steps.specs.Finding.{library_value}
-use Rattle.gk_world.specs.State.{state_of}
-use Rattle.gk_run.specs.Events.{section_now}
-use Rattle.gk_run.specs.declared.acting.Site.{Site}
-use Rattle.gk_run.specs.declared.ending.Ending.{Ending}
+use Rattle.gk_run.proofs.Common.{◌+◌, ◌∙◌, List, [], cond, drop, map, refl, subst, sym, arith, StepValue, step_value, library_value, state_of, section_now, Site, Ending, has_passed, one_step, walk, Goes, IsStepRun, common_steps}
 use Rattle.gk_run.specs.declared.ending.Ending.TheVariants as endings
-use Rattle.gk_run.specs.Ending.{has_passed}
-use Rattle.gk_run.specs.Walk.{one_step, walk}
-use Rattle.gk_run.specs.PrivateContracts.{Goes, IsStepRun}
-use Rattle.gk_run.proofs.GoesLemmas.{begin, nothing_after, passing, with_rest}
+use Rattle.gk_run.proofs.GoesLemmas.{begin, nothing_after, passing}
 use Rattle.gk_run.proofs.WalkLemmas.{at, drop_next, drop_none, walk_on}
 use Rattle.gk_run.proofs.walk.walk_hook.Goals as goal
 
@@ -45,12 +36,7 @@ loop-step-preserved g c =
     }
 
 pub returns-then-not-has_passed-clause-walked : goal.returns-then-not-has_passed-clause-walked
-returns-then-not-has_passed-clause-walked g c =
-    let left = walk (library_value c.args.run.now.library.now) c.args.stage (state_of c.loop-step.sandbox.now) (map step_value (drop c.loop-step.step-index c.args.steps.now)) in
-    with_rest [] c.loop-step.invariant.goes (λ _. ap (λ (b : Bool). cond b left []) (sym c.has_passed.ensures ∙ c.if-not-has_passed.true))
+returns-then-not-has_passed-clause-walked g c = grind (arith, common_steps)
 
 pub returns-clause-walked : goal.returns-clause-walked
-returns-clause-walked g c =
-    let walked = walk (library_value c.args.run.now.library.now) c.args.stage (state_of c.loop-step.sandbox.now) in
-    with_rest [] c.loop-step.invariant.goes
-    (λ _. nothing_after (has_passed c.loop-step.ending) (walked (map step_value (drop c.loop-step.step-index c.args.steps.now))) (ap walked (drop_none step_value c.args.steps.now c.loop-step.step-index c.loop-step-test.false)))
+returns-clause-walked g c = grind (arith, common_steps, nothing_after, drop_none)

@@ -1,13 +1,5 @@
-use Rattle.std.proofs.Common.{[], cond, drop, map}
-use Rattle.gk_gherkin.specs.Feature.{step_value}
-use Rattle.gk_steps.specs.Finding.{library_value}
-use Rattle.gk_world.specs.State.{state_of}
-use Rattle.gk_world.specs.Sandbox.{KeepsLayers}
-use Rattle.gk_run.specs.Events.{section_now}
+use Rattle.gk_run.proofs.Common.{[], cond, drop, map, step_value, library_value, state_of, KeepsLayers, section_now, has_passed, walk, Goes}
 use Rattle.gk_run.specs.declared.ending.Ending.TheVariants as endings
-use Rattle.gk_run.specs.Ending.{has_passed}
-use Rattle.gk_run.specs.Walk.{walk}
-use Rattle.gk_run.specs.PrivateContracts.{Goes}
 use Rattle.gk_run.proofs.walk.walk_hook.Given as goal
 
 -- if the steps so far passed, those that are left are to be walked through

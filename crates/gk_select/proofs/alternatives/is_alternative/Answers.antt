@@ -1,8 +1,5 @@
-use Rattle.std.proofs.Common.{ℕ, List, false, arith, ap, sym, ◌∙◌}
-use Rattle.std.specs.Prelude.{is_some}
-use Rattle.std.proofs.lemmas.Str.Pattern.{strip_prefix_char}
+use Rattle.gk_select.proofs.Common.{ℕ, List, false, arith, ap, sym, ◌∙◌, is_some, strip_prefix_char, tag_named}
 use Rattle.gk_select.proofs.AlternativeWords.{plain_alternative, same_some}
-use Rattle.gk_select.specs.Alternatives.{tag_named}
 use Rattle.gk_select.proofs.alternatives.is_alternative.Goals as goal
 
 pub returns-in-None : goal.returns-in-None

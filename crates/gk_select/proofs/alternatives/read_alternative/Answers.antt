@@ -1,8 +1,4 @@
-use Rattle.std.proofs.Common.{List, ℕ, Global, false, arith}
-use Rattle.std.proofs.lemmas.Result.{err_from_is_err_and}
-use Rattle.std.proofs.lemmas.Str.Pattern.{strip_prefix_char}
-use Rattle.std.specs.String.{string_bytes}
-use Rattle.gk_select.specs.Alternatives.{alternative_value}
+use Rattle.gk_select.proofs.Common.{List, ℕ, Global, false, arith, err_from_is_err_and, strip_prefix_char, string_bytes, alternative_value}
 use Rattle.gk_select.proofs.AlternativeWords.{plain_alternative, handed_on}
 use Rattle.gk_select.proofs.alternatives.read_alternative.Goals as goal
 

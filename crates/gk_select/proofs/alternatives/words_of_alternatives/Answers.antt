@@ -1,10 +1,4 @@
-use Rattle.std.proofs.Common.{map, Option, IsSome, refl, sym, subst, arith}
-use Rattle.std.proofs.lemmas.Result.{err_from_is_err_and}
-use Rattle.std.proofs.lemmas.List.{map-append}
-use Rattle.std.proofs.lemmas.Iterator.Splits.{YieldsList-from_str_split}
-use Rattle.std.proofs.lemmas.Iterator.Consumers.{YieldsList-so_far, YieldsList-turn, YieldsList-end}
-use Rattle.gk_select.specs.Alternatives.{AlternativeValue, alternative_value}
-use Rattle.gk_select.specs.TagWords.{word_value}
+use Rattle.gk_select.proofs.Common.{map, Option, IsSome, refl, sym, subst, arith, err_from_is_err_and, map-append, YieldsList-from_str_split, YieldsList-so_far, YieldsList-turn, YieldsList-end, AlternativeValue, alternative_value, word_value}
 use Rattle.gk_select.proofs.AlternativeWords.{read_more, said, piece_needs_memory, memory_fails, fault_fails}
 use Rattle.gk_select.proofs.alternatives.words_of_alternatives.Goals as goal
 

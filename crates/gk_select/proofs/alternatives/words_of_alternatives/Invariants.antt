@@ -1,5 +1,4 @@
-use Rattle.std.proofs.Common.{map}
-use Rattle.gk_select.specs.TagWords.{word_value}
+use Rattle.gk_select.proofs.Common.{map, word_value}
 use Rattle.gk_select.proofs.AlternativeWords.{ReadSo}
 use Rattle.gk_select.proofs.alternatives.words_of_alternatives.Given as goal
 

@@ -1,6 +1,4 @@
-use Rattle.std.proofs.Common.{◌≡◌, true, false, sym, ◌∙◌}
-use Rattle.std.specs.String.{string_bytes}
-use Rattle.std.specs.Str.{bytes_eq}
+use Rattle.gk_select.proofs.Common.{◌≡◌, true, false, sym, ◌∙◌, string_bytes, bytes_eq}
 use Rattle.gk_select.proofs.IndexedColumns.{found, other, none_left}
 use Rattle.gk_select.proofs.columns.scan.Goals as goal
 

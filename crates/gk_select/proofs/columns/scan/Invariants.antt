@@ -1,6 +1,4 @@
-use Rattle.std.proofs.Common.{◌≡◌, ◌+◌, drop, option_map}
-use Rattle.gk_gherkin.specs.Feature.{texts}
-use Rattle.gk_select.specs.Columns.{column_of}
+use Rattle.gk_select.proofs.Common.{◌≡◌, ◌+◌, drop, option_map, texts, column_of}
 use Rattle.gk_select.proofs.columns.scan.Given as goal
 
 abbrev pub invariant-loop-i : goal.invariant-loop-i

@@ -1,6 +1,4 @@
-use Rattle.std.proofs.Common.{◌≡◌, map, take}
-use Rattle.gk_gherkin.specs.Feature.{texts}
-use Rattle.gk_select.specs.Filling.{filled}
+use Rattle.gk_select.proofs.Common.{◌≡◌, map, take, texts, filled}
 use Rattle.gk_select.proofs.copies.fill_texts.Given as goal
 
 abbrev pub invariant-loop-text : goal.invariant-loop-text

@@ -1,6 +1,4 @@
-use Rattle.std.proofs.Common.{◌≡◌, ◌++◌, map, take}
-use Rattle.gk_gherkin.specs.Feature.{texts, step_value}
-use Rattle.gk_select.specs.Filling.{filled, filled_step}
+use Rattle.gk_select.proofs.Common.{◌≡◌, ◌++◌, map, take, texts, step_value, filled, filled_step}
 use Rattle.gk_select.proofs.copies.push_filled_steps.Given as goal
 
 abbrev pub invariant-loop-step : goal.invariant-loop-step

@@ -1,5 +1,4 @@
-use Rattle.std.proofs.Common.{◌≡◌, ◌++◌, take}
-use Rattle.gk_gherkin.specs.Feature.{texts}
+use Rattle.gk_select.proofs.Common.{◌≡◌, ◌++◌, take, texts}
 use Rattle.gk_select.proofs.copies.push_texts.Given as goal
 
 abbrev pub invariant-loop-text : goal.invariant-loop-text

@@ -1,6 +1,4 @@
-use Rattle.std.proofs.Common.{not, nat_lt, ℕ, ap, sym, ◌∙◌}
-use Rattle.gk_gherkin.specs.Feature.{feature_value}
-use Rattle.gk_select.specs.Counting.{feature_steps}
+use Rattle.gk_select.proofs.Common.{not, nat_lt, ℕ, ap, sym, ◌∙◌, feature_value, feature_steps}
 use Rattle.gk_select.proofs.Rooms.{counted, is_some-left}
 use Rattle.gk_select.proofs.counting.has_room.Goals as goal
 

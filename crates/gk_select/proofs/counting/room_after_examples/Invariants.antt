@@ -1,7 +1,4 @@
-use Rattle.std.proofs.Common.{◌≡◌, ◌+◌, map, drop}
-use Rattle.std.specs.List.{sum_by}
-use Rattle.gk_gherkin.specs.Feature.{examples_value}
-use Rattle.gk_select.specs.Counting.{left, examples_steps}
+use Rattle.gk_select.proofs.Common.{◌≡◌, ◌+◌, map, drop, sum_by, examples_value, left, examples_steps}
 use Rattle.gk_select.proofs.counting.room_after_examples.Given as goal
 
 abbrev pub invariant-loop-examples : goal.invariant-loop-examples

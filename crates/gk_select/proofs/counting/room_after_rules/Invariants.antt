@@ -1,7 +1,4 @@
-use Rattle.std.proofs.Common.{◌≡◌, map, drop}
-use Rattle.std.specs.List.{sum_by}
-use Rattle.gk_gherkin.specs.Feature.{rule_value}
-use Rattle.gk_select.specs.Counting.{left, rule_steps}
+use Rattle.gk_select.proofs.Common.{◌≡◌, map, drop, sum_by, rule_value, left, rule_steps}
 use Rattle.gk_select.proofs.counting.room_after_rules.Given as goal
 
 abbrev pub invariant-loop-rule : goal.invariant-loop-rule

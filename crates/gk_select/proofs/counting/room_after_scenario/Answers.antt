@@ -1,10 +1,5 @@
-use Rattle.std.proofs.Common.{◌≡◌, ◌+◌, List, true, false, map, length, ap, ◌∙◌, arith}
-use Rattle.std.proofs.lemmas.List.{length-map}
-use Rattle.std.specs.List.{sum_by}
-use Rattle.gk_gherkin.specs.Feature.{step_value, scenario_value, examples_value}
-use Rattle.gk_gherkin.specs.declared.feature.Examples.{Examples}
+use Rattle.gk_select.proofs.Common.{◌≡◌, ◌+◌, List, true, false, map, length, ap, ◌∙◌, arith, length-map, sum_by, step_value, scenario_value, examples_value, Examples, left, examples_steps}
 use Rattle.gk_select.specs.Outline as spec
-use Rattle.gk_select.specs.Counting.{left, examples_steps}
 use Rattle.gk_select.proofs.Rooms.{outline_total, plain_total}
 use Rattle.gk_select.proofs.counting.room_after_scenario.Goals as goal
 

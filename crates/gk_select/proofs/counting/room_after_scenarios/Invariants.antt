@@ -1,7 +1,4 @@
-use Rattle.std.proofs.Common.{◌≡◌, map, drop}
-use Rattle.std.specs.List.{sum_by}
-use Rattle.gk_gherkin.specs.Feature.{scenario_value}
-use Rattle.gk_select.specs.Counting.{left, scenario_steps}
+use Rattle.gk_select.proofs.Common.{◌≡◌, map, drop, sum_by, scenario_value, left, scenario_steps}
 use Rattle.gk_select.proofs.counting.room_after_scenarios.Given as goal
 
 abbrev pub invariant-loop-scenario : goal.invariant-loop-scenario

@@ -1,9 +1,5 @@
-use Rattle.std.proofs.Common.{◌≡◌, ◌∙◌, ◌≤◌, ℕ, map, ◌+◌, List, [], ◌∷◌, ◌++◌, Some, ap, ap₂, sym, arith, length, drop}
-use Rattle.std.specs.Prelude.{string_bytes, slice_get, zip}
-use Rattle.std.proofs.lemmas.Bool.{ltb-true, ltb-false}
-use Rattle.std.proofs.lemmas.List.{map_push, length-map}
-use Rattle.gk_gherkin.specs.Feature.{texts}
-use Rattle.gk_select.specs.ExampleRows.{cell_value}
+use Rattle.gk_select.proofs.Common.{◌≡◌, ◌∙◌, ◌≤◌, ℕ, map, ◌+◌, List, [], ◌∷◌, ◌++◌, Some, ap, ap₂, sym, arith, length, drop, slice_get, zip, ltb-true, ltb-false, map_push, length-map, texts, cell_value}
+use Rattle.std.specs.Prelude.{string_bytes}
 use Rattle.gk_select.proofs.RowLines.{at_place, one_cell, no_cell}
 use Rattle.gk_select.proofs.example_rows.cells_under.Goals as goal
 use Rattle.gk_select.proofs.example_rows.cells_under.Goals.{in-Some+in_ok-cell_under+in_ok-push, in_default}

@@ -1,7 +1,4 @@
-use Rattle.std.proofs.Common.{◌≡◌, ◌++◌, drop, map}
-use Rattle.std.specs.Prelude.{zip}
-use Rattle.gk_gherkin.specs.Feature.{texts}
-use Rattle.gk_select.specs.ExampleRows.{cell_value}
+use Rattle.gk_select.proofs.Common.{◌≡◌, ◌++◌, drop, map, zip, texts, cell_value}
 use Rattle.gk_select.proofs.example_rows.cells_under.Given as goal
 
 abbrev pub invariant-loop-i : goal.invariant-loop-i

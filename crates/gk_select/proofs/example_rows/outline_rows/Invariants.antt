@@ -1,6 +1,4 @@
-use Rattle.std.proofs.Common.{◌≡◌, ◌++◌, drop, flat_map, map}
-use Rattle.gk_gherkin.specs.Feature.{RuleValue, rule_value, feature_value}
-use Rattle.gk_select.specs.ExampleRows.{example_row_value, outline_rows, rows_of_scenario}
+use Rattle.gk_select.proofs.Common.{◌≡◌, ◌++◌, drop, flat_map, map, RuleValue, rule_value, feature_value, example_row_value, outline_rows, rows_of_scenario}
 use Rattle.gk_select.proofs.example_rows.outline_rows.Given as goal
 
 abbrev pub invariant-loop-rule : goal.invariant-loop-rule

@@ -1,7 +1,4 @@
-use Rattle.std.proofs.Common.{◌≡◌, ◌++◌, ◌+◌, drop, map}
-use Rattle.std.specs.List.{enumerate_from}
-use Rattle.gk_gherkin.specs.Feature.{texts, row_value, examples_value}
-use Rattle.gk_select.specs.ExampleRows.{example_row_value, numbered_row, rows_of_examples}
+use Rattle.gk_select.proofs.Common.{◌≡◌, ◌++◌, ◌+◌, drop, map, enumerate_from, texts, row_value, examples_value, example_row_value, numbered_row, rows_of_examples}
 use Rattle.gk_select.proofs.example_rows.push_rows.Given as goal
 
 abbrev pub invariant-loop-i : goal.invariant-loop-i

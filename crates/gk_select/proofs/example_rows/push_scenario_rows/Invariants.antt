@@ -1,6 +1,4 @@
-use Rattle.std.proofs.Common.{◌≡◌, ◌++◌, drop, flat_map, map}
-use Rattle.gk_gherkin.specs.Feature.{examples_value, scenario_value}
-use Rattle.gk_select.specs.ExampleRows.{example_row_value, rows_of_examples, rows_of_scenario}
+use Rattle.gk_select.proofs.Common.{◌≡◌, ◌++◌, drop, flat_map, map, examples_value, scenario_value, example_row_value, rows_of_examples, rows_of_scenario}
 use Rattle.gk_select.proofs.example_rows.push_scenario_rows.Given as goal
 
 abbrev pub invariant-loop-examples : goal.invariant-loop-examples

@@ -1,8 +1,4 @@
-use Rattle.std.proofs.Common.{◌≡◌, ◌++◌, map, drop}
-use Rattle.std.specs.List.{AllByRecursion}
-use Rattle.gk_gherkin.specs.Feature.{RuleValue, rule_value, feature_value}
-use Rattle.gk_select.specs.Case.{case_value}
-use Rattle.gk_select.specs.Expansion.{cases, cases_of_rules, RowsFit}
+use Rattle.gk_select.proofs.Common.{◌≡◌, ◌++◌, map, drop, AllByRecursion, RuleValue, rule_value, feature_value, case_value, cases, cases_of_rules, RowsFit}
 use Rattle.gk_select.proofs.expansion.copied_cases.Given as goal
 
 abbrev pub invariant-loop-index : goal.invariant-loop-index

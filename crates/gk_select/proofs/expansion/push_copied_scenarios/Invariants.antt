@@ -1,8 +1,4 @@
-use Rattle.std.proofs.Common.{◌≡◌, ◌++◌, map, drop, flat_map}
-use Rattle.gk_gherkin.specs.Feature.{scenario_value}
-use Rattle.gk_select.specs.Case.{case_value}
-use Rattle.gk_select.specs.Expansion.{scenario_cases, RowsFit}
-use Rattle.gk_select.specs.Inherited.{inherited_value}
+use Rattle.gk_select.proofs.Common.{◌≡◌, ◌++◌, map, drop, flat_map, scenario_value, case_value, scenario_cases, RowsFit, inherited_value}
 use Rattle.gk_select.proofs.expansion.push_copied_scenarios.Given as goal
 
 abbrev pub invariant-loop-scenario : goal.invariant-loop-scenario

@@ -1,10 +1,4 @@
-use Rattle.std.proofs.Common.{◌≡◌, ◌++◌, ◌+◌, map, flat_map, drop}
-use Rattle.std.specs.List.{AllByRecursion, enumerate_from}
-use Rattle.gk_gherkin.specs.Feature.{examples_value, scenario_value}
-use Rattle.gk_select.specs.Case.{case_value}
-use Rattle.gk_select.specs.Expansion.{examples_cases}
-use Rattle.gk_select.specs.Inherited.{inherited_value}
-use Rattle.gk_select.specs.Outline.{AllFit}
+use Rattle.gk_select.proofs.Common.{◌≡◌, ◌++◌, ◌+◌, map, flat_map, drop, AllByRecursion, enumerate_from, examples_value, scenario_value, case_value, examples_cases, inherited_value, AllFit}
 use Rattle.gk_select.proofs.expansion.push_outline_cases.Given as goal
 
 abbrev pub invariant-loop-i : goal.invariant-loop-i

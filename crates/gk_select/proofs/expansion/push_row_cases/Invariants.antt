@@ -1,6 +1,4 @@
-use Rattle.std.proofs.Common.{◌≡◌, ◌++◌, ◌+◌, map, drop}
-use Rattle.gk_select.specs.Case.{case_value}
-use Rattle.gk_select.specs.Expansion.{cases_of_rows, RowsFitHeader}
+use Rattle.gk_select.proofs.Common.{◌≡◌, ◌++◌, ◌+◌, map, drop, case_value, cases_of_rows, RowsFitHeader}
 use Rattle.gk_select.proofs.expansion.push_row_cases.Given as goal
 
 abbrev pub invariant-loop-i : goal.invariant-loop-i

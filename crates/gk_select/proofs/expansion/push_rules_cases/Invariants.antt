@@ -1,9 +1,4 @@
-use Rattle.std.proofs.Common.{◌≡◌, ◌<◌, ◌+◌, ◌^◌, ◌++◌, length, map}
-use Rattle.std.specs.List.{AllByRecursion}
-use Rattle.std.specs.Vec.Iter.{into_iter_items}
-use Rattle.gk_gherkin.specs.Feature.{RuleValue, rule_value}
-use Rattle.gk_select.specs.Case.{case_value}
-use Rattle.gk_select.specs.Expansion.{cases_of_rules, RowsFit}
+use Rattle.gk_select.proofs.Common.{◌≡◌, ◌<◌, ◌+◌, ◌^◌, ◌++◌, length, map, AllByRecursion, into_iter_items, RuleValue, rule_value, case_value, cases_of_rules, RowsFit}
 use Rattle.gk_select.proofs.expansion.push_rules_cases.Given as goal
 
 abbrev pub invariant-loop-rule : goal.invariant-loop-rule

@@ -1,9 +1,4 @@
-use Rattle.std.proofs.Common.{◌≡◌, ◌++◌, map, flat_map}
-use Rattle.std.specs.Vec.Iter.{into_iter_items}
-use Rattle.gk_gherkin.specs.Feature.{scenario_value}
-use Rattle.gk_select.specs.Case.{case_value}
-use Rattle.gk_select.specs.Expansion.{scenario_cases, RowsFit}
-use Rattle.gk_select.specs.Inherited.{inherited_value}
+use Rattle.gk_select.proofs.Common.{◌≡◌, ◌++◌, map, flat_map, into_iter_items, scenario_value, case_value, scenario_cases, RowsFit, inherited_value}
 use Rattle.gk_select.proofs.expansion.push_scenarios_cases.Given as goal
 
 abbrev pub invariant-loop-scenario : goal.invariant-loop-scenario

@@ -1,7 +1,4 @@
-use Rattle.std.proofs.Common.{rules, ap, ◌∙◌, arith}
-use Rattle.std.proofs.lemmas.Grind.{common_steps}
-use Rattle.gk_gherkin.specs.Feature.{texts}
-use Rattle.gk_select.specs.Filling.{filled}
+use Rattle.gk_select.proofs.Common.{rules, ap, ◌∙◌, arith, common_steps, texts, filled}
 use Rattle.gk_select.proofs.FilledPieces.{fills_piece, fills_end}
 use Rattle.gk_select.proofs.FillingLoops.{cut, uncut, pushed, if_ok, fit}
 use Rattle.gk_select.proofs.filling.push_filled.Goals as goal

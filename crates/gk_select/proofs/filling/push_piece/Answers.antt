@@ -1,7 +1,4 @@
-use Rattle.std.proofs.Common.{◌++◌, ◌∷◌, [], List, ℕ, rules, ap, refl, ◌∙◌, arith}
-use Rattle.std.proofs.lemmas.Grind.{common_steps}
-use Rattle.std.specs.String.{string_bytes}
-use Rattle.gk_gherkin.specs.Feature.{texts}
+use Rattle.gk_select.proofs.Common.{◌++◌, ◌∷◌, [], List, ℕ, rules, ap, refl, ◌∙◌, arith, common_steps, string_bytes, texts}
 use Rattle.gk_select.proofs.FillingLoops.{cut, uncut, at_placeholder, at_other, at_end, no_cell, some_cell, pushed, if_ok}
 use Rattle.gk_select.proofs.filling.push_piece.Goals as goal
 

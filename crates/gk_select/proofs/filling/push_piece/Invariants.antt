@@ -1,9 +1,4 @@
-use Rattle.std.proofs.Common.{◌≡◌, ◌++◌, length}
-use denote.Text.{Utf8}
-use denote.Shadow.{shadow}
-use Rattle.std.specs.String.{string_bytes}
-use Rattle.gk_gherkin.specs.Feature.{texts}
-use Rattle.gk_select.specs.Filling.{filled_piece}
+use Rattle.gk_select.proofs.Common.{◌≡◌, ◌++◌, length, Utf8, shadow, string_bytes, texts, filled_piece}
 use Rattle.gk_select.proofs.filling.push_piece.Given as goal
 
 abbrev pub invariant-loop-before : goal.invariant-loop-before

@@ -1,4 +1,4 @@
-use Rattle.gk_gherkin.specs.Lines.{lines_of}
+use Rattle.gk_select.proofs.Common.{lines_of}
 use Rattle.gk_select.proofs.ReadableRows.{expandable}
 use Rattle.gk_select.proofs.laws.read_features_are_expandable.Goals as goal
 

@@ -1,8 +1,4 @@
-use Rattle.std.proofs.Common.{◌<◌, length, arith}
-use Rattle.std.proofs.lemmas.Grind.{common_steps}
-use Rattle.gk_gherkin.specs.Feature.{examples_value, scenario_value}
-use Rattle.gk_select.specs.Inherited.{inherited_value}
-use Rattle.gk_select.specs.Selecting.{examples_selected}
+use Rattle.gk_select.proofs.Common.{◌<◌, length, arith, common_steps, examples_value, scenario_value, inherited_value, examples_selected}
 use Rattle.gk_select.proofs.Selected.{if_err, one_part, some_part}
 use Rattle.gk_select.proofs.selecting.select_outline.Goals as goal
 

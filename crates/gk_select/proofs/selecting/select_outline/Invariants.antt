@@ -1,7 +1,4 @@
-use Rattle.std.proofs.Common.{◌≡◌, ◌++◌, drop, flat_map, map}
-use Rattle.gk_gherkin.specs.Feature.{examples_value, scenario_value}
-use Rattle.gk_select.specs.Inherited.{inherited_value}
-use Rattle.gk_select.specs.Selecting.{examples_selected}
+use Rattle.gk_select.proofs.Common.{◌≡◌, ◌++◌, drop, flat_map, map, examples_value, scenario_value, inherited_value, examples_selected}
 use Rattle.gk_select.proofs.selecting.select_outline.Given as goal
 
 abbrev pub invariant-loop-examples : goal.invariant-loop-examples

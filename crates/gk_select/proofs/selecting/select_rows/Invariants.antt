@@ -1,6 +1,4 @@
-use Rattle.std.proofs.Common.{◌≡◌, ◌++◌, drop, map}
-use Rattle.gk_gherkin.specs.Feature.{row_value}
-use Rattle.gk_select.specs.Selecting.{rows_selected}
+use Rattle.gk_select.proofs.Common.{◌≡◌, ◌++◌, drop, map, row_value, rows_selected}
 use Rattle.gk_select.proofs.selecting.select_rows.Given as goal
 
 abbrev pub invariant-loop-row : goal.invariant-loop-row

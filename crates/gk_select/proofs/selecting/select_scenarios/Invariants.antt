@@ -1,7 +1,4 @@
-use Rattle.std.proofs.Common.{◌≡◌, ◌++◌, drop, flat_map, map}
-use Rattle.gk_gherkin.specs.Feature.{scenario_value}
-use Rattle.gk_select.specs.Inherited.{inherited_value}
-use Rattle.gk_select.specs.Selecting.{scenario_selected}
+use Rattle.gk_select.proofs.Common.{◌≡◌, ◌++◌, drop, flat_map, map, scenario_value, inherited_value, scenario_selected}
 use Rattle.gk_select.proofs.selecting.select_scenarios.Given as goal
 
 abbrev pub invariant-loop-scenario : goal.invariant-loop-scenario

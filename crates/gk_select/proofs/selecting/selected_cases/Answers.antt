@@ -1,8 +1,4 @@
-use Rattle.std.proofs.Common.{◌++◌, ◌∙◌, ap, List, Bool, map, flat_map}
-use Rattle.gk_gherkin.specs.declared.feature.Scenario.{Scenario}
-use Rattle.gk_gherkin.specs.Feature.{scenario_value, feature_value}
-use Rattle.gk_select.specs.Inherited.{InheritedValue, inherited_value, inherited_in_feature}
-use Rattle.gk_select.specs.Selecting.{scenario_selected, rules_selected}
+use Rattle.gk_select.proofs.Common.{◌++◌, ◌∙◌, ap, List, Bool, map, flat_map, Scenario, scenario_value, feature_value, InheritedValue, inherited_value, inherited_in_feature, scenario_selected, rules_selected}
 use Rattle.gk_select.proofs.Selected.{all_selected, if_err, some_own}
 use Rattle.gk_select.proofs.selecting.selected_cases.Goals as goal
 

@@ -1,8 +1,4 @@
-use Rattle.std.proofs.Common.{◌≡◌, ◌++◌, drop, map}
-use Rattle.gk_gherkin.specs.Feature.{rule_value, feature_value}
-use Rattle.gk_select.specs.Choice.{chosen_by}
-use Rattle.gk_select.specs.Expansion.{cases}
-use Rattle.gk_select.specs.Selecting.{rules_selected}
+use Rattle.gk_select.proofs.Common.{◌≡◌, ◌++◌, drop, map, rule_value, feature_value, chosen_by, cases, rules_selected}
 use Rattle.gk_select.proofs.selecting.selected_cases.Given as goal
 
 abbrev pub invariant-loop-index : goal.invariant-loop-index

@@ -1,7 +1,4 @@
-use Rattle.std.proofs.Common.{◌≡◌, ℕ, map, drop, refl, sym, ap, ◌∙◌, arith, inl, inr}
-use Rattle.std.proofs.lemmas.Result.{err_from_is_err_and}
-use Rattle.gk_select.specs.TagWords.{word_value}
-use Rattle.gk_select.specs.TagMeasures.{measure_of, built_value}
+use Rattle.gk_select.proofs.Common.{◌≡◌, ℕ, map, drop, refl, sym, ap, ◌∙◌, arith, inl, inr, err_from_is_err_and, word_value, measure_of, built_value}
 use Rattle.gk_select.proofs.TagDepths.{accepted, refused, before_errs}
 use Rattle.gk_select.proofs.tag_grammar.check_words.Goals as goal
 use Rattle.gk_select.proofs.tag_grammar.check_words.Goals.{else-len-eq0-via-then-len-eq0+else-larger-le-DEPTH_LIMIT, else-len-eq0-via-else-len-eq0}

@@ -1,6 +1,4 @@
-use Rattle.std.proofs.Common.{◌≡◌, ◌≤◌, length, map, drop, Some}
-use Rattle.gk_select.specs.TagWords.{word_value}
-use Rattle.gk_select.specs.TagMeasures.{measure_of, built_value}
+use Rattle.gk_select.proofs.Common.{◌≡◌, ◌≤◌, length, map, drop, Some, word_value, measure_of, built_value}
 use Rattle.gk_select.proofs.tag_grammar.check_words.Given as goal
 
 abbrev pub invariant-loop-at : goal.invariant-loop-at

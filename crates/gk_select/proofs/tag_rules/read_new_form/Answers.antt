@@ -1,11 +1,4 @@
-use Rattle.std.proofs.Common.{◌≡◌, ◌⊎◌, ◌≤◌, map, List, subst, arith}
-use Rattle.std.proofs.lemmas.Grind.{common_steps}
-use Rattle.std.proofs.lemmas.List.{length-map}
-use Rattle.std.proofs.lemmas.Result.{err_from_is_err_and}
-use Rattle.gk_select.specs.declared.select_fault.SelectFault.TheVariants.{BadTagText, Memory}
-use Rattle.gk_select.specs.declared.tag_words.Word.{Word}
-use Rattle.gk_select.specs.TagGrammar.{Expression, depth, depth_limit, spelling}
-use Rattle.gk_select.specs.TagWords.{word_value}
+use Rattle.gk_select.proofs.Common.{◌≡◌, ◌⊎◌, ◌≤◌, map, List, subst, arith, common_steps, length-map, err_from_is_err_and, BadTagText, Memory, Word, Expression, depth, depth_limit, spelling, word_value}
 use Rattle.gk_select.proofs.TagReading.{no_rule, first_word_said}
 use Rattle.gk_select.proofs.tag_rules.read_new_form.Goals as goal
 

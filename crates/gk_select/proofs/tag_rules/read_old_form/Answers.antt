@@ -1,4 +1,4 @@
-use Rattle.std.proofs.lemmas.Result.{err_from_is_err_and}
+use Rattle.gk_select.proofs.Common.{err_from_is_err_and}
 use Rattle.gk_select.proofs.TagReading.{no_alternatives}
 use Rattle.gk_select.proofs.tag_rules.read_old_form.Goals as goal
 

@@ -1,7 +1,4 @@
-use Rattle.std.proofs.Common.{map, sym, arith}
-use Rattle.std.proofs.lemmas.List.{map-append}
-use Rattle.std.proofs.lemmas.Iterator.Splits.{YieldsList-from_str_split}
-use Rattle.std.proofs.lemmas.Iterator.Consumers.{YieldsList-so_far, YieldsList-turn, YieldsList-end}
+use Rattle.gk_select.proofs.Common.{map, sym, arith, map-append, YieldsList-from_str_split, YieldsList-so_far, YieldsList-turn, YieldsList-end}
 use Rattle.gk_select.proofs.TagStopLemmas.{stops_at_piece, passes_piece, passes_all}
 use Rattle.gk_select.proofs.tag_stops.stop_in_alternatives.Goals as goal
 

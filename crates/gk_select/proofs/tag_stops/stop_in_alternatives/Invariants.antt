@@ -1,5 +1,4 @@
-use Rattle.std.proofs.Common.{◌≡◌, ℕ, List, ◌++◌, map}
-use Rattle.gk_select.specs.TagStops.{stop_in_pieces}
+use Rattle.gk_select.proofs.Common.{◌≡◌, ℕ, List, ◌++◌, map, stop_in_pieces}
 use Rattle.gk_select.proofs.tag_stops.stop_in_alternatives.Given as goal
 
 abbrev pub invariant-loop-piece : goal.invariant-loop-piece

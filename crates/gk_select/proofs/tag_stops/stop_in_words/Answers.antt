@@ -1,6 +1,4 @@
-use Rattle.std.proofs.Common.{arith}
-use Rattle.std.proofs.lemmas.Grind.{common_steps}
-use Rattle.std.proofs.lemmas.Bool.Decides.{nat_tests}
+use Rattle.gk_select.proofs.Common.{arith, common_steps, nat_tests}
 use Rattle.gk_select.proofs.TagStopLemmas.{goes_on, stops_here, stops_at_end, at_word, at_blank}
 use Rattle.gk_select.proofs.TagTextWords.{Turn, turned}
 use Rattle.gk_select.proofs.tag_stops.stop_in_words.Goals as goal

@@ -1,8 +1,4 @@
-use Rattle.std.proofs.Common.{◌≡◌, ◌+◌, ◌≤◌, length}
-use denote.Text.{Utf8}
-use denote.Shadow.{shadow}
-use Rattle.gk_select.specs.TagStops.{stop_in, first_place}
-use Rattle.gk_select.specs.TagWords.{words_of_text}
+use Rattle.gk_select.proofs.Common.{◌≡◌, ◌+◌, ◌≤◌, length, Utf8, shadow, stop_in, first_place, words_of_text}
 use Rattle.gk_select.proofs.tag_stops.stop_in_words.Given as goal
 
 abbrev pub invariant-words : goal.invariant-words

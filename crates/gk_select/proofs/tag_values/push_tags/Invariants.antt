@@ -1,5 +1,4 @@
-use Rattle.std.proofs.Common.{◌≡◌, ◌++◌, map, drop}
-use Rattle.gk_select.specs.TagWords.{word_value, tags_among}
+use Rattle.gk_select.proofs.Common.{◌≡◌, ◌++◌, map, drop, word_value, tags_among}
 use Rattle.gk_select.proofs.tag_values.push_tags.Given as goal
 
 abbrev pub invariant-loop-word : goal.invariant-loop-word

@@ -1,8 +1,4 @@
-use Rattle.std.proofs.Common.{◌≡◌, ◌-◌, ℕ, map, take, Option, IsSome, refl, ap, sym, subst, ◌∙◌, arith}
-use Rattle.std.proofs.lemmas.Grind.{common_steps}
-use Rattle.std.proofs.lemmas.Bool.Decides.{nat_tests}
-use Rattle.std.proofs.lemmas.Result.{err_from_is_err_and}
-use Rattle.gk_select.specs.TagWords.{WordValue, word_value}
+use Rattle.gk_select.proofs.Common.{◌≡◌, ◌-◌, ℕ, map, take, Option, IsSome, refl, ap, sym, subst, ◌∙◌, arith, common_steps, nat_tests, err_from_is_err_and, WordValue, word_value}
 use Rattle.gk_select.proofs.TagTextWords.{ends, word_fails, word_needs_memory, word_lacks_memory}
 use Rattle.gk_select.proofs.tag_words.words_of.Goals as goal
 

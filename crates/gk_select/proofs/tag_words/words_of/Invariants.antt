@@ -1,7 +1,4 @@
-use Rattle.std.proofs.Common.{map, length}
-use denote.Text.{Utf8}
-use denote.Shadow.{shadow}
-use Rattle.gk_select.specs.TagWords.{word_value}
+use Rattle.gk_select.proofs.Common.{map, length, Utf8, shadow, word_value}
 use Rattle.gk_select.proofs.TagTextWords.{Reads}
 use Rattle.gk_select.proofs.tag_words.words_of.Given as goal
 

@@ -1,5 +1,4 @@
-use Rattle.std.proofs.Common.{option_map, ap, ◌∙◌}
-use Rattle.gk_steps.specs.Action.{action_row_value}
+use Rattle.gk_steps.proofs.Common.{option_map, ap, ◌∙◌, action_row_value}
 use Rattle.gk_steps.proofs.ActionLemmas.{values_found}
 use Rattle.gk_steps.proofs.action.row_in.Goals as goal
 

@@ -1,5 +1,4 @@
-use Rattle.std.proofs.Common.{arith}
-use Rattle.std.proofs.lemmas.Grind.{common_steps}
+use Rattle.gk_steps.proofs.Common.{arith, common_steps}
 use Rattle.gk_steps.proofs.NumberLemmas.{is_plus, is_minus, step_signed, bare_longest, not_byte}
 use Rattle.gk_steps.proofs.advances.decimal_advance.Goals as goal
 

@@ -1,4 +1,4 @@
-use Rattle.std.proofs.Common.{◌∙◌, drop, get_or}
+use Rattle.gk_steps.proofs.Common.{◌∙◌, drop, get_or}
 use Rattle.gk_steps.proofs.AdvanceLemmas.{literal_cut}
 use Rattle.gk_steps.proofs.advances.literal_advance.Goals as goal
 

@@ -1,4 +1,4 @@
-use Rattle.std.proofs.Common.{◌≡◌, ℕ, ◌+◌, ◌≤◌, ◌<◌, get_or}
+use Rattle.gk_steps.proofs.Common.{◌≡◌, ℕ, ◌+◌, ◌≤◌, ◌<◌, get_or}
 use Rattle.gk_steps.proofs.advances.literal_advance.Given as goal
 
 -- none of the nearer columns is the end

@@ -1,4 +1,4 @@
-use Rattle.std.proofs.Common.{◌≡◌, ℕ, ◌+◌, ◌≤◌, ◌<◌, false, get_or}
+use Rattle.gk_steps.proofs.Common.{◌≡◌, ℕ, ◌+◌, ◌≤◌, ◌<◌, false, get_or}
 use Rattle.gk_steps.proofs.advances.plain_advance.Given as goal
 
 -- none of the nearer cells is true

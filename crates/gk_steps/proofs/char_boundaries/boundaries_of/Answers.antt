@@ -1,5 +1,4 @@
-use Rattle.std.proofs.Common.{◌≡◌, true, false, refl, ◌∙◌, ◌+◌, ◌-◌, ◌++◌, ◌∷◌, [], ap, sym, subst, length, arith}
-use Rattle.gk_steps.specs.CharBoundaries.{AreBoundariesFrom}
+use Rattle.gk_steps.proofs.Common.{◌≡◌, true, false, refl, ◌∙◌, ◌+◌, ◌-◌, ◌++◌, ◌∷◌, [], ap, sym, subst, length, arith, AreBoundariesFrom}
 use Rattle.gk_steps.proofs.CharBoundaryLemmas.{end_only, pushed, skipped}
 use Rattle.gk_steps.proofs.char_boundaries.boundaries_of.Goals as goal
 use Rattle.gk_steps.proofs.char_boundaries.boundaries_of.Goals.{then-is_char_boundary+in_ok-push-2, else-is_char_boundary}

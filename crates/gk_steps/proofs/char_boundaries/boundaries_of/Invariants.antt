@@ -1,5 +1,4 @@
-use Rattle.std.proofs.Common.{◌-◌, length}
-use Rattle.gk_steps.specs.CharBoundaries.{AreBoundariesFrom}
+use Rattle.gk_steps.proofs.Common.{◌-◌, length, AreBoundariesFrom}
 use Rattle.gk_steps.proofs.char_boundaries.boundaries_of.Given as goal
 
 abbrev pub invariant-loop-after : goal.invariant-loop-after

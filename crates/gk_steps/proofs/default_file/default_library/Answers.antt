@@ -1,9 +1,4 @@
-use Rattle.std.proofs.Common.{◌≡◌, ◌≤◌, ℕ, List, length, refl, sym, subst, ◌∙◌, arith}
-use Rattle.std.proofs.lemmas.Grind.{common_steps}
-use Rattle.gk_gherkin.specs.Lines.{limit, lines_of, IsText}
-use Rattle.gk_steps.specs.Finding.{library_value}
-use Rattle.gk_steps.specs.LibraryFile.{ReadsLibrary}
-use Rattle.gk_steps.specs.DefaultFile.{default_text, default_entries}
+use Rattle.gk_steps.proofs.Common.{◌≡◌, ◌≤◌, ℕ, List, length, refl, sym, subst, ◌∙◌, arith, common_steps, limit, lines_of, IsText, library_value, ReadsLibrary, default_text, default_entries}
 use Rattle.gk_steps.proofs.DefaultFileLemmas.{default_reads, default_short}
 use Rattle.gk_steps.proofs.LibraryFileLemmas.{one_reading}
 use Rattle.gk_steps.proofs.default_file.default_library.Goals as goal

@@ -1,6 +1,4 @@
-use Rattle.std.proofs.Common.{◌≡◌, ◌∙◌, ◌+◌, ◌-◌, ◌<◌, true, ap, sym, subst, get_or, length, arith}
-use Rattle.std.proofs.lemmas.Grind.{common_steps}
-use Rattle.gk_steps.specs.Advances.{HasDigits}
+use Rattle.gk_steps.proofs.Common.{◌≡◌, ◌∙◌, ◌+◌, ◌-◌, ◌<◌, true, ap, sym, subst, get_or, length, arith, common_steps, HasDigits}
 use Rattle.gk_steps.proofs.DigitLemmas.{next_position}
 use Rattle.gk_steps.proofs.NumberLemmas.{zero_below, zero_rest}
 use Rattle.gk_steps.proofs.digits.digits_at.Goals as goal

@@ -1,5 +1,4 @@
-use Rattle.std.proofs.Common.{◌≡◌, ◌+◌, ◌-◌, ◌*◌, sym, subst, refl, get_or, arith}
-use Rattle.gk_steps.specs.Advances.{IsRunTo}
+use Rattle.gk_steps.proofs.Common.{◌≡◌, ◌+◌, ◌-◌, ◌*◌, sym, subst, refl, get_or, arith, IsRunTo}
 use Rattle.gk_steps.proofs.DigitLemmas.{column_up, byte_at, digit_read, run_more, run_found, run_over, run_past}
 use Rattle.gk_steps.proofs.digits.has_digits.Goals as goal
 

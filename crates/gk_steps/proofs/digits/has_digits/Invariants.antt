@@ -1,5 +1,4 @@
-use Rattle.std.proofs.Common.{◌-◌}
-use Rattle.gk_steps.specs.Advances.{IsRunTo}
+use Rattle.gk_steps.proofs.Common.{◌-◌, IsRunTo}
 use Rattle.gk_steps.proofs.digits.has_digits.Given as goal
 
 abbrev pub invariant-loop-back : goal.invariant-loop-back

@@ -1,5 +1,4 @@
-use Rattle.std.proofs.Common.{arith}
-use Rattle.std.proofs.lemmas.Grind.{common_steps}
+use Rattle.gk_steps.proofs.Common.{arith, common_steps}
 use Rattle.gk_steps.proofs.NumberLemmas.{is_plus, is_minus, number_signed, bare_at, not_byte}
 use Rattle.gk_steps.proofs.digits.has_number.Goals as goal
 

@@ -1,5 +1,4 @@
-use Rattle.std.proofs.Common.{◌≡◌, ℕ, ◌+◌, ◌-◌, ◌*◌, Option, sym, subst, refl, get_or, arith}
-use Rattle.gk_steps.specs.Advances.{IsReachTo, IsLongestTo}
+use Rattle.gk_steps.proofs.Common.{◌≡◌, ℕ, ◌+◌, ◌-◌, ◌*◌, Option, sym, subst, refl, get_or, arith, IsReachTo, IsLongestTo}
 use Rattle.gk_steps.proofs.DigitLemmas.{column_up, byte_at, digit_read, digits_here, none_over, none_past, longest_stays, longest_here, longest_at}
 use Rattle.gk_steps.proofs.digits.longest_digits.Goals as goal
 use Rattle.gk_steps.proofs.digits.longest_digits.Goals.{then-below-next, else-below-next}

@@ -1,5 +1,4 @@
-use Rattle.std.proofs.Common.{◌-◌}
-use Rattle.gk_steps.specs.Advances.{IsReachTo}
+use Rattle.gk_steps.proofs.Common.{◌-◌, IsReachTo}
 use Rattle.gk_steps.proofs.digits.longest_digits.Given as goal
 
 abbrev pub invariant-loop-back : goal.invariant-loop-back

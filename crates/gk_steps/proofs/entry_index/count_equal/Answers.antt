@@ -1,6 +1,4 @@
-use Rattle.std.proofs.Common.{rules, refl, sym, subst, List}
-use Rattle.gk_steps.specs.declared.entry_index.Head.{Head}
-use Rattle.gk_steps.specs.EntryIndex.{AreHeads}
+use Rattle.gk_steps.proofs.Common.{rules, refl, sym, subst, List, Head, AreHeads}
 use Rattle.gk_steps.proofs.EntryIndexLemmas.{get_there, heads_joined}
 use Rattle.gk_steps.proofs.entry_index.count_equal.Goals as goal
 use Rattle.gk_steps.proofs.entry_index.count_equal.Goals.{then-is_same_word, else-is_same_word}

@@ -1,6 +1,4 @@
-use Rattle.std.proofs.Common.{List}
-use Rattle.gk_steps.specs.declared.library.Entry.{Entry}
-use Rattle.gk_steps.specs.EntryIndex.{AreHeads}
+use Rattle.gk_steps.proofs.Common.{List, Entry, AreHeads}
 use Rattle.gk_steps.proofs.entry_index.count_equal.Given as goal
 
 abbrev pub invariant-loop-back : goal.invariant-loop-back

@@ -1,4 +1,4 @@
-use Rattle.std.proofs.Common.{◌≡◌, drop}
+use Rattle.gk_steps.proofs.Common.{◌≡◌, drop}
 use Rattle.gk_steps.specs.EntryIndex as spec
 use Rattle.gk_steps.proofs.entry_index.key_over.Given as goal
 

@@ -1,5 +1,4 @@
-use Rattle.std.proofs.Common.{◌≡◌, ◌<◌, ◌≤◌, ℕ, Some}
-use Rattle.std.specs.Prelude.{slice_get}
+use Rattle.gk_steps.proofs.Common.{◌≡◌, ◌<◌, ◌≤◌, ℕ, Some, slice_get}
 use Rattle.gk_steps.proofs.entry_index.least_from.Given as goal
 
 abbrev pub invariant-loop-k : goal.invariant-loop-k

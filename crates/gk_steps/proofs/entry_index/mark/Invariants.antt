@@ -1,5 +1,4 @@
-use Rattle.std.proofs.Common.{ℕ, ◌+◌, ◌-◌, length}
-use Rattle.gk_steps.specs.EntryIndex.{IsMarked}
+use Rattle.gk_steps.proofs.Common.{ℕ, ◌+◌, ◌-◌, length, IsMarked}
 use Rattle.gk_steps.proofs.entry_index.mark.Given as goal
 
 abbrev pub invariant-loop-marks : goal.invariant-loop-marks

@@ -1,4 +1,4 @@
-use Rattle.std.proofs.Common.{rules, refl, Some}
+use Rattle.gk_steps.proofs.Common.{rules, refl, Some}
 use Rattle.gk_steps.proofs.EntryIndexLemmas.{get_there, passes_more}
 use Rattle.gk_steps.proofs.entry_index.next_other.Goals as goal
 

@@ -1,4 +1,4 @@
-use Rattle.std.proofs.Common.{arith, ◌+◌, None, sym, ◌∙◌}
+use Rattle.gk_steps.proofs.Common.{arith, ◌+◌, None, sym, ◌∙◌}
 use Rattle.gk_steps.proofs.EntryIndexLemmas.{get_there, other_none, passes_more}
 use Rattle.gk_steps.proofs.entry_index.next_without_head.Goals as goal
 

@@ -1,5 +1,4 @@
-use Rattle.std.proofs.Common.{◌-◌, length, None}
-use Rattle.gk_steps.specs.EntryIndex.{PassesHeads}
+use Rattle.gk_steps.proofs.Common.{◌-◌, length, None, PassesHeads}
 use Rattle.gk_steps.proofs.entry_index.next_without_head.Given as goal
 
 abbrev pub invariant-loop-position : goal.invariant-loop-position

@@ -1,6 +1,4 @@
-use Rattle.std.proofs.Common.{◌≡◌, map, drop}
-use Rattle.gk_gherkin.specs.Feature.{texts}
-use Rattle.gk_steps.specs.FilesTable.{are_pairs}
+use Rattle.gk_steps.proofs.Common.{◌≡◌, map, drop, texts, are_pairs}
 use Rattle.gk_steps.proofs.files_table.are_pairs.Given as goal
 
 abbrev pub invariant-loop-row : goal.invariant-loop-row

@@ -1,11 +1,5 @@
-use Rattle.std.proofs.Common.{◌≤◌, ◌+◌, arith, sym, map, drop, subst, refl, Some, None}
-use Rattle.std.proofs.lemmas.Grind.{common_steps}
-use Rattle.gk_steps.specs.declared.filled_cells.Cells.{Cells}
-use Rattle.gk_steps.specs.FilledCells.{cells_of_type}
-use Rattle.gk_steps.specs.Finding.{NoneBefore, entry_value, found_at}
+use Rattle.gk_steps.proofs.Common.{◌≤◌, ◌+◌, arith, sym, map, drop, subst, refl, Some, None, common_steps, Cells, cells_of_type, NoneBefore, entry_value, found_at, IsKeptResult, kept_if, piece_value}
 use Rattle.gk_steps.proofs.FilledCellsLemmas.{asked, passed_over}
-use Rattle.gk_steps.specs.Captures.{IsKeptResult, kept_if}
-use Rattle.gk_steps.specs.Pattern.{piece_value}
 use Rattle.gk_steps.proofs.FindingLemmas.{entry_at, none_more, none_all, first_at, candidate, table_candidate, of_fault}
 use Rattle.gk_steps.proofs.CaptureLemmas.{kept_some, kept_none}
 use Rattle.gk_steps.proofs.EntryIndexLemmas.{none_skipped, cells_skipped}

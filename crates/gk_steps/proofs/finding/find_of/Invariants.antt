@@ -1,6 +1,4 @@
-use Rattle.std.proofs.Common.{◌≤◌, ◌+◌, ◌-◌, length, map, drop}
-use Rattle.gk_steps.specs.Finding.{NoneBefore, entry_value}
-use Rattle.gk_steps.specs.FilledCells.{cells_of_type}
+use Rattle.gk_steps.proofs.Common.{◌≤◌, ◌+◌, ◌-◌, length, map, drop, NoneBefore, entry_value, cells_of_type}
 use Rattle.gk_steps.proofs.finding.find_of.Given as goal
 
 abbrev pub invariant-loop-position : goal.invariant-loop-position

@@ -1,7 +1,4 @@
-use Rattle.std.proofs.Common.{◌∷◌, List, map, ap, subst, sym, ◌∙◌}
-use Rattle.gk_steps.specs.declared.pattern.FieldKind.TheVariants.{Plain}
-use Rattle.gk_steps.specs.Pattern.{PieceValue, Literal, FieldPiece, piece_value}
-use Rattle.gk_steps.specs.Leftmost.{IsPieceEnd}
+use Rattle.gk_steps.proofs.Common.{◌∷◌, List, map, ap, subst, sym, ◌∙◌, Plain, PieceValue, Literal, FieldPiece, piece_value, IsPieceEnd}
 use Rattle.gk_steps.proofs.AdvanceLemmas.{field_piece}
 use Rattle.gk_steps.proofs.LeftmostLemmas.{none_left, first_and_rest}
 use Rattle.gk_steps.proofs.leftmost.end_before.Goals as goal

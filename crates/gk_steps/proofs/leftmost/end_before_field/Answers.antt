@@ -1,6 +1,4 @@
-use Rattle.std.proofs.Common.{map, ◌∷◌}
-use Rattle.gk_steps.specs.declared.pattern.FieldKind.TheVariants.{Plain}
-use Rattle.gk_steps.specs.Pattern.{FieldPiece, piece_value}
+use Rattle.gk_steps.proofs.Common.{map, ◌∷◌, Plain, FieldPiece, piece_value}
 use Rattle.gk_steps.proofs.LeftmostLemmas.{field_end, field_nowhere}
 use Rattle.gk_steps.proofs.leftmost.end_before_field.Goals as goal
 

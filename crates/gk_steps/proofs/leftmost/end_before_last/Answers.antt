@@ -1,7 +1,4 @@
-use Rattle.std.proofs.Common.{◌≡◌, ◌∷◌, [], ◌-◌, length, ap, subst, arith, length-append}
-use Rattle.gk_steps.specs.declared.pattern.FieldKind.TheVariants.{Plain}
-use Rattle.gk_steps.specs.Pattern.{Literal, FieldPiece}
-use Rattle.gk_steps.specs.Leftmost.{TakesUpTo}
+use Rattle.gk_steps.proofs.Common.{◌≡◌, ◌∷◌, [], ◌-◌, length, ap, subst, arith, length-append, Plain, Literal, FieldPiece, TakesUpTo}
 use Rattle.gk_steps.proofs.LeftmostLemmas.{last_end}
 use Rattle.gk_steps.proofs.leftmost.end_before_last.Goals as goal
 

@@ -1,4 +1,4 @@
-use Rattle.std.proofs.Common.{arith, ap, ◌∙◌, length, get_or}
+use Rattle.gk_steps.proofs.Common.{arith, ap, ◌∙◌, length, get_or}
 use Rattle.gk_steps.proofs.LeftmostLemmas.{first_more, other_byte, no_room}
 use Rattle.gk_steps.proofs.leftmost.first_of_byte.Goals as goal
 use Rattle.gk_steps.proofs.leftmost.first_of_byte.Goals.{else-bytes-position-via-then-bytes-position+else-stands_at, else-bytes-position-via-else-bytes-position}

@@ -1,4 +1,4 @@
-use Rattle.gk_steps.specs.Leftmost.{StandsNowhereBefore}
+use Rattle.gk_steps.proofs.Common.{StandsNowhereBefore}
 use Rattle.gk_steps.proofs.leftmost.first_of_byte.Given as goal
 
 -- It stands at none of the boundaries so far.

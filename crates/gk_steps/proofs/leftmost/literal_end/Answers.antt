@@ -1,5 +1,4 @@
-use Rattle.std.proofs.Common.{map}
-use Rattle.gk_steps.specs.Pattern.{piece_value}
+use Rattle.gk_steps.proofs.Common.{map, piece_value}
 use Rattle.gk_steps.proofs.LeftmostLemmas.{literal_end}
 use Rattle.gk_steps.proofs.leftmost.literal_end.Goals as goal
 

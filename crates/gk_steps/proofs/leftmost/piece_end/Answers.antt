@@ -1,8 +1,4 @@
-use Rattle.std.proofs.Common.{map, subst, sym}
-use Rattle.std.specs.Prelude.{string_bytes}
-use Rattle.gk_steps.specs.declared.pattern.FieldKind.TheVariants.{Plain}
-use Rattle.gk_steps.specs.Pattern.{piece_value}
-use Rattle.gk_steps.specs.Leftmost.{IsPieceEnd}
+use Rattle.gk_steps.proofs.Common.{map, subst, sym, string_bytes, Plain, piece_value, IsPieceEnd}
 use Rattle.gk_steps.proofs.AdvanceLemmas.{field_piece}
 use Rattle.gk_steps.proofs.leftmost.piece_end.Goals as goal
 

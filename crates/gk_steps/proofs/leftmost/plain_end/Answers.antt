@@ -1,8 +1,4 @@
-use Rattle.std.proofs.Common.{List, ap, subst, sym, ◌∙◌, arith}
-use Rattle.std.proofs.lemmas.Grind.{common_steps}
-use Rattle.gk_steps.specs.declared.pattern.FieldKind.TheVariants.{Plain}
-use Rattle.gk_steps.specs.Pattern.{PieceValue, Literal, FieldPiece, piece_value}
-use Rattle.gk_steps.specs.Leftmost.{IsPieceEnd}
+use Rattle.gk_steps.proofs.Common.{List, ap, subst, sym, ◌∙◌, arith, common_steps, Plain, PieceValue, Literal, FieldPiece, piece_value, IsPieceEnd}
 use Rattle.gk_steps.proofs.LeftmostLemmas.{none_left, first_and_rest, all_end}
 use Rattle.gk_steps.proofs.leftmost.plain_end.Goals as goal
 

@@ -1,6 +1,4 @@
-use Rattle.std.proofs.Common.{◌≤◌, length}
-use Rattle.std.specs.Prelude.{IsTrue}
-use Rattle.gk_steps.specs.Library.{are_for_each_from}
+use Rattle.gk_steps.proofs.Common.{◌≤◌, length, IsTrue, are_for_each_from}
 use Rattle.gk_steps.proofs.library.typed_len.Given as goal
 
 abbrev pub invariant-loop-typed : goal.invariant-loop-typed

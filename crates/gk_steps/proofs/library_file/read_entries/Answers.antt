@@ -1,12 +1,4 @@
-use Rattle.std.proofs.Common.{◌+◌, ℕ, length, map, take, ap, sym, subst, ◌∙◌, arith}
-use Rattle.std.proofs.lemmas.Iterator.Splits.{YieldsList-from_lines}
-use Rattle.std.proofs.lemmas.Iterator.Consumers.{YieldsList-turn, YieldsList-end}
-use Rattle.std.proofs.lemmas.List.{length_push}
-use Rattle.std.specs.Str.Lines.{lines}
-use Rattle.gk_gherkin.specs.Lines.{LineValue, Lines, line_at, numbered_from}
-use Rattle.gk_steps.specs.Finding.{entry_value}
-use Rattle.gk_steps.specs.LibraryFile.{ReadsLibrary}
-use Rattle.gk_steps.specs.LibraryLine.{AddsLine, LineFaultSays}
+use Rattle.gk_steps.proofs.Common.{◌+◌, ℕ, length, map, take, ap, sym, subst, ◌∙◌, arith, YieldsList-from_lines, YieldsList-turn, YieldsList-end, length_push, lines, LineValue, Lines, line_at, numbered_from, entry_value, ReadsLibrary, AddsLine, LineFaultSays}
 use Rattle.gk_steps.proofs.LineLemmas.{line_there, no_more_lines}
 use Rattle.gk_steps.proofs.LibraryFileLemmas.{added_at, stopped_at}
 use Rattle.gk_steps.proofs.library_file.read_entries.Goals as goal

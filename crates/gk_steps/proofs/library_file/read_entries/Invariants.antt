@@ -1,9 +1,4 @@
-use Rattle.std.proofs.Common.{◌≡◌, ◌+◌, length, map, take}
-use Rattle.std.specs.Str.Lines.{lines}
-use Rattle.gk_gherkin.specs.Lines.{numbered_from}
-use Rattle.gk_steps.specs.Finding.{entry_value}
-use Rattle.gk_steps.specs.EntryIndex.{HasIndex}
-use Rattle.gk_steps.specs.LibraryFile.{ReadsLibrary}
+use Rattle.gk_steps.proofs.Common.{◌≡◌, ◌+◌, length, map, take, lines, numbered_from, entry_value, HasIndex, ReadsLibrary}
 use Rattle.gk_steps.proofs.library_file.read_entries.Given as goal
 
 abbrev pub invariant-loop-part : goal.invariant-loop-part

@@ -1,10 +1,4 @@
-use Rattle.std.proofs.Common.{◌∙◌, ap, map}
-use Rattle.std.specs.Prelude.{Vec}
-use Rattle.std.specs.Str.Lines.{lines}
-use Rattle.std.specs.declared.alloc.Global.{Global}
-use Rattle.gk_gherkin.specs.Lines.{numbered_from}
-use Rattle.gk_steps.specs.declared.library.Entry.{Entry}
-use Rattle.gk_steps.specs.Finding.{entry_value}
+use Rattle.gk_steps.proofs.Common.{◌∙◌, ap, map, Vec, lines, Global, numbered_from, Entry, entry_value}
 use Rattle.gk_steps.proofs.LibraryFileLemmas.{file_only}
 use Rattle.gk_steps.proofs.library_file.read_library.Goals as goal
 

@@ -1,8 +1,4 @@
-use Rattle.std.proofs.Common.{◌≡◌, Some, true, false, refl, sym, ◌∙◌, map}
-use Rattle.std.specs.Prelude.{is_some}
-use Rattle.gk_steps.specs.Pattern.{piece_value, field_kind}
-use Rattle.gk_steps.specs.Action.{action_row, action_row_value}
-use Rattle.gk_steps.specs.LibraryLine.{has_needed, has_right_kind, has_right_kinds}
+use Rattle.gk_steps.proofs.Common.{◌≡◌, Some, true, false, refl, sym, ◌∙◌, map, is_some, piece_value, field_kind, action_row, action_row_value, has_needed, has_right_kind, has_right_kinds}
 use Rattle.gk_steps.proofs.LibraryLineLemmas.{action_fits, lacks_field, other_kind, words_pass}
 use Rattle.gk_steps.proofs.library_line.action_at.Goals as goal
 

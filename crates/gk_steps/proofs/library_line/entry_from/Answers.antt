@@ -1,12 +1,4 @@
-use Rattle.std.proofs.Common.{ℕ, List, Option, refl, map, subst, arith}
-use Rattle.std.proofs.lemmas.Grind.{common_steps}
-use Rattle.gk_gherkin.specs.Lines.{borrowed_value}
-use Rattle.gk_steps.specs.declared.captures.NoCaptures.{NoCaptures}
-use Rattle.gk_steps.specs.declared.pattern.Piece.{Piece}
-use Rattle.gk_steps.specs.Pattern.{piece_value, pattern_value}
-use Rattle.gk_steps.specs.Finding.{entry_value}
-use Rattle.gk_steps.specs.LibraryLine.{FitsAction}
-use Rattle.gk_steps.specs.Captures.{IsHit, hit_of}
+use Rattle.gk_steps.proofs.Common.{ℕ, List, Option, refl, map, subst, arith, common_steps, borrowed_value, NoCaptures, Piece, piece_value, pattern_value, entry_value, FitsAction, IsHit, hit_of}
 use Rattle.gk_steps.proofs.CaptureLemmas.{hit_some, hit_none}
 use Rattle.gk_steps.proofs.LibraryLineLemmas.{ambiguous_with, entry_with, memory_fault, pattern_needs}
 use Rattle.gk_steps.proofs.library_line.entry_from.Goals as goal

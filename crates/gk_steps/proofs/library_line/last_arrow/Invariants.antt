@@ -1,4 +1,4 @@
-use Rattle.std.proofs.Common.{◌≡◌, ◌≤◌, length, drop, None}
+use Rattle.gk_steps.proofs.Common.{◌≡◌, ◌≤◌, length, drop, None}
 use Rattle.gk_steps.specs.LibraryFile as spec
 use Rattle.gk_steps.proofs.library_line.last_arrow.Given as goal
 

@@ -1,10 +1,5 @@
-use Rattle.std.proofs.Common.{◌≡◌, ℕ, ◌≤◌, ◌∷◌, List, map, ap, sym, subst, length, arith}
-use Rattle.std.proofs.lemmas.Grind.{common_steps}
-use Rattle.std.specs.Str.{chars, IsCharBoundary, IsUtf8}
-use Rattle.std.proofs.lemmas.Str.{IsUtf8-string_bytes}
-use Rattle.gk_steps.specs.declared.pattern.Piece.{Piece}
-use Rattle.gk_steps.specs.Pattern.{Literal, piece_value}
-use Rattle.gk_steps.specs.LiteralEnds.{FitsStart}
+use Rattle.gk_steps.proofs.Common.{◌≡◌, ℕ, ◌≤◌, ◌∷◌, List, map, ap, sym, subst, length, arith, common_steps, chars, IsCharBoundary, IsUtf8-string_bytes, Piece, Literal, piece_value, FitsStart}
+use Rattle.std.specs.Str.{IsUtf8}
 use Rattle.gk_steps.proofs.LeftmostLemmas.{boundary_after, first_and_rest}
 use Rattle.gk_steps.proofs.FilledCellsLemmas.{fewer_chars}
 use Rattle.gk_steps.proofs.literal_ends.after_start.Goals as goal

@@ -1,6 +1,4 @@
-use Rattle.std.proofs.Common.{◌∙◌, ◌++◌, ap, sym, subst}
-use Rattle.gk_steps.specs.Pattern.{piece_value}
-use Rattle.gk_steps.specs.LiteralEnds.{EndsWithPiece}
+use Rattle.gk_steps.proofs.Common.{◌∙◌, ◌++◌, ap, sym, subst, piece_value, EndsWithPiece}
 use Rattle.gk_steps.proofs.LiteralEndLemmas.{match_true, match_false, last_fits, last_refuses}
 use Rattle.gk_steps.proofs.literal_ends.fits_end.Goals as goal
 

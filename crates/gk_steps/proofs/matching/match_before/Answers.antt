@@ -1,12 +1,5 @@
-use Rattle.std.proofs.Common.{◌≡◌, ℕ, ◌≤◌, ◌+◌, ◌-◌, ◌++◌, ◌∷◌, [], List, None, true, false, take, map, length, subst, arith}
-use Rattle.std.proofs.lemmas.Grind.{common_steps}
+use Rattle.gk_steps.proofs.Common.{◌≡◌, ℕ, ◌≤◌, ◌+◌, ◌-◌, ◌++◌, ◌∷◌, [], List, None, true, false, take, map, length, subst, arith, common_steps, take-append-drop, PieceValue, piece_value, values_of, KeepsRest, kept_if, table_cells, EndsWith}
 use Rattle.std.specs.Str.{IsUtf8}
-use Rattle.std.proofs.lemmas.List.{take-append-drop}
-use Rattle.gk_steps.specs.Pattern.{PieceValue, piece_value}
-use Rattle.gk_steps.specs.Advances.{values_of}
-use Rattle.gk_steps.specs.Captures.{KeepsRest, kept_if}
-use Rattle.gk_steps.specs.FilledCells.{table_cells}
-use Rattle.gk_steps.specs.LiteralEnds.{EndsWith}
 use Rattle.gk_steps.proofs.LeftmostLemmas.{cut_before, last_too_long}
 use Rattle.gk_steps.proofs.CaptureLemmas.{rest_last, rest_last_none}
 use Rattle.gk_steps.proofs.FilledCellsLemmas.{fewer_before, fewer_cells}

@@ -1,9 +1,4 @@
-use Rattle.std.proofs.Common.{◌≡◌, ℕ, ◌++◌, ◌∷◌, [], ◌∙◌, List, refl, map, ap, sym, subst, arith}
-use Rattle.std.proofs.lemmas.Grind.{common_steps}
-use Rattle.std.proofs.lemmas.List.{map-append}
-use Rattle.gk_steps.specs.declared.pattern.Piece.{Piece}
-use Rattle.gk_steps.specs.Pattern.{PieceValue, Literal, piece_value}
-use Rattle.gk_steps.specs.Captures.{IsKeptResult, KeepsMore, kept_if}
+use Rattle.gk_steps.proofs.Common.{◌≡◌, ℕ, ◌++◌, ◌∷◌, [], ◌∙◌, List, refl, map, ap, sym, subst, arith, common_steps, map-append, Piece, PieceValue, Literal, piece_value, IsKeptResult, KeepsMore, kept_if}
 use Rattle.gk_steps.proofs.TableRowLemmas.{if_ok}
 use Rattle.gk_steps.proofs.FindingLemmas.{either_more}
 use Rattle.gk_steps.proofs.LeftmostLemmas.{cut_or_whole, ends_after, table_more, table_of_left}

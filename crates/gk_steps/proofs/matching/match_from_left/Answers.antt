@@ -1,11 +1,5 @@
-use Rattle.std.proofs.Common.{rules, ◌≡◌, ◌∷◌, ◌++◌, ◌-◌, length, drop, None, [], take, map, refl, ap, subst, sym, ◌∙◌, arith}
-use Rattle.std.proofs.lemmas.Grind.{common_steps}
-use Rattle.std.specs.Str.{chars}
-use Rattle.std.proofs.lemmas.List.{append-nil, append_assoc}
-use Rattle.gk_steps.specs.Pattern.{piece_value}
-use Rattle.gk_steps.specs.Matching.{MatchesNot}
-use Rattle.gk_steps.specs.Advances.{values_of}
-use Rattle.gk_steps.specs.Leftmost.{FindsRest}
+use Rattle.gk_steps.proofs.Common.{rules, ◌≡◌, ◌∷◌, ◌++◌, ◌-◌, length, drop, None, [], take, map, refl, ap, subst, sym, ◌∙◌, arith, common_steps, chars, append-nil, piece_value, MatchesNot, values_of, FindsRest}
+use Rattle.std.proofs.lemmas.List.{append_assoc}
 use Rattle.gk_steps.proofs.FindingLemmas.{of_fault}
 use Rattle.gk_steps.proofs.LeftmostLemmas.{none_left, finds_more, table_after}
 use Rattle.gk_steps.proofs.FilledCellsLemmas.{fewer_chars}

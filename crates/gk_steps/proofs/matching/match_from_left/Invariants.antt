@@ -1,10 +1,4 @@
-use Rattle.std.proofs.Common.{◌≡◌, ◌≤◌, ◌++◌, List, Option, map, length}
-use Rattle.std.specs.Str.{chars}
-use denote.Text.{Utf8}
-use denote.Shadow.{shadow}
-use Rattle.gk_steps.specs.Pattern.{PieceValue, piece_value}
-use Rattle.gk_steps.specs.Matching.{FieldValue}
-use Rattle.gk_steps.specs.Leftmost.{FindsRest}
+use Rattle.gk_steps.proofs.Common.{◌≡◌, ◌≤◌, ◌++◌, List, Option, map, length, chars, Utf8, shadow, PieceValue, piece_value, FieldValue, FindsRest}
 use Rattle.gk_steps.proofs.matching.match_from_left.Given as goal
 
 -- After the pieces that are gone, what those that are left find in the rest is what all of them find in the text; and no cell was filled.

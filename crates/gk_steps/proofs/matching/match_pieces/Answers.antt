@@ -1,6 +1,4 @@
-use Rattle.std.proofs.Common.{None, map, refl, subst, sym}
-use Rattle.gk_steps.specs.Pattern.{piece_value}
-use Rattle.gk_steps.specs.TableRows.{IsWholeTable}
+use Rattle.gk_steps.proofs.Common.{None, map, refl, subst, sym, piece_value, IsWholeTable}
 use Rattle.gk_steps.proofs.TableReadLemmas.{top_cell, cell_holds, cell_fails}
 use Rattle.gk_steps.proofs.matching.match_pieces.Goals as goal
 

@@ -1,7 +1,4 @@
-use Rattle.std.proofs.Common.{map, subst, arith}
-use Rattle.std.proofs.lemmas.Grind.{common_steps}
-use Rattle.gk_steps.specs.Pattern.{piece_value}
-use Rattle.gk_steps.specs.Captures.{IsKeptResult}
+use Rattle.gk_steps.proofs.Common.{map, subst, arith, common_steps, piece_value, IsKeptResult}
 use Rattle.gk_steps.proofs.CaptureLemmas.{rest_some, rest_none}
 use Rattle.gk_steps.proofs.FilledCellsLemmas.{rest_most, rest_filled}
 use Rattle.gk_steps.proofs.matching.match_rest.Goals as goal

@@ -1,12 +1,7 @@
-use Rattle.std.proofs.Common.{◌≡◌, ◌+◌, ◌++◌, ◌∷◌, [], Some, refl, ap, subst, ◌∙◌, length, map, drop, get_or, arith}
-use Rattle.gk_steps.specs.Pattern.{piece_value}
-use Rattle.gk_steps.specs.Matching.{Matches}
-use Rattle.gk_steps.specs.Advances.{IsAdvance, IsMatchedTo, values_of}
-use Rattle.std.proofs.lemmas.List.{length-map}
+use Rattle.gk_steps.proofs.Common.{◌≡◌, ◌+◌, ◌++◌, ◌∷◌, [], Some, refl, ap, subst, ◌∙◌, length, map, drop, get_or, arith, piece_value, Matches, IsAdvance, IsMatchedTo, values_of, length-map, drop-length}
 use Rattle.gk_steps.proofs.TableLemmas.{is_step}
 use Rattle.gk_steps.proofs.AdvanceLemmas.{text_piece}
 use Rattle.gk_steps.proofs.TableReadLemmas.{read_start, read_more, read_end, here_at, row_under}
-use Rattle.std.proofs.Math.Seq.{drop-length}
 use Rattle.gk_steps.proofs.CaptureLemmas.{done_more, done_all}
 use Rattle.gk_steps.proofs.matching.read.Goals as goal
 

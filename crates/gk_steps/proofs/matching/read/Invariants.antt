@@ -1,7 +1,4 @@
-use Rattle.std.proofs.Common.{◌≡◌, ◌++◌, List, drop, map}
-use Rattle.gk_steps.specs.Pattern.{PieceValue, piece_value}
-use Rattle.gk_steps.specs.Matching.{FieldValue}
-use Rattle.gk_steps.specs.Advances.{IsMatchedTo}
+use Rattle.gk_steps.proofs.Common.{◌≡◌, ◌++◌, List, drop, map, PieceValue, piece_value, FieldValue, IsMatchedTo}
 use Rattle.gk_steps.proofs.matching.read.Given as goal
 
 abbrev pub invariant-loop-taken : goal.invariant-loop-taken

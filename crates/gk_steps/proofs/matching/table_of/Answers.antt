@@ -1,6 +1,4 @@
-use Rattle.std.proofs.Common.{◌∙◌, ◌+◌, ◌-◌, ◌++◌, ◌∷◌, [], ap, sym, subst, length, map, drop, arith}
-use Rattle.gk_steps.specs.Pattern.{piece_value}
-use Rattle.gk_steps.specs.TableRows.{IsRow}
+use Rattle.gk_steps.proofs.Common.{◌∙◌, ◌+◌, ◌-◌, ◌++◌, ◌∷◌, [], ap, sym, subst, length, map, drop, arith, piece_value, IsRow}
 use Rattle.gk_steps.proofs.FilledCellsLemmas.{row_more}
 use Rattle.gk_steps.proofs.TableReadLemmas.{table_first, table_more, row_at}
 use Rattle.gk_steps.proofs.matching.table_of.Goals as goal

@@ -1,7 +1,4 @@
-use Rattle.std.proofs.Common.{◌≤◌, ◌+◌, ◌*◌, length, map}
-use Rattle.gk_steps.specs.Pattern.{piece_value}
-use Rattle.gk_steps.specs.TableRows.{IsTable}
-use Rattle.gk_steps.specs.FilledCells.{GoesOnBy}
+use Rattle.gk_steps.proofs.Common.{◌≤◌, ◌+◌, ◌*◌, length, map, piece_value, IsTable, GoesOnBy}
 use Rattle.gk_steps.proofs.matching.table_of.Given as goal
 
 abbrev pub invariant-loop-below : goal.invariant-loop-below

@@ -1,5 +1,4 @@
-use Rattle.std.proofs.Common.{◌≡◌, length, map}
-use Rattle.gk_steps.specs.Pattern.{piece_value}
+use Rattle.gk_steps.proofs.Common.{◌≡◌, length, map, piece_value}
 use Rattle.gk_steps.specs.Spelling as machinery
 use Rattle.gk_steps.proofs.spelling.are_distinct.Given as goal
 

@@ -1,6 +1,5 @@
-use Rattle.std.proofs.Common.{◌≡◌, drop, map}
+use Rattle.gk_steps.proofs.Common.{◌≡◌, drop, map, piece_value}
 use Rattle.gk_steps.specs.Pattern as spec
-use Rattle.gk_steps.specs.Pattern.{piece_value}
 use Rattle.gk_steps.proofs.spelling.field_kind.Given as goal
 
 abbrev pub invariant-loop-piece : goal.invariant-loop-piece

@@ -1,8 +1,4 @@
-use Rattle.std.proofs.Common.{◌≡◌, ◌≤◌, ◌++◌, length, flat_map, string_bytes}
-use denote.Text.{Utf8}
-use denote.Shadow.{shadow}
-use Rattle.gk_steps.specs.Pattern.{spelled_literal}
-use Rattle.gk_steps.specs.Spelling.{BeginsAtBrace}
+use Rattle.gk_steps.proofs.Common.{◌≡◌, ◌≤◌, ◌++◌, length, flat_map, string_bytes, Utf8, shadow, spelled_literal, BeginsAtBrace}
 use Rattle.gk_steps.proofs.spelling.literal_run.Given as goal
 
 abbrev pub invariant-loop-brace : goal.invariant-loop-brace

@@ -1,6 +1,4 @@
-use Rattle.std.proofs.Common.{◌≡◌, ◌+◌, drop}
-use Rattle.std.specs.List.{prefix_len}
-use Rattle.gk_steps.specs.Pattern.{is_name_byte}
+use Rattle.gk_steps.proofs.Common.{◌≡◌, ◌+◌, drop, prefix_len, is_name_byte}
 use Rattle.gk_steps.proofs.spelling.name_len.Given as goal
 
 abbrev pub invariant-loop-i : goal.invariant-loop-i

@@ -1,7 +1,4 @@
-use Rattle.std.proofs.Common.{◌≡◌, ap, ◌∙◌, arith}
-use Rattle.std.proofs.lemmas.Grind.{common_steps}
-use Rattle.std.specs.List.{prefix_len}
-use Rattle.gk_steps.specs.Pattern.{is_name_byte}
+use Rattle.gk_steps.proofs.Common.{◌≡◌, ap, ◌∙◌, arith, common_steps, prefix_len, is_name_byte}
 use Rattle.gk_steps.proofs.SpellingLemmas.{name_boundary, one_name}
 use Rattle.gk_steps.proofs.spelling.name_run.Goals as goal
 

@@ -1,6 +1,4 @@
-use Rattle.std.proofs.Common.{◌≡◌, ◌+◌, drop}
-use Rattle.std.specs.List.{position_or_len}
-use Rattle.gk_steps.specs.Spelling.{is_brace}
+use Rattle.gk_steps.proofs.Common.{◌≡◌, ◌+◌, drop, position_or_len, is_brace}
 use Rattle.gk_steps.proofs.spelling.plain_len.Given as goal
 
 abbrev pub invariant-loop-i : goal.invariant-loop-i

@@ -1,5 +1,4 @@
-use Rattle.std.proofs.Common.{arith}
-use Rattle.std.proofs.lemmas.Grind.{common_steps}
+use Rattle.gk_steps.proofs.Common.{arith, common_steps}
 use Rattle.gk_steps.proofs.SpellingLemmas.{empty_so, read_first, read_more, read_whole, begun_first, begun_field, begun_whole}
 use Rattle.gk_steps.proofs.spelling.read_pieces.Goals as goal
 

@@ -1,8 +1,4 @@
-use Rattle.std.proofs.Common.{length, map}
-use denote.Text.{Utf8}
-use denote.Shadow.{shadow}
-use Rattle.gk_steps.specs.Pattern.{piece_value}
-use Rattle.gk_steps.specs.Spelling.{IsReadTo}
+use Rattle.gk_steps.proofs.Common.{length, map, Utf8, shadow, piece_value, IsReadTo}
 use Rattle.gk_steps.proofs.SpellingLemmas.{IsBegun}
 use Rattle.gk_steps.proofs.spelling.read_pieces.Given as goal
 

@@ -1,5 +1,4 @@
-use Rattle.std.proofs.Common.{◌≡◌, ◌+◌, ◌-◌, subst, arith}
-use Rattle.gk_steps.specs.Digits.{KnowsDigits}
+use Rattle.gk_steps.proofs.Common.{◌≡◌, ◌+◌, ◌-◌, subst, arith, KnowsDigits}
 use Rattle.gk_steps.proofs.TableRowLemmas.{number_more}
 use Rattle.gk_steps.proofs.FilledCellsLemmas.{one_more}
 use Rattle.gk_steps.proofs.table_rows.decimal_row.Goals as goal

@@ -1,6 +1,4 @@
-use Rattle.std.proofs.Common.{◌≤◌, ◌+◌, ◌-◌}
-use Rattle.gk_steps.specs.Digits.{KnowsDigits, IsNumberRow}
-use Rattle.gk_steps.specs.FilledCells.{GoesOnBy}
+use Rattle.gk_steps.proofs.Common.{◌≤◌, ◌+◌, ◌-◌, KnowsDigits, IsNumberRow, GoesOnBy}
 use Rattle.gk_steps.proofs.table_rows.decimal_row.Given as goal
 
 abbrev pub invariant-loop-column : goal.invariant-loop-column

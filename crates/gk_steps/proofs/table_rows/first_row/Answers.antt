@@ -1,5 +1,4 @@
-use Rattle.std.proofs.Common.{◌≡◌, [], length, subst, arith}
-use Rattle.gk_steps.specs.TableRows.{IsRowTo}
+use Rattle.gk_steps.proofs.Common.{◌≡◌, [], length, subst, arith, IsRowTo}
 use Rattle.gk_steps.proofs.TableRowLemmas.{end_more}
 use Rattle.gk_steps.proofs.FilledCellsLemmas.{one_more}
 use Rattle.gk_steps.proofs.table_rows.first_row.Goals as goal

@@ -1,7 +1,4 @@
-use Rattle.std.proofs.Common.{◌≤◌, ◌+◌, ℕ, List, []}
-use Rattle.gk_steps.specs.CharBoundaries.{AreBoundaries}
-use Rattle.gk_steps.specs.TableRows.{IsRowTo}
-use Rattle.gk_steps.specs.FilledCells.{GoesOnBy}
+use Rattle.gk_steps.proofs.Common.{◌≤◌, ◌+◌, ℕ, List, [], AreBoundaries, IsRowTo, GoesOnBy}
 use Rattle.gk_steps.proofs.table_rows.first_row.Given as goal
 
 abbrev pub invariant-loop-column : goal.invariant-loop-column

@@ -1,5 +1,4 @@
-use Rattle.std.proofs.Common.{arith}
-use Rattle.std.proofs.lemmas.Grind.{common_steps}
+use Rattle.gk_steps.proofs.Common.{arith, common_steps}
 use Rattle.gk_steps.proofs.TableRowLemmas.{any_new, any_kept, plain_more}
 use Rattle.gk_steps.proofs.FilledCellsLemmas.{one_more}
 use Rattle.gk_steps.proofs.table_rows.plain_row.Goals as goal

@@ -1,6 +1,4 @@
-use Rattle.std.proofs.Common.{◌≤◌, ◌+◌}
-use Rattle.gk_steps.specs.TableRows.{IsPlainRow, IsAnyBefore}
-use Rattle.gk_steps.specs.FilledCells.{GoesOnBy}
+use Rattle.gk_steps.proofs.Common.{◌≤◌, ◌+◌, IsPlainRow, IsAnyBefore, GoesOnBy}
 use Rattle.gk_steps.proofs.table_rows.plain_row.Given as goal
 
 abbrev pub invariant-loop-column : goal.invariant-loop-column

@@ -1,8 +1,4 @@
-use Rattle.std.proofs.Common.{◌≡◌, ◌∷◌, subst, sym, string_bytes, length, arith}
-use Rattle.gk_steps.specs.declared.pattern.FieldKind.TheVariants.{Plain, Decimal}
-use Rattle.gk_steps.specs.TableRows.{IsRow, IsRowTo, IsRowOver, IsPlainRow}
-use Rattle.gk_steps.specs.Digits.{IsNumberRow}
-use Rattle.gk_steps.specs.Pattern.{piece_value}
+use Rattle.gk_steps.proofs.Common.{◌≡◌, ◌∷◌, subst, sym, string_bytes, length, arith, Plain, Decimal, IsRow, IsRowTo, IsRowOver, IsPlainRow, IsNumberRow, piece_value}
 use Rattle.gk_steps.proofs.AdvanceLemmas.{field_piece, text_piece}
 use Rattle.gk_steps.proofs.TableRowLemmas.{if_ok, plain_row, number_row, step_more}
 use Rattle.gk_steps.proofs.FilledCellsLemmas.{one_more}

@@ -1,7 +1,4 @@
-use Rattle.std.proofs.Common.{◌≤◌, ◌+◌, List, ◌∷◌}
-use Rattle.gk_steps.specs.Pattern.{PieceValue, piece_value}
-use Rattle.gk_steps.specs.TableRows.{IsRow, IsRowTo}
-use Rattle.gk_steps.specs.FilledCells.{GoesOnBy}
+use Rattle.gk_steps.proofs.Common.{◌≤◌, ◌+◌, List, ◌∷◌, PieceValue, piece_value, IsRow, IsRowTo, GoesOnBy}
 use Rattle.gk_steps.proofs.table_rows.row_over.Given as goal
 
 abbrev pub invariant-loop-column : goal.invariant-loop-column

@@ -1,8 +1,4 @@
-use Rattle.std.proofs.Common.{◌++◌, ◌∷◌, [], subst, sym}
-use Rattle.gk_steps.specs.Pattern.{piece_value}
-use Rattle.gk_steps.specs.Matching.{span_value}
-use Rattle.gk_steps.specs.Advances.{values_of}
-use Rattle.gk_steps.specs.UsedFields.{IsAdded, KeepsFirst}
+use Rattle.gk_steps.proofs.Common.{◌++◌, ◌∷◌, [], subst, sym, piece_value, span_value, values_of, IsAdded, KeepsFirst}
 use Rattle.gk_steps.proofs.UsedFieldsLemmas.{with_literal, with_named}
 use Rattle.gk_steps.proofs.used_fields.add_piece.Goals as goal
 

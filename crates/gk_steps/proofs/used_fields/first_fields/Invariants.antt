@@ -1,7 +1,4 @@
-use Rattle.std.proofs.Common.{drop, map}
-use Rattle.gk_steps.specs.Pattern.{piece_value}
-use Rattle.gk_steps.specs.Matching.{field_value}
-use Rattle.gk_steps.specs.UsedFields.{HasRest}
+use Rattle.gk_steps.proofs.Common.{drop, map, piece_value, field_value, HasRest}
 use Rattle.gk_steps.proofs.used_fields.first_fields.Given as goal
 
 -- The fields so far, and those that are left, have what is sought.

@@ -1,4 +1,4 @@
-use Rattle.std.proofs.Common.{◌≡◌}
+use Rattle.gk_world.proofs.Common.{◌≡◌}
 use Rattle.gk_world.proofs.listing.sorted.Given as goal
 
 abbrev pub invariant-loop-pair : goal.invariant-loop-pair

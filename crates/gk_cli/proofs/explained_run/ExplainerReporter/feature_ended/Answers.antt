@@ -1,7 +1,4 @@
-use Rattle.std.proofs.Common.{◌∙◌, inl, inr, refl}
-use Rattle.gk_run.specs.Results.{feature_row}
-use Rattle.gk_cli.specs.ExplainedRun.{Adds}
-use Rattle.gk_request.proofs.ResultLemmas.{on_ok, if_err, passed_on}
+use Rattle.gk_cli.proofs.Common.{◌∙◌, inl, inr, refl, feature_row, Adds, on_ok, if_err, passed_on}
 use Rattle.gk_cli.proofs.explained_run.ExplainerReporter.feature_ended.Goals as goal
 
 pub returns-in_err-text-clause-err : goal.returns-in_err-text-clause-err

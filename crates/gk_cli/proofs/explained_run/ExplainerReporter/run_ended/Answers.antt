@@ -1,9 +1,4 @@
-use Rattle.std.proofs.Common.{◌++◌, ◌∙◌, [], ap, ap₂, append_assoc}
-use Rattle.gk_report.specs.Report.{tail}
-use Rattle.gk_explain.specs.Headings.{failures_text}
-use Rattle.gk_explain.specs.Explanation.{ExplanationValue, with_run}
-use Rattle.gk_explain.specs.Explainer.{said}
-use Rattle.gk_report.specs.Report.{plain_style}
+use Rattle.gk_cli.proofs.Common.{◌++◌, ◌∙◌, [], ap, ap₂, append_assoc, tail, failures_text, ExplanationValue, with_run, said, plain_style}
 use Rattle.gk_cli.proofs.explained_run.ExplainerReporter.run_ended.Goals as goal
 
 pub returns : goal.returns

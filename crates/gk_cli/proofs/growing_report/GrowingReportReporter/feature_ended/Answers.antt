@@ -1,9 +1,4 @@
-use Rattle.std.proofs.Common.{◌&&◌, inr, refl, subst, sym}
-use Rattle.gk_run.specs.Results.{feature_row}
-use Rattle.gk_report.specs.Report.{is_empty, part}
-use Rattle.gk_cli.specs.declared.growing_report.GrowingReport.{GrowingReport}
-use Rattle.gk_cli.specs.Writing.{device_of, IsStopped}
-use Rattle.gk_request.proofs.ResultLemmas.{passed_on}
+use Rattle.gk_cli.proofs.Common.{◌&&◌, inr, refl, subst, sym, arith, feature_row, is_empty, part, GrowingReport, device_of, IsStopped, passed_on, common_steps}
 use Rattle.gk_cli.proofs.growing_report.GrowingReportReporter.feature_ended.Goals as goal
 
 pub returns-in_err-self-clause-err : goal.returns-in_err-self-clause-err
@@ -17,9 +12,4 @@ returns-in_err-self-clause-err g c =
     (λ fault same. inr (text, told, record { is = refl; style = refl; first = refl }, subst (IsStopped old new text) (sym same) c.in_err-self.ensures.err))
 
 pub returns-clause-ok : goal.returns-clause-ok
-returns-clause-ok g c =
-    record {
-      text = part c.args.self.now.style c.args.self.now.is_first (feature_row c.args.feature.now);
-      told = record { is = refl; style = refl; first = c.in_ok-self.ensures.still };
-      written = c.in_ok-self.ensures.ok;
-    }
+returns-clause-ok g c = grind (arith, common_steps)

@@ -1,9 +1,4 @@
-use Rattle.std.proofs.Common.{rules, ◌≡◌, ◌∙◌, false, []}
-use Rattle.gk_gherkin.specs.Feature.{step_value}
-use Rattle.gk_world.specs.State.{state_of}
-use Rattle.gk_run.specs.Events.{of_step}
-use Rattle.gk_explain.specs.Explanation.{with_event}
-use Rattle.gk_explain.specs.Explainer.{is_cut, said}
+use Rattle.gk_explain.proofs.Common.{rules, ◌≡◌, ◌∙◌, false, [], step_value, state_of, of_step, with_event, is_cut, said}
 use Rattle.gk_explain.proofs.ExplanationLemmas.{whatever_registered}
 use Rattle.gk_explain.proofs.explainer.ExplainerObserver.step.Goals as goal
 

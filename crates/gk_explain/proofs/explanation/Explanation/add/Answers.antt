@@ -1,6 +1,4 @@
-use Rattle.std.proofs.Common.{◌∙◌, sym}
-use Rattle.gk_explain.specs.Event.{event_told}
-use Rattle.gk_explain.specs.Explanation.{explanation_value}
+use Rattle.gk_explain.proofs.Common.{◌∙◌, sym, event_told, explanation_value}
 use Rattle.gk_explain.proofs.ExplanationLemmas.{run_added, feature_added, rule_added, scenario_added}
 use Rattle.gk_explain.proofs.explanation.Explanation.add.Goals as goal
 

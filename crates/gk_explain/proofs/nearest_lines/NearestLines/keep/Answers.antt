@@ -1,7 +1,4 @@
-use Rattle.std.proofs.Common.{◌≡◌, string_bytes}
-use Rattle.std.proofs.lemmas.Map.Text.{hash_map_updates_text}
-use Rattle.gk_steps.specs.Finding.{library_value}
-use Rattle.gk_explain.specs.Nearest.{nearest_told}
+use Rattle.gk_explain.proofs.Common.{◌≡◌, string_bytes, hash_map_updates_text, library_value, nearest_told}
 use Rattle.gk_explain.proofs.NearestLinesLemmas.{still_nearest}
 use Rattle.gk_explain.proofs.nearest_lines.NearestLines.keep.Goals as goal
 

@@ -1,4 +1,4 @@
-use Rattle.gk_steps.specs.Finding.{library_value}
+use Rattle.gk_explain.proofs.Common.{library_value}
 use Rattle.gk_explain.proofs.NearestLinesLemmas.{kept_line}
 use Rattle.gk_explain.proofs.nearest_lines.NearestLines.kept.Goals as goal
 

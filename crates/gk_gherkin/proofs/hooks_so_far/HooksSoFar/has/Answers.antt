@@ -1,9 +1,4 @@
-use Rattle.std.specs.Prelude.{is_some}
-use Rattle.std.proofs.Common.{◌∙◌, Bor, List, ap, map, option_copied, sym}
-use Rattle.gk_gherkin.specs.declared.hooks.Hook.{Hook}
-use Rattle.gk_gherkin.specs.Hooks.{HookValue, hook_value, is_for}
-use Rattle.gk_gherkin.specs.HookTable.{hook_for}
-use Rattle.gk_gherkin.specs.HooksSoFar.{so_far_value}
+use Rattle.gk_gherkin.proofs.Common.{is_some, ◌∙◌, Bor, List, ap, map, option_copied, sym, Hook, HookValue, hook_value, is_for, hook_for, so_far_value}
 use Rattle.gk_gherkin.proofs.HookIndexed.{any_found, some_mapped}
 use Rattle.gk_gherkin.proofs.hooks_so_far.HooksSoFar.has.Goals as goal
 

@@ -1,5 +1,4 @@
-use Rattle.std.proofs.Common.{rules, ◌≡◌, ◌∙◌, IfOk, ℕ, List, map, ap, subst}
-use Rattle.gk_lint.specs.NearestEntry.{words_of, all_nearness, nearest_of}
+use Rattle.gk_lint.proofs.Common.{rules, ◌≡◌, ◌∙◌, IfOk, ℕ, List, map, ap, subst, words_of, all_nearness, nearest_of}
 use Rattle.gk_lint.proofs.entry_hints.EntryHints.hint.Goals as goal
 
 pub returns : goal.returns

@@ -1,7 +1,5 @@
-use Rattle.std.proofs.Common.{◌∙◌}
-use Rattle.std.specs.Str.{bytes_eq}
+use Rattle.gk_lint.proofs.Common.{◌∙◌, bytes_eq, in_set}
 use Rattle.gk_lint.proofs.NamedAgain.{or_of_cond}
-use Rattle.gk_lint.specs.TextSets.{in_set}
 use Rattle.gk_lint.proofs.text_sets.TextSet.add.Goals as goal
 
 pub returns-clause-has : goal.returns-clause-has

@@ -1,5 +1,4 @@
-use Rattle.std.proofs.Common.{◌≡◌, ◌++◌, string_bytes}
-use Rattle.gk_report.specs.PartPieces.{rest, to_go}
+use Rattle.gk_report.proofs.Common.{◌≡◌, ◌++◌, string_bytes, rest, to_go}
 use Rattle.gk_report.proofs.part_pieces.PartPieces.push_piece.Given as goal
 
 abbrev pub invariant-loop-alloc : goal.invariant-loop-alloc

@@ -1,6 +1,4 @@
-use Rattle.std.proofs.Common.{arith, string_bytes}
-use Rattle.std.proofs.lemmas.Grind.{common_steps}
-use Rattle.gk_report.specs.PartPieces.{rest}
+use Rattle.gk_report.proofs.Common.{arith, string_bytes, common_steps, rest}
 use Rattle.gk_report.proofs.PartPiecesLemmas.{json_start}
 use Rattle.gk_report.proofs.part_pieces.PartPieces.push_start.Goals as goal
 

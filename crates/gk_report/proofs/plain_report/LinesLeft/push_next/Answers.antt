@@ -1,6 +1,4 @@
-use Rattle.std.proofs.Common.{ap, map, option_map, refl, sym, ◌∙◌}
-use Rattle.gk_run.specs.Results.{case_row, rule_row}
-use Rattle.gk_report.specs.PlainReport.{lines_in}
+use Rattle.gk_report.proofs.Common.{ap, map, option_map, refl, sym, ◌∙◌, case_row, rule_row, lines_in}
 use Rattle.gk_report.proofs.PushLemmas.{pushed}
 use Rattle.gk_report.proofs.RuleLemmas.{lines_in_next}
 use Rattle.gk_report.proofs.plain_report.LinesLeft.push_next.Goals as goal

@@ -1,5 +1,4 @@
-use Rattle.std.proofs.Common.{arith}
-use Rattle.std.proofs.lemmas.Grind.{common_steps}
+use Rattle.gk_report.proofs.Common.{arith, common_steps}
 use Rattle.gk_report.proofs.SummaryLemmas.{feature_added}
 use Rattle.gk_report.proofs.summary.Summary.add.Goals as goal
 

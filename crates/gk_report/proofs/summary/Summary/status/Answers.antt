@@ -1,4 +1,4 @@
-use Rattle.std.proofs.Common.{rules}
+use Rattle.gk_report.proofs.Common.{rules}
 use Rattle.gk_report.proofs.SummaryLemmas.{status_from}
 use Rattle.gk_report.proofs.summary.Summary.status.Goals as goal
 

@@ -1,11 +1,6 @@
-use Rattle.std.proofs.Common.{◌∙◌, ap, sym, subst, refl, List, map, option_map, Bor}
-use Rattle.gk_gherkin.specs.Feature.{block_value}
-use Rattle.gk_gherkin.specs.declared.feature.Block.{Block}
-use Rattle.gk_steps.specs.FilesTable.{files_below}
-use Rattle.gk_world.specs.State.{state_of}
+use Rattle.gk_run.proofs.Common.{◌∙◌, ap, sym, subst, refl, List, map, option_map, Bor, block_value, Block, files_below, state_of, Done, IsActed, write_below, write_table}
 use Rattle.gk_run.specs.declared.results.Outcome.TheVariants as outcomes
 use Rattle.gk_run.specs.declared.results.Reason.TheVariants as reasons
-use Rattle.gk_run.specs.Acting.{Done, IsActed, write_below, write_table}
 use Rattle.gk_run.proofs.ActingLemmas.{RowInMemory, cells, stayed}
 use Rattle.gk_run.proofs.acting.file_actions.write_files.Goals as goal
 

@@ -1,6 +1,4 @@
-use Rattle.std.proofs.Common.{drop}
-use Rattle.gk_world.specs.Sandbox.{SandboxValue}
-use Rattle.gk_run.specs.declared.results.Outcome.{Outcome}
+use Rattle.gk_run.proofs.Common.{drop, SandboxValue, Outcome}
 use Rattle.gk_run.proofs.ActingLemmas.{RowsActed}
 use Rattle.gk_run.proofs.acting.file_actions.write_rows.Given as goal
 

@@ -1,8 +1,4 @@
-use Rattle.std.specs.Fmt.{signed_decimal}
-use Rattle.std.proofs.Common.{rules, ◌≡◌, ◌∙◌, ap, sym, subst, Some, w64, to_z, of_z, option_copied, ℤ, ◌+ℤ◌, FitsSigned, to_z-of_z}
-use Rattle.gk_steps.specs.Decimal.{number_of}
-use Rattle.gk_world.specs.State.{state_of}
-use Rattle.gk_run.specs.Acting.{IsActed, passes, with_own}
+use Rattle.gk_run.proofs.Common.{signed_decimal, rules, ◌≡◌, ◌∙◌, ap, sym, subst, Some, w64, to_z, of_z, option_copied, ℤ, ◌+ℤ◌, FitsSigned, to_z-of_z, number_of, state_of, IsActed, passes, with_own}
 use Rattle.gk_run.proofs.ActingLemmas.{sum_acted, out_of_range_acted, not_in_range, number_fits}
 use Rattle.gk_run.proofs.acting.value_actions.add_number.Goals as goal
 

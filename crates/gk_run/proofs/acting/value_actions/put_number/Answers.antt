@@ -1,6 +1,4 @@
-use Rattle.std.specs.Fmt.{signed_decimal}
-use Rattle.std.proofs.Common.{◌∙◌, ap, to_z-of_z}
-use Rattle.gk_world.specs.State.{state_of}
+use Rattle.gk_run.proofs.Common.{signed_decimal, ◌∙◌, ap, to_z-of_z, state_of}
 use Rattle.gk_run.proofs.ActingLemmas.{number_acted}
 use Rattle.gk_run.proofs.acting.value_actions.put_number.Goals as goal
 

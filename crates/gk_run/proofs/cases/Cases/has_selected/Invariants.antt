@@ -1,6 +1,4 @@
-use Rattle.std.proofs.Common.{◌≡◌, ◌≤◌, ◌-◌, true, drop, length}
-use Rattle.gk_run.specs.PrivateContracts.{members_in}
-use Rattle.gk_run.specs.Chosen.{has_selected, members_of, falls_from, members_of_rank}
+use Rattle.gk_run.proofs.Common.{◌≡◌, ◌≤◌, ◌-◌, true, drop, length, members_in, has_selected, members_of, falls_from, members_of_rank}
 use Rattle.gk_run.proofs.cases.Cases.has_selected.Given as goal
 
 -- no case of the rank before this place is selected

@@ -1,15 +1,10 @@
-use Rattle.std.proofs.Common.{◌∙◌, ◌&&◌, Bool, refl, ap}
-use Rattle.gk_world.specs.State.{state_of}
-use Rattle.gk_run.specs.OpenSection.{run_of}
+use Rattle.gk_run.proofs.Common.{◌∙◌, ◌&&◌, Bool, refl, ap, arith, state_of, run_of, common_steps}
 use Rattle.gk_run.proofs.CasesLemmas.{goes_first, goes_last, goes_on, goes_stopped}
 use Rattle.gk_run.proofs.PartLemmas.{at_err}
 use Rattle.gk_run.proofs.cases.section_cases.run_cases.Goals as goal
 
 pub loop-member-init : goal.loop-member-init
-loop-member-init g c = record {
-  goes = goes_first g.O.Observer.hears g.O.Observer.ends (run_of c.args.run.now.library.now c.args.run.now.hooks.now.file.now c.args.run.now.stop) (state_of c.args.sandbox.now.now) c.args.is_open c.args.cases.now c.args.observer.now;
-  same = record { contents = refl; saved = refl; starts = refl; recorded = refl };
-}
+loop-member-init g c = grind (arith, common_steps, goes_first)
 
 pub loop-member-preserved : goal.loop-member-preserved
 loop-member-preserved g c =

@@ -1,7 +1,4 @@
-use Rattle.std.proofs.Common.{length}
-use Rattle.gk_world.specs.State.{state_of}
-use Rattle.gk_run.specs.OpenSection.{run_of}
-use Rattle.gk_world.specs.Sandbox.{IsSame}
+use Rattle.gk_run.proofs.Common.{length, state_of, run_of, IsSame}
 use Rattle.gk_run.proofs.CasesLemmas.{GoesOn}
 use Rattle.gk_run.proofs.cases.section_cases.run_cases.Given as goal
 

@@ -1,22 +1,10 @@
-use Rattle.std.proofs.Common.{refl}
-use Rattle.gk_world.specs.State.{state_of}
-use Rattle.gk_run.specs.declared.results.CaseResult.{CaseResult}
-use Rattle.gk_run.specs.Chosen.{member_of}
-use Rattle.gk_run.specs.PrivateContracts.{IsMember}
-use Rattle.gk_run.specs.Results.{case_row}
-use Rattle.gk_run.specs.OpenSection.{run_value}
+use Rattle.gk_run.proofs.Common.{refl, arith, state_of, CaseResult, member_of, IsMember, case_row, run_value, common_steps}
 use Rattle.gk_run.proofs.CasesLemmas.{member_reached, member_unreached, member_unselected, of_ok}
 use Rattle.gk_run.proofs.PartLemmas.{at_err}
 use Rattle.gk_run.proofs.cases.section_cases.run_member.Goals as goal
 
 pub returns-then-not-selected-clause-ran : goal.returns-then-not-selected-clause-ran
-returns-then-not-selected-clause-ran g c =
-    let run = run_value c.args.run.now in
-    let m = member_of c.args.member.case c.args.member.selected in
-    let now = state_of c.args.sandbox.now.now in
-    let first = c.args.observer.now in
-    of_ok (λ (r : CaseResult). IsMember g.O.Observer.hears run now c.args.is_open m (case_row r) first first) c.unrun_case.result c.unrun_case.ensures
-    (λ r e. member_unselected g.O.Observer.hears run now c.args.is_open m (case_row r) first c.if-not-selected.true e)
+returns-then-not-selected-clause-ran g c = grind (arith, common_steps, of_ok, member_unselected)
 
 pub returns-then-not-is_open-clause-ran : goal.returns-then-not-is_open-clause-ran
 returns-then-not-is_open-clause-ran g c =

@@ -1,11 +1,4 @@
-use Rattle.std.proofs.Common.{Bool, ap, not, refl, ◌&&◌, ◌||◌, ◌∙◌}
-use Rattle.gk_world.specs.State.{state_of}
-use Rattle.gk_run.specs.Running.{is_failed_or_memory, stays_open_by}
-use Rattle.gk_run.specs.Chosen.{chosen_value}
-use Rattle.gk_run.specs.Ending.{has_passed}
-use Rattle.gk_run.specs.OpenRun.{SuiteValue, opens_features}
-use Rattle.gk_run.specs.PrivateContracts.{RunsFeature, StopsFeature}
-use Rattle.gk_run.specs.Results.{feature_row}
+use Rattle.gk_run.proofs.Common.{Bool, ap, not, refl, ◌&&◌, ◌||◌, ◌∙◌, state_of, is_failed_or_memory, stays_open_by, chosen_value, has_passed, SuiteValue, opens_features, RunsFeature, StopsFeature, feature_row}
 use Rattle.gk_run.proofs.OpenRunLemmas.{next_opens, run_so}
 use Rattle.gk_run.proofs.PartLemmas.{at_err}
 use Rattle.gk_run.proofs.open_run.Suite.feature_watched.Goals as goal

@@ -1,9 +1,5 @@
-use Rattle.std.specs.List.{FoldsTo}
-use Rattle.std.proofs.Common.{[], refl, subst}
-use Rattle.gk_gherkin.specs.declared.hooks.HookFile.{HookFile}
+use Rattle.gk_run.proofs.Common.{FoldsTo, [], refl, subst, HookFile, has_passed, IsOpened, run_of}
 use Rattle.gk_run.specs.declared.section.Level.TheVariants as levels
-use Rattle.gk_run.specs.Ending.{has_passed}
-use Rattle.gk_run.specs.OpenSection.{IsOpened, run_of}
 use Rattle.gk_run.proofs.OpenRunLemmas.{open_by}
 use Rattle.gk_run.proofs.open_run.Suite.start_watched.Goals as goal
 

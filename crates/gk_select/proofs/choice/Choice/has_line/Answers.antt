@@ -1,7 +1,4 @@
-use Rattle.std.proofs.Common.{◌≡◌, ◌==◌, ◌||◌, ℕ, Bool, false, List, length, ap, subst, sym, ◌∙◌}
-use Rattle.std.specs.List.{list_any}
-use Rattle.std.specs.List.Sorted.{IsBinarySearchResult}
-use Rattle.std.specs.Ordering.{nat_cmp}
+use Rattle.gk_select.proofs.Common.{◌≡◌, ◌==◌, ◌||◌, ℕ, Bool, false, List, length, ap, subst, sym, ◌∙◌, list_any, IsBinarySearchResult, nat_cmp}
 use Rattle.gk_select.proofs.ChosenLines.{is_among}
 use Rattle.gk_select.proofs.choice.Choice.has_line.Goals as goal
 

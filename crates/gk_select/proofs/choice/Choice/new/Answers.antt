@@ -1,6 +1,4 @@
-use Rattle.std.proofs.Common.{map}
-use Rattle.std.proofs.lemmas.List.Sorted.{IsNonDecreasingBy-from_sort}
-use Rattle.gk_select.specs.TagRules.{tag_rule_value}
+use Rattle.gk_select.proofs.Common.{map, IsNonDecreasingBy-from_sort, tag_rule_value}
 use Rattle.gk_select.proofs.ChosenLines.{same_choice}
 use Rattle.gk_select.proofs.choice.Choice.new.Goals as goal
 

@@ -1,9 +1,4 @@
-use Rattle.std.proofs.Common.{◌∙◌, rules, tests}
-use Rattle.std.proofs.lemmas.Iterator.{YieldsList-from_slice}
-use Rattle.std.proofs.lemmas.Iterator.Search.{all_from_yields_List}
-use Rattle.gk_select.specs.TagLists.{tags_of}
-use Rattle.gk_select.specs.TagRules.{tag_rule_value}
-use Rattle.gk_select.specs.TagValues.{holds}
+use Rattle.gk_select.proofs.Common.{◌∙◌, rules, tests, YieldsList-from_slice, all_from_yields_List, tags_of, tag_rule_value, holds}
 use Rattle.gk_select.proofs.ChosenLines.{list_all-map}
 use Rattle.gk_select.proofs.choice.Choice.rules_hold.Goals as goal
 

@@ -1,6 +1,4 @@
-use Rattle.std.proofs.Common.{◌≤◌, drop, length}
-use Rattle.gk_gherkin.specs.Feature.{texts}
-use Rattle.gk_select.specs.Columns.{IsIndexFrom}
+use Rattle.gk_select.proofs.Common.{◌≤◌, drop, length, texts, IsIndexFrom}
 use Rattle.gk_select.proofs.columns.ColumnIndex.of.Given as goal
 
 abbrev pub invariant-columns : goal.invariant-columns

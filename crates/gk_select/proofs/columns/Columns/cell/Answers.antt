@@ -1,8 +1,4 @@
-use Rattle.std.specs.Prelude.{option_copied, option_map}
-use Rattle.std.specs.String.{string_bytes}
-use Rattle.std.proofs.Common.{◌≡◌, ◌∙◌, Some, ap, sym}
-use Rattle.gk_gherkin.specs.Feature.{texts}
-use Rattle.gk_select.specs.Columns.{column_of}
+use Rattle.gk_select.proofs.Common.{option_copied, option_map, string_bytes, ◌≡◌, ◌∙◌, Some, ap, sym, texts, column_of}
 use Rattle.gk_select.proofs.IndexedColumns.{cell_at, no_cell_at, looked_up}
 use Rattle.gk_select.proofs.columns.Columns.cell.Goals as goal
 

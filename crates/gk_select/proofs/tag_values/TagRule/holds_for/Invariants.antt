@@ -1,7 +1,4 @@
-use Rattle.std.proofs.Common.{◌≡◌, ◌≤◌, length, map, drop}
-use Rattle.gk_select.specs.TagLists.{tags_of}
-use Rattle.gk_select.specs.TagWords.{word_value}
-use Rattle.gk_select.specs.TagValues.{seen_of}
+use Rattle.gk_select.proofs.Common.{◌≡◌, ◌≤◌, length, map, drop, tags_of, word_value, seen_of}
 use Rattle.gk_select.proofs.tag_values.TagRule.holds_for.Given as goal
 
 abbrev pub invariant-loop-at : goal.invariant-loop-at

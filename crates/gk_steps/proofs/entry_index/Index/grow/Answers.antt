@@ -1,7 +1,4 @@
-use Rattle.std.proofs.Common.{◌∙◌, ap, sym, map, subst}
-use Rattle.gk_steps.specs.declared.library.Entry.{Entry}
-use Rattle.gk_steps.specs.Pattern.{piece_value}
-use Rattle.gk_steps.specs.EntryIndex.{Lists}
+use Rattle.gk_steps.proofs.Common.{◌∙◌, ap, sym, map, subst, Entry, piece_value, Lists}
 use Rattle.gk_steps.proofs.EntryIndexLemmas.{listed_more}
 use Rattle.gk_steps.proofs.entry_index.Index.grow.Goals as goal
 

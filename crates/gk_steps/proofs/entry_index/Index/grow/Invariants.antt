@@ -1,5 +1,4 @@
-use Rattle.std.proofs.Common.{◌-◌, length}
-use Rattle.gk_steps.specs.EntryIndex.{IsIndexOf}
+use Rattle.gk_steps.proofs.Common.{◌-◌, length, IsIndexOf}
 use Rattle.gk_steps.proofs.entry_index.Index.grow.Given as goal
 
 abbrev pub invariant-loop-position : goal.invariant-loop-position

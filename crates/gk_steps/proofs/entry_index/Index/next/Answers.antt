@@ -1,5 +1,4 @@
-use Rattle.std.proofs.Common.{◌≡◌, ◌∙◌, ◌+◌, ◌<◌, ℕ, ◌-◌, ap, take, drop, length, subst, sym, arith}
-use Rattle.gk_steps.specs.EntryIndex.{key_over, Skips, IsAny, IsShorter, first_length}
+use Rattle.gk_steps.proofs.Common.{◌≡◌, ◌∙◌, ◌+◌, ◌<◌, ℕ, ◌-◌, ap, take, drop, length, subst, sym, arith, key_over, Skips, IsAny, IsShorter, first_length}
 use Rattle.gk_steps.proofs.EntryIndexLemmas.{key_between, first_more, first_unmarked, first_short, first_all}
 use Rattle.gk_steps.proofs.entry_index.Index.next.Goals as goal
 use Rattle.gk_steps.proofs.entry_index.Index.next.Goals.{then-index, else-index}

@@ -1,5 +1,4 @@
-use Rattle.std.proofs.Common.{◌≡◌, ◌≤◌, take}
-use Rattle.gk_steps.specs.EntryIndex.{Skips, IsAny, IsShorter, first_length, key_over}
+use Rattle.gk_steps.proofs.Common.{◌≡◌, ◌≤◌, take, Skips, IsAny, IsShorter, first_length, key_over}
 use Rattle.gk_steps.proofs.entry_index.Index.next.Given as goal
 
 abbrev pub invariant-loop-first : goal.invariant-loop-first

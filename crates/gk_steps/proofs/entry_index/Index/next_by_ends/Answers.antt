@@ -1,5 +1,4 @@
-use Rattle.std.proofs.Common.{◌∙◌, ◌-◌, ap, drop, length, arith}
-use Rattle.std.proofs.lemmas.List.{take_rest}
+use Rattle.gk_steps.proofs.Common.{◌∙◌, ◌-◌, ap, drop, length, arith, take_rest}
 use Rattle.gk_steps.proofs.EntryIndexLemmas.{ends_short, ends_under}
 use Rattle.gk_steps.proofs.entry_index.Index.next_by_ends.Goals as goal
 

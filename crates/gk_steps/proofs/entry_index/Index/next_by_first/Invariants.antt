@@ -1,4 +1,4 @@
-use Rattle.gk_steps.specs.EntryIndex.{Skips, IsShorter, HasFirst, last_length}
+use Rattle.gk_steps.proofs.Common.{Skips, IsShorter, HasFirst, last_length}
 use Rattle.gk_steps.proofs.entry_index.Index.next_by_first.Given as goal
 
 abbrev pub invariant-loop-last : goal.invariant-loop-last

@@ -1,5 +1,4 @@
-use Rattle.std.proofs.Common.{map}
-use Rattle.gk_steps.specs.Matching.{field_value}
+use Rattle.gk_steps.proofs.Common.{map, field_value}
 use Rattle.gk_steps.proofs.library.Library.action.Goals as goal
 
 pub returns : goal.returns

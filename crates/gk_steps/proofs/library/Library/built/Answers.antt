@@ -1,8 +1,4 @@
-use Rattle.std.proofs.Common.{◌≤◌, List, length, arith, ap, sym, subst}
-use Rattle.std.specs.Prelude.{IsTrue}
-use Rattle.gk_steps.specs.declared.entry_index.Head.{Head}
-use Rattle.gk_steps.specs.EntryIndex.{AreHeads}
-use Rattle.gk_steps.specs.Library.{are_for_each_from, is_for_one_before}
+use Rattle.gk_steps.proofs.Common.{◌≤◌, List, length, arith, ap, sym, subst, IsTrue, Head, AreHeads, are_for_each_from, is_for_one_before}
 use Rattle.gk_steps.proofs.EntryIndexLemmas.{written_back}
 use Rattle.gk_steps.proofs.library.Library.built.Goals as goal
 

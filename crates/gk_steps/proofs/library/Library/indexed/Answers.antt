@@ -1,4 +1,4 @@
-use Rattle.std.proofs.Common.{ap, take, ◌∙◌}
+use Rattle.gk_steps.proofs.Common.{ap, take, ◌∙◌}
 use Rattle.gk_steps.proofs.EntryIndexLemmas.{listed_taken, heads_taken}
 use Rattle.gk_steps.proofs.library.Library.indexed.Goals as goal
 

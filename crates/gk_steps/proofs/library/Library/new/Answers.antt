@@ -1,5 +1,4 @@
-use Rattle.std.proofs.Common.{arith}
-use Rattle.std.proofs.lemmas.Grind.{common_steps}
+use Rattle.gk_steps.proofs.Common.{arith, common_steps}
 use Rattle.gk_steps.proofs.library.Library.new.Goals as goal
 
 pub invariant_of-result-clause-typed_end : goal.invariant_of-result-clause-typed_end

@@ -1,7 +1,4 @@
-use Rattle.std.proofs.Common.{arith, map, subst, Some}
-use Rattle.std.proofs.lemmas.Grind.{common_steps}
-use Rattle.gk_steps.specs.Finding.{entry_value, library_value}
-use Rattle.gk_steps.specs.Captures.{HitsWhatIsFound, hit_of}
+use Rattle.gk_steps.proofs.Common.{arith, map, subst, Some, common_steps, entry_value, library_value, HitsWhatIsFound, hit_of}
 use Rattle.gk_steps.proofs.LibraryLemmas.{typed_candidate, typed_table_candidate}
 use Rattle.gk_steps.proofs.FindingLemmas.{of_fault, either_more}
 use Rattle.gk_steps.proofs.CaptureLemmas.{typed_hit, none_typed, own_hit, other_hit}

@@ -1,4 +1,4 @@
-use Rattle.gk_steps.specs.Finding.{library_value, found_value}
+use Rattle.gk_steps.proofs.Common.{library_value, found_value}
 use Rattle.gk_steps.proofs.library.Library.used_fields.Goals as goal
 
 pub returns-clause-name : goal.returns-clause-name

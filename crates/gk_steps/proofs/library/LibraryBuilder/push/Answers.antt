@@ -1,9 +1,4 @@
-use Rattle.std.proofs.Common.{◌∙◌, List, map, ap, sym, subst, refl}
-use Rattle.gk_steps.specs.declared.library.Entry.{Entry}
-use Rattle.gk_steps.specs.declared.pattern.Piece.{Piece}
-use Rattle.gk_steps.specs.declared.entry_index.Head.{Head}
-use Rattle.gk_steps.specs.Pattern.{piece_value}
-use Rattle.gk_steps.specs.EntryIndex.{head_of, IsIndexOf}
+use Rattle.gk_steps.proofs.Common.{◌∙◌, List, map, ap, sym, subst, refl, Entry, Piece, Head, piece_value, head_of, IsIndexOf}
 use Rattle.gk_steps.proofs.EntryIndexLemmas.{heads_push, heads_size, single_push, listed_push}
 use Rattle.gk_steps.proofs.library.LibraryBuilder.push.Goals as goal
 

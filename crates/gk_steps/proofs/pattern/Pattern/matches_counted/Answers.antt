@@ -1,5 +1,4 @@
-use Rattle.std.proofs.Common.{arith}
-use Rattle.std.proofs.lemmas.Grind.{common_steps}
+use Rattle.gk_steps.proofs.Common.{arith, common_steps}
 use Rattle.gk_steps.proofs.TableLemmas.{width_is}
 use Rattle.gk_steps.proofs.FilledCellsLemmas.{whole_table}
 use Rattle.gk_steps.proofs.pattern.Pattern.matches_counted.Goals as goal

@@ -1,5 +1,4 @@
-use Rattle.std.proofs.Common.{◌∙◌, ap, map, option_map, string_bytes}
-use Rattle.std.proofs.lemmas.List.{map-set}
+use Rattle.gk_world.proofs.Common.{◌∙◌, ap, map, option_map, string_bytes, map-set}
 use Rattle.gk_world.proofs.cells.ArrayOptionStringLAYERSCells.replace.Goals as goal
 
 pub returns-clause-set : goal.returns-clause-set

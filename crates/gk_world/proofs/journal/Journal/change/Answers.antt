@@ -1,5 +1,4 @@
-use Rattle.std.proofs.Common.{arith}
-use Rattle.std.proofs.lemmas.Grind.{common_steps}
+use Rattle.gk_world.proofs.Common.{arith, common_steps}
 use Rattle.gk_world.proofs.JournalLemmas.{pushed, rewound-since, FitAll-since}
 use Rattle.gk_world.proofs.journal.Journal.change.Goals as goal
 

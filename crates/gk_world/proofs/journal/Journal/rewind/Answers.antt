@@ -1,5 +1,4 @@
-use Rattle.std.proofs.Common.{arith}
-use Rattle.std.proofs.lemmas.Grind.{common_steps}
+use Rattle.gk_world.proofs.Common.{arith, common_steps}
 use Rattle.gk_world.proofs.JournalLemmas.{popped, rewound_on, rewound-before, FitAll-before, settled}
 use Rattle.gk_world.proofs.journal.Journal.rewind.Goals as goal
 

@@ -1,4 +1,4 @@
-use Rattle.std.proofs.Common.{length}
+use Rattle.gk_world.proofs.Common.{length}
 use Rattle.gk_world.proofs.JournalLemmas.{IsRewinding}
 use Rattle.gk_world.proofs.journal.Journal.rewind.Given as goal
 

@@ -1,7 +1,4 @@
-use Rattle.std.proofs.Common.{arith, sym, subst}
-use Rattle.std.proofs.lemmas.Grind.{common_steps}
-use Rattle.gk_world.specs.World.{IsHere}
-use Rattle.gk_world.specs.Sandbox.{open_starts}
+use Rattle.gk_world.proofs.Common.{arith, sym, subst, common_steps, IsHere, open_starts}
 use Rattle.gk_world.proofs.SandboxLemmas.{length-open_starts, depth_is, unrecorded_sound, applies, recorded_value, recorded_sound, recorded_answer}
 use Rattle.gk_world.proofs.sandbox.Sandbox.change.Goals as goal
 

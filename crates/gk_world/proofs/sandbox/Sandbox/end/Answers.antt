@@ -1,5 +1,4 @@
-use Rattle.std.proofs.Common.{arith, ◌∙◌}
-use Rattle.std.proofs.lemmas.Grind.{common_steps}
+use Rattle.gk_world.proofs.Common.{arith, ◌∙◌, common_steps}
 use Rattle.gk_world.proofs.SandboxLemmas.{mark_within, fit_since, ended_sound, ended, ended_undone}
 use Rattle.gk_world.proofs.sandbox.Sandbox.end.Goals as goal
 

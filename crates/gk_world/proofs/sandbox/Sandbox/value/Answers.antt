@@ -1,5 +1,4 @@
-use Rattle.std.proofs.Common.{arith}
-use Rattle.std.proofs.lemmas.Grind.{common_steps}
+use Rattle.gk_world.proofs.Common.{arith, common_steps}
 use Rattle.gk_world.proofs.SandboxLemmas.{length-open_starts}
 use Rattle.gk_world.proofs.sandbox.Sandbox.value.Goals as goal
 

@@ -1,5 +1,4 @@
-use Rattle.std.proofs.Common.{◌∙◌, ap}
-use Rattle.gk_world.specs.Cells.{cell_at}
+use Rattle.gk_world.proofs.Common.{◌∙◌, ap, cell_at}
 use Rattle.gk_world.proofs.RowsLemmas.{cells-at-position}
 use Rattle.gk_world.proofs.slots.Slots.cell.Goals as goal
 

@@ -1,5 +1,4 @@
-use Rattle.std.proofs.Common.{Some, ap, ◌∙◌}
-use Rattle.gk_world.specs.Slots.{with_cell, cut_to}
+use Rattle.gk_world.proofs.Common.{Some, ap, ◌∙◌, with_cell, cut_to}
 use Rattle.gk_world.proofs.SlotsLemmas.{cell-twice, within-written}
 use Rattle.gk_world.proofs.slots.Slots.cut.Goals as goal
 

@@ -1,6 +1,4 @@
-use Rattle.std.proofs.Common.{ap, ◌∙◌, arith}
-use Rattle.std.proofs.lemmas.Grind.{common_steps}
-use Rattle.gk_world.specs.Cells.{cell_at}
+use Rattle.gk_world.proofs.Common.{ap, ◌∙◌, arith, common_steps, cell_at}
 use Rattle.gk_world.proofs.RowsLemmas.{written, differ-written, cells-at-position}
 use Rattle.gk_world.proofs.slots.Slots.exchange.Goals as goal
 

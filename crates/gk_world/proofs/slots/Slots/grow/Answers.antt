@@ -1,8 +1,4 @@
-use Rattle.std.proofs.Common.{◌≡◌, Some, length, take, ap, sym, subst, ◌∙◌, string_bytes}
-use Rattle.std.specs.String.Boundary.{IsSplitPoint}
-use Rattle.std.proofs.lemmas.Str.{IsCharBoundary-at_seam}
-use Rattle.std.proofs.Math.Seq.{take-append_seam}
-use Rattle.gk_world.specs.Slots.{with_cell, cut_to, grown}
+use Rattle.gk_world.proofs.Common.{◌≡◌, Some, length, take, ap, sym, subst, ◌∙◌, string_bytes, IsSplitPoint, IsCharBoundary-at_seam, take-append_seam, with_cell, cut_to, grown}
 use Rattle.gk_world.proofs.SlotsLemmas.{cell-twice, cell-same, cell-back, within-written, cell-written, has_cell, writes}
 use Rattle.gk_world.proofs.slots.Slots.grow.Goals as goal
 

@@ -1,5 +1,4 @@
-use Rattle.std.proofs.Common.{◌∙◌, length, sym, refl, ap, subst, string_bytes}
-use Rattle.gk_world.specs.Slots.{NamesDiffer, IsMissing}
+use Rattle.gk_world.proofs.Common.{◌∙◌, length, sym, refl, ap, subst, string_bytes, NamesDiffer, IsMissing}
 use Rattle.gk_world.proofs.SlotsLemmas.{pushes, newest, push-back, differ-push}
 use Rattle.gk_world.proofs.RowsLemmas.{inserted, length-slots_of}
 use Rattle.gk_world.proofs.slots.Slots.push.Goals as goal

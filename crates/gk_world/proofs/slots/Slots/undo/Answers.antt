@@ -1,5 +1,4 @@
-use Rattle.std.proofs.Common.{arith}
-use Rattle.std.proofs.lemmas.Grind.{common_steps}
+use Rattle.gk_world.proofs.Common.{arith, common_steps}
 use Rattle.gk_world.proofs.RowsLemmas.{differ-popped, popped}
 use Rattle.gk_world.proofs.UndoLemmas.{undo_writes}
 use Rattle.gk_world.proofs.slots.Slots.undo.Goals as goal

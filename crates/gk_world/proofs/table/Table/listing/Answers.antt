@@ -1,7 +1,5 @@
-use Rattle.std.proofs.Common.{IfOk, arith, subst}
+use Rattle.gk_world.proofs.Common.{IfOk, arith, subst, map_at, Lists}
 use Rattle.std.specs.FinMap as finite
-use Rattle.gk_world.specs.Slots.{map_at}
-use Rattle.gk_world.specs.Listing.{Lists}
 use Rattle.gk_world.proofs.ListingLemmas.{lists_none, lists_next, table_listed}
 use Rattle.gk_world.proofs.table.Table.listing.Goals as goal
 

@@ -1,5 +1,5 @@
 use Rattle.std.specs.FinMap as finite
-use Rattle.gk_world.specs.Slots.{map_at}
+use Rattle.gk_world.proofs.Common.{map_at}
 use Rattle.gk_world.proofs.ListingLemmas.{ListsFirst}
 use Rattle.gk_world.proofs.table.Table.listing.Given as goal
 

@@ -1,6 +1,4 @@
-use Rattle.std.proofs.Common.{◌≡◌}
-use Rattle.gk_world.specs.State.{laid}
-use Rattle.gk_world.specs.Slots.{layers_of}
+use Rattle.gk_world.proofs.Common.{◌≡◌, laid, layers_of}
 use Rattle.gk_world.proofs.values.Values.get.Given as goal
 
 -- the layers so far have no value of this name

@@ -1,7 +1,4 @@
-use Rattle.std.proofs.Common.{IfOk, ◌∙◌, arith, ap, sym, subst}
-use Rattle.gk_world.specs.State.{see}
-use Rattle.gk_world.specs.Values.{state_at}
-use Rattle.gk_world.specs.Listing.{Lists}
+use Rattle.gk_world.proofs.Common.{IfOk, ◌∙◌, arith, ap, sym, subst, see, state_at, Lists}
 use Rattle.gk_world.proofs.ListingLemmas.{lists_none, lists_next, values_listed}
 use Rattle.gk_world.proofs.values.Values.listing.Goals as goal
 

@@ -1,5 +1,4 @@
-use Rattle.gk_world.specs.State.{see}
-use Rattle.gk_world.specs.Values.{state_at}
+use Rattle.gk_world.proofs.Common.{see, state_at}
 use Rattle.gk_world.proofs.ListingLemmas.{ListsFirst}
 use Rattle.gk_world.proofs.values.Values.listing.Given as goal
 
