@@ -12,10 +12,9 @@ pub mod LibraryFile
 pub mod LibraryLine
 pub mod LibraryFault
 pub mod DefaultFile
--- How a library is stored: the end of its entries for steps of one type, and the index of its entries.
+-- How a library is stored: the end of its entries for steps of one type.
 pub mod Library
-pub mod EntryIndex
--- Proof machinery: definitions for the steps of reading, matching and finding.
+-- Proof machinery: definitions for the steps of reading, matching and finding, and for the index of a library's entries.
 pub mod Spelling
 pub mod CharBoundaries
 pub mod Advances
@@ -24,3 +23,4 @@ pub mod Leftmost
 pub mod Captures
 pub mod UsedFields
 pub mod Digits
+pub mod EntryIndex
