@@ -2,14 +2,14 @@
 
 Such a page has lines of at most 100 columns outside of tables and fenced blocks, sentences of at most 30 words, cells of
 at most 25, at most one mark (a word or phrase that sounds translated) for 1,000 words, a page of docs/guide/ at most 200
-lines, README.md 120. Besides tables of tools/tables.py, all have at most 15,650 words, without READMEs of folders 13,650.
+lines, README.md 120. Besides tables of tools/tables.py, all have at most 15,850 words, without READMEs of folders 13,700.
 """
 
 import re
 
 COLUMNS, SENTENCE, CELL, MARKS, GUIDE_LINES, README_LINES = 100, 30, 25, 1, 200, 120
 # The words of README.md, docs/guide/ and docs/FAULTS.md together, and those with the READMEs of folders.
-MAIN_WORDS, ALL_WORDS = 13650, 15650
+MAIN_WORDS, ALL_WORDS = 13700, 15850
 FOREIGN = re.compile("|".join([
     r"\b[Ww]here (?:it|there|they|one|none|no|nothing|an?|the|that|this|each|all|what|memory|something|you|its|their)\b",
     r"\b(?:stands?|stood|standing|mend(?:s|ed)?|answer(?:s|ed)?|blanks?|besides|mostly|likewise|whereof)\b",

@@ -32,7 +32,7 @@ INSTALLED = {
     "share/bash-completion/completions/gherkin_run": "packaging/gherkin_run.bash",
     "share/zsh/site-functions/_gherkin_run": "packaging/_gherkin_run",
     "share/fish/vendor_completions.d/gherkin_run.fish": "packaging/gherkin_run.fish",
-    **{f"{DOC}/{it}": it for it in ("LICENSE-MIT", "LICENSE-APACHE", "docs/FAULTS.md")},
+    **{f"{DOC}/{it}": it for it in ("LICENSE-MIT", "LICENSE-APACHE", "LICENSES-OTHERS", "docs/FAULTS.md")},
 }
 Ended = collections.namedtuple("Ended", "status out said calls left")
 

@@ -20,7 +20,7 @@ HOME = HERE.parent.parent
 # The oldest glibc with which the program runs.
 TAG = "py3-none-manylinux_2_34_x86_64"
 BINARIES = ("gherkin_run", "libgherkin_run.so")
-LICENCES = ("LICENSE-APACHE", "LICENSE-MIT")
+LICENCES = ("LICENSE-APACHE", "LICENSE-MIT", "LICENSES-OTHERS")
 METADATA = """\
 Metadata-Version: 2.4
 Name: gherkin_run
@@ -30,6 +30,7 @@ Keywords: gherkin,bdd,acceptance,testing,pytest
 License-Expression: MIT OR Apache-2.0
 License-File: LICENSE-APACHE
 License-File: LICENSE-MIT
+License-File: LICENSES-OTHERS
 Classifier: Development Status :: 5 - Production/Stable
 Classifier: Environment :: Console
 Classifier: Framework :: Pytest

@@ -11,7 +11,8 @@ out=$(readlink -f -- "$1")
 dist=$(readlink -f -- "${2:-"$home/dist"}")
 read -r version < "$home/packaging/version"
 # The date in the changelog, in seconds.
-export LC_ALL=C SOURCE_DATE_EPOCH=1767225600
+LC_ALL=C SOURCE_DATE_EPOCH=$(date -u -d "$(sed -n 's/^ -- .*>  //p' "$home/packaging/debian/changelog")" +%s)
+export LC_ALL SOURCE_DATE_EPOCH
 room=$(mktemp -d)
 trap 'rm -rf "$room"' EXIT
 trap 'exit 1' HUP INT TERM
