@@ -20,7 +20,7 @@ VERSION = driver.text("packaging/version").strip()
 WHEEL = f"dist/gherkin_run-{VERSION}-py3-none-manylinux_2_34_x86_64.whl"
 # The commands that ./release and what it calls change files with, those that read, and others.
 STEPS = "chmod cp dpkg-deb ln mkdir mktemp mv rm cat cut find python3 readlink sha256sum sort".split()
-OTHERS = "basename env grep gzip head install ln md5sum nproc sed tar tr uname wc".split()
+OTHERS = "basename date env grep gzip head install ln md5sum nproc sed tar tr uname wc".split()
 
 
 class Released(Checks):
