@@ -3,10 +3,10 @@
 # tools/tables.py: options
 complete -c gherkin_run -l tags -x -d 'Run only scenarios whose tags fit T, as @a,~@b or \'@a or not @b\''
 complete -c gherkin_run -l line -x -d 'Run only the scenarios at line N of a file'
-complete -c gherkin_run -l library -r -F -d 'Take the steps from FILE in place of the default library'
+complete -c gherkin_run -l library -r -F -d 'Take the steps from FILE in place of the built-in steps'
 complete -c gherkin_run -l hooks -r -F -d 'Run the hooks in FILE around the run, its features, rules and scenarios'
 complete -c gherkin_run -l env -x -d 'Set a variable before the run'
-complete -c gherkin_run -l file -x -d 'Put the text of PATH into the world as file NAME'
+complete -c gherkin_run -l file -x -d 'Give steps the text of PATH as file NAME'
 complete -c gherkin_run -l dry-run -d 'Look up the steps in the library, and run no step, hook or cleanup'
 complete -c gherkin_run -l stop -d 'Stop at the first failure, and leave later scenarios untested'
 complete -c gherkin_run -l format -x -a 'plain progress json' -d 'Write the report as plain, progress or json'

@@ -1,13 +1,15 @@
 """How the pages for users read: what test_documents.py finds of README.md, docs/guide/, docs/FAULTS.md and the READMEs of folders.
 
-Such a page has lines of at most 100 columns outside of tables and fenced blocks, sentences of at most 30 words, cells of
-at most 25, at most one mark (a word or phrase that sounds translated) for 1,000 words, a page of docs/guide/ at most 200
-lines, README.md 120. Besides tables of tools/tables.py, all have at most 15,850 words, without READMEs of folders 13,700.
+Such a page has sentences of at most 30 words, cells of at most 25, and at most one mark (a word or phrase that sounds
+translated) for 1,000 words. Besides tables of tools/tables.py, all have at most 15,850 words, without READMEs of folders
+13,700. Every page, those for engineers too, has lines of at most 100 columns outside of tables and fenced blocks, and at
+most 200 lines, README.md 120.
 """
 
 import re
 
-COLUMNS, SENTENCE, CELL, MARKS, GUIDE_LINES, README_LINES = 100, 30, 25, 1, 200, 120
+COLUMNS, SENTENCE, CELL, MARKS, PAGE_LINES, README_LINES = 100, 30, 25, 1, 200, 120
+FAULTS = "docs/FAULTS.md"  # is looked up, and may be longer
 # The words of README.md, docs/guide/ and docs/FAULTS.md together, and those with the READMEs of folders.
 MAIN_WORDS, ALL_WORDS = 13700, 15850
 FOREIGN = re.compile("|".join([
@@ -76,13 +78,17 @@ def rows_without_header(text):
             yield number, "a row without a header"
 
 
-def hard_to_read(page, text):
-    """What is hard to read on a page without the texts of its blocks."""
+def too_large(page, text):
+    """The lines that are too long, and whether there are too many."""
     lines = text.split("\n")
     for number, line in enumerate(lines, 1):
         if len(line) > COLUMNS and not line.startswith("|"):
             yield number, f"{len(line)} columns"
-    yield from (*long_pieces(text), *rows_without_header(text), *marks(text))
-    most = README_LINES if page == "README.md" else GUIDE_LINES if page.startswith("docs/guide/") else len(lines)
+    most = README_LINES if page == "README.md" else len(lines) if page == FAULTS else PAGE_LINES
     if len(lines) > most + 1:
         yield len(lines), f"more than {most} lines"
+
+
+def hard_to_read(text):
+    """What is hard to read on a page without the texts of its blocks."""
+    yield from (*long_pieces(text), *rows_without_header(text), *marks(text))

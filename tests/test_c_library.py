@@ -5,6 +5,7 @@ import os
 import re
 import resource
 import subprocess
+import time
 
 import blocks
 import calling
@@ -36,6 +37,7 @@ OWN_FILES = {
 KINDS = ((".feature", b"Feature: f\nScenario: s\n", []), (".hooks", b"before_all:\n", ["--hooks=made"]), (".steps", b"step x => pass\n", ["--library=made"]))
 OTHER = "@t\nFeature: f\n  Rule: r\n    Scenario: s\n      Given it passes\n      Then x\n"
 RANDOM = 10000
+MANY = 10000  # files of one call
 SMALL = 1 << 14  # bytes of a room for the report of a random file
 
 
@@ -156,6 +158,22 @@ class Calls(Checks):
         whole, refused = (4, calling.filled(b"a\0b\0", calling.MOST)), (calling.NO_LENGTH, calling.filled(b"", calling.MOST))
         for number, (found, left) in enumerate(self.library.refusals(lambda: self.library.files(["a", "b"]))):
             self.unless(f"names with growth {number} refused, and {left} blocks left", found in (whole, refused) and left == 0, found[0])
+
+    def time_of(self, count):
+        """The processor time of a call with this number of files, whose names begin alike. Of three times the least counts."""
+        names = [f"{'folder/' * 30}{number}.feature" for number in range(count)]
+        self.library.own.refuse(0)
+        times = []
+        for _ in range(3):
+            begun = time.process_time()
+            self.library.run(names, [(it, "") for it in names])
+            times.append(time.process_time() - begun)
+        return min(times)
+
+    def test_many_files(self):
+        """Ten times as many files take some ten times the time, although each is found by its name."""
+        few, many = self.time_of(MANY // 10), self.time_of(MANY)
+        self.unless(f"{MANY} files take {many:.3f} s, and a tenth of them {few:.3f} s", many < 30 * few)
 
     def test_random_files(self):
         """Random bytes and lines as a feature file, as a hooks file and as a library."""

@@ -280,6 +280,8 @@ def shared_modules():
 STATUSES = {"passed", "failed", "skipped", "undefined", "untested", "memory"}
 # What is to be done about each fault: its fix in docs/FAULTS.md begins so.
 HINTS = "crates/gk_findings/src/hints.rt"
+# What is to be done about an unexpected line, by its cause.
+CAUSES = "crates/gk_lint/src/unexpected_lines.rt"
 # The keywords of Gherkin are no faults.
 KEYWORDS = "crates/gk_gherkin/src/keyword.rt"
 # Reasons that are one word; other single words in the code are keywords and names.
@@ -289,7 +291,7 @@ REASONS_OF_ONE_WORD = {"absent", "present", "differs"}
 def fault_texts():
     """The texts of faults and the reasons that the code prints, without those of the crates of tests."""
     texts = set()
-    for path in {*shape.files("crates/(?!gk_tests/|gk_cli_tests/)[^/]+/src/.*[.]rt")} - {HINTS, KEYWORDS}:
+    for path in {*shape.files("crates/(?!gk_tests/|gk_cli_tests/)[^/]+/src/.*[.]rt")} - {HINTS, CAUSES, KEYWORDS}:
         code = re.sub(r"//.*", "", driver.text(path)).replace('\\n"', '"')
         for pattern in (r'#\[error\("([^"{}]+)"\)\]', r'write_str\("([^"{}]+)"\)', r'=>\s*"([^"{}]+)"',
                         r'\btext: "([^"{}]+)",\s*hint: "', r'"gherkin_run: (?:\{name\}: )?([^"{}]+)"'):
@@ -359,7 +361,8 @@ OF_EACH = {
     "clauses": (of_lines(named_clauses), PAGES),
     "links": (of_lines(dead_links), DOCUMENTS),
     "examples": (example_differences, PAGES),
-    "prose": (lambda page: prose.hard_to_read(page, prose_of(page)), [*MAIN, *READMES]),
+    "prose": (lambda page: prose.hard_to_read(prose_of(page)), [*MAIN, *READMES]),
+    "lines and columns": (lambda page: prose.too_large(page, prose_of(page)), [*PAGES, *READMES]),
     "comments": (broken_comments, shape.files("crates/[^/]+/specs/.*[.]antt")),
 }
 OF_ALL = {

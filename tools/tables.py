@@ -537,7 +537,7 @@ VERSION_FILE = "packaging/version"
 VERSIONS = {
     "crates/gk_cli/src/arguments.rt": r'(?m)(?<=^const VERSION: &str = ").*(?=";$)',
     "crates/gk_c/src/lib.rt": r'(?m)(?<=^    put_out\(b").*(?=", room\)$)',
-    "crates/gk_c/specs/Answer.antt": r'(?m)(?<=^version = codes ").*(?="$)',
+    "crates/gk_c/specs/Call.antt": r'(?m)(?<=^version = codes ").*(?="$)',
     "tests/edits/gk_c/version_of_another_kind.edit": r'(?m)(?<=^old:     put_out\(b").*(?=", room\)$)',
     "tests/runs/arguments.md": r"(?m)(?<=^gherkin_run )\S+$",
     "bindings/c/gherkin_run.h": r'(?m)(?<=^#define GHERKIN_RUN_VERSION ").*(?="$)',

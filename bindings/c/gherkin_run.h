@@ -57,7 +57,8 @@ enum { GHERKIN_NAME_AT = 13 };
 
 /* Runs the program with these arguments, those after its name, over these files. Of files of one name the first counts;
    a file that isn't among them can't be read. Writes the output and the errors as far as they fit; the rest of `out`
-   and `errors` is unchanged. If a length is greater than the room for it, call again with that much room. */
+   and `errors` is unchanged. If a length is greater than the room for it, call again with that much room. If memory
+   runs out, the errors say so, and `out` has what was made of the output. */
 void gherkin_run(const gherkin_text *arguments, size_t argument_count, const gherkin_file *files, size_t file_count,
                  uint8_t *out, size_t out_room, uint8_t *errors, size_t errors_room, gherkin_answer *answer);
 

@@ -1,3 +1,3 @@
 -- Lemmas.
-mod AnswerLemmas
 mod CallLemmas
+mod IndexedFiles

@@ -1,4 +1,4 @@
--- The `Answer` to a call.
+-- What the calls return and write.
 use Rattle.std.specs.Prelude.{◌≡◌, ◌⊎◌, ◌++◌, ◌-◌, ◌^◌, ℕ, List, [], ◌∷◌, codes, flat_map, Some, Result}
 use Rattle.gk_request.specs.Source.{SourceValue}
 use Rattle.gk_cli.specs.Writing.{Device}
@@ -6,11 +6,11 @@ use Rattle.gk_program.specs.Asked.{AreNamesAsked}
 use Rattle.gk_program.specs.Ended.{IsEnded}
 use Rattle.gk_program.specs.declared.asked.ArgumentsFault.{ArgumentsFault}
 use Rattle.gk_program.specs.declared.ended.ProgramEnd.{ProgramEnd}
-use Rattle.gk_c.specs.Answer.{IsPut}
-use Rattle.gk_c.specs.CallerFiles.{files_in, reads_first}
+use Rattle.gk_c.specs.Room.{IsPut}
+use Rattle.gk_c.specs.Answer.{IsAnsweredWith}
+use Rattle.gk_c.specs.CallerFiles.{reads_first}
 use Rattle.gk_c.specs.Words.{SaysWords}
 use Rattle.gk_c.specs.declared.answer.Answer.{Answer}
-use Rattle.gk_c.specs.declared.caller_files.InMemory.{InMemory}
 
 -- A writer that took nothing yet.
 abbrev pub fresh : Device
@@ -20,37 +20,8 @@ fresh = record { bytes = Some []; calls = 0; flushes = 0; failures = 0; idle = 0
 pub record IsRunOver (files : List SourceValue) (arguments : List (List ℕ)) (out errors : Device) (ended : ProgramEnd) : Type 0 where
   pub words : Result (List (List ℕ)) ArgumentsFault
   pub given : SaysWords arguments words
-  pub before : InMemory
-  pub after : InMemory
-  pub over : files_in before ≡ files
-  pub ended_so : IsEnded reads_first words before after fresh out fresh errors ended
-
--- The buffers took all that the program wrote.
-pub record AreTaken (out errors : Device) : Type 0 where
-  pub out_failures : out.failures ≡ 0
-  pub errors_failures : errors.failures ≡ 0
-
--- The `Answer` has the program's status and the place of its fault.
-pub record IsAnsweredBy (ended : ProgramEnd) (answer : Answer) : Type 0 where
-  pub status : answer.status ≡ ended.status
-  pub name_length : answer.name_length ≡ ended.place.name_length
-  pub line : answer.line ≡ ended.place.line
-
--- The `Answer` says that memory was refused.
-pub record IsRefusal (answer : Answer) : Type 0 where
-  pub status : answer.status ≡ 4
-  pub name_length : answer.name_length ≡ 0
-  pub line : answer.line ≡ 0
-
--- What standard error gets if memory was refused.
-abbrev pub refusal : List ℕ
-refusal = codes "gherkin_run: out of memory\n"
-
--- The `Answer` is the program's, and the errors are what it wrote. Or a buffer didn't take all that the program wrote: then memory was refused, and the answer says so.
-abbrev pub IsAnsweredWith : Device → Device → ProgramEnd → List ℕ → List ℕ → List ℕ → Answer → Type 0
-IsAnsweredWith out errors ended told errors_old errors_new answer =
-    (AreTaken out errors × IsPut told errors_old errors_new answer.errors_length × IsAnsweredBy ended answer)
-    ⊎ ((AreTaken out errors → ⊥) × IsPut refusal errors_old errors_new answer.errors_length × IsRefusal answer)
+  pub after : List SourceValue
+  pub ended_so : IsEnded reads_first words files after fresh out fresh errors ended
 
 -- The `Answer` to a call: the program's status, and what it wrote with these arguments over these files, as far as there is room.
 pub record IsAnswer (arguments : List (List ℕ)) (files : List SourceValue) (out_old out_new errors_old errors_new : List ℕ) (answer : Answer) : Type 0 where
@@ -90,3 +61,7 @@ abbrev pub AreFilesPut : List (List ℕ) → List ℕ → List ℕ → ℕ → T
 AreFilesPut arguments old new count =
     ((text : List ℕ) × AreNamesListed arguments text × IsPut text old new count)
     ⊎ ((new ≡ old) × (count ≡ no_length))
+
+-- The version of the library.
+abbrev pub version : List ℕ
+version = codes "1.0.0"

@@ -1,5 +1,9 @@
 -- The files of a call.
+use denote.Ref.{Bor}
 use Rattle.std.specs.Prelude.{◌≡◌, ◌<◌, ◌≤◌, ℕ, Bool, List, length, map, find, Option, Some, None, Result, Ok, Err, option_map}
+use Rattle.std.specs.BTreeMap.{BTreeMap, get_by}
+use Rattle.std.specs.Cmp.Lexicographic.{slice_cmp}
+use Rattle.std.specs.Ordering.{nat_cmp}
 use Rattle.std.specs.Str.{bytes_eq}
 use Rattle.gk_gherkin.specs.Lines.{limit}
 use Rattle.gk_request.specs.Source.{SourceValue}
@@ -7,7 +11,6 @@ use Rattle.gk_request.specs.declared.source.SourceFault.{SourceFault}
 use Rattle.gk_request.specs.declared.source.SourceFault.TheVariants.{Device, TooLong, Memory}
 use Rattle.gk_program.specs.Files.{Reading}
 use Rattle.gk_c.specs.declared.caller_files.File.{File}
-use Rattle.gk_c.specs.declared.caller_files.InMemory.{InMemory}
 
 -- A `File` as plain values.
 abbrev pub file_value : File → SourceValue
@@ -21,6 +24,14 @@ is_named name file = bytes_eq file.name name
 abbrev pub bytes_of : List SourceValue → List ℕ → Option (List ℕ)
 bytes_of files name = option_map (λ (file : SourceValue). file.bytes) (find (is_named name) files)
 
+-- The bytes that an index has for a name, if any.
+abbrev pub bytes_in : BTreeMap (Bor (List ℕ)) (Bor (List ℕ)) → List ℕ → Option (List ℕ)
+bytes_in index name = option_map (λ (bytes : Bor (List ℕ)). bytes.now) (get_by (λ key. slice_cmp nat_cmp name key.now) index)
+
+-- An index has the bytes of the first file of each name.
+abbrev pub IsIndexOf : BTreeMap (Bor (List ℕ)) (Bor (List ℕ)) → List SourceValue → Type 0
+IsIndexOf index files = (name : List ℕ) → bytes_in index name ≡ bytes_of files name
+
 -- A copy of these bytes, or why there is none. Only more bytes than a source may have are too long.
 abbrev pub SaysCopy : List ℕ → Result (List ℕ) SourceFault → Type 0
 SaysCopy bytes (Ok copy) = (copy ≡ bytes) × (length bytes ≤ limit)
@@ -33,10 +44,6 @@ abbrev pub SaysFile : Option (List ℕ) → Result (List ℕ) SourceFault → Ty
 SaysFile None answer = answer ≡ Err Device
 SaysFile (Some bytes) answer = SaysCopy bytes answer
 
--- The files that are read from a call.
-abbrev pub files_in : InMemory → List SourceValue
-files_in system = map file_value system.files.now
-
 -- Reading a name returns what the first file of this name has, and changes nothing.
-abbrev pub reads_first : Reading InMemory
-reads_first before name answer after = SaysFile (bytes_of (files_in before) name) answer × (before ≡ after)
+abbrev pub reads_first : Reading (List SourceValue)
+reads_first before name answer after = SaysFile (bytes_of before name) answer × (before ≡ after)

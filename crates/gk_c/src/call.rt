@@ -2,13 +2,15 @@
 ghost use Rattle.std.specs.Prelude.{◌≡◌, ◌++◌, [], Some, codes, map, IfOk, OnOk, string_bytes};
 ghost use Rattle.gk_request.specs.Counted.{inner_of};
 ghost use Rattle.gk_cli.specs.Writing.{device_of};
-ghost use Rattle.gk_c.specs.Answer.{IsPut, put_over};
-ghost use Rattle.gk_c.specs.Call.{AreFilesPut, AreNamesListed, IsAnswer, IsAnsweredBy, IsAnsweredWith, IsRefusal, IsRunOver, fresh, listed, one_listed, refusal};
+ghost use Rattle.gk_c.specs.Room.{IsPut, put_over};
+ghost use Rattle.gk_c.specs.Answer.{IsAnsweredBy, IsAnsweredWith, IsRefusal, refusal};
+ghost use Rattle.gk_c.specs.Call.{AreFilesPut, AreNamesListed, IsAnswer, IsRunOver, fresh, listed, one_listed};
 ghost use Rattle.gk_c.specs.CallerFiles.{file_value};
 ghost use Rattle.gk_c.specs.Words.{text_value};
 
-use crate::answer::{Answer, put_out};
+use crate::answer::Answer;
 use crate::caller_files::{File, InMemory};
+use crate::room::put_out;
 use crate::words::{Text, words_from};
 use gk_program::{ProgramEnd, files_asked, run};
 use gk_request::Counted;
@@ -40,7 +42,7 @@ fn run_over(
         (device_of (λ buffer. Some buffer.items) errors.new) result }
 {
     let words = words_from(alloc, arguments);
-    let mut system = InMemory { files };
+    let mut system = InMemory::new(alloc, files);
     run(alloc, &mut system, words, out, errors)
 }
 

@@ -3,20 +3,21 @@
 #![tactic(auto)]
 
 ghost use Rattle.std.specs.Prelude.{◌≡◌, length, map};
-ghost use Rattle.gk_c.specs.Answer.{put_over, version};
-ghost use Rattle.gk_c.specs.Call.{AreFilesPut, IsAnswer};
+ghost use Rattle.gk_c.specs.Room.{put_over};
+ghost use Rattle.gk_c.specs.Call.{AreFilesPut, IsAnswer, version};
 ghost use Rattle.gk_c.specs.CallerFiles.{file_value};
 ghost use Rattle.gk_c.specs.Words.{text_value};
 
 mod answer;
 mod call;
 mod caller_files;
+mod room;
 mod words;
 
 pub use answer::Answer;
-use answer::put_out;
 use call::{answer_call, put_files};
 pub use caller_files::File;
+use room::put_out;
 use std::alloc::Global;
 pub use words::Text;
 
@@ -26,7 +27,8 @@ pub use words::Text;
 /// one that it ends with. As much of each as there is room for is written over the beginning of `out` and of `errors`;
 /// what is behind stays as it was. The `Answer` has the length of both, so a second call with that much room gets all of
 /// them. A name that several files have is that of the first. A file that is not among them is one that can't be read.
-/// Nothing of a call is kept for the next one.
+/// If memory is refused to a buffer of the call, the status is 4, the errors are `gherkin_run: out of memory` and a line
+/// feed, and `out` has what was made of the output. Nothing of a call is kept for the next one.
 #[unsafe(no_mangle)]
 pub extern "C" fn gherkin_run(
     alloc: Global,

@@ -1,11 +1,10 @@
 //! The arguments of a call.
-ghost use Rattle.std.specs.Prelude.{◌≡◌, ◌++◌, ◌∷◌, [], codes, map, IfOk, IfErr, OnOk, string_bytes};
+ghost use Rattle.std.specs.Prelude.{◌≡◌, ◌++◌, ◌∷◌, [], codes, map, OnOk, string_bytes};
 ghost use Rattle.gk_program.specs.Asked.{given_value};
-ghost use Rattle.gk_program.specs.declared.asked.ArgumentsFault.TheVariants.{Memory};
-ghost use Rattle.gk_c.specs.Words.{SaysWord, SaysWords, text_value, word_value};
+ghost use Rattle.gk_c.specs.Words.{SaysWords, text_value};
 
 use gk_program::ArgumentsFault;
-use std::alloc::Global;
+use std::alloc::{AllocError, Global};
 use std::str;
 
 /// A text of the caller.
@@ -15,36 +14,13 @@ pub struct Text<'a> {
     pub bytes: &'a [u8],
 }
 
-// Copies a text.
-fn copied(alloc: Global, text: &str) -> Result<String, ArgumentsFault>
-    ensures copy { IfOk result (λ copy. string_bytes copy ≡ text.now) }
-    ensures refused { IfErr result (λ fault. fault ≡ Memory) }
+// Adds a copy of a text to the words before it.
+fn add_word(alloc: Global, words: &mut Vec<String>, text: &str) -> Result<(), AllocError>
+    ensures { OnOk result (map string_bytes words.new.items
+        ≡ map string_bytes words.old.items ++ text.now ∷ []) }
 {
-    match String::from_str(alloc, text) {
-        Ok(copy) => Ok(copy),
-        Err(_) => Err(ArgumentsFault::Memory),
-    }
-}
-
-// Copies an argument.
-fn word_from(alloc: Global, argument: &Text) -> Result<String, ArgumentsFault>
-    ensures { SaysWord (text_value argument.now) (word_value result) }
-{
-    match str::from_utf8(argument.bytes) {
-        Ok(text) => copied(alloc, text),
-        Err(_) => Err(ArgumentsFault::NotUtf8),
-    }
-}
-
-// Adds an argument to those before it.
-fn add_word(words: &mut Vec<String>, word: String) -> Result<(), ArgumentsFault>
-    ensures added { OnOk result (words.new.items ≡ words.old.items ++ word ∷ []) }
-    ensures refused { IfErr result (λ fault. fault ≡ Memory) }
-{
-    match words.push(word) {
-        Ok(()) => Ok(()),
-        Err(_) => Err(ArgumentsFault::Memory),
-    }
+    words.push(String::from_str(alloc, text)?)?;
+    Ok(())
 }
 
 /// Returns the program's arguments: its name and the arguments of the call.
@@ -52,12 +28,16 @@ pub fn words_from(alloc: Global, arguments: &[Text]) -> Result<Vec<String>, Argu
     ensures { SaysWords (map text_value arguments.now) (given_value result) }
 {
     let mut words = Vec::new(alloc);
-    add_word(&mut words, copied(alloc, "gherkin_run")?)?;
+    let Ok(()) = add_word(alloc, &mut words, "gherkin_run") else {
+        return Err(ArgumentsFault::Memory);
+    };
     for argument in arguments {
-        match word_from(alloc, argument) {
-            Ok(word) => add_word(&mut words, word)?,
-            Err(fault) => return Err(fault),
-        }
+        let Ok(text) = str::from_utf8(argument.bytes) else {
+            return Err(ArgumentsFault::NotUtf8);
+        };
+        let Ok(()) = add_word(alloc, &mut words, text) else {
+            return Err(ArgumentsFault::Memory);
+        };
     }
     Ok(words)
 }

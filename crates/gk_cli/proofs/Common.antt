@@ -55,7 +55,7 @@ pub use Rattle.gk_report.specs.declared.report.Style.{Style}
 pub use Rattle.gk_request.proofs.ResultLemmas.{if_err, if_ok, ok_known, on_ok, passed_on}
 pub use Rattle.gk_request.specs.Counted.{one_more}
 pub use Rattle.gk_request.specs.Inputs.{AreInputs, AreRead, Inputs, InputsAreUnique, chosen_of, head_of, inputs_value, member_by, with_reading}
-pub use Rattle.gk_request.specs.Request.{AreLeftAt, FilesValue, Request, hooks_name, name_of, request_of_files, suite_value}
+pub use Rattle.gk_request.specs.Request.{AreLeftAt, FilesValue, Request, hooks_name, name_of, request_of_files, files_value}
 pub use Rattle.gk_request.specs.RunFault.{IsUnread}
 pub use Rattle.gk_request.specs.Source.{SourceValue, borrowed_value, source_value, without_bytes}
 pub use Rattle.gk_request.specs.declared.run_fault.RunFault.{RunFault}

@@ -46,7 +46,7 @@ reading_ordered ordered falls chooses s (Some f) others reads o = (chosen_ordere
 
 read_ordered : CasesAreInFileOrder → CasesFall → (chooses : CaseValue → Bool) (sources : List SourceValue) (features : List ChosenValue) → AreRead chooses sources features → AllByRecursion IsOrdered features
 read_ordered ordered falls chooses [] features read = subst (AllByRecursion IsOrdered) (sym read) tt
-read_ordered ordered falls chooses (s ∷ ss) features read = grind (arith, common_steps, reading_ordered, read_ordered ordered falls chooses ss read.1 read.5)
+read_ordered ordered falls chooses (s ∷ ss) features read = grind (arith, common_steps, reading_ordered, read_ordered ordered falls chooses ss read.1 read.3)
 
 -- Results that stand in file order have lines that rise.
 abbrev IsRow : FeatureRow → Type 0

@@ -68,10 +68,16 @@ is_set name rows = option_map_or (λ text. bytes_eq text (codes "true")) (one_of
 abbrev pub mode_asked : List Row → Mode
 mode_asked rows = if is_set (codes "explain") rows then Explanation else (if is_set (codes "lint") rows then Findings (not (is_set (codes "no-steps") rows)) else Report)
 
+-- Whether nothing runs in this mode.
+abbrev pub is_lint : Mode → Bool
+is_lint (Findings steps) = true
+is_lint mode = false
+
 -- Whether an option is among the arguments, with a value.
 abbrev pub is_given : Text → List Row → Bool
 is_given name rows = is_some (first_of name rows)
 
+-- Whether an option is among the arguments: a flag if it is set, another option if it has a value.
 abbrev is_among_by : OptionTakes → Text → List Row → Bool
 is_among_by Flag name rows = is_set name rows
 is_among_by _ name rows = is_given name rows
@@ -106,7 +112,7 @@ faults_in arguments = or_else (fault_of command arguments) (faults_found (found_
 abbrev pub values_of : Text → List Row → List Text
 values_of id rows = unwrap_or (all_of id rows) []
 
--- A text that spells a line number.
+-- Proof machinery: a text that spells a line number.
 abbrev pub IsLineNumber : Text → Type 0
 IsLineNumber text = IsUnsignedIn 1 4294967295 text
 
@@ -131,7 +137,7 @@ has_equals text = has_byte 61 text
 abbrev pub split_at_equals : Text → PairValue
 split_at_equals text = record { name = before_first (λ b. b == 61) text; text = after_first (λ b. b == 61) text }
 
--- The parts of a text of `--env` or `--file`; a text without `=` has none.
+-- Proof machinery: the parts of a text of `--env` or `--file`; a text without `=` has none.
 abbrev pub SaysPair : Text → Option (String Global × String Global) → Type 0
 SaysPair text (Some pair) = (has_equals text ≡ true) × (pair_value pair ≡ split_at_equals text)
 SaysPair text None = has_equals text ≡ false
@@ -144,7 +150,7 @@ pub record IsFirstWithout (texts : List Text) (text : Text) : Type 0 where
   pub equals : All (λ one. has_equals one ≡ true) before
   pub none : has_equals text ≡ false
 
--- The parts of each text, in order, if each has an `=`; otherwise the first that has none.
+-- Proof machinery: the parts of each text, in order, if each has an `=`; otherwise the first that has none.
 abbrev pub SaysPairs : List Text → Result (Vec (String Global × String Global) Global) (String Global) → Type 0
 SaysPairs texts (Ok pairs) = All (λ text. has_equals text ≡ true) texts × (map pair_value pairs.items ≡ map split_at_equals texts)
 SaysPairs texts (Err text) = IsFirstWithout texts (string_bytes text)

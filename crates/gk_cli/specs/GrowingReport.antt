@@ -6,7 +6,7 @@ use Rattle.gk_report.specs.declared.report.Style.{Style}
 use Rattle.gk_report.specs.Report.{part, tail, is_empty}
 use Rattle.gk_cli.specs.declared.growing_report.GrowingReport.{GrowingReport}
 
--- The results of a run: those of its features, and how its own hooks and cleanups ended.
+-- Proof machinery: the results of a run: those of its features, and how its own hooks and cleanups ended.
 abbrev pub results_with : List FeatureRow → Status → Results
 results_with rows around = record { features = rows; around = around }
 

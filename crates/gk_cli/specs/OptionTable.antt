@@ -16,7 +16,7 @@ pub record OptionValue : Type 0 where
   pub beside_lint : Bool
   pub beside_no_steps : Bool
 
--- The option of a row; its other columns are texts of the help.
+-- Proof machinery: the option of a row; its other columns are texts of the help.
 abbrev pub option_value : OptionRow → OptionValue
 option_value row = record { name = row.name.now; takes = row.takes; beside_report = row.beside_report; beside_explain = row.beside_explain; beside_lint = row.beside_lint; beside_no_steps = row.beside_no_steps }
 
@@ -35,7 +35,7 @@ rule_of_option o = rule_by o.name o.takes
 abbrev anywhere : Text → OptionTakes → OptionValue
 anywhere name takes = record { name = name; takes = takes; beside_report = true; beside_explain = true; beside_lint = true; beside_no_steps = true }
 
--- An option that all accept where steps are looked up.
+-- An option that each output accepts that looks up steps.
 abbrev with_steps : Text → OptionTakes → OptionValue
 with_steps name takes = record (anywhere name takes) { beside_no_steps = false }
 
@@ -47,7 +47,7 @@ in_a_run name takes = record (with_steps name takes) { beside_lint = false }
 abbrev in_a_report : Text → OptionTakes → OptionValue
 in_a_report name takes = record (in_a_run name takes) { beside_explain = false }
 
--- An option that only `--lint` accepts, or is.
+-- An option that `--lint` accepts, or is, and `--explain` doesn't. What a report accepts matters only for an option that asks for no other output.
 abbrev in_findings : Text → OptionTakes → OptionValue
 in_findings name takes = record (anywhere name takes) { beside_explain = false }
 

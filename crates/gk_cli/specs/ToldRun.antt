@@ -30,7 +30,7 @@ pub record TellsFeature {S : Type 0} (hears : S → Event → S → Type 0) (end
   pub told : IsFeatureTold hears ends run now is_open f row begun heard
   pub added : adds heard row text new
 
--- A feature of a dry run was told to a reporter. Nothing happens in it.
+-- Proof machinery: a feature of a dry run was told to a reporter. Nothing happens in it.
 pub record TellsDryFeature {S : Type 0} (begins : S → List ℕ → S → Type 0) (adds : S → FeatureRow → List ℕ → S → Type 0) (is_open : Bool) (f : ChosenValue) (row : FeatureRow) (text : List ℕ) (old new : S) : Type 0 where
   pub begun : S
   pub start : begins old f.source begun
@@ -80,12 +80,12 @@ pub record IsFirstText {S : Type 0} (hears : S → Event → S → Type 0) (tell
   pub told : S
   pub begins : TellsFirst hears tells run (state_of contents) opening done rows text first told
 
--- The text of a run's first features, or the whole text of a run with judged results.
+-- Proof machinery: the text of a run's first features, or the whole text of a run with judged results.
 abbrev pub IsTextSoFar : {S : Type 0} → (S → Event → S → Type 0) → (Run → State → Bool → ChosenValue → FeatureRow → List ℕ → S → S → Type 0) → (S → Results → List ℕ → Type 0) → Run → Contents → List ChosenValue → S → List ℕ → Type 0
 IsTextSoFar hears tells closes run contents features first text =
     IsFirstText hears tells run contents features first text ⊎ ((results : Results) × Judged run contents features results × IsWholeText hears tells closes run contents features results first text)
 
--- The whole text of a run with judged results was written, and their status is returned.
+-- Proof machinery: the whole text of a run with judged results was written, and their status is returned.
 pub record IsToldRun {S : Type 0} (hears : S → Event → S → Type 0) (tells : Run → State → Bool → ChosenValue → FeatureRow → List ℕ → S → S → Type 0) (closes : S → Results → List ℕ → Type 0) (run : Run) (contents : Contents) (features : List ChosenValue) (first : S) (old new : Device) (answer : ℕ) : Type 0 where
   pub results : Results
   pub judged : Judged run contents features results
@@ -94,7 +94,7 @@ pub record IsToldRun {S : Type 0} (hears : S → Event → S → Type 0) (tells 
   pub written : IsWritten old new text
   pub returned : answer ≡ status results
 
--- A prefix of the text of a run's first features, or of the whole text, was written.
+-- Proof machinery: a prefix of the text of a run's first features, or of the whole text, was written.
 abbrev pub IsToldUpTo : {S : Type 0} → (S → Event → S → Type 0) → (Run → State → Bool → ChosenValue → FeatureRow → List ℕ → S → S → Type 0) → (S → Results → List ℕ → Type 0) → Run → Contents → List ChosenValue → S → Device → Device → RunFault → Type 0
 IsToldUpTo hears tells closes run contents features first old new fault = (text : List ℕ) × IsTextSoFar hears tells closes run contents features first text × IsStopped old new text fault
 

@@ -1,4 +1,4 @@
--- A run whose report is written as each feature ends.
+-- Proof machinery: a run whose report is written as each feature ends.
 use Rattle.std.specs.Prelude.{ℕ, List}
 use Rattle.gk_world.specs.State.{Contents}
 use Rattle.gk_run.specs.Results.{Results}

@@ -6,7 +6,7 @@ ghost use Rattle.clap.specs.declared.error.kind.ErrorKind.TheVariants.{ArgumentC
 ghost use Rattle.gk_cli.specs.Arguments as spec;
 ghost use Rattle.gk_cli.specs.OptionTable.{option_value, rule_of_option};
 ghost use Rattle.gk_report.specs.Report.{format_name};
-ghost use Rattle.gk_cli.specs.Arguments.{is_clash, mode_asked, files_rule, command, HasRule, IsCommand, is_set, IsLineNumber, line_number, format_asked, SaysPair, SaysPairs, AreAsked, SaysMatches, SaysArguments};
+ghost use Rattle.gk_cli.specs.Arguments.{is_clash, mode_asked, files_rule, command, HasRule, IsCommand, is_lint, is_set, IsLineNumber, line_number, format_asked, SaysPair, SaysPairs, AreAsked, SaysMatches, SaysArguments};
 
 use crate::option_table::{OPTIONS, OptionRow, OptionTakes};
 use clap::builder::ValueParser;
@@ -37,6 +37,15 @@ pub enum Mode {
         /// entries.
         steps: bool,
     },
+}
+
+impl Mode {
+    /// Returns whether nothing runs in this mode. Doesn't allocate.
+    pub fn is_lint(self) -> bool
+        ensures { result ≡ is_lint self }
+    {
+        matches!(self, Mode::Findings { .. })
+    }
 }
 
 /// What the command-line arguments ask for.

@@ -9,10 +9,11 @@ ghost use Rattle.gk_cli.specs.Writing.{device_of};
 ghost use Rattle.gk_cli.specs.ExplainedRun.{IsExplained, IsExplainedUpTo};
 ghost use Rattle.gk_cli.specs.ExplainedSuite.{explained_by};
 
-use crate::growing_report::write_piece;
 use crate::reporter::Reporter;
 use crate::told_run::{RunParts, tell_run};
+use crate::writing::write_piece;
 use gk_explain::Explainer;
+use gk_gherkin::HookTable;
 use gk_report::{Format, Style, Summary, tail};
 use gk_request::{Counted, Options, ReadInputs, RunFault};
 use gk_run::{FeatureResult, Status};
@@ -103,10 +104,11 @@ pub fn write_explanation<W: Write>(
         rows,
     } = inputs;
     let explainer = Explainer::new(alloc, &library, hooks, rows.as_slice());
+    let table = HookTable::new(alloc, &hook_file);
     let parts = RunParts {
         alloc,
         library: &library,
-        hooks: &hook_file,
+        hooks: &table,
     };
     tell_run(&parts, sandbox, options.stop, features, explainer, out)
 }

@@ -4,12 +4,12 @@ ghost use Rattle.gk_run.specs.Results.{feature_row};
 ghost use Rattle.gk_report.specs.Report as spec;
 ghost use Rattle.gk_report.specs.Report.{is_empty, part};
 ghost use Rattle.gk_cli.specs.Writing.{device_of, IsWritten, IsStopped};
-ghost use Rattle.gk_request.specs.declared.run_fault.RunFault.TheVariants as faults;
 
 use crate::reporter::Reporter;
+use crate::writing::write_piece;
 use gk_gherkin::{Block, Step};
 use gk_report::{Style, Summary, head, pieces, tail};
-use gk_request::{Counted, RunFault, write_whole};
+use gk_request::{Counted, RunFault};
 use gk_run::{
     CaseResult, FeatureResult, Level, Mark, Observer, Outcome, RuleResult, Stage, Status,
 };
@@ -17,21 +17,6 @@ use gk_steps::Found;
 use gk_world::Sandbox;
 use std::alloc::{AllocError, Global};
 use std::io::Write;
-
-/// Writes a piece of a text. The number of calls is at most the number of its bytes. `Write` comes if the writer
-/// failed; a prefix of the piece was written then.
-pub fn write_piece<W: Write>(out: &mut Counted<W>, text: &str) -> Result<(), RunFault>
-    ensures ok { OnOk result
-        (IsWritten (device_of W.contents out.old) (device_of W.contents out.new) text.now) }
-    ensures err { IfErr result
-        (IsStopped (device_of W.contents out.old) (device_of W.contents out.new) text.now) }
-    ensures only { IfErr result (λ e. e ≡ faults.Write) }
-{
-    match write_whole(out, text.as_bytes()) {
-        Ok(()) => Ok(()),
-        Err(_) => Err(RunFault::Write),
-    }
-}
 
 // Writes the part of a feature piece by piece. `is_first` says whether the parts before it are all empty. Returns
 // whether they still are, including this one.
@@ -111,7 +96,7 @@ impl Observer for GrowingReport {
 
     fn rule_ended(&mut self, _row: &RuleResult) {}
 
-    fn step(&mut self, _place: Stage, _step: &Step, _mark: Mark, _sandbox: &Sandbox) {}
+    fn step(&mut self, _stage: Stage, _step: &Step, _mark: Mark, _sandbox: &Sandbox) {}
 
     fn cleanup(
         &mut self,

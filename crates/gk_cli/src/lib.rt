@@ -10,6 +10,7 @@ mod reporter;
 mod row_order;
 mod suite;
 mod told_run;
+mod writing;
 mod written_run;
 
 pub use arguments::{Mode, Words, WordsFault, read_words};

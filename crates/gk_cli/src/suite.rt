@@ -2,7 +2,7 @@
 ghost use Rattle.std.specs.Prelude.{◌≡◌, map, option_map, IfOk, IfErr};
 ghost use Rattle.gk_world.specs.Sandbox.{depth, IsSame};
 ghost use Rattle.gk_request.specs.Source.{borrowed_value, source_value};
-ghost use Rattle.gk_request.specs.Request.{asked, bytes_of, suite_value, request_of_files, library_name, hooks_name, AreLeftByRun};
+ghost use Rattle.gk_request.specs.Request.{asked, bytes_of, files_value, request_of_files, library_name, hooks_name, AreLeftByRun};
 ghost use Rattle.gk_cli.specs.Modes.{lint_status, AreLeft, IsWrittenAs, Linted, LintedInPart, SaysFaultAs};
 ghost use Rattle.gk_cli.specs.Suite.{JudgedReport, OnlyReport, Reported, ReportedInPart, SaysFault, SaysFaultBy};
 ghost use Rattle.gk_cli.specs.ExplainedSuite.{Explained, ExplainedInPart};
@@ -10,7 +10,7 @@ ghost use Rattle.gk_cli.specs.Writing.{UsesWriter, device_of};
 
 use crate::arguments::Mode;
 use crate::explained_run::write_explanation;
-use crate::growing_report::write_piece;
+use crate::writing::write_piece;
 use crate::written_run::write_run;
 use gk_findings::findings_text;
 use gk_request::{
@@ -57,17 +57,17 @@ fn report_suite<S: FeatureSource, W: Write>(
 ) -> Result<u8, RunFault>
     requires outside { depth sandbox.old ≡ 0 }
     ensures judged { IfOk result (JudgedReport
-        (request_of_files options.now (suite_value S.value files.old)) sandbox.old.now
+        (request_of_files options.now (files_value S.value files.old)) sandbox.old.now
         (device_of W.contents out.old) (device_of W.contents out.new)) }
     ensures plain { IfOk result (OnlyReport
-        (request_of_files options.now (suite_value S.value files.old)) sandbox.old.now
+        (request_of_files options.now (files_value S.value files.old)) sandbox.old.now
         (device_of W.contents out.old) (device_of W.contents out.new)) }
     ensures fault { IfErr result (SaysFault
-        (request_of_files options.now (suite_value S.value files.old)) sandbox.old.now
+        (request_of_files options.now (files_value S.value files.old)) sandbox.old.now
         (device_of W.contents out.old) (device_of W.contents out.new)) }
     ensures same { IsSame sandbox.old sandbox.new }
     ensures left { AreLeftByRun result
-        (suite_value S.value files.old) (suite_value S.value files.new) }
+        (files_value S.value files.old) (files_value S.value files.new) }
     ensures used { UsesWriter result
         (device_of W.contents out.old) (device_of W.contents out.new) }
 {
@@ -91,18 +91,18 @@ fn explain_suite<S: FeatureSource, W: Write>(
 ) -> Result<u8, RunFault>
     requires outside { depth sandbox.old ≡ 0 }
     ensures explained { IfOk result (Explained
-        (request_of_files options.now (suite_value S.value files.old))
-        (hooks_name (suite_value S.value files.old)) sandbox.old.now
+        (request_of_files options.now (files_value S.value files.old))
+        (hooks_name (files_value S.value files.old)) sandbox.old.now
         (device_of W.contents out.old) (device_of W.contents out.new)) }
     ensures fault { IfErr result (SaysFaultBy (ExplainedInPart
-        (request_of_files options.now (suite_value S.value files.old))
-        (hooks_name (suite_value S.value files.old)) sandbox.old.now
+        (request_of_files options.now (files_value S.value files.old))
+        (hooks_name (files_value S.value files.old)) sandbox.old.now
         (device_of W.contents out.old) (device_of W.contents out.new))
-        (request_of_files options.now (suite_value S.value files.old))
+        (request_of_files options.now (files_value S.value files.old))
         (device_of W.contents out.old) (device_of W.contents out.new)) }
     ensures same { IsSame sandbox.old sandbox.new }
     ensures left { AreLeftByRun result
-        (suite_value S.value files.old) (suite_value S.value files.new) }
+        (files_value S.value files.old) (files_value S.value files.new) }
     ensures used { UsesWriter result
         (device_of W.contents out.old) (device_of W.contents out.new) }
 {
@@ -116,7 +116,7 @@ fn explain_suite<S: FeatureSource, W: Write>(
 }
 
 // Returns the status of a lint that writes this text.
-fn status_of(text: &str) -> u8
+fn lint_status(text: &str) -> u8
     ensures { result ≡ lint_status text.now }
 {
     if text.is_empty() { 0 } else { 1 }
@@ -132,23 +132,23 @@ fn lint_suite<S: FeatureSource, W: Write>(
     out: &mut Counted<W>,
 ) -> Result<u8, RunFault>
     ensures linted { IfOk result (Linted steps
-        (request_of_files options.now (suite_value S.value files.now))
-        (library_name (suite_value S.value files.now))
-        (hooks_name (suite_value S.value files.now))
+        (request_of_files options.now (files_value S.value files.now))
+        (library_name (files_value S.value files.now))
+        (hooks_name (files_value S.value files.now))
         (device_of W.contents out.old) (device_of W.contents out.new)) }
     ensures fault { IfErr result (SaysFaultBy (LintedInPart steps
-        (request_of_files options.now (suite_value S.value files.now))
-        (library_name (suite_value S.value files.now))
-        (hooks_name (suite_value S.value files.now))
+        (request_of_files options.now (files_value S.value files.now))
+        (library_name (files_value S.value files.now))
+        (hooks_name (files_value S.value files.now))
         (device_of W.contents out.old) (device_of W.contents out.new))
-        (request_of_files options.now (suite_value S.value files.now))
+        (request_of_files options.now (files_value S.value files.now))
         (device_of W.contents out.old) (device_of W.contents out.new)) }
     ensures used { UsesWriter result
         (device_of W.contents out.old) (device_of W.contents out.new) }
 {
     match findings_text(alloc, options, steps, files) {
         Ok(text) => match write_piece(out, text.as_str()) {
-            Ok(()) => Ok(status_of(text.as_str())),
+            Ok(()) => Ok(lint_status(text.as_str())),
             Err(fault) => Err(fault),
         },
         Err(fault) => Err(fault),
@@ -196,18 +196,18 @@ pub fn write_suite<S: FeatureSource, W: Write>(
 
     // The output and the status: the report of a judged list, which at each status except 4 is the one that plain maps
     // give, the explanation of a run with judged results, or all findings and no others.
-    ensures written { IfOk result (IsWrittenAs mode (suite_value S.value files.old)
-        (request_of_files options.now (suite_value S.value files.old)) sandbox.old.now
+    ensures written { IfOk result (IsWrittenAs mode (files_value S.value files.old)
+        (request_of_files options.now (files_value S.value files.old)) sandbox.old.now
         (device_of W.contents out.old) (device_of W.contents out.new)) }
     // The fault, and what was written.
-    ensures fault { IfErr result (SaysFaultAs mode (suite_value S.value files.old)
-        (request_of_files options.now (suite_value S.value files.old)) sandbox.old.now
+    ensures fault { IfErr result (SaysFaultAs mode (files_value S.value files.old)
+        (request_of_files options.now (files_value S.value files.old)) sandbox.old.now
         (device_of W.contents out.old) (device_of W.contents out.new)) }
     // Whatever is returned, files, variables, values and layers are as they were.
     ensures same { IsSame sandbox.old sandbox.new }
     // Whatever is returned, the names of the files stay. After a run's fault, only the last sources have bytes.
     ensures left { AreLeft mode result
-        (suite_value S.value files.old) (suite_value S.value files.new) }
+        (files_value S.value files.old) (files_value S.value files.new) }
     // The writer isn't flushed. With a status, it didn't fail, and each call moved at least one byte.
     ensures used { UsesWriter result
         (device_of W.contents out.old) (device_of W.contents out.new) }

@@ -15,9 +15,9 @@ ghost use Rattle.gk_cli.specs.Writing.{device_of};
 ghost use Rattle.gk_cli.specs.Reporter.{IsAdded, StopsAdding};
 ghost use Rattle.gk_cli.specs.ToldRun.{TellsFeature, TellsDryFeature, IsNextResult, IsDryResult, TellsNext, EndsNext, AreTold, AreToldUpTo, IsClosed, StopsClosing, IsToldRun, IsToldUpTo, stays, stays_begun};
 
-use crate::growing_report::write_piece;
 use crate::reporter::Reporter;
-use gk_gherkin::HookFile;
+use crate::writing::write_piece;
+use gk_gherkin::HookTable;
 use gk_report::Summary;
 use gk_request::{Counted, RunFault};
 use gk_run::{
@@ -34,7 +34,7 @@ use std::io::Write;
 pub struct RunParts<'a> {
     pub alloc: Global,
     pub library: &'a Library,
-    pub hooks: &'a HookFile,
+    pub hooks: &'a HookTable<'a>,
 }
 
 /// A reporter of a run, and the counts of the features that it was told.
@@ -95,15 +95,15 @@ fn tell_next<R: Reporter, W: Write>(
 ) -> Result<(), RunFault>
     requires innermost { suite.old.layer ≡ depth sandbox.old }
     requires formed { IsFormed feature }
-    ensures ok { let run = run_of parts.now.library.now parts.now.hooks.now suite.old.stop in
-        OnOk result (TellsNext
+    ensures ok { let hooks = parts.now.hooks.now.file.now in
+        let run = run_of parts.now.library.now hooks suite.old.stop in OnOk result (TellsNext
         (TellsFeature R.hears R.ends R.begins R.adds run (state_of sandbox.old.now))
         (IsNextResult run (state_of sandbox.old.now)
         (opens_features suite.old) (opens_features suite.new) (chosen_value feature))
         (opens_features suite.old) (chosen_value feature)
         (device_of W.contents out.old) told.old (device_of W.contents out.new) told.new) }
-    ensures err { let run = run_of parts.now.library.now parts.now.hooks.now suite.old.stop in
-        IfErr result (EndsNext
+    ensures err { let hooks = parts.now.hooks.now.file.now in
+        let run = run_of parts.now.library.now hooks suite.old.stop in IfErr result (EndsNext
         (TellsFeature R.hears R.ends R.begins R.adds run (state_of sandbox.old.now))
         (IsFeatureResult run (state_of sandbox.old.now)
         (opens_features suite.old) (chosen_value feature))
@@ -139,14 +139,14 @@ fn tell_features<R: Reporter, W: Write>(
 ) -> Result<(), RunFault>
     requires innermost { suite.old.layer ≡ depth sandbox.old }
     requires formed { AllByRecursion IsFormed features.items }
-    ensures ok { let run = run_of parts.now.library.now parts.now.hooks.now suite.old.stop in
-        OnOk result (AreTold
+    ensures ok { let hooks = parts.now.hooks.now.file.now in
+        let run = run_of parts.now.library.now hooks suite.old.stop in OnOk result (AreTold
         (TellsFeature R.hears R.ends R.begins R.adds run (state_of sandbox.old.now)) (stays run)
         (AreFeatures run (state_of sandbox.old.now) (opens_features suite.old))
         (opens_features suite.old) (map chosen_value features.items)
         (device_of W.contents out.old) told.old (device_of W.contents out.new) told.new) }
-    ensures err { let run = run_of parts.now.library.now parts.now.hooks.now suite.old.stop in
-        IfErr result (AreToldUpTo
+    ensures err { let hooks = parts.now.hooks.now.file.now in
+        let run = run_of parts.now.library.now hooks suite.old.stop in IfErr result (AreToldUpTo
         (TellsFeature R.hears R.ends R.begins R.adds run (state_of sandbox.old.now)) (stays run)
         (AreFeatures run (state_of sandbox.old.now) (opens_features suite.old))
         (opens_features suite.old) (map chosen_value features.items)
@@ -244,12 +244,12 @@ pub fn tell_run<R: Reporter, W: Write>(
     requires formed { AllByRecursion IsFormed features.items }
     ensures ok { IfOk result (IsToldRun R.hears
         (TellsFeature R.hears R.ends R.begins R.adds) R.closes
-        (run_of parts.now.library.now parts.now.hooks.now stop) sandbox.old.now
+        (run_of parts.now.library.now parts.now.hooks.now.file.now stop) sandbox.old.now
         (map chosen_value features.items) reporter
         (device_of W.contents out.old) (device_of W.contents out.new)) }
     ensures err { IfErr result (IsToldUpTo R.hears
         (TellsFeature R.hears R.ends R.begins R.adds) R.closes
-        (run_of parts.now.library.now parts.now.hooks.now stop) sandbox.old.now
+        (run_of parts.now.library.now parts.now.hooks.now.file.now stop) sandbox.old.now
         (map chosen_value features.items) reporter
         (device_of W.contents out.old) (device_of W.contents out.new)) }
     ensures same { IsSame sandbox.old sandbox.new }

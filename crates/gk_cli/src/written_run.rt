@@ -11,6 +11,7 @@ ghost use Rattle.gk_cli.specs.WrittenRun.{IsWhole, IsPrefix};
 
 use crate::growing_report::{GrowingReport, write_head};
 use crate::told_run::{CountingReporter, RunParts, close, tell_dry_features, tell_run};
+use gk_gherkin::HookTable;
 use gk_report::reports_grow_by_parts;
 use gk_request::{Counted, Options, ReadInputs, RunFault};
 use gk_run::{Status, dry_runs_are_judged, unfinished_dry_runs_are_judged};
@@ -57,6 +58,7 @@ pub fn write_run<W: Write>(
         tell_dry_features(alloc, &library, &mut told, features, out)?;
         return close(alloc, told, Status::Passed, out);
     }
+    let hooks = HookTable::new(alloc, &hooks);
     let parts = RunParts {
         alloc,
         library: &library,

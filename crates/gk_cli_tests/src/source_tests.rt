@@ -1,4 +1,4 @@
-use gk_gherkin::LIMIT;
+use gk_gherkin::LONGEST_FILE;
 use gk_request::{Counted, read_source};
 use std::alloc::{AllocError, Global};
 use std::io;
@@ -80,13 +80,13 @@ const READ: [(usize, usize, usize, &str); 10] = [
         "Err(Device): 4 of 16384, counted 4 1, 0 left",
     ),
     (
-        LIMIT,
+        LONGEST_FILE,
         usize::MAX,
         0,
         "Ok(16777216): 1025 of 16384, counted 1025 0, 0 left",
     ),
     (
-        LIMIT + 2,
+        LONGEST_FILE + 2,
         usize::MAX,
         0,
         "Err(TooLong): 1025 of 16384, counted 1025 0, 1 left",
@@ -98,7 +98,7 @@ const READ: [(usize, usize, usize, &str); 10] = [
         "Err(Device): 150000 of 16384, counted 150000 1, 50001 left",
     ),
     (
-        LIMIT + 2,
+        LONGEST_FILE + 2,
         1,
         0,
         "Err(TooLong): 16777217 of 16384, counted 16777217 0, 1 left",

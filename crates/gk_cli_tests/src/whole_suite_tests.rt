@@ -140,6 +140,7 @@ fn found(
 
 #[test]
 fn suites_are_linted(rt: HostRuntime) -> Result<(), Fail> {
+    assert!(rt; Mode::Findings { steps: true }.is_lint() && !Mode::Report.is_lint());
     let [library, hooks, feature, wanted] = WICK;
     let mut files = files_with(
         rt.alloc(),

@@ -15,7 +15,7 @@ use Rattle.gk_lint.specs.Likeness.{is_other_blank, letter, same_letters, common_
 use Rattle.gk_lint.specs.LineContext.{after}
 use Rattle.gk_lint.specs.Misspelt.{misspelt, wording}
 use Rattle.gk_lint.specs.LineEnds.{cr_alone}
-use Rattle.gk_lint.specs.MissingParts.{of_scenario, of_feature, missing_parts}
+use Rattle.gk_lint.specs.MissingParts.{missing_in_scenario, missing_in_feature, missing_parts}
 
 -- Two misspelt lines; the same words in a doc string are content.
 with_text : Lines
@@ -79,12 +79,12 @@ a_step = record { keyword = codes "Given"; step_type = Given; text = codes "a la
 plain : List StepValue → ScenarioValue
 plain steps = record { keyword = codes "Scenario"; name = codes "S"; line = 3; tags = []; steps = steps; examples = [] }
 
-with_steps : of_scenario (plain (a_step ∷ [])) ≡ []
-unfolding of_scenario plain
+with_steps : missing_in_scenario (plain (a_step ∷ [])) ≡ []
+unfolding missing_in_scenario plain
 with_steps = refl
 
-without_steps : of_scenario (plain []) ≡ at_line 3 ScenarioWithoutSteps ∷ []
-unfolding of_scenario plain
+without_steps : missing_in_scenario (plain []) ≡ at_line 3 ScenarioWithoutSteps ∷ []
+unfolding missing_in_scenario plain
 without_steps = refl
 
 -- An outline with a header and no rows; and one, by its keyword, with nothing.
@@ -94,16 +94,16 @@ header_alone = record { name = []; line = 9; tags = []; header = codes "n" ∷ [
 outline : List StepValue → List ExamplesValue → ScenarioValue
 outline steps examples = record { keyword = codes "Scenario Outline"; name = codes "O"; line = 7; tags = []; steps = steps; examples = examples }
 
-without_rows : of_scenario (outline (a_step ∷ []) (header_alone ∷ [])) ≡ at_line 7 OutlineWithoutRows ∷ []
-unfolding of_scenario outline header_alone
+without_rows : missing_in_scenario (outline (a_step ∷ []) (header_alone ∷ [])) ≡ at_line 7 OutlineWithoutRows ∷ []
+unfolding missing_in_scenario outline header_alone
 without_rows = refl
 
-with_nothing : of_scenario (outline [] []) ≡ at_line 7 ScenarioWithoutSteps ∷ at_line 7 OutlineWithoutRows ∷ []
-unfolding of_scenario outline
+with_nothing : missing_in_scenario (outline [] []) ≡ at_line 7 ScenarioWithoutSteps ∷ at_line 7 OutlineWithoutRows ∷ []
+unfolding missing_in_scenario outline
 with_nothing = refl
 
-with_a_row : of_scenario (outline (a_step ∷ []) (record header_alone { rows = record { line = 10; cells = codes "1" ∷ [] } ∷ [] } ∷ [])) ≡ []
-unfolding of_scenario outline header_alone
+with_a_row : missing_in_scenario (outline (a_step ∷ []) (record header_alone { rows = record { line = 10; cells = codes "1" ∷ [] } ∷ [] } ∷ [])) ≡ []
+unfolding missing_in_scenario outline header_alone
 with_a_row = refl
 
 -- A feature with one rule, with scenarios or none.
@@ -111,11 +111,11 @@ feature : List ScenarioValue → FeatureValue
 feature scenarios = record { name = codes "F"; line = 1; tags = []; background = None; scenarios = []; rules = record { name = codes "R"; line = 2; tags = []; background = None; scenarios = scenarios } ∷ [] }
 
 no_scenarios : missing_parts (Some (feature [])) ≡ at_line 1 FeatureWithoutScenarios ∷ []
-unfolding of_feature of_scenario feature
+unfolding missing_in_feature missing_in_scenario feature
 no_scenarios = refl
 
 scenario_in_rule : missing_parts (Some (feature (plain [] ∷ []))) ≡ at_line 3 ScenarioWithoutSteps ∷ []
-unfolding of_feature of_scenario feature plain
+unfolding missing_in_feature missing_in_scenario feature plain
 scenario_in_rule = refl
 
 no_feature : missing_parts None ≡ at_line 1 FileWithoutFeature ∷ []

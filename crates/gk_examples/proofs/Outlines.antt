@@ -3,7 +3,7 @@ use Rattle.std.specs.Prelude.{codes, ◌≡◌, ℕ, List, [], ◌∷◌, map, O
 use Rattle.std.specs.Fmt.{digits}
 use Rattle.gk_gherkin.specs.declared.feature.StepType.TheVariants.{Given, Then}
 use Rattle.gk_gherkin.specs.Feature.{Empty, StepValue, ExamplesValue, ScenarioValue, FeatureValue}
-use Rattle.gk_select.specs.Filling.{filled, filled_from, cell_under}
+use Rattle.gk_select.specs.Filling.{filled, filled_from, cell_of}
 use Rattle.gk_select.specs.Expansion.{cases}
 use Rattle.gk_select.specs.Case.{CaseValue}
 use Rattle.gk_select.specs.ExampleRows.{outline_rows}
@@ -11,23 +11,23 @@ use Rattle.gk_select.specs.Outline.{outline_name}
 
 -- Filling: replaced text isn't looked at again, a `<` that begins no placeholder stays, and of two equal headers the first counts.
 inner_filled : filled (codes "a" ∷ []) (codes "1" ∷ []) (codes "<a<a>>") ≡ codes "<a1>"
-unfolding filled filled_from cell_under
+unfolding filled filled_from cell_of
 inner_filled = refl
 
 once_filled : filled (codes "a" ∷ codes "b" ∷ []) (codes "<b>" ∷ codes "x" ∷ []) (codes "is \"<a>\" <c> <") ≡ codes "is \"<b>\" <c> <"
-unfolding filled filled_from cell_under
+unfolding filled filled_from cell_of
 once_filled = refl
 
 first_counts : filled (codes "a" ∷ codes "a" ∷ []) (codes "1" ∷ codes "2" ∷ []) (codes "<a><a>") ≡ codes "11"
-unfolding filled filled_from cell_under
+unfolding filled filled_from cell_of
 first_counts = refl
 
 header_with_end : filled (codes "a>b" ∷ []) (codes "1" ∷ []) (codes "<a>b>") ≡ codes "<a>b>"
-unfolding filled filled_from cell_under
+unfolding filled filled_from cell_of
 header_with_end = refl
 
 empty_header : filled ([] ∷ []) (codes "1" ∷ []) (codes "x<>y") ≡ codes "x1y"
-unfolding filled filled_from cell_under
+unfolding filled filled_from cell_of
 empty_header = refl
 
 -- An outline with two Examples of one row each.
@@ -61,17 +61,17 @@ outline = record {
 }
 
 outline_names : map (λ (c : CaseValue). c.name) (cases outline) ≡ codes "s -- @1.1" ∷ codes "s -- @2.1 more" ∷ []
-unfolding cases filled filled_from cell_under digits
+unfolding cases filled filled_from cell_of digits
 outline_names = refl
 
 outline_lines : map (λ (c : CaseValue). c.line) (cases outline) ≡ 7 ∷ 10 ∷ []
-unfolding cases filled filled_from cell_under digits
+unfolding cases filled filled_from cell_of digits
 outline_lines = refl
 
 outline_texts : map (λ (c : CaseValue). map (λ (s : StepValue). s.text) c.steps) (cases outline)
     ≡ (codes "the variable \"V\" is set to \"<b>\"" ∷ codes "the variable \"V\" should be \"<b>\"" ∷ [])
     ∷ (codes "the variable \"V\" is set to \"y\"" ∷ codes "the variable \"V\" should be \"y\"" ∷ []) ∷ []
-unfolding cases filled filled_from cell_under digits set_step check_step
+unfolding cases filled filled_from cell_of digits set_step check_step
 outline_texts = refl
 
 rows_of_outline : outline_rows outline
@@ -140,5 +140,5 @@ inherited : map shown (cases inheriting)
     ≡ record { name = codes "p <a>"; line = 5; rule = None; tags = codes "@f" ∷ codes "@p" ∷ []; own_tags = codes "@p" ∷ []; steps = codes "first <a>" ∷ codes "plain" ∷ [] }
     ∷ record { name = codes "t 1 -- @1.1"; line = 14; rule = Some 0; tags = codes "@f" ∷ codes "@r" ∷ codes "@s" ∷ codes "@e" ∷ []; own_tags = codes "@s" ∷ codes "@e" ∷ []; steps = codes "first <a>" ∷ codes "second" ∷ codes "own 1" ∷ [] }
     ∷ []
-unfolding cases filled filled_from cell_under digits given_step shown
+unfolding cases filled filled_from cell_of digits given_step shown
 inherited = refl

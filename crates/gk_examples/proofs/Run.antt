@@ -27,7 +27,7 @@ use Rattle.gk_gherkin.specs.HooksReader.{on_hook, on_hook_body, on_plain_line, o
 use Rattle.gk_gherkin.proofs.FeatureReaderSound.{sound}
 use Rattle.gk_gherkin.proofs.HooksReaderSound.{hooks_sound}
 use Rattle.gk_select.specs.Expansion.{cases}
-use Rattle.gk_select.specs.Filling.{filled, filled_from, cell_under}
+use Rattle.gk_select.specs.Filling.{filled, filled_from, cell_of}
 use Rattle.gk_select.specs.TagGrammar.{Expression, one_term, or_terms, one_factor, tagged, negated}
 use Rattle.gk_select.specs.Choice.{is_chosen}
 use Rattle.gk_steps.specs.declared.action.Action.TheVariants as actions
@@ -55,7 +55,7 @@ use Rattle.gk_cli.specs.Writing.{Device}
 
 -- What a proof unfolds to compute the reading, the results and the report of files that are written out.
 unfoldable pub on_literals : ⊤
-unfolding is_utf8 chars lib.Utf8.encode digits class class_of class_of_words heading_keyword heading_name step_keyword step_text tags_of cells_of parts_of unescaped closes content_of language_of type_after on_heading on_row on_block on_grid on_body on_open on_line on hooks_class hook_heading on_hook on_hook_body on_plain_line on_hooks_line step run_by finish reading cases filled filled_from cell_under is_chosen found match_of act plain_on_literals
+unfolding is_utf8 chars lib.Utf8.encode digits class class_of class_of_words heading_keyword heading_name step_keyword step_text tags_of cells_of parts_of unescaped closes content_of language_of type_after on_heading on_row on_block on_grid on_body on_open on_line on hooks_class hook_heading on_hook on_hook_body on_plain_line on_hooks_line step run_by finish reading cases filled filled_from cell_of is_chosen found match_of act plain_on_literals
 on_literals = tt
 
 -- The state of a new sandbox: no file, no variable, no value.
@@ -103,7 +103,7 @@ inputs_read lines sources features read spelled = record { rules = []; tags = re
 -- A file that reads so, before others.
 read_before : (rules : List Expression) (lines : List ℕ) (source : SourceValue) (says : Option FeatureValue) (sources : List SourceValue) (features : List ChosenValue) →
     IsReadAs source.bytes says → AreRead (is_chosen rules lines) sources features → AreRead (is_chosen rules lines) (source ∷ sources) (with_reading (is_chosen rules lines) source.name says features)
-read_before rules lines source says sources features is others = (says, features, is.text, is.reads, is.limit, others, refl)
+read_before rules lines source says sources features is others = (says, features, is, others, refl)
 
 -- A feature with one scenario and one step.
 abbrev one_bytes : List ℕ

@@ -6,7 +6,7 @@ use Rattle.gk_gherkin.specs.Feature.{Empty, Text, Table, StepValue, ExamplesValu
 use Rattle.gk_gherkin.specs.Hooks.{HookValue}
 use Rattle.gk_gherkin.specs.Lines.{Lines, line_at}
 use Rattle.gk_select.specs.TagGrammar.{one_term, or_terms, one_factor, and_factors, tagged, negated}
-use Rattle.gk_select.specs.Filling.{filled, filled_from, cell_under}
+use Rattle.gk_select.specs.Filling.{filled, filled_from, cell_of}
 use Rattle.gk_steps.specs.declared.action.Action.TheVariants.{FileIs, WriteFiles, FileExists, SetValue, AtCleanup, SkipScenario}
 use Rattle.gk_steps.specs.Action.{row_of}
 use Rattle.gk_lint.specs.declared.findings.FindingKind.TheVariants.{NameTwice, OfStep, UnusedEntry, HookOfNoTag}
@@ -78,7 +78,7 @@ scenario : List ExamplesValue → ScenarioValue
 scenario examples = record { keyword = codes "Scenario"; name = codes "S"; line = 3; tags = []; steps = step ∷ []; examples = examples }
 
 in_outline : runs_in (scenario (part ∷ [])) step ≡ record step { text = codes "1" } ∷ record step { text = codes "2" } ∷ []
-unfolding scenario part step filled filled_from cell_under
+unfolding scenario part step filled filled_from cell_of
 in_outline = refl
 
 in_plain : runs_in (scenario []) step ≡ step ∷ []

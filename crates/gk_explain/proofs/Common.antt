@@ -3,7 +3,8 @@ pub use Rattle.std.proofs.Common.{Bool, IfSome, IsUtf8, List, None, Option, Some
 pub use Rattle.std.proofs.Math.Facts.{to_z-of_z}
 pub use Rattle.std.proofs.lemmas.Bool.{and_cases, and_left, and_parts, and_right, cases_eq, cases_lt, cond-false, cond-true, eq-eqb, eqb-false, eqb-true, le-ltb, lt-ltb, ltb-false, ltb-true, ne_eqb, not_from_true, or_from, or_parts}
 pub use Rattle.std.proofs.lemmas.Grind.{common_steps}
-pub use Rattle.std.proofs.lemmas.Iterator.{YieldsList-from_chars, items_from_collect}
+pub use Rattle.std.proofs.lemmas.Iterator.{YieldsList-from_chars, YieldsList-from_take, items_from_collect}
+pub use Rattle.std.proofs.lemmas.Iterator.Adapters.{YieldsList-from_skip}
 pub use Rattle.std.proofs.lemmas.Iterator.Consumers.{map_from_collect}
 pub use Rattle.std.proofs.lemmas.Iterator.Splits.{YieldsList-from_str_split}
 pub use Rattle.std.proofs.lemmas.List.{drop-drop, drop-map, drop-take, length-append, length-map, length_push, map-append, reverse-append, reverse-reverse, take-append-drop, take-map, take_at}
@@ -15,7 +16,7 @@ pub use Rattle.std.proofs.lemmas.Map.Text.{hash_map_updates_text}
 pub use Rattle.std.proofs.lemmas.Result.{on_ok_weaker}
 pub use Rattle.std.proofs.lemmas.Slice.{pushed}
 pub use Rattle.std.proofs.lemmas.Slice.Eq.{bytes_eq-Decides}
-pub use Rattle.std.proofs.lemmas.Str.{IsUtf8-past_char, chars-encodes, chars-nil, chars_past_char, encode_ascii, encodes-chars, len_utf8_bounds, length-encode}
+pub use Rattle.std.proofs.lemmas.Str.{IsUtf8-past_char, chars-encodes, chars-nil, chars_from_encodes, chars_past_char, encode_ascii, encodes-chars, len_utf8_bounds, length-encode}
 pub use Rattle.std.specs.HashMap.{HashMap, get_by_text}
 pub use Rattle.std.specs.List.{FoldsTo, enumerate_from, find, list_any, slice_get, slice_index}
 pub use Rattle.std.specs.List.Sorted.{IsStrictlyIncreasing}
@@ -47,7 +48,7 @@ pub use Rattle.gk_select.specs.Case.{CaseValue}
 pub use Rattle.gk_select.specs.ExampleRows.{ExampleRowValue, cell_value, example_row_value, row_lines}
 pub use Rattle.gk_steps.specs.Action.{row_of}
 pub use Rattle.gk_steps.specs.Finding.{FoundValue, LibraryValue, action_of, found, found_any, library_value}
-pub use Rattle.gk_steps.specs.Pattern.{pieces_said}
+pub use Rattle.gk_steps.specs.Pattern.{piece_values}
 pub use Rattle.gk_steps.specs.declared.action.Action.{Action}
 pub use Rattle.gk_steps.specs.declared.action.Does.{Does}
 pub use Rattle.gk_steps.specs.declared.action.Does.TheVariants.{Changes, Checks, Registers, Skips}

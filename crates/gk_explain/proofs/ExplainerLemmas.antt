@@ -18,11 +18,11 @@ at_if : (level : Level) (test : Bool) (xs : List RunEvent) → AllAt level xs �
 at_if level true xs a = a
 at_if level false xs a = tt
 
-at_walk : (library : LibraryValue) (place : Stage) (s : State) (steps : List StepValue) → AllAt place.level (walk library place s steps)
-at_walk library place s [] = tt
-at_walk library place s (step ∷ steps) =
-    let this = one_step library (site_of place) s step in
-    (refl, at_if _ (has_passed (ending_of this.mark)) _ (at_walk library place this.state steps))
+at_walk : (library : LibraryValue) (stage : Stage) (s : State) (steps : List StepValue) → AllAt stage.level (walk library stage s steps)
+at_walk library stage s [] = tt
+at_walk library stage s (step ∷ steps) =
+    let this = one_step library (site_of stage) s step in
+    (refl, at_if _ (has_passed (ending_of this.mark)) _ (at_walk library stage this.state steps))
 
 at_steps : (library : LibraryValue) (stood : Ending) (s : State) (steps : List StepValue) → AllAt levels.Scenario (steps_from library stood s steps)
 at_steps library stood s [] = tt
@@ -42,7 +42,7 @@ at_in_turn library level s [] = tt
 at_in_turn library level s (c ∷ cs) = let done = done_of (act library sites.Cleanup c.found c.block s) in (refl, at_in_turn library level done.state cs)
 
 at_refused : {level : Level} (s : State) (t : RunEvent) → level_of t ≡ level → level_of (refused s t) ≡ level
-at_refused s (of_step place step mark cleanups s') a = a
+at_refused s (of_step stage step mark cleanups s') a = a
 at_refused s (of_cleanup level cleanup outcome s') a = a
 
 at_cut : (level : Level) (n : ℕ) (s : State) (ts : List RunEvent) → AllAt level ts → AllAt level (cut_at n s ts)

@@ -37,6 +37,6 @@ pub scenario_added : {T E : Type 0} (result : Result T E) (e : ExplanationValue)
 scenario_added result e told kept source new is = added_by result e told e.scenario kept source new (λ library. record e { library = library; scenario = new }) (in_scenario e (level_of told) (after_event e.library e.names told) new is)
 
 -- What a step registered isn't said.
-pub whatever_registered : (place : Stage) (step : StepValue) (mark : Mark) (registered : List CleanupValue) (s : State) (e : ExplanationValue) → with_event (of_step place step mark [] s) e ≡ with_event (of_step place step mark registered s) e
+pub whatever_registered : (stage : Stage) (step : StepValue) (mark : Mark) (registered : List CleanupValue) (s : State) (e : ExplanationValue) → with_event (of_step stage step mark [] s) e ≡ with_event (of_step stage step mark registered s) e
 unfolding event_details
-whatever_registered place step mark registered s e = refl
+whatever_registered stage step mark registered s e = refl

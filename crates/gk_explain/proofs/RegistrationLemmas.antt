@@ -92,10 +92,10 @@ adds_none library c = record {
   passes = λ rs later. ap (λ (rs : List Registration). placed_cleanups library rs later) (sym (append-nil rs));
 }
 
-adds_first : (library : LibraryValue) (place : Stage) (step : StepValue) (mark : Mark) (s : State) (ts : List RunEvent) (c registered after : List CleanupValue) →
-    ArePaired (registered_by library (of_step place step mark registered s)) (placed_by (of_step place step mark registered s)) registered → Adds library ts (c ++ registered) after → Adds library (of_step place step mark registered s ∷ ts) c after
-adds_first library place step mark s ts c registered after first rest =
-    let t : RunEvent = of_step place step mark registered s in
+adds_first : (library : LibraryValue) (stage : Stage) (step : StepValue) (mark : Mark) (s : State) (ts : List RunEvent) (c registered after : List CleanupValue) →
+    ArePaired (registered_by library (of_step stage step mark registered s)) (placed_by (of_step stage step mark registered s)) registered → Adds library ts (c ++ registered) after → Adds library (of_step stage step mark registered s ∷ ts) c after
+adds_first library stage step mark s ts c registered after first rest =
+    let t : RunEvent = of_step stage step mark registered s in
     record {
       added = registered ++ rest.added;
       paired = both first rest.paired;
@@ -130,13 +130,13 @@ adds_if : (test : Bool) (library : LibraryValue) (section : SectionNow) (ts : Li
 adds_if true library section ts a = a
 adds_if false library section ts a = adds_none library section.cleanups
 
-adds_walk : (library : LibraryValue) (place : Stage) (s : State) (c : List CleanupValue) (steps : List StepValue) → AddsFrom library (at s c) (walk library place s steps)
-adds_walk library place s c [] = adds_none library c
-adds_walk library place s c (step ∷ steps) =
-    let this = one_step library (site_of place) s step in
-    let first = by_found (found library step.step_type step.text) library (site_of place) s step (record { part = place.part; line = step.line }) in
-    let rest = adds_if (has_passed (ending_of this.mark)) library (at this.state (c ++ this.registered)) (walk library place this.state steps) (adds_walk library place this.state (c ++ this.registered) steps) in
-    adds_first library place step this.mark this.state _ c this.registered _ first rest
+adds_walk : (library : LibraryValue) (stage : Stage) (s : State) (c : List CleanupValue) (steps : List StepValue) → AddsFrom library (at s c) (walk library stage s steps)
+adds_walk library stage s c [] = adds_none library c
+adds_walk library stage s c (step ∷ steps) =
+    let this = one_step library (site_of stage) s step in
+    let first = by_found (found library step.step_type step.text) library (site_of stage) s step (record { part = stage.part; line = step.line }) in
+    let rest = adds_if (has_passed (ending_of this.mark)) library (at this.state (c ++ this.registered)) (walk library stage this.state steps) (adds_walk library stage this.state (c ++ this.registered) steps) in
+    adds_first library stage step this.mark this.state _ c this.registered _ first rest
 
 -- A step that is only looked up registers nothing.
 not_carried_out : (known test : Bool) (places : List Registration) → (let mark : Mark = cond known Skipped Undefined in ArePaired (cond (is_passed mark && test) places []) [] [])

@@ -147,5 +147,5 @@ mark_details library step mark s = []
 
 -- The text below the line of an event. The library finds the action of a step; that of a cleanup was found before. The state is the one that the event left. A check, or a change that is refused, leaves what it found.
 unfoldable pub event_details : LibraryValue → RunEvent → List ℕ
-event_details library (of_step place step mark cleanups s) = mark_details library step mark s
+event_details library (of_step stage step mark cleanups s) = mark_details library step mark s
 event_details library (of_cleanup level cleanup outcome s) = outcome_details library cleanup.found cleanup.block outcome s

@@ -10,20 +10,20 @@ use Rattle.gk_explain.specs.declared.event.Event.{Event}
 use Rattle.gk_explain.specs.declared.event.Event.TheVariants.{Step, Cleanup}
 use Rattle.gk_explain.specs.declared.event.StepEvent.{StepEvent}
 
--- The value of a `StepEvent`, which has no cleanups, whatever the step registered.
+-- Proof machinery: the value of a `StepEvent`, which has no cleanups, whatever the step registered.
 abbrev pub step_told : StepEvent → RunEvent
-step_told e = of_step e.place (step_value e.step.now) e.mark [] (state_of e.sandbox.now.now)
+step_told e = of_step e.stage (step_value e.step.now) e.mark [] (state_of e.sandbox.now.now)
 
--- The value of a `CleanupEvent`.
+-- Proof machinery: the value of a `CleanupEvent`.
 abbrev pub cleanup_told : CleanupEvent → RunEvent
 cleanup_told e = of_cleanup e.level (record { found = found_value e.found.now; block = block_value e.block.now }) e.outcome (state_of e.sandbox.now.now)
 
--- The value of an `Event`.
+-- Proof machinery: the value of an `Event`.
 abbrev pub event_told : Event → RunEvent
 event_told (Step e) = step_told e
 event_told (Cleanup e) = cleanup_told e
 
 -- The level of the section that an event belongs to.
 abbrev pub level_of : RunEvent → Level
-level_of (of_step place step mark cleanups s) = place.level
+level_of (of_step stage step mark cleanups s) = stage.level
 level_of (of_cleanup level cleanup outcome s) = level

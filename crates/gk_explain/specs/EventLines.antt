@@ -23,7 +23,7 @@ pub record NamesValue : Type 0 where
   pub hooks : List ℕ
   pub source : List ℕ
 
--- The value of a `Names`.
+-- Proof machinery: the value of a `Names`.
 abbrev pub names_value : Names → NamesValue
 names_value names = record { hooks = names.hooks.now; source = names.source.now }
 
@@ -58,12 +58,12 @@ line_of_cleanup names at outcome = status_line (codes "  " ++ registered_text na
 
 -- The line of a step.
 unfoldable pub line_of_step : NamesValue → Stage → StepValue → Mark → List ℕ
-line_of_step names place step mark =
-    status_line (codes "  " ++ place_text (file_of names place.part) step.line ++ part_text place.part ++ step.keyword ++ codes " " ++ escaped step.text) (mark_text mark)
+line_of_step names stage step mark =
+    status_line (codes "  " ++ place_text (file_of names stage.part) step.line ++ part_text stage.part ++ step.keyword ++ codes " " ++ escaped step.text) (mark_text mark)
 
 -- The line of an event of a section with these cleanups still to run. A cleanup that runs is the last of them.
 abbrev pub event_line : NamesValue → List Registration → RunEvent → List ℕ
-event_line names registered (of_step place step mark cleanups s) = line_of_step names place step mark
+event_line names registered (of_step stage step mark cleanups s) = line_of_step names stage step mark
 event_line names registered (of_cleanup level cleanup outcome s) = line_of_cleanup names (last_of registered) outcome
 
 -- The lines of an event: its own, and the text below it.

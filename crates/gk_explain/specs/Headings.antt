@@ -30,14 +30,14 @@ feature_heading source f = place_text source f.line ++ codes "Feature: " ++ esca
 unfoldable pub run_heading : List ℕ
 run_heading = codes "Run: (hooks and cleanups)"
 
--- The heading of what has ended, in a file.
+-- Proof machinery: the heading of what has ended, in a file.
 abbrev pub heading_of : List ℕ → ExplainedEnd → List ℕ
 heading_of source (variants.Scenario c) = case_heading source (case_row c.now)
 heading_of source (variants.Rule r) = rule_heading source (rule_row r.now)
 heading_of source (variants.Feature f) = feature_heading source (feature_row f.now)
 heading_of source (variants.Run around) = run_heading
 
--- The status with which it ended.
+-- Proof machinery: the status with which it ended.
 abbrev pub ended_status : ExplainedEnd → Status
 ended_status (variants.Scenario c) = c.now.status
 ended_status (variants.Rule r) = r.now.around

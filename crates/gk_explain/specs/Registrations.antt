@@ -38,7 +38,7 @@ registers library step mark = is_passed mark && found_registers library (found l
 
 -- The place where an event registered a cleanup, if it did: the part of its section that contains the step, and the step's line.
 abbrev pub registered_by : LibraryValue → RunEvent → List Registration
-registered_by library (of_step place step mark cleanups s) = cond (registers library step mark) (record { part = place.part; line = step.line } ∷ []) []
+registered_by library (of_step stage step mark cleanups s) = cond (registers library step mark) (record { part = stage.part; line = step.line } ∷ []) []
 registered_by library (of_cleanup level cleanup outcome s) = []
 
 -- The last of these places, if any.
@@ -51,7 +51,7 @@ all_but_last registered = take (length registered - 1) registered
 
 -- The places of the cleanups that are still to run after an event of their section, in the order of registration. If the event registered a cleanup, its place is added; if the event is a cleanup, that was the last, and its place is removed. (behave's documentation: cleanups)
 abbrev pub left_to_run : LibraryValue → RunEvent → List Registration → List Registration
-left_to_run library (of_step place step mark cleanups s) registered = registered ++ registered_by library (of_step place step mark cleanups s)
+left_to_run library (of_step stage step mark cleanups s) registered = registered ++ registered_by library (of_step stage step mark cleanups s)
 left_to_run library (of_cleanup level cleanup outcome s) registered = all_but_last registered
 
 -- A cleanup that runs, and the place given for it.
@@ -62,12 +62,12 @@ pub record PlacedCleanup : Type 0 where
 -- The cleanups that run among events, in order, after these registrations. Each has the last place of those that are still to run.
 abbrev pub placed_cleanups : LibraryValue → List Registration → List RunEvent → List PlacedCleanup
 placed_cleanups library registered [] = []
-placed_cleanups library registered (of_step place step mark cleanups s ∷ events) = placed_cleanups library (left_to_run library (of_step place step mark cleanups s) registered) events
+placed_cleanups library registered (of_step stage step mark cleanups s ∷ events) = placed_cleanups library (left_to_run library (of_step stage step mark cleanups s) registered) events
 placed_cleanups library registered (of_cleanup level cleanup outcome s ∷ events) = record { at = last_of registered; cleanup = cleanup } ∷ placed_cleanups library (all_but_last registered) events
 
 -- The cleanups that an event registered, each with the place of its step.
 abbrev pub placed_by : RunEvent → List PlacedCleanup
-placed_by (of_step place step mark cleanups s) = map (λ cleanup. record { at = Some (record { part = place.part; line = step.line }); cleanup = cleanup }) cleanups
+placed_by (of_step stage step mark cleanups s) = map (λ cleanup. record { at = Some (record { part = stage.part; line = step.line }); cleanup = cleanup }) cleanups
 placed_by (of_cleanup level cleanup outcome s) = []
 
 -- If memory is refused nowhere, the cleanups of a case that run are those that its hooks and steps registered, the last first. The place given for each is that of the step that registered it.

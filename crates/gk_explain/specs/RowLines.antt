@@ -49,6 +49,6 @@ abbrev pub named_row : Option ExampleRowValue → List ℕ
 named_row None = []
 named_row (Some row) = row_line row
 
--- The value of a row, if there is one.
+-- Proof machinery: the value of a row, if there is one.
 abbrev pub borrowed_row : Option (Bor ExampleRow) → Option ExampleRowValue
 borrowed_row row = option_map (λ (r : Bor ExampleRow). example_row_value r.now) row

@@ -44,7 +44,7 @@ escaped_char c =
 unfoldable pub escaped : List ℕ → List ℕ
 escaped text = flat_map escaped_char (chars text)
 
--- Whether a byte belongs to a control character, or may do so: those from U+0080 on begin with 0xC2. No public contract needs it.
+-- Proof machinery: whether a byte belongs to a control character, or may do so: those from U+0080 on begin with 0xC2.
 abbrev pub is_suspect : ℕ → Bool
 is_suspect b = nat_lt b 0x20 || ((b == 0x7F) || (b == 0xC2))
 

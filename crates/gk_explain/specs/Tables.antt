@@ -43,6 +43,6 @@ abbrev pub refused_file : BlockValue → List ℕ × List ℕ
 refused_file (Table rows) = first_refused (drop 1 rows)
 refused_file block = ([], [])
 
--- The value of a `RowFile`.
+-- Proof machinery: the value of a `RowFile`.
 abbrev pub file_value : RowFile → List ℕ × List ℕ
 file_value f = (f.name.now, f.text.now)

@@ -7,10 +7,10 @@ use gk_run::{Level, Mark, Outcome, Stage};
 use gk_steps::Found;
 use gk_world::Sandbox;
 
-/// What happened to a step: its place, its mark, and the sandbox that it left.
+/// What happened to a step: its stage, its mark, and the sandbox that it left.
 #[derive(Clone, Copy)]
 pub struct StepEvent<'a> {
-    pub place: Stage,
+    pub stage: Stage,
     pub step: &'a Step,
     pub mark: Mark,
     pub sandbox: &'a Sandbox,
@@ -38,7 +38,7 @@ pub fn level_of(event: Event<'_>) -> Level
     ensures { result ≡ spec.level_of (spec.event_told event.entry) }
 {
     match event {
-        Event::Step(step) => step.place.level,
+        Event::Step(step) => step.stage.level,
         Event::Cleanup(cleanup) => cleanup.level,
     }
 }

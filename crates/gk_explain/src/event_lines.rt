@@ -74,17 +74,17 @@ fn push_words(out: &mut String, keyword: &str, text: &str) -> Result<(), AllocEr
 fn push_step_line(
     out: &mut String,
     names: Names<'_>,
-    place: Stage,
+    stage: Stage,
     step: &Step,
     mark: Mark,
 ) -> Result<(), AllocError>
     ensures { Pushes out.old
-        (spec.line_of_step (names_value names.entry) place (step_value step.now) mark)
+        (spec.line_of_step (names_value names.entry) stage (step_value step.now) mark)
         result out.new }
 {
     out.push_str("  ")?;
-    push_place(out, file_of(names, place.part), step.line)?;
-    out.push_str(part_text(place.part))?;
+    push_place(out, file_of(names, stage.part), step.line)?;
+    out.push_str(part_text(stage.part))?;
     push_words(out, step.keyword.as_str(), step.text.as_str())?;
     push_mark(out, mark)
 }
@@ -134,7 +134,7 @@ pub fn push_event_line(
         result out.new }
 {
     match event {
-        Event::Step(step) => push_step_line(out, names, step.place, step.step, step.mark),
+        Event::Step(step) => push_step_line(out, names, step.stage, step.step, step.mark),
         Event::Cleanup(cleanup) => {
             push_cleanup_line(out, names, registered.last().copied(), cleanup.outcome)
         }

@@ -118,8 +118,8 @@ impl<'a> Explainer<'a> {
         self.cut_after(added);
     }
 
-    /// Returns the explanations that are ready and weren't taken before; after that, none is ready. Allocates
-    /// no memory. An error comes only if a growth was refused to the explainer before, so that it is cut, and
+    /// Returns the explanations that are ready and weren't taken before; after that, none is ready. Doesn't
+    /// allocate. An error comes only if a growth was refused to the explainer before, so that it is cut, and
     /// it stays cut.
     pub fn take_ready(&mut self) -> Result<String, AllocError>
         ensures uncut { IfOk result (λ text. spec.is_cut self.old ≡ false) }
@@ -155,12 +155,12 @@ impl Observer for Explainer<'_> {
 
     ghost ends = { HearsEnd };
 
-    fn step(&mut self, place: Stage, step: &Step, mark: Mark, sandbox: &Sandbox) {
+    fn step(&mut self, stage: Stage, step: &Step, mark: Mark, sandbox: &Sandbox) {
         if self.cut {
             return;
         }
         let event = Event::Step(StepEvent {
-            place,
+            stage,
             step,
             mark,
             sandbox,

@@ -1,6 +1,6 @@
 //! The entry of a library that the author of an undefined step may have meant.
 ghost use Rattle.std.specs.Prelude.{◌≡◌, option_map};
-ghost use Rattle.gk_steps.specs.Pattern.{piece_value, pieces_said};
+ghost use Rattle.gk_steps.specs.Pattern.{piece_value, piece_values};
 ghost use Rattle.gk_steps.specs.Finding.{entry_value, library_value};
 ghost use Rattle.gk_report.specs.ReportTexts.{Pushes};
 ghost use Rattle.gk_explain.specs.Nearest as spec;
@@ -68,7 +68,7 @@ fn push_piece(out: &mut String, piece: &Piece) -> Result<(), AllocError>
 
 // Appends the pieces of a pattern.
 fn push_pattern(out: &mut String, pattern: &[Piece]) -> Result<(), AllocError>
-    ensures { Pushes out.old (spec.pattern_shown (pieces_said pattern.now)) result out.new }
+    ensures { Pushes out.old (spec.pattern_shown (piece_values pattern.now)) result out.new }
 {
     for piece in pattern {
         push_piece(out, piece)?;

@@ -61,7 +61,7 @@ pub fn take_up(
         Event::Step(step) => {
             if registers(alloc, library, &step)? {
                 registered.push(Registration {
-                    part: step.place.part,
+                    part: step.stage.part,
                     line: step.step.line,
                 })?;
             }

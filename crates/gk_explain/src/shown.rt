@@ -1,5 +1,5 @@
 //! Texts as they are shown below an event.
-ghost use Rattle.std.specs.Prelude.{◌≡◌, ◌<◌, ◌+◌, chars, flat_map, length, map, IfOk};
+ghost use Rattle.std.specs.Prelude.{◌≡◌, ◌<◌, ◌+◌, chars, drop, flat_map, length, map, take, IfOk};
 ghost use Rattle.std.specs.List.{list_any};
 ghost use Rattle.gk_report.specs.ReportTexts.{Pushes};
 ghost use Rattle.gk_explain.specs.Shown as spec;
@@ -188,19 +188,6 @@ fn cut_before(column: usize, count: usize) -> usize
     if before < most { before } else { most }
 }
 
-// Returns the characters of a line that are shown around a column.
-fn window(column: usize, line: &[char]) -> &[char]
-    ensures { result.now ≡ spec.window column line.now }
-{
-    let (_, rest) = line.split_at(cut_before(column, line.len()));
-    if rest.len() > 60 {
-        let (kept, _) = rest.split_at(60);
-        kept
-    } else {
-        rest
-    }
-}
-
 // Appends characters as they are shown between quotes.
 fn push_chars(out: &mut String, line: &[char]) -> Result<(), AllocError>
     ensures { Pushes out.old (flat_map spec.shown_char line.now) result out.new }
@@ -218,41 +205,50 @@ fn push_cut_mark(out: &mut String, cut: bool) -> Result<(), AllocError>
     if cut { out.push_str("...") } else { Ok(()) }
 }
 
-// Returns the characters of a text.
-fn chars_of(alloc: Global, text: &str) -> Result<Vec<char>, AllocError>
-    ensures { IfOk result (λ all. all.items ≡ chars text.now) }
+// Returns the number of characters of a line.
+fn count_of(line: &str) -> usize
+    ensures { result ≡ length (chars line.now) }
 {
-    text.chars().collect(alloc)
+    line.chars().count()
+}
+
+// Returns at most sixty characters of a line, without the first ones.
+fn window(alloc: Global, before: usize, line: &str) -> Result<Vec<char>, AllocError>
+    ensures { IfOk result (λ shown. shown.items ≡ take 60 (drop before (chars line.now))) }
+{
+    line.chars().skip(before).take(60).collect(alloc)
 }
 
 // Appends the characters of a line around a column, between quotes, with a mark on each side that is cut.
 #[tactic(auto, unfolding(crate::specs::Shown::quoted_window))]
-fn push_window(out: &mut String, column: usize, line: &[char]) -> Result<(), AllocError>
-    ensures { Pushes out.old (spec.quoted_window column line.now) result out.new }
+fn push_window(alloc: Global, out: &mut String, column: usize, line: &str) -> Result<(), AllocError>
+    ensures { Pushes out.old (spec.quoted_window column (chars line.now)) result out.new }
 {
-    let before = cut_before(column, line.len());
-    let most = line.len().saturating_sub(60);
+    let count = count_of(line);
+    let before = cut_before(column, count);
+    let shown = window(alloc, before, line)?;
     push_cut_mark(out, 0 < before)?;
     out.push_str("\"")?;
-    push_chars(out, window(column, line))?;
+    push_chars(out, &shown)?;
     out.push_str("\"")?;
-    push_cut_mark(out, before < most)
+    push_cut_mark(out, before < count.saturating_sub(60))
 }
 
 // Appends a line after a mark, cut to the characters around a column.
 #[tactic(auto, unfolding(crate::specs::Shown::cut_line))]
 fn push_cut_line(
+    alloc: Global,
     out: &mut String,
     mark: &str,
     column: usize,
-    line: &[char],
+    line: &str,
 ) -> Result<(), AllocError>
-    ensures { Pushes out.old (spec.cut_line mark.now column line.now) result out.new }
+    ensures { Pushes out.old (spec.cut_line mark.now column (chars line.now)) result out.new }
 {
     out.push_str("      ")?;
     out.push_str(mark)?;
     out.push_str(" ")?;
-    push_window(out, column, line)?;
+    push_window(alloc, out, column, line)?;
     out.push_str("\n")
 }
 
@@ -268,10 +264,7 @@ fn push_row(
 {
     match around {
         None => push_line(out, mark, line),
-        Some(column) => {
-            let line = chars_of(alloc, line)?;
-            push_cut_line(out, mark, column, &line)
-        }
+        Some(column) => push_cut_line(alloc, out, mark, column, line),
     }
 }
 

@@ -37,8 +37,7 @@ are_read chooses library [] rs text none = ([], refl)
 are_read chooses library (s ∷ ss) rs text h =
     let others = are_read chooses library ss h.1 h.3 h.5 in
     let linted = h.4 in
-    let read = linted.read in
-    (with_reading chooses s.name h.0 others.0, (h.0, others.0, read.text, read.reads, read.limit, others.1, refl))
+    (with_reading chooses s.name h.0 others.0, (h.0, others.0, linted.read, others.1, refl))
 
 -- One source more, of all that was found.
 pub lint_of_more : (library : NotedLibraryValue) (ss : List SourceValue) (s : SourceValue) (old new : LintSoFar) → IsLintOf library ss old → IsLintedOnto library s old new → IsLintOf library (ss ++ s ∷ []) new

@@ -1,7 +1,7 @@
 -- The notes below the fault of an argument of `--env`.
 use Rattle.std.specs.Prelude.{ℕ, List, [], ◌++◌, codes}
 use Rattle.gk_explain.specs.Shown.{shown}
-use Rattle.gk_findings.specs.FaultNotes.{note}
+use Rattle.gk_findings.specs.Notes.{note}
 use Rattle.gk_findings.specs.declared.env_notes.EnvMistake.{EnvMistake}
 use Rattle.gk_findings.specs.declared.env_notes.EnvMistake.TheVariants.{NoEquals, BadName, LongValue}
 

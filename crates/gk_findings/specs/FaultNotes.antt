@@ -1,17 +1,18 @@
 -- The notes below a fault of a run.
-use Rattle.std.specs.Prelude.{ℕ, ◌-◌, List, [], ◌++◌, codes, slice_get, Option, Some, None}
+use Rattle.std.specs.Prelude.{ℕ, ◌-◌, List, [], ◌++◌, slice_get, Option, Some, None}
 use Rattle.std.specs.Str.Lines.{lines}
 use Rattle.std.specs.Str.Lossy.{utf8_lossy}
 use Rattle.gk_gherkin.specs.Lines.{without_mark}
 use Rattle.gk_gherkin.specs.declared.read_fault.ReadFault.TheVariants.{Unexpected}
 use Rattle.gk_lint.specs.declared.unexpected_lines.Cause.{Cause}
-use Rattle.gk_lint.specs.LibraryCauses.{CauseValue, library_cause, cause_text as library_cause_text}
+use Rattle.gk_lint.specs.LibraryCauses.{CauseValue, library_cause, library_cause_text}
 use Rattle.gk_lint.specs.UnexpectedLines.{cause_at, cause_text}
 use Rattle.gk_select.specs.TagStops.{tag_stop}
 use Rattle.gk_steps.specs.declared.library_fault.LibraryFault.{LibraryFault}
 use Rattle.gk_explain.specs.Shown.{shown}
 use Rattle.gk_request.specs.declared.run_fault.RunFault.{RunFault}
 use Rattle.gk_request.specs.declared.run_fault.RunFault.TheVariants.{Read, Library}
+use Rattle.gk_findings.specs.Notes.{note, quote}
 use Rattle.gk_findings.specs.Hints.{hint}
 use Rattle.gk_findings.specs.TagHints.{tags_hint}
 use Rattle.gk_request.specs.Source.{SourceValue}
@@ -21,15 +22,6 @@ use Rattle.gk_request.specs.FaultLine.{file_at_fault, line_at_fault}
 -- The line of a file with this number, counted from 1. Bytes that aren't UTF-8 appear as U+FFFD. (std's `lines` and `from_utf8_lossy`)
 abbrev pub line_text : List ℕ → ℕ → Option (List ℕ)
 line_text bytes n = slice_get (lines (utf8_lossy bytes)) (n - 1)
-
--- A text below a fault, on a separate line after four spaces.
-unfoldable pub note : List ℕ → List ℕ
-note text = codes "    " ++ (text ++ codes "\n")
-
--- A line of a file as it is quoted, with invisible characters as escapes.
-abbrev pub quote : Option (List ℕ) → List ℕ
-quote None = []
-quote (Some text) = note (shown text)
 
 -- The quoted line of a file, if a line of it is named.
 abbrev pub quote_of : Option SourceValue → Option ℕ → List ℕ

@@ -19,7 +19,7 @@ use Rattle.gk_lint.specs.Placeholders.{column_at}
 use Rattle.gk_lint.specs.ScenarioNames.{scenarios_of}
 use Rattle.gk_findings.specs.declared.finding_lines.NotedLibrary.{NotedLibrary}
 use Rattle.gk_findings.specs.declared.finding_lines.NotedFile.{NotedFile}
-use Rattle.gk_findings.specs.FaultNotes.{note}
+use Rattle.gk_findings.specs.Notes.{note}
 
 -- The line of a finding in a file of this name.
 abbrev pub finding_line : List ℕ → Finding → List ℕ
@@ -32,7 +32,7 @@ pub record NotedLibraryValue : Type 0 where
   pub name : List ℕ
   pub lines : List ℕ
 
--- The value of a `NotedLibrary`.
+-- Proof machinery: the value of a `NotedLibrary`.
 abbrev pub noted_library_value : NotedLibrary → NotedLibraryValue
 noted_library_value l = record { entries = l.hints; steps = l.steps; name = l.name.now; lines = l.lines.items }
 
@@ -42,7 +42,7 @@ pub record NotedFileValue : Type 0 where
   pub lines : List (List ℕ)
   pub scenarios : List ScenarioValue
 
--- The value of a `NotedFile`.
+-- Proof machinery: the value of a `NotedFile`.
 abbrev pub noted_file_value : NotedFile → NotedFileValue
 noted_file_value f = record { name = f.name.now; lines = map (λ (text : Bor (List ℕ)). text.now) f.lines.items; scenarios = map (λ (s : Bor Scenario). scenario_value s.now) f.scenarios.items }
 

@@ -49,7 +49,7 @@ abbrev pub library_lines : Bool → List ℕ → Option (List ℕ) → List ℕ 
 library_lines false name bytes used = []
 library_lines true name bytes used = finding_lines name (library_findings bytes used) ++ count_line name (length (library_findings bytes used)) (length (lines_of_library bytes))
 
--- The inputs that a lint has read: the rules of tags, the library as notes name it, the hooks and the features; and the text of the sources' findings.
+-- The inputs that a lint has read: the tag rules, the library as notes name it, the hooks and the features; and the text of the sources' findings.
 pub record LintRead : Type 0 where
   pub rules : List Expression
   pub library : NotedLibraryValue
@@ -89,6 +89,6 @@ abbrev pub AreTexts : Option (List ℕ) → Type 0
 AreTexts None = Unit {0}
 AreTexts (Some bytes) = IsText bytes
 
--- The inputs read before the sources, and the results for the sources.
+-- Proof machinery: the inputs read before the sources, and the results for the sources.
 abbrev pub read_of : NotedLibraryValue → ReadBefore → LintSoFar → LintRead
 read_of library before so_far = record { rules = map tag_rule_value before.rules.items; library = library; hooks = hooks_value before.hooks; features = map feature_value so_far.features.items; of_sources = string_bytes so_far.text }

@@ -7,7 +7,7 @@ use Rattle.gk_select.specs.SelectFault.{said_of_select_fault}
 use Rattle.gk_select.specs.TagStops.{StopValue}
 use Rattle.gk_explain.specs.Shown.{shown}
 
--- What has to stand at the place at which a text stops spelling a rule of tags.
+-- What is expected at the point at which a text of tags stops spelling a tag rule.
 unfoldable pub wanted_text : Wanted → List ℕ
 wanted_text Operand = codes "\"not\", \"(\" or a tag such as @a"
 wanted_text Operator = codes "\"and\" or \"or\""

@@ -3,7 +3,7 @@ ghost use Rattle.std.specs.Prelude.{◌≡◌, string_bytes, IfOk};
 ghost use Rattle.gk_report.specs.ReportTexts.{Pushes};
 ghost use Rattle.gk_findings.specs.EnvNotes as spec;
 
-use crate::fault_notes::push_note;
+use crate::notes::push_note;
 use gk_explain::push_shown;
 use std::alloc::{AllocError, Global};
 
@@ -38,8 +38,8 @@ fn after_name(mistake: EnvMistake) -> &'static str
     }
 }
 
-// Pushes an argument up to its `=`, on a separate line.
-#[tactic(auto, unfolding(crate::specs::FaultNotes::note))]
+// Appends an argument up to its `=`, on a separate line.
+#[tactic(auto, unfolding(crate::specs::Notes::note))]
 fn push_argument(out: &mut String, mistake: EnvMistake, name: &str) -> Result<(), AllocError>
     ensures { Pushes out.old (spec.argument_note mistake name.now) result out.new }
 {
@@ -49,9 +49,9 @@ fn push_argument(out: &mut String, mistake: EnvMistake, name: &str) -> Result<()
     out.push_str("\n")
 }
 
-/// Returns the notes below the fault of an argument of `--env`: the argument up to its `=`, and a hint on how to fix it.
-/// Each is a line that begins with four spaces; invisible characters are escapes. Fails only if memory can't be
-/// allocated.
+/// Returns the notes below the fault of an argument of `--env`: the argument up to its `=`, and a hint on how to fix
+/// it. Each is a line that begins with four spaces; invisible characters are escapes. An error comes only if a growth
+/// was refused.
 pub fn notes_on_env(alloc: Global, mistake: EnvMistake, name: &str) -> Result<String, AllocError>
     ensures { IfOk result (λ notes. string_bytes notes ≡ spec.notes_on_env mistake name.now) }
 {

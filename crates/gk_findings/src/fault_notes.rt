@@ -5,15 +5,14 @@ ghost use Rattle.gk_gherkin.specs.Lines as of_lines;
 ghost use Rattle.gk_lint.specs.LibraryCauses.{cause_value, library_cause as cause_of_library};
 ghost use Rattle.gk_lint.specs.UnexpectedLines.{cause_at as cause_of_lines};
 ghost use Rattle.gk_report.specs.ReportTexts.{Pushes};
-ghost use Rattle.gk_explain.specs.Shown.{shown};
 ghost use Rattle.gk_request.specs.Source.{source_value};
-ghost use Rattle.gk_request.specs.Request.{suite_value};
+ghost use Rattle.gk_request.specs.Request.{files_value};
+ghost use Rattle.gk_findings.specs.Notes.{quote};
 ghost use Rattle.gk_findings.specs.FaultNotes as spec;
 
-use crate::finding_lines::{place_of, text_lines};
 use crate::hints::hint;
+use crate::notes::{position_of, push_note, push_shown_note, text_lines};
 use crate::tag_hints::tags_hint;
-use gk_explain::push_shown;
 use gk_gherkin::ReadFault;
 use gk_lint::{Cause, LibraryCause, cause_at, library_cause};
 use gk_request::{RunFault, Source, SuiteFiles, file_at_fault, line_at_fault};
@@ -27,29 +26,9 @@ fn line_of(text: &str, line: u32) -> Option<&str>
     text.lines().nth(line.saturating_sub(1) as usize)
 }
 
-/// Pushes a text below a fault or a finding, on a separate line.
-#[tactic(auto, unfolding(crate::specs::FaultNotes::note))]
-pub fn push_note(out: &mut String, text: &str) -> Result<(), AllocError>
-    ensures { Pushes out.old (spec.note text.now) result out.new }
-{
-    out.push_str("    ")?;
-    out.push_str(text)?;
-    out.push_str("\n")
-}
-
-/// Pushes a line of a file below a fault or a finding.
-#[tactic(auto, unfolding(crate::specs::FaultNotes::note))]
-pub fn push_shown_note(out: &mut String, text: &str) -> Result<(), AllocError>
-    ensures { Pushes out.old (spec.note (shown text.now)) result out.new }
-{
-    out.push_str("    ")?;
-    push_shown(out, text)?;
-    out.push_str("\n")
-}
-
-// Pushes the line of a file with this number, if the file has it.
+// Appends the line of a file with this number, if the file has it.
 fn push_line(out: &mut String, alloc: Global, bytes: &[u8], line: u32) -> Result<(), AllocError>
-    ensures { Pushes out.old (spec.quote (spec.line_text bytes.now line)) result out.new }
+    ensures { Pushes out.old (quote (spec.line_text bytes.now line)) result out.new }
 {
     let text = String::from_utf8_lossy(alloc, bytes)?;
     match line_of(text.as_str(), line) {
@@ -58,7 +37,7 @@ fn push_line(out: &mut String, alloc: Global, bytes: &[u8], line: u32) -> Result
     }
 }
 
-// Pushes the line of a file, if both are known.
+// Appends the line of a file, if both are known.
 fn push_quote(
     out: &mut String,
     alloc: Global,
@@ -95,7 +74,7 @@ fn cause_in(alloc: Global, bytes: &[u8], line: u32) -> Result<Option<Cause>, All
 {
     let text = String::from_utf8_lossy(alloc, bytes)?;
     let lines = text_lines(alloc, without_mark(text.as_str()))?;
-    cause_at(alloc, &lines, place_of(line))
+    cause_at(alloc, &lines, position_of(line))
 }
 
 // Returns the hint for an unexpected line.
@@ -181,7 +160,7 @@ fn hint_in(alloc: Global, file: Option<&Source>, fault: RunFault) -> Result<Stri
     }
 }
 
-// Pushes the notes below a fault of a file, or of none.
+// Appends the notes below a fault of a file, or of none.
 fn push_file_notes(
     out: &mut String,
     alloc: Global,
@@ -189,7 +168,7 @@ fn push_file_notes(
     fault: RunFault,
 ) -> Result<(), AllocError>
     ensures { Pushes out.old
-        (spec.file_notes (suite_value source_value files.now) fault) result out.new }
+        (spec.file_notes (files_value source_value files.now) fault) result out.new }
 {
     let file = file_at_fault(files, fault);
     push_quote(out, alloc, file, line_at_fault(fault))?;
@@ -197,7 +176,7 @@ fn push_file_notes(
     push_note(out, text.as_str())
 }
 
-// Pushes the notes below a text of tags that spells no rule.
+// Appends the notes below a text of tags that spells no rule.
 fn push_tags_notes(out: &mut String, alloc: Global, text: &str) -> Result<(), AllocError>
     ensures { Pushes out.old (spec.tags_notes text.now) result out.new }
 {
@@ -206,10 +185,10 @@ fn push_tags_notes(out: &mut String, alloc: Global, text: &str) -> Result<(), Al
     push_note(out, hint.as_str())
 }
 
-/// Pushes the notes below a fault of a run. If `tags` is given, the fault is that this text of tags spells no rule: the
-/// notes are the text and where it breaks. Otherwise they are the line that the fault names, if it names one, and a hint
-/// on how to fix it. Each is a line that begins with four spaces; invisible characters are escapes. Fails only if memory
-/// can't be allocated; a part of the notes may have been pushed then.
+/// Appends the notes below a fault of a run. If `tags` is given, the fault is that this text of tags spells no rule:
+/// the notes are the text and where it breaks. Otherwise they are the line that the fault names, if it names one, and a
+/// hint on how to fix it. Each is a line that begins with four spaces; invisible characters are escapes. An error comes
+/// only if a growth was refused; a part of the notes may have been appended then.
 pub fn push_notes(
     out: &mut String,
     alloc: Global,
@@ -218,7 +197,7 @@ pub fn push_notes(
     fault: RunFault,
 ) -> Result<(), AllocError>
     ensures { Pushes out.old (spec.notes (option_map (λ text. text.now) tags.entry)
-        (suite_value source_value files.now) fault) result out.new }
+        (files_value source_value files.now) fault) result out.new }
 {
     match tags {
         Some(text) => push_tags_notes(out, alloc, text),

@@ -1,11 +1,10 @@
 //! The output lines of findings, and the notes below them.
-ghost use Rattle.std.specs.Prelude.{◌≡◌, ◌-◌, map, option_map, slice_get, IfOk};
-ghost use Rattle.std.specs.Str.Lines.{lines};
+ghost use Rattle.std.specs.Prelude.{◌≡◌, ◌-◌, map, option_map, slice_get};
 ghost use Rattle.gk_steps.specs.Finding.{entry_value};
 ghost use Rattle.gk_report.specs.ReportTexts.{Pushes};
 ghost use Rattle.gk_findings.specs.FindingLines as spec;
 
-use crate::fault_notes::{push_note, push_shown_note};
+use crate::notes::{position_of, push_note, push_shown_note};
 use gk_explain::{push_entry, push_place, push_shown, type_word};
 use gk_gherkin::Scenario;
 use gk_gherkin::text::trim;
@@ -34,14 +33,7 @@ pub struct NotedFile<'a> {
     pub scenarios: Vec<&'a Scenario>,
 }
 
-/// Returns the lines of a text. Fails only if memory can't be allocated.
-pub fn text_lines(alloc: Global, text: &str) -> Result<Vec<&str>, AllocError>
-    ensures { IfOk result (λ found. map (λ line. line.now) found.items ≡ lines text.now) }
-{
-    text.lines().collect(alloc)
-}
-
-// Pushes the line of a finding in a file of this name.
+// Appends the line of a finding in a file of this name.
 fn push_finding(
     out: &mut String,
     alloc: Global,
@@ -91,7 +83,7 @@ fn after_cleanup_type() -> &'static str
     " entry; a cleanup needs step"
 }
 
-// Pushes the note that names a column, if it is known.
+// Appends the note that names a column, if it is known.
 fn push_column_note(out: &mut String, alloc: Global, column: Option<&str>) -> Result<(), AllocError>
     ensures { Pushes out.old
         (spec.column_note (option_map (λ text. text.now) column.entry)) result out.new }
@@ -106,7 +98,7 @@ fn push_column_note(out: &mut String, alloc: Global, column: Option<&str>) -> Re
     }
 }
 
-// Pushes the note that quotes a line, if it is known.
+// Appends the note that quotes a line, if it is known.
 fn push_line_note(out: &mut String, line: Option<&str>) -> Result<(), AllocError>
     ensures { Pushes out.old (spec.line_note (option_map (λ text. text.now) line.entry))
         result out.new }
@@ -117,7 +109,7 @@ fn push_line_note(out: &mut String, line: Option<&str>) -> Result<(), AllocError
     }
 }
 
-// Pushes the note that names the nearest entry, if it is known.
+// Appends the note that names the nearest entry, if it is known.
 fn push_nearest_note(
     out: &mut String,
     alloc: Global,
@@ -144,7 +136,7 @@ fn push_matches_line(out: &mut String, line: u32) -> Result<(), AllocError>
     Ok(())
 }
 
-// Pushes a line of a file of this name, as a part of a sentence.
+// Appends a line of a file of this name, as a part of a sentence.
 fn push_line_in_file(out: &mut String, name: &str, line: u32) -> Result<(), AllocError>
     ensures { Pushes out.old (spec.line_in_file name.now line) result out.new }
 {
@@ -152,7 +144,7 @@ fn push_line_in_file(out: &mut String, name: &str, line: u32) -> Result<(), Allo
     push_shown(out, name)
 }
 
-// Pushes the words for an entry for steps of another type, with these words after its type.
+// Appends the words for an entry for steps of another type, with these words after its type.
 fn push_other_type(out: &mut String, after: &str, entry: &Entry) -> Result<(), AllocError>
     ensures { Pushes out.old (spec.other_type after.now (entry_value entry.now)) result out.new }
 {
@@ -161,7 +153,7 @@ fn push_other_type(out: &mut String, after: &str, entry: &Entry) -> Result<(), A
     out.push_str(after)
 }
 
-// Pushes the note that an entry matches but is for other steps.
+// Appends the note that an entry matches but is for other steps.
 fn push_other_type_note(
     out: &mut String,
     alloc: Global,
@@ -200,7 +192,7 @@ fn push_other_type_if(
     }
 }
 
-// Pushes the note on the entry that the author of a step may have meant.
+// Appends the note on the entry that the author of a step may have meant.
 fn push_hint_note(
     out: &mut String,
     alloc: Global,
@@ -224,22 +216,15 @@ fn push_hint_note(
     }
 }
 
-/// Returns the place of a line, counted from 0.
-pub fn place_of(line: u32) -> usize
-    ensures { result ≡ line - 1 }
-{
-    line.saturating_sub(1) as usize
-}
-
 // Returns the line with a number, counted from 1.
 fn line_at<'a>(lines: &[&'a str], line: u32) -> Option<&'a str>
     ensures { option_map (λ text. text.now) result
         ≡ slice_get (map (λ text. text.now) lines.now) (line - 1) }
 {
-    lines.get(place_of(line)).copied()
+    lines.get(position_of(line)).copied()
 }
 
-// Pushes the notes below a step at a line, if its text or that of its cleanup finds nothing.
+// Appends the notes below a step at a line, if its text or that of its cleanup finds nothing.
 fn push_hinted_notes(
     out: &mut String,
     alloc: Global,
@@ -256,7 +241,7 @@ fn push_hinted_notes(
     push_hint_note(out, alloc, after, library, hint)
 }
 
-// Pushes the notes below a finding of this kind at a line of a file.
+// Appends the notes below a finding of this kind at a line of a file.
 fn push_kind_notes(
     out: &mut String,
     alloc: Global,
@@ -299,7 +284,7 @@ fn push_kind_notes(
     }
 }
 
-// Pushes the line of a finding and its notes.
+// Appends the line of a finding and its notes.
 fn push_noted(
     out: &mut String,
     alloc: Global,
@@ -314,8 +299,8 @@ fn push_noted(
     push_kind_notes(out, alloc, library, file, finding.line, finding.kind)
 }
 
-/// Pushes the lines of findings in a file, one after the other, each with its notes. Fails only if memory can't be
-/// allocated; a part of the lines may have been pushed then.
+/// Appends the lines of findings in a file, one after the other, each with its notes. An error comes only if a growth
+/// was refused; a part of the lines may have been appended then.
 pub fn push_noted_findings(
     out: &mut String,
     alloc: Global,
@@ -332,8 +317,8 @@ pub fn push_noted_findings(
     Ok(())
 }
 
-/// Pushes the lines of findings in a file of this name, one after the other, without notes. Fails only if memory can't
-/// be allocated; a part of the lines may have been pushed then.
+/// Appends the lines of findings in a file of this name, one after the other, without notes. An error comes only if a
+/// growth was refused; a part of the lines may have been appended then.
 pub fn push_findings(
     out: &mut String,
     alloc: Global,
@@ -348,7 +333,7 @@ pub fn push_findings(
     Ok(())
 }
 
-// Pushes the number of unused entries beside that of all.
+// Appends the number of unused entries beside that of all.
 #[tactic(auto, unfolding(crate::specs::FindingLines::unused_of_all))]
 fn push_unused_of_all(out: &mut String, unused: usize, entries: usize) -> Result<(), AllocError>
     ensures { Pushes out.old (spec.unused_of_all unused entries) result out.new }
@@ -357,8 +342,8 @@ fn push_unused_of_all(out: &mut String, unused: usize, entries: usize) -> Result
     Ok(())
 }
 
-/// Pushes the line that counts the unused entries of a library file of this name, if there are any. Fails only if memory
-/// can't be allocated; a part of the line may have been pushed then.
+/// Appends the line that counts the unused entries of a library file of this name, if there are any. An error comes
+/// only if a growth was refused; a part of the line may have been appended then.
 pub fn push_count_line(
     out: &mut String,
     name: &str,
@@ -374,7 +359,7 @@ pub fn push_count_line(
     push_unused_of_all(out, unused, entries)
 }
 
-// Pushes the line for a tag of `--tags` that occurs nowhere.
+// Appends the line for a tag of `--tags` that occurs nowhere.
 fn push_tag_line(out: &mut String, tag: &str) -> Result<(), AllocError>
     ensures { Pushes out.old (spec.tag_line tag.now) result out.new }
 {
@@ -383,8 +368,8 @@ fn push_tag_line(out: &mut String, tag: &str) -> Result<(), AllocError>
     out.push_str(": stands nowhere\n")
 }
 
-/// Pushes a line for each of some tags of `--tags` that occur nowhere. Fails only if memory can't be allocated; a part
-/// of the lines may have been pushed then.
+/// Appends a line for each of some tags of `--tags` that occur nowhere. An error comes only if a growth was refused; a
+/// part of the lines may have been appended then.
 pub fn push_tag_lines(out: &mut String, tags: &[&str]) -> Result<(), AllocError>
     ensures { Pushes out.old (spec.tag_lines (map (λ t. t.now) tags.now)) result out.new }
 {
@@ -394,7 +379,7 @@ pub fn push_tag_lines(out: &mut String, tags: &[&str]) -> Result<(), AllocError>
     Ok(())
 }
 
-// Pushes the line for a `--line` that chooses nothing.
+// Appends the line for a `--line` that chooses nothing.
 fn push_idle_line(out: &mut String, line: u32) -> Result<(), AllocError>
     ensures { Pushes out.old (spec.idle_line line) result out.new }
 {
@@ -402,8 +387,8 @@ fn push_idle_line(out: &mut String, line: u32) -> Result<(), AllocError>
     Ok(())
 }
 
-/// Pushes a line for each of some numbers of `--line` that choose nothing. Fails only if memory can't be allocated; a
-/// part of the lines may have been pushed then.
+/// Appends a line for each of some numbers of `--line` that choose nothing. An error comes only if a growth was
+/// refused; a part of the lines may have been appended then.
 pub fn push_idle_lines(out: &mut String, lines: &[u32]) -> Result<(), AllocError>
     ensures { Pushes out.old (spec.idle_lines lines.now) result out.new }
 {

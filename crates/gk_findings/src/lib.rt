@@ -8,6 +8,7 @@ mod finding_lines;
 mod hints;
 mod linted_sources;
 mod linted_suite;
+mod notes;
 mod tag_hints;
 
 pub use env_notes::{EnvMistake, notes_on_env};

@@ -12,8 +12,9 @@ ghost use Rattle.gk_request.specs.RunFault.{SaysSourceAt};
 ghost use Rattle.gk_findings.specs.LintedSources as spec;
 ghost use Rattle.gk_findings.specs.LintedSources.{IsLintOf, IsLintedOnto, SaysOfSources, used_by};
 
-use crate::finding_lines::{NotedFile, NotedLibrary, push_noted_findings, text_lines};
-use gk_gherkin::{Feature, LIMIT, Scenario, text_of};
+use crate::finding_lines::{NotedFile, NotedLibrary, push_noted_findings};
+use crate::notes::text_lines;
+use gk_gherkin::{Feature, LONGEST_FILE, Scenario, text_of};
 use gk_lint::{Finding, StepFindings, in_order, lint_feature, lint_steps, scenarios_of};
 use gk_request::{FeatureSource, RunFault, read_feature_at};
 use gk_select::read_features_are_expandable;
@@ -28,11 +29,11 @@ pub struct LintSoFar {
     pub features: Vec<Feature>,
 }
 
-/// Returns the text in these bytes, without the byte-order mark that it may begin with. It doesn't allocate.
+/// Returns the text in these bytes, without the byte-order mark that it may begin with. Doesn't allocate.
 pub fn known_text(bytes: &[u8]) -> &str
     requires { IsText bytes.now }
     ensures text { result.now ≡ without_mark bytes.now }
-    ensures within { length result.now ≤ LIMIT }
+    ensures within { length result.now ≤ LONGEST_FILE }
 {
     match text_of(bytes) {
         Ok(text) => text,
@@ -76,8 +77,8 @@ fn step_findings(
     }
 }
 
-/// Merges the findings of steps with other findings of their file, in the order of lines. Fails only if memory can't be
-/// allocated.
+/// Merges the findings of steps with other findings of their file, in the order of lines. An error comes only if a
+/// growth was refused.
 pub fn with_findings(
     findings: Vec<Finding>,
     of_steps: StepFindings,
@@ -103,7 +104,7 @@ fn all_findings(
     text: &str,
 ) -> Result<StepFindings, AllocError>
     requires expandable { spec.AreExpandable (option_map feature_value feature.now) }
-    requires within { length text.now ≤ LIMIT }
+    requires within { length text.now ≤ LONGEST_FILE }
     ensures found { IfOk result (λ r. AreInOrder (spec.source_findings
         (noted_library_value library.now) (option_map feature_value feature.now)
         (numbered_from 1 (lines text.now))) r.findings.items) }
@@ -126,7 +127,7 @@ fn scenarios_in(alloc: Global, feature: &Option<Feature>) -> Result<Vec<&Scenari
     }
 }
 
-// Pushes the findings of a source with this name, this text and this feature, or none.
+// Appends the findings of a source with this name, this text and this feature, or none.
 fn push_source_findings(
     out: &mut String,
     alloc: Global,
@@ -205,8 +206,8 @@ fn lint_source<S: FeatureSource>(
 }
 
 /// Reads the sources one after another and collects their findings: those of the file, and those of the steps, if they
-/// are looked up in the library. An error names the first source that doesn't read, as that of a run does; `Memory` comes
-/// only if memory can't be allocated.
+/// are looked up in the library. An error names the first source that doesn't read, as that of a run does; `Memory`
+/// comes only if a growth was refused.
 pub fn lint_sources<S: FeatureSource>(
     alloc: Global,
     library: &NotedLibrary<'_>,

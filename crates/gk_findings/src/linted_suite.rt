@@ -6,7 +6,7 @@ ghost use Rattle.gk_report.specs.ReportTexts.{Pushes};
 ghost use Rattle.gk_steps.specs.Finding.{library_value};
 ghost use Rattle.gk_lint.specs.Findings.{AreInOrder};
 ghost use Rattle.gk_request.specs.Request as of_files;
-ghost use Rattle.gk_request.specs.Request.{suite_value, request_of_files, library_name, hooks_name};
+ghost use Rattle.gk_request.specs.Request.{files_value, request_of_files, library_name, hooks_name};
 ghost use Rattle.gk_findings.specs.FindingLines.{noted_library_value, noted_file_value};
 ghost use Rattle.gk_findings.specs.LintedSuite as spec;
 ghost use Rattle.gk_request.specs.RunFault.{IsUnread};
@@ -17,9 +17,10 @@ ghost use Rattle.gk_findings.specs.LintedSuite.{AreTexts, IsTextOf, read_of, IsL
 
 use crate::finding_lines::{
     NotedFile, NotedLibrary, push_count_line, push_findings, push_idle_lines, push_noted_findings,
-    push_tag_lines, text_lines,
+    push_tag_lines,
 };
 use crate::linted_sources::{LintSoFar, known_text, lint_sources, no_steps, with_findings};
+use crate::notes::text_lines;
 use gk_gherkin::{Feature, HookFile};
 use gk_lint::{
     EntryHints, StepFindings, entry_lines, lines_without_scenario, lint_hook_tags, lint_hooks,
@@ -87,8 +88,8 @@ fn noted_hooks<S: FeatureSource>(
     }
 }
 
-// Pushes the lines of a library file, if there is one and steps are looked up in it, given the places of its entries that
-// are used.
+// Appends the lines of a library file, if there is one and steps are looked up in it, given the places of its entries
+// that are used.
 fn push_library_lines<S: FeatureSource>(
     out: &mut String,
     alloc: Global,
@@ -170,8 +171,8 @@ fn whole_text<S: FeatureSource>(
     requires used { so_far.used.items ≡ used_by (noted_library_value library.now)
         (map feature_value so_far.features.items) }
     ensures { IfOk result (λ text. IsTextOf
-        (request_of_files options.now (suite_value S.value files.now))
-        (hooks_name (suite_value S.value files.now))
+        (request_of_files options.now (files_value S.value files.now))
+        (hooks_name (files_value S.value files.now))
         (read_of (noted_library_value library.now) before.now so_far) (string_bytes text)) }
 {
     let LintSoFar {
@@ -206,9 +207,9 @@ fn whole_text<S: FeatureSource>(
     Ok(text)
 }
 
-/// Reads the request, runs nothing, and returns the text of all its findings. `steps` says whether steps are looked up in
-/// the library; without that, neither steps nor entries have findings. An error says why the request doesn't read;
-/// `Memory` comes only if memory can't be allocated.
+/// Reads the request, runs nothing, and returns the text of all its findings. `steps` says whether steps are looked up
+/// in the library; without that, neither steps nor entries have findings. An error says why the request doesn't read;
+/// `Memory` comes only if a growth was refused.
 pub fn findings_text<S: FeatureSource>(
     alloc: Global,
     options: &Options,
@@ -216,11 +217,11 @@ pub fn findings_text<S: FeatureSource>(
     files: &SuiteFiles<S>,
 ) -> Result<String, RunFault>
     ensures linted { IfOk result (λ text. IsLinted steps
-        (request_of_files options.now (suite_value S.value files.now))
-        (library_name (suite_value S.value files.now))
-        (hooks_name (suite_value S.value files.now)) (string_bytes text)) }
+        (request_of_files options.now (files_value S.value files.now))
+        (library_name (files_value S.value files.now))
+        (hooks_name (files_value S.value files.now)) (string_bytes text)) }
     ensures fault { IfErr result (λ e. IsUnread
-        (request_of_files options.now (suite_value S.value files.now)) e) }
+        (request_of_files options.now (files_value S.value files.now)) e) }
 {
     let library = bytes_of(&files.library);
     let hooks = bytes_of(&files.hooks);

@@ -8,7 +8,7 @@ use gk_explain::push_shown;
 use gk_select::{SelectFault, TagStop, Wanted, tag_stop};
 use std::alloc::{AllocError, Global};
 
-// Returns what has to stand where a text of tags stops spelling a rule.
+// Returns what is expected at the point at which a text of tags stops spelling a rule.
 #[tactic(auto, unfolding(crate::specs::TagHints::wanted_text))]
 fn wanted_text(wanted: Wanted) -> &'static str
     ensures { result.now ≡ spec.wanted_text wanted }
@@ -21,7 +21,7 @@ fn wanted_text(wanted: Wanted) -> &'static str
     }
 }
 
-// Pushes the place at which a text of tags stops.
+// Appends the place at which a text of tags stops.
 #[tactic(auto, unfolding(crate::specs::TagHints::stop_place_text))]
 fn push_stop_place(out: &mut String, at: Option<&str>) -> Result<(), AllocError>
     ensures { Pushes out.old
@@ -50,7 +50,7 @@ fn stop_hint(alloc: Global, stop: TagStop<'_>) -> Result<String, AllocError>
     Ok(out)
 }
 
-/// Returns the hint for a text of tags that spells no rule. Fails only if memory can't be allocated.
+/// Returns the hint for a text of tags that spells no rule. An error comes only if a growth was refused.
 pub fn tags_hint(alloc: Global, text: &str) -> Result<String, AllocError>
     ensures { IfOk result (λ hint. string_bytes hint ≡ spec.tags_hint (stop_of text.now)) }
 {

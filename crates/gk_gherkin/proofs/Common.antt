@@ -28,7 +28,7 @@ pub use denote.Shadow.{shadow}
 pub use denote.Text.{Utf8}
 pub use Rattle.gk_gherkin.specs.Class.{background_keywords, begins_as_step, begins_with_one, examples_keywords, feature_keywords, fence_text, is_colon, rule_keywords, scenario_keywords, scenario_words, step_keyword, step_keywords, step_text}
 unfoldable pub use Rattle.gk_gherkin.specs.Class.{class, class_of, class_of_words, heading_keyword, heading_name}
-pub use Rattle.gk_gherkin.specs.DocStrings.{content_of, escaped_fence, fences_read}
+pub use Rattle.gk_gherkin.specs.DocStrings.{ReadsFences, ReadsOneWay, a_byte, a_fence, content_of, escaped_fence, fences_read, nothing}
 unfoldable pub use Rattle.gk_gherkin.specs.DocStrings.{closes, doc_string}
 pub use Rattle.gk_gherkin.specs.Feature.{BackgroundValue, BlockValue, ContainerValue, Empty, ExamplesValue, FeatureValue, RowValue, RuleValue, ScenarioValue, StepValue, Table, Text, feature_container, feature_value, rule_container, texts}
 pub use Rattle.gk_gherkin.specs.FeatureReader.{Above, FeatureReader, InFeature, NeedsAt, OfFeature, OfRule, OpenFeature, Tagged, Top, Untagged, after_text, by_language, examples_after, feature_in, feature_of, feature_readers, on_comment, rule_of, tag_line, takes_text, with_rule, with_text, without_tags}
@@ -58,7 +58,7 @@ unfoldable pub use Rattle.gk_gherkin.specs.Rows.{cells_of, parts_of, unescaped}
 pub use Rattle.gk_gherkin.specs.StepTypes.{AreTyped, AreTypedAfter, type_after}
 pub use Rattle.gk_gherkin.specs.Tags.{is_tag, words_of}
 unfoldable pub use Rattle.gk_gherkin.specs.Tags.{tags_of}
-pub use Rattle.gk_gherkin.specs.Text.{begins, is_blank, stands_in, trim, trim_front}
+pub use Rattle.gk_gherkin.specs.Text.{begins, is_blank, contains, trim, trim_front}
 pub use Rattle.gk_gherkin.specs.declared.class.Class.{Class}
 pub use Rattle.gk_gherkin.specs.declared.class.Class.TheVariants.{BackgroundHeading, Blank, Comment, ExamplesHeading, FeatureHeading, FenceLine, Other, RowLine, RuleHeading, ScenarioHeading, StepLine, TagLine}
 pub use Rattle.gk_gherkin.specs.declared.class.Fence.{Fence}

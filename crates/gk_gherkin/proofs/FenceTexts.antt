@@ -1,8 +1,9 @@
 -- The text of a content line, from one escaped fence to the next.
-use Rattle.gk_gherkin.proofs.Common.{◌≡◌, ◌≢◌, ℕ, suc, ◌+◌, ◌<◌, ◌≤◌, Bool, false, cond, List, [], ◌∷◌, ◌++◌, length, drop, take, get_or, Option, Some, None, Bor, refl, sym, ap, ◌∙◌, subst, arith, common_steps, MatchOption, nat_tests, append-nil, starts_text, split_text_parts, FindsText, Fence, Quotes, Backticks, fence_text, begins, escaped_fence, fences_read}
+use Rattle.gk_gherkin.proofs.Common.{◌≡◌, ◌≢◌, ℕ, zero, suc, ◌+◌, ◌-◌, ◌<◌, ◌≤◌, Bool, true, false, cond, List, [], ◌∷◌, ◌++◌, length, drop, take, get_or, Option, Some, None, Bor, refl, sym, ap, ◌∙◌, subst, arith, common_steps, MatchOption, nat_tests, append-nil, starts_text, split_text_parts, FindsText, Fence, Quotes, Backticks, fence_text, begins, escaped_fence, fences_read, ReadsFences, nothing, a_fence, a_byte, ReadsOneWay}
+use Rattle.gk_gherkin.proofs.Containing.{begun}
 
 not_here : (fence : Fence) (b : ℕ) (bs : List ℕ) → begins (b ∷ bs) (escaped_fence fence) ≡ false → fences_read fence 0 (b ∷ bs) ≡ b ∷ fences_read fence 0 bs
-not_here fence b bs e = ap (λ (t : Bool). cond t (fence_text fence ++ fences_read fence 5 bs) (b ∷ fences_read fence 0 bs)) e
+not_here fence b bs e = ap (λ (t : Bool). cond t (fence_text fence ++ fences_read fence (length (escaped_fence fence) - 1) bs) (b ∷ fences_read fence 0 bs)) e
 
 pub before_fence : (fence : Fence) (xs ys : List ℕ) → ((i : ℕ) → i < length xs → begins (drop i (xs ++ ys)) (escaped_fence fence) ≡ false) → fences_read fence 0 (xs ++ ys) ≡ xs ++ fences_read fence 0 ys
 before_fence fence [] ys h = refl
@@ -21,6 +22,40 @@ no_fence fence text h =
     ap (fences_read fence 0) (sym whole)
     ∙ before_fence fence text [] (λ i below. ap (λ (t : List ℕ). begins (drop i t) (escaped_fence fence)) whole ∙ lacks fence text i (h i (omega arith)))
     ∙ whole
+
+-- each text reads as one text
+at_start : (fence : Fence) (after : List ℕ) → fences_read fence 0 (escaped_fence fence ++ after) ≡ fence_text fence ++ fences_read fence 0 after
+at_start Quotes after = refl
+at_start Backticks after = refl
+
+only_reading : (fence : Fence) {text said : List ℕ} → ReadsFences fence text said → said ≡ fences_read fence 0 text
+only_reading fence nothing = refl
+only_reading fence (a_fence {text = text} more) = ap (λ (t : List ℕ). fence_text fence ++ t) (only_reading fence more) ∙ sym (at_start fence text)
+only_reading fence (a_byte {b = b} {text = text} e more) = ap (λ (t : List ℕ). b ∷ t) (only_reading fence more) ∙ sym (not_here fence b text e)
+
+after_escape : (fence : Fence) (b : ℕ) (bs : List ℕ) → drop (length (escaped_fence fence)) (b ∷ bs) ≡ drop (length (escaped_fence fence) - 1) bs
+after_escape Quotes b bs = refl
+after_escape Backticks b bs = refl
+
+reading_from : (fence : Fence) (b : ℕ) (bs : List ℕ) (t : Bool) → begins (b ∷ bs) (escaped_fence fence) ≡ t →
+    ReadsFences fence (drop (length (escaped_fence fence) - 1) bs) (fences_read fence (length (escaped_fence fence) - 1) bs) →
+    ReadsFences fence bs (fences_read fence 0 bs) → ReadsFences fence (b ∷ bs) (fences_read fence 0 (b ∷ bs))
+reading_from fence b bs true e more next =
+    let skip = length (escaped_fence fence) - 1 in
+    let parts : b ∷ bs ≡ escaped_fence fence ++ drop skip bs = begun (b ∷ bs) (escaped_fence fence) e ∙ ap (λ (t : List ℕ). escaped_fence fence ++ t) (after_escape fence b bs) in
+    let said : fences_read fence 0 (b ∷ bs) ≡ fence_text fence ++ fences_read fence skip bs = ap (λ (t : Bool). cond t (fence_text fence ++ fences_read fence skip bs) (b ∷ fences_read fence 0 bs)) e in
+    subst (λ (t : List ℕ). ReadsFences fence t (fences_read fence 0 (b ∷ bs))) (sym parts) (subst (ReadsFences fence (escaped_fence fence ++ drop skip bs)) (sym said) (a_fence more))
+reading_from fence b bs false e more next = subst (ReadsFences fence (b ∷ bs)) (sym (not_here fence b bs e)) (a_byte e next)
+
+reading_after : (fence : Fence) (skip : ℕ) (text : List ℕ) → ReadsFences fence (drop skip text) (fences_read fence skip text)
+reading_after fence zero [] = nothing
+reading_after fence (suc skip) [] = nothing
+reading_after fence (suc skip) (b ∷ bs) = reading_after fence skip bs
+reading_after fence zero (b ∷ bs) =
+    reading_from fence b bs (begins (b ∷ bs) (escaped_fence fence)) refl (reading_after fence (length (escaped_fence fence) - 1) bs) (reading_after fence zero bs)
+
+pub reads_one_way : (fence : Fence) (text : List ℕ) → ReadsOneWay fence text
+reads_one_way fence text = record { reads = reading_after fence 0 text; only = λ said reading. only_reading fence reading }
 
 no_start : (fence : Fence) (b : ℕ) (bs : List ℕ) → b ≢ 92 → begins (b ∷ bs) (escaped_fence fence) ≡ false
 no_start Quotes b bs h = grind (arith, nat_tests)

@@ -1,6 +1,6 @@
 -- The keyword of a step, and that of a scenario's heading, is one of those that the class of the line names.
 use Rattle.gk_gherkin.proofs.Common.{codes, ◌+◌, ⊤, AllByRecursion, before_first, list_any, prefix_len, bytes_eq, ◌≡◌, ◌≢◌, inl, inr, ℕ, zero, suc, Bool, true, false, cond, not, slice_index, ◌==◌, ◌||◌, ◌&&◌, List, [], ◌∷◌, ◌++◌, length, take, drop, refl, ap, sym, ◌∙◌, subst, append_assoc, arith, bytes_eq-Decides, LineValue, begins, is_blank, trim, Class, Blank, Comment, TagLine, FeatureHeading, RuleHeading, BackgroundHeading, ScenarioHeading, ExamplesHeading, StepLine, RowLine, FenceLine, Other, Quotes, Backticks, background_keywords, begins_as_step, begins_with_one, class, class_of, class_of_words, examples_keywords, feature_keywords, fence_text, heading_keyword, is_colon, rule_keywords, scenario_keywords, scenario_words, step_keywords}
-use Rattle.gk_gherkin.proofs.StandsIn.{begun, either_first, either_second, one_of}
+use Rattle.gk_gherkin.proofs.Containing.{begun, either_first, either_second, one_of}
 
 neither : (a b : Bool) → (a || b) ≡ false → (a ≡ false) × (b ≡ false)
 neither true b h = absurd (let no : ⊥ = cc in no)

@@ -3,7 +3,7 @@ pub mod LineNumbering
 pub mod LineCuts
 pub mod ClassWords
 pub mod TextEnds
-pub mod StandsIn
+pub mod Containing
 pub mod KeywordWords
 pub mod RowParts
 pub mod TagWords

@@ -1,6 +1,7 @@
 -- The headings of a hooks file.
 use Rattle.std.specs.Prelude.{codes, not, nat_eq, ℕ, ◌||◌, ◌&&◌, List, [], ◌∷◌, length, drop, slice_index, find, Option, Some, None, option_map, if◌then◌else◌}
 use Rattle.std.specs.List.{list_all, ends_with, before_last}
+use Rattle.std.specs.Option.{option_or}
 use Rattle.std.specs.Str.{bytes_eq}
 use Rattle.gk_gherkin.specs.declared.hooks.HookKind.{HookKind}
 use Rattle.gk_gherkin.specs.declared.hooks.HookKind.TheVariants.{BeforeAll, AfterAll, BeforeFeature, AfterFeature, BeforeRule, AfterRule, BeforeScenario, AfterScenario, BeforeTag, AfterTag}
@@ -57,15 +58,10 @@ tag_between word text =
 abbrev pub tag_heading : List ℕ → HookKind → List ℕ → Option HookHeadingValue
 tag_heading word kind text = option_map (λ tag. record { kind = kind; tag = Some tag }) (tag_between word text)
 
--- The first of two options, or the second if the first is `None`.
-abbrev pub or_else : {A : Type 0} → Option A → Option A → Option A
-or_else None other = other
-or_else (Some x) other = Some x
-
 -- The heading that a line spells: one without a tag, or `before_tag` or `after_tag`, at least one space or tab, a tag and a colon; `None` for any other text. (behave's documentation: environment file functions; that hooks have a separate file is this project's profile)
 unfoldable pub hook_heading : LineValue → Option HookHeadingValue
-hook_heading line = or_else (plain_heading (trim line.text))
-    (or_else (tag_heading (codes "before_tag") BeforeTag (trim line.text)) (tag_heading (codes "after_tag") AfterTag (trim line.text)))
+hook_heading line = option_or (plain_heading (trim line.text))
+    (option_or (tag_heading (codes "before_tag") BeforeTag (trim line.text)) (tag_heading (codes "after_tag") AfterTag (trim line.text)))
 
 -- The value of a `HookHeading`. Proof machinery.
 abbrev pub heading_value : HookHeading → HookHeadingValue

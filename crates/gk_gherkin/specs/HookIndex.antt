@@ -29,7 +29,7 @@ AreListed index hooks = (position : ℕ) (hook : Hook) → slice_get hooks posit
 abbrev pub ListsOnly : HookIndex → List Hook → Type 0
 ListsOnly index hooks = (tag : Option (List ℕ)) (position : ℕ) → is_among position (positions_of index tag) ≡ true → (hook : Hook) × (slice_get hooks position ≡ Some hook) × (option_map string_bytes hook.tag ≡ tag)
 
--- Proof machinery from here on: the same for the hooks before a position.
+-- Proof machinery, from here on. Each hook before this position is listed under its tag.
 abbrev pub AreListedTo : HookIndex → List Hook → ℕ → Type 0
 AreListedTo index hooks end = (position : ℕ) (hook : Hook) → position < end → slice_get hooks position ≡ Some hook → is_among position (positions_of index (option_map string_bytes hook.tag)) ≡ true
 

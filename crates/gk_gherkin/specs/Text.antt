@@ -22,7 +22,7 @@ trim text = trim_back (trim_front text)
 abbrev pub begins : List ℕ → List ℕ → Bool
 begins text word = starts_with nat_eq text word
 
--- Whether a text occurs in another: some suffix of the other begins with it.
-abbrev pub stands_in : List ℕ → List ℕ → Bool
-stands_in text [] = length text == 0
-stands_in text (b ∷ bs) = begins (b ∷ bs) text || stands_in text bs
+-- Whether a text contains another: some suffix of the text begins with the other.
+abbrev pub contains : List ℕ → List ℕ → Bool
+contains [] text = length text == 0
+contains (b ∷ bs) text = begins (b ∷ bs) text || contains bs text

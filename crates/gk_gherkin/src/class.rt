@@ -15,7 +15,9 @@ use crate::text::{begins, begins_word, is_word, split_word, trim};
 /// The two fences of doc strings. (Cucumber's Gherkin reference: doc strings)
 #[derive(Clone, Copy)]
 pub enum Fence {
+    /// Three double quotes.
     Quotes,
+    /// Three backticks.
     Backticks,
 }
 

@@ -17,9 +17,9 @@ use crate::text::{begins, leading_blanks, trim};
 use std::alloc::Global;
 use std::mem;
 
-// Returns whether a line closes the doc string that a fence opened.
+/// Returns whether a line closes the doc string that a fence opened.
 #[tactic(auto, unfolding(crate::specs::DocStrings::closes))]
-fn closes(fence: Fence, line: &BorrowedLine<'_>) -> bool
+pub fn closes(fence: Fence, line: &BorrowedLine<'_>) -> bool
     ensures { result ≡ spec.closes fence (borrowed_value line.now) }
 {
     let text = trim(line.text);

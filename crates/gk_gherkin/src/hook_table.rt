@@ -15,7 +15,6 @@ const FEW: usize = 16;
 /// The hooks of a file, for lookup by their kinds and their tags.
 #[derive(Drop)]
 pub struct HookTable<'a> {
-    /// The file.
     pub file: &'a HookFile,
     /// The positions of its hooks. Without an index, a lookup goes through all hooks.
     index: Option<HookIndex>,

@@ -22,9 +22,9 @@ pub enum HookKind {
     AfterTag,
 }
 
-/// A hook: its kind, the tag that it is for, which only `BeforeTag` and `AfterTag` have, the line of
-/// its heading, and its steps in order. (behave's documentation: environment file functions; this
-/// project's profile)
+/// A hook: its kind, the tag that it is for, which `read_hooks` gives only to `BeforeTag` and
+/// `AfterTag`, the line of its heading, and its steps in order. (behave's documentation: environment
+/// file functions; this project's profile)
 #[derive(Debug, Drop)]
 pub struct Hook {
     pub kind: HookKind,
@@ -33,7 +33,8 @@ pub struct Hook {
     pub steps: Vec<Step>,
 }
 
-/// The hooks of a file in order. No two have the same kind and the same tag. (this project's profile)
+/// The hooks of a file in order. `read_hooks` returns no two of the same kind and tag. Of equal ones
+/// in a list made by hand, the first counts. (this project's profile)
 #[derive(Debug, Drop)]
 pub struct HookFile {
     pub hooks: Vec<Hook>,

@@ -40,7 +40,7 @@ impl HooksSoFar {
         Ok(())
     }
 
-    /// Returns whether one of them is for this kind and this tag. The time it takes doesn't grow
+    /// Returns whether one of them is for this kind and this tag. The time it takes hardly grows
     /// with the hooks for other tags.
     pub fn has(&self, kind: HookKind, tag: Option<&str>) -> bool
         ensures { let hooks = so_far_value self.now in

@@ -21,7 +21,7 @@ fn rest_after<'a>(word: &str, text: &'a str) -> Option<&'a str>
 fn is_language_letter(byte: u8) -> bool
     ensures { result ≡ spec.is_language_letter byte }
 {
-    (65 <= byte && byte <= 90) || ((97 <= byte && byte <= 122) || (byte == 45 || byte == 95))
+    byte.is_ascii_alphabetic() || byte == b'-' || byte == b'_'
 }
 
 fn are_language_letters(text: &[u8]) -> bool

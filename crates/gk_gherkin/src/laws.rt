@@ -1,9 +1,11 @@
-//! Laws of the grammars and the faults, for every file. Each is the contract of an empty function.
+//! Laws of this crate's definitions. Each is the contract of an empty function.
 ghost use Rattle.std.specs.Prelude.{ℕ, ◌<◌, ◌^◌, List, length, Some};
 ghost use Rattle.gk_gherkin.specs.Lines.{lines_of, IsText};
 ghost use Rattle.gk_gherkin.specs.Feature.{FeatureValue};
 ghost use Rattle.gk_gherkin.specs.Grammar.{Reads, HasOneReading, IsConcatenation, IsFeature, IsRule, IsScenario, IsBackground, IsStep, AreExamples, IsTable, IsDocString};
 ghost use Rattle.gk_gherkin.specs.HooksGrammar.{IsHook, HaveOneHooksReading};
+ghost use Rattle.gk_gherkin.specs.DocStrings.{ReadsOneWay};
+ghost use Rattle.gk_gherkin.specs.declared.class.Fence.{Fence};
 ghost use Rattle.gk_gherkin.specs.ReadFault.{FeatureFault, HooksFault, HaveOneFault};
 
 /// States that reading a part is concatenation: a part leads from some lines to a rest exactly if
@@ -50,4 +52,10 @@ pub fn rules_are_counted()
 pub fn fault_is_unique()
     ensures features { HaveOneFault FeatureFault }
     ensures hooks { HaveOneFault HooksFault }
+{}
+
+/// States that the escaped fences of a text have one reading, which the definitions compute.
+/// (Cucumber's Gherkin reference: doc strings)
+pub fn escaped_fences_are_read()
+    ensures { (fence : Fence) (text : List ℕ) → ReadsOneWay fence text }
 {}

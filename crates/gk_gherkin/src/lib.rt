@@ -38,6 +38,8 @@ mod hooks_so_far;
 mod hook_table;
 mod laws;
 
+pub use class::{Class, Fence, class_of_line};
+pub use doc_strings::closes;
 pub use feature::{Background, Block, Examples, Feature, Row, Rule, Scenario, Step, StepType};
 pub use feature_reader::read_feature;
 pub use hook_table::HookTable;
@@ -45,9 +47,10 @@ pub use hooks::{Hook, HookFile, HookKind};
 pub use hooks_reader::read_hooks;
 pub use keyword::Keyword;
 pub use laws::{
-    fault_is_unique, hooks_reading_is_unique, parts_are_concatenations, reading_is_unique,
-    rules_are_counted,
+    escaped_fences_are_read, fault_is_unique, hooks_reading_is_unique, parts_are_concatenations,
+    reading_is_unique, rules_are_counted,
 };
-pub use lines::{BorrowedLine, Document, LIMIT, Line, Place, borrowed_line, read_lines, text_of};
+pub use lines::{
+    BorrowedLine, Document, LONGEST_FILE, Line, Place, borrowed_line, read_lines, text_of,
+};
 pub use read_fault::{AllocationError, FaultText, ReadFault};
-pub use text::trim_back;

@@ -16,7 +16,7 @@ use std::alloc::Global;
 use std::str;
 
 /// The maximum size of a file in bytes. (this project's profile)
-pub const LIMIT: usize = 16_777_216;
+pub const LONGEST_FILE: usize = 16_777_216;
 
 /// The position at which a line's text begins. Lines and columns are counted from 1, columns in
 /// bytes. (this project's profile)
@@ -67,7 +67,7 @@ pub fn without_mark(text: &str) -> &str
 }
 
 fn line_from(alloc: Global, line: u32, text: &str) -> Result<Line, ReadFault>
-    requires { length text.now ≤ LIMIT }
+    requires { length text.now ≤ LONGEST_FILE }
     ensures ok { IfOk result (λ l. line_value l ≡ line_at line text.now) }
     ensures fault { IfErr result (λ e. e ≡ Memory) }
 {
@@ -78,9 +78,9 @@ fn line_from(alloc: Global, line: u32, text: &str) -> Result<Line, ReadFault>
     })
 }
 
-/// Returns the line with this number and this text, which has at most `LIMIT` bytes.
+/// Returns the line with this number and this text, which has at most `LONGEST_FILE` bytes.
 pub fn borrowed_line<'a>(line: u32, text: &'a str) -> BorrowedLine<'a>
-    requires { length text.now ≤ LIMIT }
+    requires { length text.now ≤ LONGEST_FILE }
     ensures { borrowed_value result ≡ line_at line text.now }
 {
     let column = 1 + leading_blanks(text.as_bytes()) as u32;
@@ -116,7 +116,7 @@ pub fn first_line(text: &str) -> (&str, &str)
 }
 
 fn lines_from(alloc: Global, text: &str) -> Result<Document, ReadFault>
-    requires { length text.now ≤ LIMIT }
+    requires { length text.now ≤ LONGEST_FILE }
     ensures ok { IfOk result (λ d.
         map line_value d.lines.items ≡ numbered_from 1 (lines text.now)) }
     ensures fault { IfErr result (λ e. e ≡ Memory) }
@@ -135,11 +135,11 @@ fn lines_from(alloc: Global, text: &str) -> Result<Document, ReadFault>
 /// from `read_lines`, and never `Memory`.
 pub fn text_of(bytes: &[u8]) -> Result<&str, ReadFault>
     ensures ok { IfOk result (λ t. IsText bytes.now × (t.now ≡ spec.without_mark bytes.now)) }
-    ensures within { IfOk result (λ t. length t.now ≤ LIMIT) }
+    ensures within { IfOk result (λ t. length t.now ≤ LONGEST_FILE) }
     ensures fault { IfErr result (λ e. LinesFaultSays e bytes.now) }
     ensures free { IfErr result (λ e. e ≢ Memory) }
 {
-    if bytes.len() > LIMIT {
+    if bytes.len() > LONGEST_FILE {
         return Err(ReadFault::TooLong);
     }
     match str::from_utf8(bytes) {
@@ -154,7 +154,7 @@ pub fn text_of(bytes: &[u8]) -> Result<&str, ReadFault>
 /// Returns the lines of a text, numbered from 1, without a leading byte-order mark. LF or CRLF ends
 /// a line. A CR alone stays in its line. After the last line end there is no further line.
 ///
-/// More than `LIMIT` bytes are `TooLong`, whatever they contain. Other bytes that aren't UTF-8 are
+/// More than `LONGEST_FILE` bytes are `TooLong`, whatever they contain. Other bytes that aren't UTF-8 are
 /// `NotUtf8`, with the line of the first byte after the longest prefix that is UTF-8. `Memory`
 /// comes only if a growth was refused, and so never for a text without lines. A fault returns no
 /// line. (this project's profile)

@@ -99,6 +99,7 @@ pub fn put<T: Drop>(slot: &mut T, next: T)
     *slot = next;
 }
 
+/// Returns the fault of a line that is out of place.
 pub fn unexpected(line: &BorrowedLine<'_>) -> ReadFault
     ensures { result ≡ Unexpected line.now.place.line }
 {
@@ -107,6 +108,7 @@ pub fn unexpected(line: &BorrowedLine<'_>) -> ReadFault
     }
 }
 
+/// Returns the head that a heading begins: its tags, its name and its line.
 pub fn head_from(
     alloc: Global,
     tags: Vec<String>,
@@ -139,6 +141,7 @@ fn step_from(alloc: Global, before: StepType, line: &BorrowedLine<'_>) -> Result
     })
 }
 
+/// Returns the steps of a body, the open one included.
 pub fn steps_of(alloc: Global, body: Body) -> Result<Vec<Step>, ReadFault>
     ensures { Agrees (λ v. map step_value v.items) result (Ok (spec.steps_of (body_value body))) }
 {
@@ -222,6 +225,8 @@ fn with_examples(scenario: Scenario, examples: Examples) -> Result<Scenario, Rea
     Ok(scenario)
 }
 
+/// Returns the scenario that examples may follow, if there is one, with the finished children before
+/// it.
 pub fn outline_of(alloc: Global, part: Open) -> Result<Option<Outline>, ReadFault>
     ensures { Agrees (λ o. option_map outline_value o) result
         (Ok (spec.outline_of (open_value part))) }
@@ -252,6 +257,7 @@ pub fn outline_of(alloc: Global, part: Open) -> Result<Option<Outline>, ReadFaul
     }
 }
 
+/// Returns the finished children after an open part.
 pub fn children_of(alloc: Global, part: Open) -> Result<Children, ReadFault>
     ensures { Agrees children_value result (Ok (spec.children_of (open_value part))) }
 {
@@ -349,6 +355,7 @@ fn scenario_after_steps(
     }
 }
 
+/// Takes a scenario's heading, with the tags above it. The part before it is finished.
 pub fn scenario_heading(
     alloc: Global,
     part: &mut Open,
@@ -507,6 +514,7 @@ fn next_step(
     Ok(())
 }
 
+/// Takes a line in a description or after steps. The line isn't content of a doc string.
 #[tactic(auto, unfolding(crate::specs::OpenParts::on_body))]
 pub fn on_body(
     alloc: Global,
@@ -542,6 +550,7 @@ fn background_heading(part: &mut Open, line: &BorrowedLine<'_>)
     put(part, bodied(owner));
 }
 
+/// Takes a line that takes no tags. The line isn't content of a doc string.
 #[tactic(auto, unfolding(crate::specs::OpenParts::on_open))]
 pub fn on_open(
     alloc: Global,

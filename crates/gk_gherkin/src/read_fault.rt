@@ -76,7 +76,7 @@ pub enum ReadFault {
     TagsAtEnd { line: u32 },
     /// A comment above the feature that names a language other than English.
     Language { line: u32 },
-    /// More bytes than `LIMIT`, whatever they contain.
+    /// More bytes than `LONGEST_FILE`, whatever they contain.
     TooLong,
     /// A growth of memory was refused.
     Memory,
@@ -151,22 +151,6 @@ impl ReadFault {
     }
 }
 
-impl From<AllocError> for ReadFault {
-    ghost from_gives = { λ _ e. e ≡ Memory };
-
-    fn from(_e: AllocError) -> ReadFault {
-        ReadFault::Memory
-    }
-}
-
-impl<T: Drop> From<AllocFailed<T>> for ReadFault {
-    ghost from_gives = { λ _ e. e ≡ Memory };
-
-    fn from(_e: AllocFailed<T>) -> ReadFault {
-        ReadFault::Memory
-    }
-}
-
 // Writes the text of the fault, without its line.
 impl fmt::Display for ReadFault {
     ghost output = { λ e. Some (text_of_fault e) };
@@ -177,3 +161,11 @@ impl fmt::Display for ReadFault {
 }
 
 impl std::error::Error for ReadFault {}
+
+impl<E: AllocationError> From<E> for ReadFault {
+    ghost from_gives = { λ _ e. e ≡ Memory };
+
+    fn from(_e: E) -> ReadFault {
+        ReadFault::Memory
+    }
+}

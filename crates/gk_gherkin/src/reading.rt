@@ -11,7 +11,7 @@ ghost use Rattle.gk_gherkin.specs.declared.read_fault.ReadFault.TheVariants.{Mem
 
 use crate::class::{Class, Fence, class_of_line};
 use crate::doc_strings::DocString;
-use crate::lines::{BorrowedLine, LIMIT, borrowed_line, first_line, text_of};
+use crate::lines::{BorrowedLine, LONGEST_FILE, borrowed_line, first_line, text_of};
 use crate::read_fault::ReadFault;
 use std::alloc::Global;
 use std::mem;
@@ -147,7 +147,7 @@ fn run<P: FileReader>(
     doc_string: &mut Option<DocString>,
     text: &str,
 ) -> Result<(), ReadFault>
-    requires { length text.now ≤ LIMIT }
+    requires { length text.now ≤ LONGEST_FILE }
     ensures says { Agrees (λ _. state_value (P.value reader.new) doc_string.new) result
         (spec.run P.readers (state_value (P.value reader.old) doc_string.old)
         (numbered_from 1 (lines text.now))) }
@@ -190,7 +190,7 @@ fn finish<P: FileReader>(
 
 #[tactic(auto, unfolding(crate::specs::Reading::reading))]
 fn read_text<P: FileReader>(alloc: Global, text: &str) -> Result<P::Answer, ReadFault>
-    requires { length text.now ≤ LIMIT }
+    requires { length text.now ≤ LONGEST_FILE }
     ensures says { Agrees P.answer_value result
         (spec.reading P.readers (numbered_from 1 (lines text.now))) }
     ensures memory { IfErr result (λ e. e ≡ Memory →

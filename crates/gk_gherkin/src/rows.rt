@@ -80,7 +80,8 @@ fn cell_from(alloc: Global, part: &str) -> Result<String, ReadFault>
     Ok(cell)
 }
 
-// Reserves room for `width` cells.
+// Returns the cells after a row's first bar, or `None` if no unescaped bar ends them. Reserves room
+// for `width` cells.
 fn cells_in(alloc: Global, width: usize, text: &str) -> Result<Option<Vec<String>>, ReadFault>
     ensures { Agrees found_texts result (Ok (spec.cells_of_parts (spec.parts_of text.now))) }
 {

@@ -12,6 +12,7 @@ use crate::read_fault::ReadFault;
 use crate::text::{begins, first_blank, trim_front};
 use std::alloc::Global;
 
+/// Returns whether a word begins with `@` and has at least one more byte.
 pub fn is_tag(word: &str) -> bool
     ensures { result ≡ spec.is_tag word.now }
 {

@@ -103,7 +103,7 @@ pub(crate) fn is_word(text: &str, word: &str) -> bool
 }
 
 /// Returns whether a text begins with a word followed by a space or a tab.
-pub(crate) fn begins_word(text: &str, word: &str) -> bool
+pub fn begins_word(text: &str, word: &str) -> bool
     ensures { result
         ≡ (spec.begins text.now word.now && is_blank (slice_index text.now (length word.now))) }
 {
@@ -111,10 +111,10 @@ pub(crate) fn begins_word(text: &str, word: &str) -> bool
     word.len() < bytes.len() && is_blank(bytes[word.len()]) && begins(text, word)
 }
 
-/// Returns whether a text occurs in another. The empty text occurs in every text.
-#[tactic(auto, using(std::proofs::lemmas::Grind::common_steps, std::proofs::lemmas::Bool::Decides::same_from_decides, std::proofs::lemmas::Str::Pattern::contains_text, crate::proofs::StandsIn::stands_from, crate::proofs::StandsIn::stands_to))]
-pub fn stands_in(text: &str, whole: &str) -> bool
-    ensures { result ≡ spec.stands_in text.now whole.now }
+/// Returns whether a text contains another. Every text contains the empty text.
+#[tactic(auto, using(std::proofs::lemmas::Grind::common_steps, std::proofs::lemmas::Bool::Decides::same_from_decides, std::proofs::lemmas::Str::Pattern::contains_text, crate::proofs::Containing::contains_from, crate::proofs::Containing::contains_to))]
+pub fn contains(whole: &str, text: &str) -> bool
+    ensures { result ≡ spec.contains whole.now text.now }
 {
     whole.contains(text)
 }

@@ -20,12 +20,10 @@ pub use Rattle.std.specs.List.{AllByRecursion, enumerate_from, list_any}
 pub use Rattle.std.specs.List.Sorted.{IsPermutation, IsStableByKey, ties}
 pub use Rattle.std.specs.Option.{option_or}
 pub use Rattle.std.specs.Ordering.{is_lt, nat_cmp}
-pub use Rattle.std.specs.Prelude.{Err, codes, if◌then◌else◌}
+pub use Rattle.std.specs.Prelude.{Err}
 pub use Rattle.std.specs.Str.{IsAscii, bytes_eq, encode_utf8_all}
 pub use Rattle.std.specs.Str.Lines.{lines}
 pub use Rattle.std.specs.String.{string_bytes}
-pub use Rattle.gk_gherkin.specs.Class.{background_keywords, begins_as_step, begins_with_one, examples_keywords, feature_keywords, fence_text, rule_keywords, scenario_keywords}
-unfoldable pub use Rattle.gk_gherkin.specs.Class.{class_of_words}
 pub use Rattle.gk_gherkin.specs.Feature.{ExamplesValue, FeatureValue, RowValue, RuleValue, ScenarioValue, StepValue, examples_value, feature_value, row_value, rule_value, scenario_value, step_value, texts}
 pub use Rattle.gk_gherkin.specs.Hooks.{hook_value}
 pub use Rattle.gk_gherkin.specs.Lines.{LineValue, Lines, line_at, numbered_from}
@@ -40,18 +38,17 @@ pub use Rattle.gk_select.specs.Inherited.{InheritedValue, background_steps, inhe
 pub use Rattle.gk_select.specs.Outline.{AllFit, FitsHeader, is_outline}
 pub use Rattle.gk_select.specs.TagRules.{tag_rule_value}
 pub use Rattle.gk_steps.specs.Action.{action_row_value}
-pub use Rattle.gk_steps.specs.Finding.{entries_said, entry_value}
-pub use Rattle.gk_steps.specs.Pattern.{PieceValue, pieces_said}
+pub use Rattle.gk_steps.specs.Finding.{entry_values, entry_value}
+pub use Rattle.gk_steps.specs.Pattern.{PieceValue, piece_values}
 pub use Rattle.gk_steps.specs.PatternReading.{pieces_of}
 pub use denote.Param.Members.{Mut}
 pub use Rattle.gk_lint.specs.FeatureFile.{IsFeatureFile, file_findings}
 pub use Rattle.gk_lint.specs.Findings.{AreInOrder, at_line, found_if, named_once}
 pub use Rattle.gk_lint.specs.LibraryCauses.{first_match, further_field, has_other_kind, is_near, lacks, parts_value}
-pub use Rattle.gk_lint.specs.LibraryUse.{entry_line, entry_lines, is_among, unused_entries, unused_from}
+pub use Rattle.gk_lint.specs.LibraryUse.{entry_line, entry_lines, unused_entries, unused_from}
 pub use Rattle.gk_lint.specs.Likeness.{ExchangedIsWithinExchange, IsWithinExchange, IsWithinOne, OneOffIsWithinOne, exchanges_first, in_small, letters}
 unfoldable pub use Rattle.gk_lint.specs.Likeness.{common_len, differ_at_first, is_exchanged, is_one_off, letter, same_letters}
-pub use Rattle.gk_lint.specs.LineContext.{after, kind_of}
-unfoldable pub use Rattle.gk_lint.specs.LineContext.{first_kind, rest_kind}
+pub use Rattle.gk_lint.specs.LineContext.{after}
 pub use Rattle.gk_lint.specs.LineEnds.{has_cr, have_cr, is_one_with_cr}
 pub use Rattle.gk_lint.specs.Lookups.{faults_in, faults_of, positions_in, positions_of}
 pub use Rattle.gk_lint.specs.MissingParts.{has_no_scenarios}
@@ -59,11 +56,12 @@ pub use Rattle.gk_lint.specs.Misspelt.{IsAbove, is_prose, of_worded, worded, wor
 pub use Rattle.gk_lint.specs.NamedTags.{named_by, without}
 pub use Rattle.gk_lint.specs.NearestEntry.{all_nearness, compared, is_like, is_near_length, nearest_of, words_of}
 pub use Rattle.gk_lint.specs.ScenarioLines.{lines_of_examples, lines_of_features, lines_of_rows, lines_of_scenarios}
+pub use Rattle.gk_lint.specs.NumberSets.{is_among}
 pub use Rattle.gk_lint.specs.ScenarioNames.{named_again, scenarios_of_rules}
 pub use Rattle.gk_lint.specs.StepHints.{cleanup_hint, first_hint, step_hint}
 pub use Rattle.gk_lint.specs.TagUse.{idle_hooks, tags_in, tags_of_examples, tags_of_rules, tags_of_scenarios}
 pub use Rattle.gk_lint.specs.TextSets.{in_set, is_one_of}
-pub use Rattle.gk_lint.specs.UnexpectedLines.{kinds_from}
+pub use Rattle.gk_lint.specs.UnexpectedLines.{classes_from}
 pub use Rattle.gk_lint.specs.WrittenSteps.{LooksUpWhatIsRun, WrittenStep, as_written, background_steps_of, found_in, in_examples, in_rows, in_scenario, of_background, of_feature, of_hooks, of_rule, of_rules, of_scenario, of_scenarios, runs_in, used_in}
 pub use Rattle.gk_lint.specs.declared.findings.Finding.{Finding}
 pub use Rattle.gk_lint.specs.declared.findings.FindingKind.TheVariants.{FileWithoutFeature, NameTwice}
@@ -72,3 +70,4 @@ pub use Rattle.gk_lint.specs.declared.line_context.LineContext.TheVariants.{Else
 pub use Rattle.gk_lint.specs.declared.misspelt.WordedLine.{WordedLine}
 pub use Rattle.gk_lint.specs.declared.nearest_entry.EntryHint.{EntryHint}
 pub use Rattle.gk_lint.specs.declared.step_sites.StepSite.TheVariants.{Scenario}
+pub use Rattle.gk_lint.specs.declared.written_steps.Part.{Part}

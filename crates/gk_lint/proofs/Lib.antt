@@ -13,5 +13,4 @@ pub mod FirstHints
 pub mod RisingNumbers
 pub mod EntryLinesLoop
 pub mod MisspeltLoop
-pub mod LineKinds
 pub mod OneLine

@@ -19,6 +19,7 @@ pub mod StepSites
 pub mod Lookups
 pub mod StepHints
 pub mod WrittenSteps
+pub mod NumberSets
 pub mod LibraryUse
 pub mod TagUse
 pub mod NamedTags

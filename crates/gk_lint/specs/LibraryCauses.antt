@@ -53,18 +53,18 @@ kind_words Plain = codes " is a text in "
 kind_words Decimal = codes " is a number in "
 
 -- What to do about a line, by its cause.
-abbrev pub cause_text : CauseValue → List ℕ
-cause_text (Lacks row field) = row.name ++ (codes " needs " ++ (fields_text row.needs ++ (codes "; missing: " ++ field_text field)))
-cause_text (OtherKind row field) = codes "write " ++ (field_text field ++ (codes ": " ++ (field ++ (kind_words (kind_of_field field) ++ row.name))))
-cause_text (NearAction row) = codes "the nearest action is " ++ (row.name ++ codes "; docs/guide/library_files.md lists all")
-cause_text (MatchedBy line) = codes "line " ++ (decimal line ++ codes " matches it, too: put the special entry first, or make it differ")
+abbrev pub library_cause_text : CauseValue → List ℕ
+library_cause_text (Lacks row field) = row.name ++ (codes " needs " ++ (fields_text row.needs ++ (codes "; missing: " ++ field_text field)))
+library_cause_text (OtherKind row field) = codes "write " ++ (field_text field ++ (codes ": " ++ (field ++ (kind_words (kind_of_field field) ++ row.name))))
+library_cause_text (NearAction row) = codes "the nearest action is " ++ (row.name ++ codes "; docs/guide/library_files.md lists all")
+library_cause_text (MatchedBy line) = codes "line " ++ (decimal line ++ codes " matches it, too: put the special entry first, or make it differ")
 
 -- The type of an entry, and the texts on the two sides of its arrow.
 pub record EntryParts : Type 0 where
   pub step_type : Option StepType
   pub sides : Sides
 
--- The value of an `EntryText`.
+-- Proof machinery: the value of an `EntryText`.
 abbrev pub parts_value : EntryText → EntryParts
 parts_value text = record { step_type = text.step_type; sides = record { pattern = text.pattern.now; action = text.action.now } }
 

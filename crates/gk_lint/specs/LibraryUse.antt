@@ -1,11 +1,12 @@
 -- Entries of a library that nothing finds.
-use Rattle.std.specs.Prelude.{not, ℕ, Bool, ◌==◌, List, [], ◌∷◌, flat_map, if◌then◌else◌}
-use Rattle.std.specs.List.{list_any, enumerate_from}
+use Rattle.std.specs.Prelude.{not, ℕ, Bool, List, [], ◌∷◌, flat_map, if◌then◌else◌}
+use Rattle.std.specs.List.{enumerate_from}
 use Rattle.gk_gherkin.specs.Lines.{LineValue, Lines}
 use Rattle.gk_steps.specs.LibraryFile.{is_ignored}
 use Rattle.gk_lint.specs.declared.findings.Finding.{Finding}
 use Rattle.gk_lint.specs.declared.findings.FindingKind.TheVariants.{UnusedEntry}
 use Rattle.gk_lint.specs.Findings.{found_if}
+use Rattle.gk_lint.specs.NumberSets.{is_among}
 
 -- The number of a line if it is an entry, and none for a blank line or a comment.
 abbrev pub entry_line : LineValue → List ℕ
@@ -14,10 +15,6 @@ entry_line line = if is_ignored line then [] else line.line ∷ []
 -- The line numbers of a library's entries, in their order.
 abbrev pub entry_lines : Lines → List ℕ
 entry_lines lines = flat_map entry_line lines
-
--- Whether a number is among some numbers.
-abbrev pub is_among : List ℕ → ℕ → Bool
-is_among numbers n = list_any (λ other. other == n) numbers
 
 -- The findings of an entry, by its position in the library and its line: that it isn't used.
 abbrev pub unused_entry : (ℕ → Bool) → ℕ × ℕ → List Finding

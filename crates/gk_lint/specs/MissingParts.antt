@@ -20,16 +20,16 @@ abbrev pub lacks_rows : ScenarioValue → Bool
 lacks_rows s = is_outline s && have_no_rows s.examples
 
 -- The findings of a scenario: that it has no steps itself, and that it is an outline without rows.
-unfoldable pub of_scenario : ScenarioValue → List Finding
-of_scenario s = found_if (length s.steps == 0) s.line ScenarioWithoutSteps ++ found_if (lacks_rows s) s.line OutlineWithoutRows
+unfoldable pub missing_in_scenario : ScenarioValue → List Finding
+missing_in_scenario s = found_if (length s.steps == 0) s.line ScenarioWithoutSteps ++ found_if (lacks_rows s) s.line OutlineWithoutRows
 
 -- The findings of scenarios, one scenario after the other.
-abbrev pub of_scenarios : List ScenarioValue → List Finding
-of_scenarios scenarios = flat_map of_scenario scenarios
+abbrev pub missing_in_scenarios : List ScenarioValue → List Finding
+missing_in_scenarios scenarios = flat_map missing_in_scenario scenarios
 
 -- The findings of the scenarios of rules, one rule after the other.
-abbrev pub of_rules : List RuleValue → List Finding
-of_rules rules = flat_map (λ (r : RuleValue). of_scenarios r.scenarios) rules
+abbrev pub missing_in_rules : List RuleValue → List Finding
+missing_in_rules rules = flat_map (λ (r : RuleValue). missing_in_scenarios r.scenarios) rules
 
 -- Whether a rule has no scenario.
 abbrev pub has_no_scenarios : RuleValue → Bool
@@ -44,10 +44,10 @@ abbrev pub lacks_scenarios : FeatureValue → Bool
 lacks_scenarios f = (length f.scenarios == 0) && have_no_scenarios f.rules
 
 -- The findings of a feature: that it has no scenarios, and the findings of its scenarios and of those of its rules.
-unfoldable pub of_feature : FeatureValue → List Finding
-of_feature f = found_if (lacks_scenarios f) f.line FeatureWithoutScenarios ++ (of_scenarios f.scenarios ++ of_rules f.rules)
+unfoldable pub missing_in_feature : FeatureValue → List Finding
+missing_in_feature f = found_if (lacks_scenarios f) f.line FeatureWithoutScenarios ++ (missing_in_scenarios f.scenarios ++ missing_in_rules f.rules)
 
 -- The findings of a file's feature, or that the file has none, at line 1.
 abbrev pub missing_parts : Option FeatureValue → List Finding
 missing_parts None = at_line 1 FileWithoutFeature ∷ []
-missing_parts (Some f) = of_feature f
+missing_parts (Some f) = missing_in_feature f

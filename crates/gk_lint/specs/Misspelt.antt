@@ -1,14 +1,16 @@
 -- Description lines that were probably not meant as descriptions: those that begin like a keyword, and steps outside of scenarios.
-use Rattle.std.specs.Prelude.{◌≡◌, ℕ, Bool, true, false, List, [], ◌∷◌, ◌++◌, Option, Some, None}
+use Rattle.std.specs.Prelude.{◌≡◌, ℕ, Bool, true, false, ◌&&◌, List, [], ◌∷◌, ◌++◌, length, slice_index, Option, Some, None}
+use Rattle.std.specs.List.{list_any}
+use Rattle.gk_gherkin.specs.declared.class.Class.{Class}
+use Rattle.gk_gherkin.specs.declared.class.Class.TheVariants as classes
+use Rattle.gk_gherkin.specs.Class.{class}
+use Rattle.gk_gherkin.specs.Keyword.{keyword_text}
 use Rattle.gk_gherkin.specs.Lines.{LineValue, Lines}
-use Rattle.gk_gherkin.specs.Text.{trim}
+use Rattle.gk_gherkin.specs.Text.{begins, is_blank, trim}
 use Rattle.gk_gherkin.specs.declared.keyword.Keyword.{Keyword}
 use Rattle.gk_gherkin.specs.declared.keyword.Keyword.TheVariants.{Given, When, Then}
 use Rattle.gk_lint.specs.declared.findings.Finding.{Finding}
 use Rattle.gk_lint.specs.declared.findings.FindingKind.TheVariants.{LikeKeyword, StepOutside}
-use Rattle.gk_lint.specs.declared.line_context.LineKind.{LineKind}
-use Rattle.gk_lint.specs.declared.line_context.LineKind.TheVariants.{Description}
-use Rattle.gk_lint.specs.declared.line_context.LineKind.TheVariants as kinds
 use Rattle.gk_lint.specs.declared.line_context.LineContext.{LineContext}
 use Rattle.gk_lint.specs.declared.line_context.LineContext.TheVariants.{Elsewhere, AfterStep, InText}
 use Rattle.gk_lint.specs.declared.misspelt.Wording.{Wording}
@@ -17,7 +19,7 @@ use Rattle.gk_lint.specs.declared.misspelt.Above.{Above}
 use Rattle.gk_lint.specs.declared.misspelt.WordedLine.{WordedLine}
 use Rattle.gk_lint.specs.Findings.{at_line, found_if}
 use Rattle.gk_lint.specs.Likeness.{like}
-use Rattle.gk_lint.specs.LineContext.{begins_with_one_of, line_kind, after}
+use Rattle.gk_lint.specs.LineContext.{after}
 
 -- The wording of a description line, by the keyword that it begins like, if any.
 abbrev pub likened : Option Keyword → Wording
@@ -27,6 +29,10 @@ likened (Some keyword) = Like keyword
 -- The keywords that a group of steps begins with. `And`, `But` and `*` add further steps to it, but they also begin sentences and bullets.
 abbrev pub opening_words : List Keyword
 opening_words = Given ∷ When ∷ Then ∷ []
+
+-- Whether a text begins with one of some keywords that a space or tab follows. (Cucumber's Gherkin reference: steps)
+abbrev pub begins_with_one_of : List Keyword → List ℕ → Bool
+begins_with_one_of words text = list_any (λ k. begins text (keyword_text k) && is_blank (slice_index text (length (keyword_text k)))) words
 
 -- The wording of a step line in this context: a step, or words of a step where no step is possible.
 abbrev pub of_step : LineContext → List ℕ → Wording
@@ -38,17 +44,17 @@ abbrev pub of_fence : LineContext → Wording
 of_fence AfterStep = Other
 of_fence context = Prose
 
--- The wording of a line of this kind in this context.
-abbrev pub by_kind : LineContext → List ℕ → LineKind → Wording
-by_kind context text Description = likened (like text)
-by_kind context text kinds.Step = of_step context text
-by_kind context text (kinds.Fence fence) = of_fence context
-by_kind context text kind = Other
+-- The wording of a line of this class in this context.
+abbrev pub by_class : LineContext → List ℕ → Class → Wording
+by_class context text classes.Other = likened (like text)
+by_class context text classes.StepLine = of_step context text
+by_class context text (classes.FenceLine fence) = of_fence context
+by_class context text class = Other
 
 -- The wording of a line in this context. A doc string may hold anything.
 unfoldable pub wording : LineContext → LineValue → Wording
 wording (InText fence) line = Other
-wording context line = by_kind context (trim line.text) (line_kind line)
+wording context line = by_class context (trim line.text) (class line)
 
 -- Lines with their wordings. The first of them is in this context.
 abbrev pub worded : LineContext → Lines → List WordedLine
@@ -84,11 +90,11 @@ abbrev pub is_plain : Wording → Bool
 is_plain Prose = true
 is_plain wording = false
 
--- Whether a line begins like a keyword.
-abbrev pub is_like : Wording → Bool
-is_like (Like keyword) = true
-is_like (Outside opens) = true
-is_like wording = false
+-- Proof machinery: whether a line begins like a keyword.
+abbrev pub begins_like : Wording → Bool
+begins_like (Like keyword) = true
+begins_like (Outside opens) = true
+begins_like wording = false
 
 -- The findings of lines, by whether prose is directly above them.
 abbrev pub of_worded : Bool → List WordedLine → List Finding

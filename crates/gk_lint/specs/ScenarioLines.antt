@@ -3,7 +3,7 @@ use Rattle.std.specs.Prelude.{not, ℕ, List, [], ◌∷◌, map, filter, flat_m
 use Rattle.gk_gherkin.specs.Feature.{RowValue, ExamplesValue, ScenarioValue, FeatureValue}
 use Rattle.gk_select.specs.Outline.{is_outline}
 use Rattle.gk_lint.specs.ScenarioNames.{scenarios_of}
-use Rattle.gk_lint.specs.LibraryUse.{is_among}
+use Rattle.gk_lint.specs.NumberSets.{is_among}
 
 -- The lines of the rows of Examples. (Cucumber's Gherkin reference: examples)
 abbrev pub lines_of_rows : List RowValue → List ℕ

@@ -14,19 +14,19 @@ use crate::missing_parts::add_missing_parts;
 use crate::misspelt::add_misspelt;
 use crate::placeholders::add_of_outlines;
 use crate::scenario_names::add_same_names;
-use gk_gherkin::{Feature, LIMIT, ReadFault, read_feature, text_of};
+use gk_gherkin::{Feature, LONGEST_FILE, ReadFault, read_feature, text_of};
 use std::alloc::{AllocError, Global};
 
 /// Returns the findings of a feature file that has been read, in the order of lines: those of its feature, or that it
 /// has none, and those of its text. If `text_of` and `read_feature` returned the text and the feature for a file's
-/// bytes, these are the findings that `lint_feature_file` returns for them. An error comes only if a growth was
-/// refused.
+/// bytes, these are the findings that `lint_feature_file` returns for them. The text has at most
+/// `gk_gherkin::LONGEST_FILE` bytes. An error comes only if a growth was refused.
 pub fn lint_feature(
     alloc: Global,
     feature: &Option<Feature>,
     text: &str,
 ) -> Result<Vec<Finding>, AllocError>
-    requires { length text.now ≤ LIMIT }
+    requires { length text.now ≤ LONGEST_FILE }
     // Returns all findings, and no others.
     ensures { IfOk result (λ findings. AreInOrder (spec.file_findings
         (option_map feature_value feature.now) (numbered_from 1 (lines text.now)))

@@ -19,6 +19,7 @@ mod missing_parts;
 mod misspelt;
 mod named_tags;
 mod nearest_entry;
+mod number_sets;
 mod placeholders;
 mod scenario_lines;
 mod scenario_names;

@@ -1,13 +1,14 @@
 //! Entries of a library that nothing finds.
-ghost use Rattle.std.specs.Prelude.{◌≡◌, ◌≤◌, ◌++◌, ℕ, length, OnOk, IfOk};
+ghost use Rattle.std.specs.Prelude.{◌≡◌, ◌≤◌, ◌++◌, length, OnOk, IfOk};
 ghost use Rattle.std.specs.List.Sorted.{IsNonDecreasing};
 ghost use Rattle.std.specs.Str.Lines.{lines};
 ghost use Rattle.gk_gherkin.specs.Lines.{borrowed_value, numbered_from};
 ghost use Rattle.gk_lint.specs.LibraryUse as spec;
-ghost use Rattle.gk_lint.specs.LibraryUse.{is_among};
+ghost use Rattle.gk_lint.specs.NumberSets.{is_among};
 
 use crate::findings::{Finding, FindingKind, add_if};
-use gk_gherkin::{BorrowedLine, LIMIT, borrowed_line};
+use crate::number_sets::{has, rising};
+use gk_gherkin::{BorrowedLine, LONGEST_FILE, borrowed_line};
 use gk_steps::is_ignored;
 use std::alloc::{AllocError, Global};
 
@@ -22,9 +23,10 @@ fn add_entry_line(lines: &mut Vec<u32>, line: &BorrowedLine<'_>) -> Result<(), A
     Ok(())
 }
 
-/// Returns the line numbers of the entries of a library file with this text. An error comes only if a growth was refused.
+/// Returns the line numbers of the entries of a library file with this text, which has at most
+/// `gk_gherkin::LONGEST_FILE` bytes. An error comes only if a growth was refused.
 pub fn entry_lines(alloc: Global, text: &str) -> Result<Vec<u32>, AllocError>
-    requires { length text.now ≤ LIMIT }
+    requires { length text.now ≤ LONGEST_FILE }
     ensures { IfOk result (λ found.
         found.items ≡ spec.entry_lines (numbered_from 1 (lines text.now))) }
 {
@@ -36,26 +38,6 @@ pub fn entry_lines(alloc: Global, text: &str) -> Result<Vec<u32>, AllocError>
         number += 1;
     }
     Ok(found)
-}
-
-/// Returns the same numbers in ascending order. An error comes only if a growth was refused.
-pub fn rising(alloc: Global, numbers: &[usize]) -> Result<Vec<usize>, AllocError>
-    ensures rising { IfOk result (λ r. IsNonDecreasing r.items) }
-    ensures same { IfOk result (λ r. (n : ℕ) → is_among r.items n ≡ is_among numbers.now n) }
-{
-    let mut rising = Vec::new(alloc);
-    rising.extend_from_slice(numbers)?;
-    rising.sort_unstable();
-    Ok(rising)
-}
-
-/// Returns whether a number is among numbers in ascending order. Doesn't allocate.
-#[tactic(auto, using(gk_select::proofs::ChosenLines::is_among))]
-pub fn has(numbers: &[usize], n: usize) -> bool
-    requires { IsNonDecreasing numbers.now }
-    ensures { result ≡ is_among numbers.now n }
-{
-    numbers.binary_search(&n).is_ok()
 }
 
 // Returns the findings of the entries at these lines. The positions of the used entries are in ascending order.
@@ -74,10 +56,11 @@ fn unused_at(alloc: Global, used: &[usize], lines: &[u32]) -> Result<Vec<Finding
 
 /// Returns the findings of a library file with this text, in the order of lines: each entry that isn't used. `used` has
 /// the positions of the entries that steps, hooks and their cleanups find. They may be in any order and may be
-/// repeated, as in the results of `lint_steps` and `lint_hooks`. An error comes only if a growth was refused.
+/// repeated, as in the results of `lint_steps` and `lint_hooks`. The text has at most `gk_gherkin::LONGEST_FILE` bytes.
+/// An error comes only if a growth was refused.
 #[tactic(auto, using(crate::proofs::RisingNumbers::same_unused))]
 pub fn lint_library(alloc: Global, text: &str, used: &[usize]) -> Result<Vec<Finding>, AllocError>
-    requires { length text.now ≤ LIMIT }
+    requires { length text.now ≤ LONGEST_FILE }
     // Returns all findings, and no others.
     ensures { IfOk result (λ findings. findings.items
         ≡ spec.unused_entries used.now (numbered_from 1 (lines text.now))) }

@@ -5,7 +5,7 @@ ghost use Rattle.gk_gherkin.specs.Lines.{numbered_from};
 ghost use Rattle.gk_lint.specs.LineEnds as spec;
 
 use crate::findings::{Finding, FindingKind, add_if};
-use gk_gherkin::LIMIT;
+use gk_gherkin::LONGEST_FILE;
 use std::alloc::AllocError;
 
 fn has_cr(text: &str) -> bool
@@ -30,7 +30,7 @@ fn is_one_before(number: u32, has_cr: bool) -> bool
 
 // Returns whether a text is one line with a carriage return.
 fn is_one_with_cr(text: &str) -> bool
-    requires { length text.now ≤ LIMIT }
+    requires { length text.now ≤ LONGEST_FILE }
     ensures { result ≡ spec.is_one_with_cr (numbered_from 1 (lines text.now)) }
 {
     let mut number: u32 = 1;
@@ -44,7 +44,7 @@ fn is_one_with_cr(text: &str) -> bool
 
 /// Adds that the lines of a text end with CR alone, if they do. An error comes only if a growth was refused.
 pub fn add_cr_alone(findings: &mut Vec<Finding>, text: &str) -> Result<(), AllocError>
-    requires { length text.now ≤ LIMIT }
+    requires { length text.now ≤ LONGEST_FILE }
     ensures { OnOk result (findings.new.items ≡ findings.old.items
         ++ spec.cr_alone (numbered_from 1 (lines text.now))) }
 {

@@ -26,10 +26,10 @@ fn have_no_rows(examples: &[Examples]) -> bool
     true
 }
 
-#[tactic(auto, unfolding(crate::specs::MissingParts::of_scenario))]
+#[tactic(auto, unfolding(crate::specs::MissingParts::missing_in_scenario))]
 fn add_of_scenario(findings: &mut Vec<Finding>, scenario: &Scenario) -> Result<(), AllocError>
     ensures { OnOk result (findings.new.items
-        ≡ findings.old.items ++ spec.of_scenario (scenario_value scenario.now)) }
+        ≡ findings.old.items ++ spec.missing_in_scenario (scenario_value scenario.now)) }
 {
     let line = scenario.line;
     let no_steps = scenario.steps.is_empty();
@@ -40,7 +40,7 @@ fn add_of_scenario(findings: &mut Vec<Finding>, scenario: &Scenario) -> Result<(
 
 fn add_of_scenarios(findings: &mut Vec<Finding>, scenarios: &[Scenario]) -> Result<(), AllocError>
     ensures { OnOk result (findings.new.items
-        ≡ findings.old.items ++ spec.of_scenarios (map scenario_value scenarios.now)) }
+        ≡ findings.old.items ++ spec.missing_in_scenarios (map scenario_value scenarios.now)) }
 {
     for scenario in scenarios {
         add_of_scenario(findings, scenario)?;
@@ -50,7 +50,7 @@ fn add_of_scenarios(findings: &mut Vec<Finding>, scenarios: &[Scenario]) -> Resu
 
 fn add_of_rules(findings: &mut Vec<Finding>, rules: &[Rule]) -> Result<(), AllocError>
     ensures { OnOk result (findings.new.items
-        ≡ findings.old.items ++ spec.of_rules (map rule_value rules.now)) }
+        ≡ findings.old.items ++ spec.missing_in_rules (map rule_value rules.now)) }
 {
     for rule in rules {
         add_of_scenarios(findings, &rule.scenarios)?;
@@ -77,10 +77,10 @@ fn have_no_scenarios(rules: &[Rule]) -> bool
     lack_scenarios(rules)
 }
 
-#[tactic(auto, unfolding(crate::specs::MissingParts::of_feature))]
+#[tactic(auto, unfolding(crate::specs::MissingParts::missing_in_feature))]
 fn add_of_feature(findings: &mut Vec<Finding>, feature: &Feature) -> Result<(), AllocError>
     ensures { OnOk result (findings.new.items
-        ≡ findings.old.items ++ spec.of_feature (feature_value feature.now)) }
+        ≡ findings.old.items ++ spec.missing_in_feature (feature_value feature.now)) }
 {
     let none = feature.scenarios.is_empty() && have_no_scenarios(&feature.rules);
     add_if(

@@ -10,9 +10,9 @@ ghost use Rattle.gk_lint.specs.declared.line_context.LineContext.TheVariants.{El
 
 use crate::findings::{Finding, FindingKind, add_if};
 use crate::likeness::like;
-use crate::line_context::{LineContext, LineKind, after, begins_with_one_of, line_kind};
-use gk_gherkin::text::trim;
-use gk_gherkin::{BorrowedLine, Keyword, LIMIT, borrowed_line};
+use crate::line_context::{LineContext, after};
+use gk_gherkin::text::{begins_word, trim};
+use gk_gherkin::{BorrowedLine, Class, Keyword, LONGEST_FILE, borrowed_line, class_of_line};
 use std::alloc::{AllocError, Global};
 
 /// How a line is worded.
@@ -53,6 +53,13 @@ fn of_description(alloc: Global, text: &str) -> Result<Wording, AllocError>
     }
 }
 
+// Returns whether a text begins with one of some keywords that a space or tab follows.
+fn begins_with_one_of(text: &str, some: &[Keyword]) -> bool
+    ensures { result ≡ spec.begins_with_one_of some.now text.now }
+{
+    some.iter().any(|word| begins_word(text, word.as_str()))
+}
+
 // Returns the wording of a step line with this trimmed text.
 fn of_step(context: LineContext, text: &str) -> Wording
     ensures { result ≡ spec.of_step context text.now }
@@ -74,19 +81,19 @@ fn of_fence(context: LineContext) -> Wording
     }
 }
 
-// Returns the wording of a line outside of doc strings, by its kind.
-fn by_kind(
+// Returns the wording of a line outside of doc strings, by its class.
+fn by_class(
     alloc: Global,
     context: LineContext,
     text: &str,
-    kind: LineKind,
+    class: Class,
 ) -> Result<Wording, AllocError>
-    ensures { IfOk result (λ wording. wording ≡ spec.by_kind context text.now kind) }
+    ensures { IfOk result (λ wording. wording ≡ spec.by_class context text.now class) }
 {
-    match kind {
-        LineKind::Description => of_description(alloc, text),
-        LineKind::Step => Ok(of_step(context, text)),
-        LineKind::Fence(_) => Ok(of_fence(context)),
+    match class {
+        Class::Other => of_description(alloc, text),
+        Class::StepLine => Ok(of_step(context, text)),
+        Class::FenceLine(_) => Ok(of_fence(context)),
         _ => Ok(Wording::Other),
     }
 }
@@ -103,13 +110,13 @@ fn wording_in(
 {
     match context {
         LineContext::InText(_) => Ok(Wording::Other),
-        _ => by_kind(alloc, context, trim(line.text), line_kind(line)),
+        _ => by_class(alloc, context, trim(line.text), class_of_line(line)),
     }
 }
 
 // Returns the lines of a text with their wordings.
 fn worded(alloc: Global, text: &str) -> Result<Vec<WordedLine>, AllocError>
-    requires { length text.now ≤ LIMIT }
+    requires { length text.now ≤ LONGEST_FILE }
     ensures { IfOk result (λ all. all.items
         ≡ spec.worded Elsewhere (numbered_from 1 (lines text.now))) }
 {
@@ -153,8 +160,8 @@ fn is_plain(wording: Wording) -> bool
 }
 
 // Returns whether a line begins like a keyword.
-fn is_like(wording: Wording) -> bool
-    ensures { result ≡ spec.is_like wording }
+fn begins_like(wording: Wording) -> bool
+    ensures { result ≡ spec.begins_like wording }
 {
     matches!(wording, Wording::Like(_) | Wording::Outside { .. })
 }
@@ -192,7 +199,7 @@ pub struct Above {
 
 // Returns whether a line that begins like a keyword is prose.
 fn is_prose_here(above: Above, line: &WordedLine, below: &[WordedLine]) -> bool
-    requires like { spec.is_like line.now.wording ≡ true }
+    requires like { spec.begins_like line.now.wording ≡ true }
     requires known { IsAbove above (line.now ∷ below.now) }
     ensures { result ≡ spec.is_prose above.plain below.now }
 {
@@ -215,11 +222,11 @@ fn add_at(
         line.now.line line.now.wording) }
     ensures plain { IfOk result (λ next. next.plain ≡ spec.is_plain line.now.wording) }
     // A line that begins like a keyword is in a group, and the next line is told whether the group is prose.
-    ensures group { IfOk result (λ next. next.group ≡ cond (spec.is_like line.now.wording)
+    ensures group { IfOk result (λ next. next.group ≡ cond (spec.begins_like line.now.wording)
         (Some (spec.is_prose above.plain below.now)) None) }
     ensures known { IfOk result (λ next. IsAbove next below.now) }
 {
-    if is_like(line.wording) {
+    if begins_like(line.wording) {
         let prose = is_prose_here(above, line, below);
         add_meant(findings, line, prose)?;
         return Ok(Above {
@@ -255,7 +262,7 @@ pub fn add_misspelt(
     alloc: Global,
     text: &str,
 ) -> Result<(), AllocError>
-    requires { length text.now ≤ LIMIT }
+    requires { length text.now ≤ LONGEST_FILE }
     ensures { OnOk result (findings.new.items ≡ findings.old.items
         ++ spec.misspelt Elsewhere (numbered_from 1 (lines text.now))) }
 {

@@ -2,10 +2,10 @@
 ghost use Rattle.std.specs.Prelude.{◌≡◌, ◌++◌, not, map, filter, OnOk, IfOk};
 ghost use Rattle.std.specs.List.Sorted.{IsNonDecreasing};
 ghost use Rattle.gk_gherkin.specs.Feature.{row_value, examples_value, scenario_value, feature_value};
-ghost use Rattle.gk_lint.specs.LibraryUse.{is_among};
+ghost use Rattle.gk_lint.specs.NumberSets.{is_among};
 ghost use Rattle.gk_lint.specs.ScenarioLines as spec;
 
-use crate::library_use::{has, rising};
+use crate::number_sets::{has, rising};
 use crate::scenario_names::scenarios_of;
 use gk_gherkin::{Examples, Feature, Row, Scenario};
 use gk_select::is_outline;

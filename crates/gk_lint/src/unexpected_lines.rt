@@ -1,5 +1,5 @@
 //! Causes of an unexpected line of a feature file, and what to do about each.
-ghost use Rattle.std.specs.Prelude.{◌≡◌, ◌++◌, map, take, find, reverse, IfOk};
+ghost use Rattle.std.specs.Prelude.{◌≡◌, map, take, find, reverse, IfOk};
 ghost use Rattle.std.specs.String.{string_bytes};
 ghost use Rattle.gk_gherkin.specs.Lines.{borrowed_value};
 ghost use Rattle.gk_lint.specs.Likeness.{like};
@@ -7,9 +7,9 @@ ghost use Rattle.gk_lint.specs.UnexpectedLines as spec;
 ghost use Rattle.gk_lint.specs.declared.line_context.LineContext.TheVariants.{Elsewhere};
 
 use crate::likeness::{like, same_letters};
-use crate::line_context::{LineContext, LineKind, after, line_kind};
+use crate::line_context::{LineContext, after};
 use gk_gherkin::text::{begins, trim};
-use gk_gherkin::{BorrowedLine, Keyword, Place};
+use gk_gherkin::{BorrowedLine, Class, Keyword, Place, class_of_line};
 use std::alloc::{AllocError, Global};
 
 /// Why a line of a feature file is unexpected.
@@ -35,7 +35,7 @@ pub enum Cause {
     SecondBlock,
     /// It begins with three single quotes.
     SingleQuotes,
-    /// It begins with the keyword, without the colon or the space and the text after it.
+    /// It begins with the step keyword, without a plain space and a text after it.
     OpenKeyword(Keyword),
     /// It begins with the keyword in another case.
     OtherCase(Keyword),
@@ -45,77 +45,56 @@ pub enum Cause {
     FreeText,
 }
 
-fn with_keyword(alloc: Global, words: &str, keyword: &str) -> Result<String, AllocError>
-    ensures { IfOk result (λ text. string_bytes text ≡ words.now ++ keyword.now) }
-{
-    let mut text = String::from_str(alloc, words)?;
-    text.push_str(keyword)?;
-    Ok(text)
-}
-
 impl Cause {
+    // Returns what to do about the line, without the keyword that is named behind it.
+    #[tactic(auto, unfolding(crate::specs::UnexpectedLines::cause_words))]
+    fn words(self) -> &'static str
+        ensures { result.now ≡ spec.cause_words self }
+    {
+        match self {
+            Cause::NoFeature => "begin the file with Feature: and a name",
+            Cause::SecondFeature => "a file has one feature: move this one into another file",
+            Cause::LateBackground => "move the Background above the first scenario",
+            Cause::SecondBackground => "a feature or a rule has one Background: join the two",
+            Cause::TaggedBackground => "a Background has no tags: take out those above it",
+            Cause::ExamplesAlone => "move the Examples below the steps of a scenario",
+            Cause::BelowTags => "tags belong above a heading: move those above this line",
+            Cause::BelowRows => "write steps and texts above the Examples, not below their rows",
+            Cause::SecondBlock => "a step has one doc string or one table: take out the other",
+            Cause::SingleQuotes => "write three double quotes, or three backticks",
+            Cause::OpenKeyword(_) => "write a plain space and a text directly after ",
+            Cause::OtherCase(_) => "upper and lower case count: write ",
+            Cause::Misspelt(_) => "the keyword is misspelt: write ",
+            Cause::FreeText => {
+                "a description ends at the first step: begin this line with a keyword, or with #"
+            }
+        }
+    }
+
+    // Returns the keyword that is named behind these words, or an empty text.
+    #[tactic(auto, unfolding(crate::specs::UnexpectedLines::keyword_named))]
+    fn keyword(self) -> &'static str
+        ensures { result.now ≡ spec.keyword_named self }
+    {
+        match self {
+            Cause::OpenKeyword(keyword) | Cause::OtherCase(keyword) | Cause::Misspelt(keyword) =>
+                keyword.spelling(),
+            _ => "",
+        }
+    }
+
     /// Returns what to do about the line. An error comes only if a growth was refused.
-    #[tactic(auto, unfolding(crate::specs::UnexpectedLines::cause_text))]
     pub fn text(self, alloc: Global) -> Result<String, AllocError>
         ensures { IfOk result (λ text. string_bytes text ≡ spec.cause_text self) }
     {
-        match self {
-            Cause::NoFeature => String::from_str(alloc, "begin the file with Feature: and a name"),
-            Cause::SecondFeature => String::from_str(
-                alloc,
-                "a file has one feature: move this one into another file",
-            ),
-            Cause::LateBackground => {
-                String::from_str(alloc, "move the Background above the first scenario")
-            }
-            Cause::SecondBackground => String::from_str(
-                alloc,
-                "a feature or a rule has one Background: join the two",
-            ),
-            Cause::TaggedBackground => {
-                String::from_str(alloc, "a Background has no tags: take out those above it")
-            }
-            Cause::ExamplesAlone => {
-                String::from_str(alloc, "move the Examples below the steps of a scenario")
-            }
-            Cause::BelowTags => String::from_str(
-                alloc,
-                "tags belong above a heading: move those above this line",
-            ),
-            Cause::BelowRows => String::from_str(
-                alloc,
-                "write steps and texts above the Examples, not below their rows",
-            ),
-            Cause::SecondBlock => String::from_str(
-                alloc,
-                "a step has one doc string or one table: take out the other",
-            ),
-            Cause::SingleQuotes => {
-                String::from_str(alloc, "write three double quotes, or three backticks")
-            }
-            Cause::OpenKeyword(keyword) => with_keyword(
-                alloc,
-                "write the colon, or a plain space and a text, directly after ",
-                keyword.as_str(),
-            ),
-            Cause::OtherCase(keyword) => with_keyword(
-                alloc,
-                "upper and lower case count: write ",
-                keyword.spelling(),
-            ),
-            Cause::Misspelt(keyword) => {
-                with_keyword(alloc, "the keyword is misspelt: write ", keyword.spelling())
-            }
-            Cause::FreeText => String::from_str(
-                alloc,
-                "a description ends at the first step: begin this line with a keyword, or with #",
-            ),
-        }
+        let mut text = String::from_str(alloc, self.words())?;
+        text.push_str(self.keyword())?;
+        Ok(text)
     }
 }
 
-// Returns a line with this text. Its place doesn't matter.
-fn unplaced(text: &str) -> BorrowedLine<'_>
+/// Returns a line with this text. Its place doesn't matter.
+pub(crate) fn unplaced(text: &str) -> BorrowedLine<'_>
     ensures { borrowed_value result ≡ spec.unplaced text.now }
 {
     BorrowedLine {
@@ -124,134 +103,138 @@ fn unplaced(text: &str) -> BorrowedLine<'_>
     }
 }
 
-// Returns the kind of a line in this context.
-fn kind_in(context: LineContext, line: &BorrowedLine<'_>) -> LineKind
-    ensures { result ≡ spec.kind_in context (borrowed_value line.now) }
+// Returns the class of a line in this context.
+fn class_in(context: LineContext, line: &BorrowedLine<'_>) -> Class
+    ensures { result ≡ spec.class_in context (borrowed_value line.now) }
 {
     match context {
-        LineContext::InText(_) => LineKind::Ignored,
-        _ => line_kind(line),
+        LineContext::InText(_) => Class::Blank,
+        _ => class_of_line(line),
     }
 }
 
-// Returns the kinds of lines.
-fn kinds_of(alloc: Global, lines: &[&str]) -> Result<Vec<LineKind>, AllocError>
-    ensures { IfOk result (λ kinds. kinds.items
-        ≡ spec.kinds_from Elsewhere (map (λ line. line.now) lines.now)) }
+// Returns the classes of lines.
+fn classes_of(alloc: Global, lines: &[&str]) -> Result<Vec<Class>, AllocError>
+    ensures { IfOk result (λ classes. classes.items
+        ≡ spec.classes_from Elsewhere (map (λ line. line.now) lines.now)) }
 {
-    let mut kinds = Vec::new(alloc);
+    let mut classes = Vec::new(alloc);
     let mut context = LineContext::Elsewhere;
     for text in lines {
         let line = unplaced(*text);
-        kinds.push(kind_in(context, &line))?;
+        classes.push(class_in(context, &line))?;
         context = after(context, &line);
     }
-    Ok(kinds)
+    Ok(classes)
 }
 
-fn is_heading(kind: LineKind) -> bool
-    ensures { result ≡ spec.is_heading kind }
+fn is_heading(class: Class) -> bool
+    ensures { result ≡ spec.is_heading class }
 {
-    match kind {
-        LineKind::Feature
-        | LineKind::Rule
-        | LineKind::Background
-        | LineKind::Scenario
-        | LineKind::Examples => true,
+    match class {
+        Class::FeatureHeading
+        | Class::RuleHeading
+        | Class::BackgroundHeading
+        | Class::ScenarioHeading
+        | Class::ExamplesHeading => true,
         _ => false,
     }
 }
 
-fn is_seen(kind: LineKind) -> bool
-    ensures { result ≡ spec.is_seen kind }
+fn is_seen(class: Class) -> bool
+    ensures { result ≡ spec.is_seen class }
 {
-    match kind {
-        LineKind::Ignored => false,
+    match class {
+        Class::Blank | Class::Comment => false,
         _ => true,
     }
 }
 
-// Returns the nearest heading above a line, by the kinds of the lines above.
-fn heading_above(above: &[LineKind]) -> Option<LineKind>
+// Returns the nearest heading above a line, by the classes of the lines above.
+fn heading_above(above: &[Class]) -> Option<Class>
     ensures { result ≡ spec.heading_above above.now }
 {
-    above.iter().rev().copied().find(|kind| is_heading(*kind))
+    above.iter().rev().copied().find(|class| is_heading(*class))
 }
 
-// Returns the kind of the nearest line above that is neither blank nor a comment.
-fn seen_above(above: &[LineKind]) -> Option<LineKind>
+// Returns the class of the nearest line above that is neither blank nor a comment.
+fn seen_above(above: &[Class]) -> Option<Class>
     ensures { result ≡ find spec.is_seen (reverse above.now) }
 {
-    above.iter().rev().copied().find(|kind| is_seen(*kind))
+    above.iter().rev().copied().find(|class| is_seen(*class))
 }
 
-fn has_tags_above(above: &[LineKind]) -> bool
+fn has_tags_above(above: &[Class]) -> bool
     ensures { result ≡ spec.has_tags_above above.now }
 {
     match seen_above(above) {
-        Some(LineKind::Tags) => true,
+        Some(Class::TagLine) => true,
         _ => false,
     }
 }
 
 // Returns the cause of an unexpected Background below a heading.
-fn background_below(heading: LineKind) -> Cause
+fn background_below(heading: Class) -> Cause
     ensures { result ≡ spec.background_below heading }
 {
     match heading {
-        LineKind::Background => Cause::SecondBackground,
-        LineKind::Scenario | LineKind::Examples => Cause::LateBackground,
+        Class::BackgroundHeading => Cause::SecondBackground,
+        Class::ScenarioHeading | Class::ExamplesHeading => Cause::LateBackground,
         _ => Cause::TaggedBackground,
     }
 }
 
 // Returns the cause of another unexpected line below a heading, without tags directly above it.
-fn part_below(heading: LineKind, kind: LineKind) -> Cause
-    ensures { result ≡ spec.part_below heading kind }
+fn part_below(heading: Class, class: Class) -> Cause
+    ensures { result ≡ spec.part_below heading class }
 {
     match heading {
-        LineKind::Examples => Cause::BelowRows,
-        _ => match kind {
-            LineKind::Row | LineKind::Fence(_) => Cause::SecondBlock,
+        Class::ExamplesHeading => Cause::BelowRows,
+        _ => match class {
+            Class::RowLine | Class::FenceLine(_) => Cause::SecondBlock,
             _ => Cause::FreeText,
         },
     }
 }
 
 // Returns the cause of an unexpected line below a heading.
-fn below(heading: LineKind, tagged: bool, kind: LineKind) -> Cause
-    ensures { result ≡ spec.below heading tagged kind }
+fn below(heading: Class, tagged: bool, class: Class) -> Cause
+    ensures { result ≡ spec.below heading tagged class }
 {
-    match kind {
-        LineKind::Feature => Cause::SecondFeature,
-        LineKind::Background => background_below(heading),
-        LineKind::Examples => Cause::ExamplesAlone,
+    match class {
+        Class::FeatureHeading => Cause::SecondFeature,
+        Class::BackgroundHeading => background_below(heading),
+        Class::ExamplesHeading => Cause::ExamplesAlone,
         _ => {
             if tagged {
                 Cause::BelowTags
             } else {
-                part_below(heading, kind)
+                part_below(heading, class)
             }
         }
     }
 }
 
-// Returns the cause of an unexpected line of this kind below lines of these kinds.
-fn cause_by_place(above: &[LineKind], kind: LineKind) -> Cause
+// Returns the cause of an unexpected line of this class below lines of these classes.
+fn cause_by_place(above: &[Class], class: Class) -> Cause
     ensures { result ≡ spec.cause_by_place (spec.heading_above above.now)
-        (spec.has_tags_above above.now) kind }
+        (spec.has_tags_above above.now) class }
 {
     match heading_above(above) {
         None => Cause::NoFeature,
-        Some(heading) => below(heading, has_tags_above(above), kind),
+        Some(heading) => below(heading, has_tags_above(above), class),
     }
 }
 
-// Returns the first bytes of a text.
-fn front(len: usize, text: &[u8]) -> &[u8]
-    ensures { result.now ≡ take len text.now }
+// Returns the first values of some.
+fn front<T>(len: usize, values: &[T]) -> &[T]
+    ensures { result.now ≡ take len values.now }
 {
-    if len < text.len() { &text[..len] } else { text }
+    if len < values.len() {
+        &values[..len]
+    } else {
+        values
+    }
 }
 
 // Returns whether a text begins with a keyword in any case.
@@ -265,9 +248,9 @@ fn begins_in_any_case(text: &str, word: &str) -> bool
 fn cause_by_keyword(text: &str, keyword: Keyword) -> Cause
     ensures { result ≡ spec.cause_by_keyword text.now keyword }
 {
-    if begins(text, keyword.as_str()) {
+    if begins(text, keyword.spelling()) {
         Cause::OpenKeyword(keyword)
-    } else if begins_in_any_case(text, keyword.as_str()) {
+    } else if begins_in_any_case(text, keyword.spelling()) {
         Cause::OtherCase(keyword)
     } else {
         Cause::Misspelt(keyword)
@@ -291,30 +274,19 @@ fn cause_by_text(alloc: Global, text: &str, otherwise: Cause) -> Result<Cause, A
     }
 }
 
-// Returns the cause of an unexpected line below lines of these kinds.
+// Returns the cause of an unexpected line below lines of these classes.
 fn cause_below(
     alloc: Global,
-    above: &[LineKind],
-    kind: LineKind,
+    above: &[Class],
+    class: Class,
     text: &str,
 ) -> Result<Cause, AllocError>
-    ensures { IfOk result (λ cause. cause ≡ spec.cause_below above.now kind text.now) }
+    ensures { IfOk result (λ cause. cause ≡ spec.cause_below above.now class text.now) }
 {
-    let otherwise = cause_by_place(above, kind);
-    match kind {
-        LineKind::Description => cause_by_text(alloc, text, otherwise),
+    let otherwise = cause_by_place(above, class);
+    match class {
+        Class::Other => cause_by_text(alloc, text, otherwise),
         _ => Ok(otherwise),
-    }
-}
-
-// Returns the kinds of the lines above a position.
-fn kinds_above(kinds: &[LineKind], position: usize) -> &[LineKind]
-    ensures { result.now ≡ take position kinds.now }
-{
-    if position < kinds.len() {
-        &kinds[..position]
-    } else {
-        kinds
     }
 }
 
@@ -325,11 +297,12 @@ pub fn cause_at(alloc: Global, lines: &[&str], position: usize) -> Result<Option
     ensures { IfOk result (λ cause.
         cause ≡ spec.cause_at (map (λ line. line.now) lines.now) position) }
 {
-    let kinds = kinds_of(alloc, lines)?;
+    let classes = classes_of(alloc, lines)?;
     match lines.get(position) {
-        Some(text) => match kinds.get(position).copied() {
-            Some(kind) => {
-                let cause = cause_below(alloc, kinds_above(&kinds, position), kind, trim(*text))?;
+        Some(text) => match classes.get(position).copied() {
+            Some(class) => {
+                let above = front(position, classes.as_slice());
+                let cause = cause_below(alloc, above, class, trim(*text))?;
                 Ok(Some(cause))
             }
             None => Ok(None),

@@ -2,11 +2,10 @@
 ghost use Rattle.std.specs.Prelude.{◌≡◌, [], ◌++◌, map, option_map, length, OnOk, IfOk};
 ghost use Rattle.std.specs.Option.{option_or};
 ghost use Rattle.std.specs.List.{AllByRecursion};
-ghost use Rattle.gk_gherkin.specs.Feature.{step_value, examples_value, background_value};
+ghost use Rattle.gk_gherkin.specs.Feature.{texts, step_value, examples_value, background_value};
 ghost use Rattle.gk_gherkin.specs.Feature.{scenario_value, rule_value, feature_value};
 ghost use Rattle.gk_gherkin.specs.Hooks.{hook_value, hooks_value};
-ghost use Rattle.gk_select.specs.Copies.{filled_by};
-ghost use Rattle.gk_select.specs.Filling.{filled_step};
+ghost use Rattle.gk_select.specs.Filling.{filled, filled_step};
 ghost use Rattle.gk_select.specs.Outline.{AllFit};
 ghost use Rattle.gk_select.specs.Expansion.{RowsFit, IsExpandable};
 ghost use Rattle.gk_lint.specs.Findings.{AreInOrder, hinted, named_once};
@@ -25,7 +24,7 @@ use crate::nearest_entry::EntryHint;
 use crate::step_faults::STEP_FAULTS;
 use crate::step_sites::{StepSite, site_of_hook};
 use gk_gherkin::{Background, Examples, Feature, Hook, HookFile, Rule, Scenario, Step};
-use gk_select::{fill_step, is_outline};
+use gk_select::{Names, fill_step, is_outline};
 use std::alloc::{AllocError, Global};
 
 /// The findings of steps, and the position in the library of each entry that a step or its cleanup finds. A position is
@@ -36,30 +35,53 @@ pub struct StepFindings {
     pub used: Vec<usize>,
 }
 
+// Examples of an outline, and the columns of their header.
+#[derive(Drop)]
+struct Part<'a> {
+    examples: &'a Examples,
+    columns: Names<'a>,
+    ghost header: { columns ≡ texts examples.now.header.items },
+}
+
+// Returns the Examples of a scenario, each with its columns.
+fn parts_of(alloc: Global, examples: &[Examples]) -> Result<Vec<Part<'_>>, AllocError>
+    ensures { IfOk result (λ parts. map (λ part. examples_value part.examples.now) parts.items
+        ≡ map examples_value examples.now) }
+{
+    let mut parts = Vec::new(alloc);
+    for part in examples {
+        parts.push(Part {
+            examples: part,
+            columns: Names::new(alloc, &part.header),
+        })?;
+    }
+    Ok(parts)
+}
+
 // Looks up a step filled from a row.
 fn look_up_row(
     lookups: &mut Lookups,
     alloc: Global,
     hints: &EntryHints<'_>,
     step: &Step,
-    header: &[String],
+    columns: &Names<'_>,
     cells: &[String],
 ) -> Result<(), AllocError>
-    requires { length cells.now ≡ length header.now }
+    requires { length cells.now ≡ length columns.now }
     ensures faults { OnOk result (lookups.new.faults.items ≡ lookups.old.faults.items
         ++ faults_of hints.now sites.Scenario
-        (filled_step (filled_by header.now cells.now) (step_value step.now))) }
+        (filled_step (filled columns.now (texts cells.now)) (step_value step.now))) }
     ensures used { OnOk result (lookups.new.used.items ≡ lookups.old.used.items
         ++ positions_of hints.now
-        (filled_step (filled_by header.now cells.now) (step_value step.now))) }
+        (filled_step (filled columns.now (texts cells.now)) (step_value step.now))) }
     ensures undefined { OnOk result (lookups.new.undefined ≡ option_or lookups.old.undefined
         (step_hint hints.now
-        (filled_step (filled_by header.now cells.now) (step_value step.now)))) }
+        (filled_step (filled columns.now (texts cells.now)) (step_value step.now)))) }
     ensures cleanup { OnOk result (lookups.new.cleanup ≡ option_or lookups.old.cleanup
         (cleanup_hint hints.now
-        (filled_step (filled_by header.now cells.now) (step_value step.now)))) }
+        (filled_step (filled columns.now (texts cells.now)) (step_value step.now)))) }
 {
-    let filled = fill_step(alloc, step, header, cells)?;
+    let filled = fill_step(alloc, step, columns, cells)?;
     lookups.add(alloc, hints, StepSite::Scenario, &filled)
 }
 
@@ -69,14 +91,15 @@ fn look_up_rows(
     alloc: Global,
     hints: &EntryHints<'_>,
     step: &Step,
-    part: &Examples,
+    part: &Part<'_>,
 ) -> Result<(), AllocError>
-    requires { AllFit (examples_value part.now) }
-    ensures { let e = examples_value part.now in OnOk result (AreLookedUp hints.now sites.Scenario
+    requires { AllFit (examples_value part.now.examples.now) }
+    ensures { let e = examples_value part.now.examples.now in
+        OnOk result (AreLookedUp hints.now sites.Scenario
         (spec.in_rows (step_value step.now) e.header e.rows) lookups.old lookups.new) }
 {
-    for row in &part.rows {
-        look_up_row(lookups, alloc, hints, step, &part.header, &row.cells)?;
+    for row in &part.examples.rows {
+        look_up_row(lookups, alloc, hints, step, &part.columns, &row.cells)?;
     }
     Ok(())
 }
@@ -87,11 +110,13 @@ fn look_up_examples(
     alloc: Global,
     hints: &EntryHints<'_>,
     step: &Step,
-    parts: &[Examples],
+    parts: &[Part<'_>],
 ) -> Result<(), AllocError>
-    requires { AllByRecursion AllFit (map examples_value parts.now) }
+    requires { AllByRecursion AllFit
+        (map (λ part. examples_value part.examples.now) parts.now) }
     ensures { OnOk result (AreLookedUp hints.now sites.Scenario
-        (spec.in_examples (step_value step.now) (map examples_value parts.now))
+        (spec.in_examples (step_value step.now)
+        (map (λ part. examples_value part.examples.now) parts.now))
         lookups.old lookups.new) }
 {
     for part in parts {
@@ -100,22 +125,26 @@ fn look_up_examples(
     Ok(())
 }
 
-// Looks up the steps that a step of a scenario is run as.
+// Looks up the steps that a step of a scenario with these parts is run as.
 #[tactic(auto, using(crate::proofs::FirstHints::no_other_hint))]
 fn look_up_runs(
     lookups: &mut Lookups,
     alloc: Global,
     hints: &EntryHints<'_>,
     scenario: &Scenario,
+    parts: &[Part<'_>],
     step: &Step,
 ) -> Result<(), AllocError>
-    requires { AllByRecursion AllFit (scenario_value scenario.now).examples }
+    requires fit { AllByRecursion AllFit
+        (map (λ part. examples_value part.examples.now) parts.now) }
+    requires parts { map (λ part. examples_value part.examples.now) parts.now
+        ≡ (scenario_value scenario.now).examples }
     ensures { OnOk result (AreLookedUp hints.now sites.Scenario
         (spec.runs_in (scenario_value scenario.now) (step_value step.now))
         lookups.old lookups.new) }
 {
     if is_outline(scenario) {
-        look_up_examples(lookups, alloc, hints, step, &scenario.examples)
+        look_up_examples(lookups, alloc, hints, step, parts)
     } else {
         lookups.add(alloc, hints, StepSite::Scenario, step)
     }
@@ -173,15 +202,19 @@ fn add_lookups(found: &mut StepFindings, line: u32, lookups: Lookups) -> Result<
     found.used.append(&mut lookups.used)
 }
 
-// Adds the results of a step of a scenario.
+// Adds the results of a step of a scenario with these parts.
 fn add_scenario_step(
     found: &mut StepFindings,
     alloc: Global,
     hints: &EntryHints<'_>,
     scenario: &Scenario,
+    parts: &[Part<'_>],
     step: &Step,
 ) -> Result<(), AllocError>
-    requires { AllByRecursion AllFit (scenario_value scenario.now).examples }
+    requires fit { AllByRecursion AllFit
+        (map (λ part. examples_value part.examples.now) parts.now) }
+    requires parts { map (λ part. examples_value part.examples.now) parts.now
+        ≡ (scenario_value scenario.now).examples }
     ensures found { OnOk result (found.new.findings.items ≡ found.old.findings.items
         ++ spec.at_step hints.now
         (spec.in_scenario (scenario_value scenario.now) (step_value step.now))) }
@@ -190,7 +223,7 @@ fn add_scenario_step(
         (spec.runs_in (scenario_value scenario.now) (step_value step.now))) }
 {
     let mut lookups = Lookups::new(alloc);
-    look_up_runs(&mut lookups, alloc, hints, scenario, step)?;
+    look_up_runs(&mut lookups, alloc, hints, scenario, parts, step)?;
     add_lookups(found, step.line, lookups)
 }
 
@@ -206,8 +239,9 @@ fn add_scenario(
     ensures used { OnOk result (found.new.used.items ≡ found.old.used.items
         ++ used_in hints.now (spec.of_scenario (scenario_value scenario.now))) }
 {
+    let parts = parts_of(alloc, &scenario.examples)?;
     for step in &scenario.steps {
-        add_scenario_step(found, alloc, hints, scenario, step)?;
+        add_scenario_step(found, alloc, hints, scenario, &parts, step)?;
     }
     Ok(())
 }

@@ -13,7 +13,7 @@ pub use Rattle.std.specs.Vec.Iter.{into_iter_items, into_iter_len}
 pub use Rattle.std.specs.declared.alloc.Global.{Global}
 pub use Rattle.clap.specs.Words.{IsAmong, Text, kind_of}
 pub use Rattle.clap.specs.declared.error.Error.{Error}
-pub use Rattle.gk_cli.specs.Arguments.{PairValue, SaysArguments, faults_in, pair_value}
+pub use Rattle.gk_cli.specs.Arguments.{PairValue, SaysArguments, faults_in, is_lint, pair_value}
 pub use Rattle.gk_cli.specs.Modes.{AreLeft, SaysFaultAs}
 pub use Rattle.gk_cli.specs.Writing.{Device, IsUntouched, device_of}
 pub use Rattle.gk_cli.specs.declared.arguments.Mode.{Mode}
@@ -24,7 +24,7 @@ pub use Rattle.gk_findings.specs.declared.env_notes.EnvMistake.TheVariants.{NoEq
 pub use Rattle.gk_gherkin.specs.Feature.{texts}
 pub use Rattle.gk_request.specs.Counted.{one_more}
 pub use Rattle.gk_request.specs.FaultLine.{name_at_fault}
-pub use Rattle.gk_request.specs.Request.{FilesValue, HaveSameNames, Request, request_of_files, suite_value}
+pub use Rattle.gk_request.specs.Request.{FilesValue, HaveSameNames, Request, request_of_files, files_value}
 pub use Rattle.gk_request.specs.Source.{SourceValue, names_of, source_value}
 pub use Rattle.gk_request.specs.declared.request.SuiteFiles.{SuiteFiles}
 pub use Rattle.gk_request.specs.declared.run_fault.RunFault.{RunFault}
@@ -36,7 +36,7 @@ pub use Rattle.gk_world.specs.State.{Contents}
 pub use Rattle.gk_world.specs.declared.refusals.WorldFault.{WorldFault}
 pub use Rattle.gk_program.specs.Asked.{SaysAsked, SaysError, SaysGiven, files_to_put, names_given}
 pub use Rattle.gk_program.specs.Ended.{SaysDone}
-pub use Rattle.gk_program.specs.EnvFault.{IsEnvFault, IsFaultOfVariable, is_lint, mistake_of}
+pub use Rattle.gk_program.specs.EnvFault.{IsEnvFault, IsFaultOfVariable, mistake_of}
 pub use Rattle.gk_program.specs.Fault.{said_line}
 pub use Rattle.gk_program.specs.FaultListing.{blocks}
 pub use Rattle.gk_program.specs.Files.{AreRead, IsFaultOfFiles, IsFileFault, IsNotRead, Reading, StopsReading, files_in_order, name_of, names_in_order, one_of}

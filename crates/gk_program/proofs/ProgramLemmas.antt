@@ -1,5 +1,5 @@
 -- A run whose output is flushed, the program's faults for those of the run, help, and variables one after another.
-use Rattle.gk_program.proofs.Common.{◌≡◌, ◌⊎◌, ◌∙◌, ◌+◌, ◌-◌, ◌^◌, ◌<◌, ◌≤◌, ◌++◌, ap, sym, subst, refl, inl, inr, arith, suc, zero, ℕ, true, List, [], ◌∷◌, length, map, take, drop, get_or, Option, Some, None, Result, Ok, Err, add-one, IfErr, IfOk, IsSomeAnd, String, option_map, slice_get, string_bytes, Global, All, Any, Appends, Keeps, slice_get-map, slice_get_read, map-append, map_push, take-append-drop, take_all, All-push, drop-cons, take-suc, Contents, IsFault, put_refusal, SandboxValue, new_sandbox, with_env, WorldFault, PairValue, pair_value, one_more, Request, FilesValue, HaveSameNames, request_of_files, suite_value, SourceValue, source_value, names_of, Source, Device, IsUntouched, AreLeft, SaysFaultAs, name_at_fault, SuiteFiles, Mode, Report, Explanation, Findings, Words, RunFault, AreRead, IsFaultOfFiles, IsFileFault, Reading, StopsReading, files_in_order, name_of, AreGiven, AreTaken, IsFaultAs, IsFaultOfGiven, IsFaultOfRun, IsFirstRefused, IsFlushedRun, IsMemoryAfter, IsRefused, IsRun, SaysCallsOfRun, IsRunFrom, SaysProgram, SaysRunFrom, SaysSuite, SaysVariables, contents_given, variables_given, with_variables, hinted, files_to_put, names_given, ArePut, StopsPutting, IsEnvFault, IsFaultOfVariable, is_lint, mistake_of, Fault, NotUtf8, Usage, Env, File, NotText, TextTooLong, CannotRead, TooLong, OfRun, Unread, Write, Memory, common_steps}
+use Rattle.gk_program.proofs.Common.{◌≡◌, ◌⊎◌, ◌∙◌, ◌+◌, ◌-◌, ◌^◌, ◌<◌, ◌≤◌, ◌++◌, ap, sym, subst, refl, inl, inr, arith, suc, zero, ℕ, true, List, [], ◌∷◌, length, map, take, drop, get_or, Option, Some, None, Result, Ok, Err, add-one, IfErr, IfOk, IsSomeAnd, String, option_map, slice_get, string_bytes, Global, All, Any, Appends, Keeps, slice_get-map, slice_get_read, map-append, map_push, take-append-drop, take_all, All-push, drop-cons, take-suc, Contents, IsFault, put_refusal, SandboxValue, new_sandbox, with_env, WorldFault, PairValue, pair_value, one_more, Request, FilesValue, HaveSameNames, request_of_files, files_value, SourceValue, source_value, names_of, Source, Device, IsUntouched, AreLeft, SaysFaultAs, name_at_fault, SuiteFiles, Mode, Report, Explanation, Findings, Words, RunFault, AreRead, IsFaultOfFiles, IsFileFault, Reading, StopsReading, files_in_order, name_of, AreGiven, AreTaken, IsFaultAs, IsFaultOfGiven, IsFaultOfRun, IsFirstRefused, IsFlushedRun, IsMemoryAfter, IsRefused, IsRun, SaysCallsOfRun, IsRunFrom, SaysProgram, SaysRunFrom, SaysSuite, SaysVariables, contents_given, variables_given, with_variables, hinted, files_to_put, names_given, ArePut, StopsPutting, IsEnvFault, IsFaultOfVariable, is_lint, mistake_of, Fault, NotUtf8, Usage, Env, File, NotText, TextTooLong, CannotRead, TooLong, OfRun, Unread, Write, Memory, common_steps}
 use Rattle.gk_world.specs.declared.refusals.WorldFault.TheVariants as world
 use Rattle.gk_request.specs.declared.source.SourceFault.TheVariants as reading
 use Rattle.gk_request.specs.declared.run_fault.RunFault.TheVariants as run
@@ -245,7 +245,7 @@ name_given None = refl
 name_given (Some x) = refl
 
 pub are_given : (w : Words) (files : SuiteFiles Source) → option_map name_of files.library ≡ option_map string_bytes w.library → option_map name_of files.hooks ≡ option_map string_bytes w.hooks
-    → map name_of files.sources.items ≡ map string_bytes w.files.items → AreGiven w (suite_value source_value files)
+    → map name_of files.sources.items ≡ map string_bytes w.files.items → AreGiven w (files_value source_value files)
 are_given w files l h s = grind (arith, common_steps, their_names, name_given)
 
 -- the variables that were put are those that were given

@@ -23,7 +23,7 @@ use Rattle.gk_program.specs.declared.fault.Fault.TheVariants.{NotUtf8, Usage, En
 abbrev pub IsRequest : ErrorKind → Type 0
 IsRequest kind = (kind ≡ DisplayHelp) ⊎ (kind ≡ DisplayVersion)
 
--- A request for help isn't a mistake, and a mistake isn't a request for help. Clap decides what the text is, and nothing here says it.
+-- Proof machinery: a request for help isn't a mistake, and a mistake isn't a request for help. Clap decides what the text is, and nothing here says it.
 abbrev pub SaysError : Error → Result Asked Fault → Type 0
 SaysError e (Ok (Help text)) = IsRequest (kind_of e)
 SaysError e (Ok (Run w)) = ⊥

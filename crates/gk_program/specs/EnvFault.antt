@@ -1,19 +1,14 @@
 -- The fault of an argument of `--env`.
-use Rattle.std.specs.Prelude.{◌≡◌, ℕ, Bool, true, false, List, [], if◌then◌else◌, string_bytes}
+use Rattle.std.specs.Prelude.{◌≡◌, ℕ, true, List, [], if◌then◌else◌, string_bytes}
 use Rattle.gk_world.specs.declared.refusals.WorldFault.{WorldFault}
 use Rattle.gk_world.specs.declared.refusals.WorldFault.TheVariants as world
 use Rattle.gk_cli.specs.declared.arguments.Mode.{Mode}
-use Rattle.gk_cli.specs.declared.arguments.Mode.TheVariants.{Findings}
+use Rattle.gk_cli.specs.Arguments.{is_lint}
 use Rattle.gk_findings.specs.EnvNotes.{notes_on_env}
 use Rattle.gk_findings.specs.declared.env_notes.EnvMistake.{EnvMistake}
 use Rattle.gk_findings.specs.declared.env_notes.EnvMistake.TheVariants.{BadName, LongValue}
 use Rattle.gk_program.specs.declared.fault.Fault.{Fault}
 use Rattle.gk_program.specs.declared.fault.Fault.TheVariants.{Env, Memory}
-
--- Nothing runs in this mode.
-abbrev pub is_lint : Mode → Bool
-is_lint (Findings steps) = true
-is_lint mode = false
 
 -- The notes on an `--env`, in this mode: only `--lint` has any.
 abbrev pub notes_in : Mode → EnvMistake → List ℕ → List ℕ

@@ -10,18 +10,18 @@ use Rattle.gk_request.specs.declared.source.SourceFault.TheVariants as reading
 use Rattle.gk_program.specs.declared.fault.Fault.{Fault}
 use Rattle.gk_program.specs.declared.fault.Fault.TheVariants.{CannotRead, TooLong, Memory}
 
--- The name of a source.
+-- Proof machinery: the name of a source.
 abbrev pub name_of : Source → List ℕ
 name_of source = string_bytes source.name
 
--- A fault of reading that names this file, or out of memory.
+-- Proof machinery: a fault of reading that names this file, or out of memory.
 abbrev pub IsFileFault : List ℕ → Fault → Type 0
 IsFileFault name (CannotRead other hinted) = string_bytes other ≡ name
 IsFileFault name (TooLong other) = string_bytes other ≡ name
 IsFileFault name Memory = Unit {0}
 IsFileFault name _ = ⊥
 
--- A fault of reading that names the library file, the hooks file or one of the feature files, or out of memory.
+-- Proof machinery: a fault of reading that names the library file, the hooks file or one of the feature files, or out of memory.
 abbrev pub IsFaultOfFiles : Option (String Global) → Option (String Global) → List (String Global) → Fault → Type 0
 IsFaultOfFiles library hooks names fault =
     IsSomeAnd library (λ name. IsFileFault (string_bytes name) fault)

@@ -2,8 +2,8 @@
 pub mod FaultPlace
 pub mod Fault
 pub mod EnvFault
-pub mod Asked
 pub mod Files
+pub mod Asked
 pub mod FaultListing
 pub mod WorldFiles
 pub mod Program

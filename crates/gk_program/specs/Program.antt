@@ -6,7 +6,7 @@ use Rattle.clap.specs.Words.{Text}
 use Rattle.gk_world.specs.State.{Contents, nothing_yet}
 use Rattle.gk_world.specs.Refusals.{put_refusal}
 use Rattle.gk_world.specs.Sandbox.{SandboxValue, with_env}
-use Rattle.gk_cli.specs.Arguments.{PairValue, pair_value}
+use Rattle.gk_cli.specs.Arguments.{PairValue, is_lint, pair_value}
 use Rattle.gk_request.specs.Counted.{one_more}
 use Rattle.gk_request.specs.Request.{Request, FilesValue, request_of_files}
 use Rattle.gk_cli.specs.Writing.{Device, IsUntouched, IsStopped, IsWritten}
@@ -18,7 +18,7 @@ use Rattle.gk_cli.specs.declared.arguments.Words.{Words}
 use Rattle.gk_request.specs.declared.run_fault.RunFault.{RunFault}
 use Rattle.gk_request.specs.declared.run_fault.RunFault.TheVariants as run
 use Rattle.gk_program.specs.Asked.{SaysGiven, files_to_put, names_given}
-use Rattle.gk_program.specs.EnvFault.{IsFaultOfVariable, is_lint}
+use Rattle.gk_program.specs.EnvFault.{IsFaultOfVariable}
 use Rattle.gk_program.specs.FaultListing.{IsListedAs}
 use Rattle.gk_program.specs.Files.{AreRead, Reading, StopsReading, files_in_order}
 use Rattle.gk_program.specs.declared.fault.Fault.{Fault}
@@ -100,7 +100,7 @@ pub record IsMemoryAfter (mode : Mode) (before variables : List PairValue) : Typ
   pub taken : AreTaken before
   pub why : (put_refusal variable.name variable.text ≡ None) ⊎ (is_lint mode ≡ true)
 
--- The variables are in the sandbox, and its layers are unchanged; or the first that is refused has the fault. If memory was refused at a variable, those before it are in the sandbox.
+-- Proof machinery: the variables are in the sandbox, and its layers are unchanged; or the first that is refused has the fault. If memory was refused at a variable, those before it are in the sandbox.
 abbrev pub SaysVariables : Mode → List PairValue → SandboxValue → SandboxValue → Result (Unit {0}) Fault → Type 0
 SaysVariables mode variables old new (Ok u) = (new.now ≡ with_variables old.now variables) × (new.saved ≡ old.saved) × AreTaken variables
 SaysVariables mode variables old new (Err (Env notes)) = IsFirstRefused mode (Env notes) variables
@@ -187,7 +187,7 @@ pub record IsFaultOfName {S : Type 0} (reads : Reading S) (w : Words) (before af
   pub given : IsGiven w name
   pub stops : StopsReading reads before (names_given w) after fault
 
--- A fault of reading files, in this mode: with `--lint`, a file that can't be read has a hint.
+-- Proof machinery: a fault of reading files, in this mode: with `--lint`, a file that can't be read has a hint.
 abbrev pub hinted : Mode → Fault → Fault
 hinted mode (CannotRead name hint) = CannotRead name (is_lint mode)
 hinted mode fault = fault

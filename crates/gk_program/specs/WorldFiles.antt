@@ -68,7 +68,7 @@ pub record StopsPutting {S : Type 0} (reads : Reading S) (given : List PairValue
   pub texts : All IsText files
   pub stops : IsNotPut reads between next after fault
 
--- One file was read and put.
+-- Proof machinery: one file was read and put.
 pub record IsPut {S : Type 0} (reads : Reading S) (given : PairValue) (before after : S) (old new : SandboxValue) : Type 0 where
   pub text : List ℕ
   pub read : reads before given.text (Ok text) after
@@ -76,14 +76,14 @@ pub record IsPut {S : Type 0} (reads : Reading S) (given : PairValue) (before af
   pub put : new.now ≡ with_file old.now given.name text
   pub layers : new.saved ≡ old.saved
 
--- The fault of a path that can't be read.
+-- Proof machinery: the fault of a path that can't be read.
 abbrev pub IsFaultOfPath : List ℕ → SourceFault → Fault → Type 0
 IsFaultOfPath path reading.Device (CannotRead name hinted) = (string_bytes name ≡ path) × (hinted ≡ false)
 IsFaultOfPath path reading.TooLong (TextTooLong name) = string_bytes name ≡ path
 IsFaultOfPath path reading.Memory Memory = Unit {0}
 IsFaultOfPath path by fault = ⊥
 
--- Bytes are put as the text of a file, or they aren't UTF-8 or too long, or memory was refused.
+-- Proof machinery: bytes are put as the text of a file, or they aren't UTF-8 or too long, or memory was refused.
 abbrev pub SaysText : List ℕ → List ℕ → List ℕ → SandboxValue → SandboxValue → Result (Unit {0}) Fault → Type 0
 SaysText name bytes path old new (Ok u) = IsUtf8 bytes × (put_refusal name bytes ≡ None) × (new.now ≡ with_file old.now name bytes) × (new.saved ≡ old.saved)
 SaysText name bytes path old new (Err (NotText p)) = (string_bytes p ≡ path) × (IsUtf8 bytes → ⊥)

@@ -38,7 +38,7 @@ fn asked_for(alloc: Global, error: clap::Error) -> Result<Asked, Fault>
     }
 }
 
-/// Returns what these arguments ask for. The first is the program's name. A mistake is `Usage`, and comes before `Env`.
+// Returns what these arguments ask for. The first is the program's name. A mistake is `Usage`, and comes before `Env`.
 #[tactic(auto, using(crate::proofs::AskedLemmas::of_env, crate::proofs::AskedLemmas::of_mistake))]
 fn asked_by(alloc: Global, arguments: &[String]) -> Result<Asked, Fault>
     ensures { SaysAsked (map string_bytes arguments.now) result }

@@ -1,6 +1,4 @@
 //! The fault of an argument of `--env`.
-ghost use Rattle.std.specs.Prelude.{◌≡◌};
-ghost use Rattle.gk_program.specs.EnvFault as spec;
 ghost use Rattle.gk_program.specs.EnvFault.{IsEnvFault, IsFaultOfVariable};
 
 use crate::fault::Fault;
@@ -9,19 +7,12 @@ use gk_findings::{EnvMistake, notes_on_env};
 use gk_world::WorldFault;
 use std::alloc::Global;
 
-/// Returns whether nothing runs in this mode.
-pub fn is_lint(mode: Mode) -> bool
-    ensures { result ≡ spec.is_lint mode }
-{
-    matches!(mode, Mode::Findings { .. })
-}
-
 /// Returns the fault of an `--env` with this mistake and this text before its `=`. With `--lint`, the fault has notes,
 /// and `Memory` comes if a growth for them was refused.
 pub fn fault_of_env(alloc: Global, mode: Mode, mistake: EnvMistake, name: &str) -> Fault
     ensures { IsEnvFault mode mistake name.now result }
 {
-    if !is_lint(mode) {
+    if !mode.is_lint() {
         return Fault::Env {
             notes: String::new(alloc),
         };

@@ -1,5 +1,5 @@
-//! Faults that end the program without a report, each with one line and a status. With `--lint`, a fault has the lines
-//! of all invalid files.
+//! Faults that end the program without a whole report, each with its text and a status. With `--lint`, a fault has the
+//! lines of all invalid files.
 ghost use Rattle.std.specs.Prelude.{◌≡◌, Some, option_map, string_bytes};
 ghost use Rattle.gk_program.specs.Fault.{place_of, row_of, text_of};
 

@@ -1,7 +1,7 @@
 //! The output of `--lint` for all invalid files of a run.
 ghost use Rattle.std.specs.Prelude.{◌≡◌, ◌++◌, option_map, IfOk, OnOk, string_bytes};
 ghost use Rattle.gk_request.specs.Source.{source_value};
-ghost use Rattle.gk_request.specs.Request.{suite_value};
+ghost use Rattle.gk_request.specs.Request.{files_value};
 ghost use Rattle.gk_program.specs.FaultListing as spec;
 ghost use Rattle.gk_program.specs.FaultListing.{IsListedAs, IsListing, IsTextAt};
 ghost use Rattle.gk_gherkin.specs.Feature.{texts};
@@ -26,7 +26,7 @@ fn push_block(
 ) -> Result<(), AllocError>
     ensures { OnOk result (string_bytes out.new ≡ string_bytes out.old
         ++ spec.block (option_map (λ text. text.now) tags.entry)
-        (suite_value source_value files.now) fault) }
+        (files_value source_value files.now) fault) }
 {
     let named = NamedFault {
         name: name_at_fault(files, fault),
@@ -44,7 +44,7 @@ fn push_blocks(
     faults: &[RunFault],
 ) -> Result<(), AllocError>
     ensures { OnOk result (string_bytes out.new
-        ≡ string_bytes out.old ++ spec.blocks (suite_value source_value files.now) faults.now) }
+        ≡ string_bytes out.old ++ spec.blocks (files_value source_value files.now) faults.now) }
 {
     for fault in faults {
         push_block(out, alloc, None, files, *fault)?;
@@ -74,7 +74,7 @@ fn listing(
     first: RunFault,
 ) -> Result<String, AllocError>
     ensures { IfOk result (λ text. IsListing (texts tags.now)
-        (suite_value source_value files.now) first (string_bytes text)) }
+        (files_value source_value files.now) first (string_bytes text)) }
 {
     let bad = text_at(alloc, tags, first)?;
     let later = faults_after(alloc, files, first)?;
@@ -92,7 +92,7 @@ pub fn fault_listed(
     files: &SuiteFiles<Source>,
     first: RunFault,
 ) -> Fault
-    ensures { IsListedAs (texts tags.now) (suite_value source_value files.now) first result }
+    ensures { IsListedAs (texts tags.now) (files_value source_value files.now) first result }
 {
     match listing(alloc, tags, files, first) {
         Ok(lines) => Fault::Unread {

@@ -5,7 +5,7 @@ ghost use Rattle.gk_program.specs.FaultPlace.{line_number, place_at};
 
 use gk_request::{RunFault, line_at_fault};
 
-/// The place of a fault. In the fault's text, the name of its file stands behind `gherkin_run: `.
+/// The place of a fault. In the fault's text, the name of its file is after `gherkin_run: `.
 #[derive(Clone, Copy, Debug, PartialEq, Eq)]
 pub struct FaultPlace {
     /// The length of the file's name in bytes, or 0 if the fault is in no file.

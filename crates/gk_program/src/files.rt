@@ -3,10 +3,10 @@ ghost use Rattle.std.specs.Prelude.{◌≡◌, ◌≤◌, map, IfOk, IfErr, IfSo
 ghost use Rattle.std.specs.List.{Any};
 ghost use Rattle.gk_program.specs.Files.{AreRead, IsFaultOfFiles, IsFaultOfReading, IsFileFault, IsNotRead, StopsReading, files_in_order, name_of, names_in_order, one_of};
 ghost use Rattle.gk_request.specs.Source.{source_value};
-ghost use Rattle.gk_request.specs.Request.{suite_value};
+ghost use Rattle.gk_request.specs.Request.{files_value};
 
 use crate::fault::Fault;
-use gk_gherkin::LIMIT;
+use gk_gherkin::LONGEST_FILE;
 use gk_request::{Source, SourceFault, SuiteFiles};
 use std::alloc::Global;
 
@@ -21,10 +21,10 @@ pub trait System {
     /// In the first state, reading the file of this name returns this result, and leaves the second state.
     ghost reads: { Self → List ℕ → Result (List ℕ) SourceFault → Self → Type 0 };
 
-    /// Returns all bytes of the file of this name, at most `LIMIT`, or why they can't be read.
+    /// Returns all bytes of the file of this name, at most `LONGEST_FILE`, or why they can't be read.
     fn read(&mut self, alloc: Global, name: &str) -> Result<Vec<u8>, SourceFault>
         ensures read { reads self.old name.now (bytes_or_fault result) self.new }
-        ensures within { IfOk result (λ bytes. vec_len bytes ≤ LIMIT) };
+        ensures within { IfOk result (λ bytes. vec_len bytes ≤ LONGEST_FILE) };
 }
 
 fn fault_of_reading(name: String, fault: SourceFault) -> Fault
@@ -40,11 +40,11 @@ fn fault_of_reading(name: String, fault: SourceFault) -> Fault
     }
 }
 
-/// Returns a source of this name with all bytes of the file. A file that can't be opened or read is `CannotRead`, and
-/// one with more bytes than `gk_gherkin::LIMIT` is `TooLong`.
+// Returns a source of this name with all bytes of the file. A file that can't be opened or read is `CannotRead`, and
+// one with more bytes than `gk_gherkin::LONGEST_FILE` is `TooLong`.
 fn read_file<S: System>(alloc: Global, system: &mut S, name: String) -> Result<Source, Fault>
     ensures named { IfOk result (λ source. name_of source ≡ string_bytes name) }
-    ensures within { IfOk result (λ source. vec_len source.bytes ≤ LIMIT) }
+    ensures within { IfOk result (λ source. vec_len source.bytes ≤ LONGEST_FILE) }
     ensures read { IfOk result (λ source.
         S.reads system.old (string_bytes name) (Ok source.bytes.items) system.new) }
     ensures first { IfErr result
@@ -57,7 +57,7 @@ fn read_file<S: System>(alloc: Global, system: &mut S, name: String) -> Result<S
     }
 }
 
-/// Reads each file completely, in order, and no other file. The fault is that of the first file that can't be read.
+// Reads each file completely, in order, and no other file. The fault is that of the first file that can't be read.
 fn read_files<S: System>(
     alloc: Global,
     system: &mut S,
@@ -80,7 +80,7 @@ fn read_files<S: System>(
     Ok(sources)
 }
 
-/// Reads a file completely, if one is named: the library file or the hooks file. Reads no other file.
+// Reads a file completely, if one is named: the library file or the hooks file. Reads no other file.
 fn read_named_file<S: System>(
     alloc: Global,
     system: &mut S,
@@ -122,7 +122,7 @@ pub fn read_run_files<S: System>(
         (λ files. map name_of files.sources.items ≡ map string_bytes names.items) }
     // Each source has the bytes that the system returned for its name, and no other file was read.
     ensures read { IfOk result (λ files.
-        AreRead S.reads system.old (files_in_order (suite_value source_value files)) system.new) }
+        AreRead S.reads system.old (files_in_order (files_value source_value files)) system.new) }
     // The fault is that of the first file that wasn't read, in the order library, hooks, files; or memory was refused.
     ensures first { IfErr result (StopsReading S.reads system.old
         (names_in_order library hooks names.items) system.new) }

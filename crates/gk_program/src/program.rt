@@ -6,7 +6,7 @@ ghost use Rattle.gk_cli.specs.Arguments.{pair_value};
 ghost use Rattle.gk_request.specs.Counted.{FailuresCanRise, flushes_of, failures_of, one_more};
 ghost use Rattle.gk_cli.specs.Writing.{device_of};
 ghost use Rattle.gk_request.specs.Source.{source_value};
-ghost use Rattle.gk_request.specs.Request.{suite_value, request_of_files};
+ghost use Rattle.gk_request.specs.Request.{files_value, request_of_files};
 ghost use Rattle.gk_request.specs.FaultLine.{name_at_fault};
 ghost use Rattle.gk_program.specs.Asked.{given_value};
 ghost use Rattle.gk_program.specs.Ended.{IsEnded};
@@ -16,7 +16,7 @@ ghost use Rattle.gk_program.specs.Program.{IsTextFault, SaysVariables, IsFaultOf
 
 use crate::asked::{ArgumentsFault, Asked, asked_with};
 use crate::ended::{ProgramEnd, ending};
-use crate::env_fault::{fault_of_variable, is_lint};
+use crate::env_fault::fault_of_variable;
 use crate::fault::Fault;
 use crate::fault_listing::fault_listed;
 use crate::files::{System, read_run_files};
@@ -27,8 +27,8 @@ use gk_world::Sandbox;
 use std::alloc::Global;
 use std::io::Write;
 
-/// Writes a text, and flushes. `Write` comes in two cases. If a write failed, a prefix of the text was written, and
-/// nothing was flushed. If the flush failed, all of the text was written.
+// Writes a text, and flushes. `Write` comes in two cases. If a write failed, a prefix of the text was written, and
+// nothing was flushed. If the flush failed, all of the text was written.
 fn show_text<W: Write>(text: &str, out: &mut Counted<W>) -> Result<u8, Fault>
     requires room { FailuresCanRise out.old }
     ensures shown { IfOk result
@@ -49,9 +49,9 @@ fn show_text<W: Write>(text: &str, out: &mut Counted<W>) -> Result<u8, Fault>
     }
 }
 
-/// Puts the variables into the sandbox, in order. If several have the same name, the last one counts. A bad name or a
-/// text that is too long is `Env`. `Memory` comes only if it is refused at a variable, or at the notes on one; those
-/// before it are in the sandbox then.
+// Puts the variables into the sandbox, in order. If several have the same name, the last one counts. A bad name or a
+// text that is too long is `Env`. `Memory` comes only if it is refused at a variable, or at the notes on one; those
+// before it are in the sandbox then.
 fn put_variables(
     alloc: Global,
     mode: Mode,
@@ -98,7 +98,7 @@ fn name_at(sources: Vec<Source>, input: usize) -> Option<String>
 // Returns the name of the file that has a fault of the run, if a file has it.
 fn name_of_fault(fault: RunFault, files: SuiteFiles<Source>) -> Option<String>
     ensures { option_map string_bytes result
-        ≡ name_at_fault (suite_value source_value files) fault }
+        ≡ name_at_fault (files_value source_value files) fault }
 {
     match fault {
         RunFault::Read { input, .. } => name_at(files.sources, input),
@@ -114,10 +114,10 @@ fn name_of_fault(fault: RunFault, files: SuiteFiles<Source>) -> Option<String>
 
 // Returns the program's fault for a fault of the run. Files are named instead of numbered.
 fn fault_of_run(fault: RunFault, files: SuiteFiles<Source>) -> Fault
-    ensures named { IsFaultOfRun (suite_value source_value files) fault result }
+    ensures named { IsFaultOfRun (files_value source_value files) fault result }
     // This is the line that is printed.
     ensures line { text_of result
-        ≡ said_line (name_at_fault (suite_value source_value files) fault) fault }
+        ≡ said_line (name_at_fault (files_value source_value files) fault) fault }
 {
     match fault {
         RunFault::Write => Fault::Write,
@@ -137,7 +137,7 @@ fn fault_as(
     fault: RunFault,
     files: SuiteFiles<Source>,
 ) -> Fault
-    ensures { IsFaultAs mode (texts tags.now) (suite_value source_value files) fault result }
+    ensures { IsFaultAs mode (texts tags.now) (files_value source_value files) fault result }
 {
     match mode {
         Mode::Report => fault_of_run(fault, files),
@@ -150,10 +150,10 @@ fn fault_as(
     }
 }
 
-/// Writes what the mode asks for, and flushes the output. A fault names the file that it comes from. `Write` comes if a
-/// write or the flush failed; a prefix of the output, or all of it, was written then. At `Memory`, nothing or a prefix
-/// of it was written. At any other fault nothing was written. With `--lint`, such a fault includes that of each invalid
-/// file.
+// Writes what the mode asks for, and flushes the output. A fault names the file that it comes from. `Write` comes if a
+// write or the flush failed; a prefix of the output, or all of it, was written then. At `Memory`, nothing or a prefix
+// of it was written. At any other fault nothing was written. With `--lint`, such a fault includes that of each invalid
+// file.
 fn run_sources<W: Write>(
     alloc: Global,
     sandbox: &mut Sandbox,
@@ -165,15 +165,15 @@ fn run_sources<W: Write>(
     requires room { FailuresCanRise out.old }
     requires outside { depth sandbox.old ≡ 0 }
     // The output and the status are those of one run of these inputs, or of what is found in them.
-    ensures run { IfOk result (IsFlushedRun mode (suite_value source_value files)
-        (request_of_files options.now (suite_value source_value files))
+    ensures run { IfOk result (IsFlushedRun mode (files_value source_value files)
+        (request_of_files options.now (files_value source_value files))
         sandbox.old.now (device_of W.contents out.old) (device_of W.contents out.new)) }
     // A status comes only if the writer did not fail, and was flushed once.
     ensures quiet { OnOk result (failures_of out.new ≡ failures_of out.old) }
     ensures flushed { OnOk result (flushes_of out.new ≡ one_more (flushes_of out.old)) }
     // A fault is that of the run, or the flush failed.
-    ensures fault { IfErr result (SaysSuite mode (suite_value source_value files)
-        (request_of_files options.now (suite_value source_value files))
+    ensures fault { IfErr result (SaysSuite mode (files_value source_value files)
+        (request_of_files options.now (files_value source_value files))
         sandbox.old.now (device_of W.contents out.old) (device_of W.contents out.new)) }
     // If standard output isn't at fault, it was not called, or memory was refused after a prefix of the run's output.
     ensures calls { IfErr result
@@ -196,7 +196,7 @@ fn hinted(mode: Mode, fault: Fault) -> Fault
     match fault {
         Fault::CannotRead { name, .. } => Fault::CannotRead {
             name,
-            hinted: is_lint(mode),
+            hinted: mode.is_lint(),
         },
         other => other,
     }
@@ -251,9 +251,9 @@ fn run_in<S: System, W: Write>(
     run_files(alloc, system, sandbox, words, out)
 }
 
-/// Runs what is asked for: puts the variables and then the files of `--file` into an empty sandbox, reads the library
-/// file, the hooks file and the feature files, and runs the suite, or lists what is found in it. The first fault in
-/// this order ends it.
+// Runs what is asked for: puts the variables and then the files of `--file` into an empty sandbox, reads the library
+// file, the hooks file and the feature files, and runs the suite, or lists what is found in it. The first fault in
+// this order ends it.
 fn run_words<S: System, W: Write>(
     alloc: Global,
     system: &mut S,
@@ -305,9 +305,9 @@ fn run_given<S: System, W: Write>(
     }
 }
 
-/// Runs the program on its arguments, with the files of this system, and tells on `errors` why what they ask for was not
-/// done. Returns the exit status, and the place of the fault if there is one. `out` must have failed fewer than 2^64 - 1
-/// times.
+/// Runs the program on its arguments, with the files of this system, and tells on `errors` why what they ask for was
+/// not done. Returns the exit status, and the place of the fault if there is one. `out` must have failed fewer than
+/// 2^64 - 1 times.
 #[tactic(auto, using(crate::proofs::EndedLemmas::says_done))]
 pub fn run<S: System, W: Write, E: Write>(
     alloc: Global,

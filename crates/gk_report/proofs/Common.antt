@@ -17,6 +17,7 @@ pub use Rattle.std.specs.Option.{IfSome}
 pub use Rattle.std.specs.Prelude.{All, filter}
 pub use Rattle.std.specs.Str.{bytes_eq}
 pub use Rattle.gk_run.specs.Results.{CaseRow, FeatureRow, Results, RuleRow, StepRow, case_row, is_passed, rule_row, step_row}
+pub use Rattle.gk_run.specs.Running.{case_statuses}
 pub use Rattle.gk_run.specs.declared.results.Reason.{Reason}
 pub use Rattle.gk_run.specs.declared.results.Status.{Status}
 pub use Rattle.serde.specs.Event.{Log, Logs, map_begins, map_ends, seq_begins}
@@ -34,12 +35,12 @@ pub use Rattle.gk_report.specs.PartPieces.{lines_and_end, objects_and_end, to_go
 unfoldable pub use Rattle.gk_report.specs.PartPieces.{rest}
 pub use Rattle.gk_report.specs.PlainReport.{case_lines, lines_in, printed_lines, step_line}
 unfoldable pub use Rattle.gk_report.specs.PlainReport.{rule_line, status_line}
-pub use Rattle.gk_report.specs.ProgressReport.{case_marks}
+pub use Rattle.gk_report.specs.ProgressReport.{case_characters}
 pub use Rattle.gk_report.specs.Report.{IsOneDocument, ReportsGrowByParts, format_among, format_name, head, is_empty, part, parts, parts_from, report, tail}
 pub use Rattle.gk_report.specs.ReportTexts.{is_hidden, line_feed, printed_cases, status_text}
 unfoldable pub use Rattle.gk_report.specs.ReportTexts.{one_line}
-pub use Rattle.gk_report.specs.RuleGroups.{AreInFileOrder, RuleGroup, RulesFollowTheirScenarios, begins_above, cases_before, cases_behind, count_before, rule_groups, rule_of}
-pub use Rattle.gk_report.specs.Summary.{IsStatusOf, case_statuses, count_of, counts_of, feature_statuses, greatest, one_case_more, one_feature_more, one_status_more, scenario_statuses, status_by, status_of, statuses_of_case, statuses_of_feature, step_statuses, summary_of}
+pub use Rattle.gk_report.specs.RuleGroups.{AreInFileOrder, RuleGroup, RulesFollowTheirScenarios, begins_above, cases_before, cases_behind, count_before, groups_by_line, rule_containing}
+pub use Rattle.gk_report.specs.Summary.{IsStatusOf, count_of, counts_of, feature_statuses, greatest, one_case_more, one_feature_more, one_status_more, scenario_statuses, status_by, status_of, statuses_of_case, statuses_of_feature, step_statuses, summary_of}
 pub use Rattle.gk_report.specs.declared.json_report.ObjectsLeft.{ObjectsLeft}
 pub use Rattle.gk_report.specs.declared.part_pieces.PartPieces.{PartPieces}
 pub use Rattle.gk_report.specs.declared.plain_report.LinesLeft.{LinesLeft}

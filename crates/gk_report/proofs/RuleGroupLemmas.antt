@@ -1,8 +1,8 @@
 -- How the scenarios of a feature stand by its rules.
-use Rattle.gk_report.proofs.Common.{nat_lt, All, filter, last_or, IsNonDecreasingBy, ◌≡◌, ℕ, ◌+◌, ◌≤◌, ◌<◌, Bool, true, false, cond, not, List, [], ◌∷◌, ◌++◌, length, get_or, map, flat_map, Option, Some, None, refl, ap, sym, ◌∙◌, subst, arith, append-nil, common_steps, ltb-true, ltb-false, lt-ltb, le-ltb, not-false, not-true, take-append-drop, get_or-take, get_or-drop, length-take, length-drop, All-nil, All-cons, All-tail, All-weaker, IsNonDecreasingBy-drop, prefix_len_passes, prefix_len_stops, prefix_len-le-length, CaseRow, RuleRow, begins_above, count_before, cases_before, cases_behind, RuleGroup, rule_groups, rule_of, AreInFileOrder, RulesFollowTheirScenarios}
+use Rattle.gk_report.proofs.Common.{nat_lt, All, filter, last_or, IsNonDecreasingBy, ◌≡◌, ℕ, ◌+◌, ◌≤◌, ◌<◌, Bool, true, false, cond, not, List, [], ◌∷◌, ◌++◌, length, get_or, map, flat_map, Option, Some, None, refl, ap, sym, ◌∙◌, subst, arith, append-nil, common_steps, ltb-true, ltb-false, lt-ltb, le-ltb, not-false, not-true, take-append-drop, get_or-take, get_or-drop, length-take, length-drop, All-nil, All-cons, All-tail, All-weaker, IsNonDecreasingBy-drop, prefix_len_passes, prefix_len_stops, prefix_len-le-length, CaseRow, RuleRow, begins_above, count_before, cases_before, cases_behind, RuleGroup, groups_by_line, rule_containing, AreInFileOrder, RulesFollowTheirScenarios}
 use Rattle.gk_report.proofs.RuleLemmas.{before_next}
 
-each_has_one : (rules : List RuleRow) (cases : List CaseRow) → map (λ (g : RuleGroup). g.rule) (rule_groups rules cases) ≡ rules
+each_has_one : (rules : List RuleRow) (cases : List CaseRow) → map (λ (g : RuleGroup). g.rule) (groups_by_line rules cases) ≡ rules
 each_has_one [] cases = refl
 each_has_one (r ∷ rules) cases = ap (λ rs. r ∷ rs) (each_has_one rules (cases_behind rules cases))
 
@@ -10,7 +10,7 @@ all_before_none : (cases : List CaseRow) → cases_before [] cases ≡ cases
 all_before_none [] = refl
 all_before_none (c ∷ cs) = before_next [] c cs refl ∙ ap (λ xs. c ∷ xs) (all_before_none cs)
 
-all_stand : (rules : List RuleRow) (cases : List CaseRow) → cases_before rules cases ++ flat_map (λ (g : RuleGroup). g.cases) (rule_groups rules (cases_behind rules cases)) ≡ cases
+all_stand : (rules : List RuleRow) (cases : List CaseRow) → cases_before rules cases ++ flat_map (λ (g : RuleGroup). g.cases) (groups_by_line rules (cases_behind rules cases)) ≡ cases
 all_stand [] cases = append-nil (cases_before [] cases) ∙ all_before_none cases
 all_stand (r ∷ rules) cases = ap (λ xs. cases_before (r ∷ rules) cases ++ xs) (all_stand rules (cases_behind (r ∷ rules) cases)) ∙ take-append-drop (count_before (r ∷ rules) cases) cases
 
@@ -29,9 +29,9 @@ above_first (r ∷ rules) line rising e = none_above (r ∷ rules) line (λ k d 
 before_above : (rules : List RuleRow) (cases : List CaseRow) → All (λ (c : CaseRow). begins_above rules c.line ≡ false) (cases_before rules cases)
 before_above rules cases k d lt = grind (arith, common_steps, length-take, get_or-take, not-true, prefix_len_passes)
 
-own_in_none : (rules : List RuleRow) (cases : List CaseRow) → AreInFileOrder rules cases → All (λ c. rule_of rules c ≡ None) (cases_before rules cases)
+own_in_none : (rules : List RuleRow) (cases : List CaseRow) → AreInFileOrder rules cases → All (λ c. rule_containing rules c ≡ None) (cases_before rules cases)
 own_in_none rules cases order =
-    All-weaker (λ (c : CaseRow). begins_above rules c.line ≡ false) (λ c. rule_of rules c ≡ None) (λ c e. ap (last_or None) (above_first rules c.line order.rising_rules e)) (cases_before rules cases) (before_above rules cases)
+    All-weaker (λ (c : CaseRow). begins_above rules c.line ≡ false) (λ c. rule_containing rules c ≡ None) (λ c e. ap (last_or None) (above_first rules c.line order.rising_rules e)) (cases_before rules cases) (before_above rules cases)
 
 -- In file order the scenarios behind those in front of a rule are below it.
 behind_below : (r : RuleRow) (rules : List RuleRow) (cases : List CaseRow) → IsNonDecreasingBy (λ (c : CaseRow). c.line) cases → All (λ (c : CaseRow). r.line < c.line) (cases_behind (r ∷ rules) cases)
@@ -53,35 +53,35 @@ one_more true r q xs e = last_of_more xs (Some r) q e
 one_more false r q xs e = e
 
 abbrev InGroup : List RuleRow → RuleGroup → Type 0
-InGroup rules g = All (λ c. rule_of rules c ≡ Some g.rule) g.cases
+InGroup rules g = All (λ c. rule_containing rules c ≡ Some g.rule) g.cases
 
 in_group_more : (r : RuleRow) (rules : List RuleRow) (g : RuleGroup) → InGroup rules g → InGroup (r ∷ rules) g
 in_group_more r rules g h = grind (arith, common_steps, All-weaker, one_more)
 
 -- The scenarios of the first of rules are in it.
 first_group : (r : RuleRow) (rules : List RuleRow) (cs : List CaseRow) → IsNonDecreasingBy (λ (s : RuleRow). s.line) rules → All (λ (c : CaseRow). r.line < c.line) cs →
-    All (λ c. rule_of (r ∷ rules) c ≡ Some r) (cases_before rules cs)
+    All (λ c. rule_containing (r ∷ rules) c ≡ Some r) (cases_before rules cs)
 first_group r rules cs rising below k d lt =
     let n = count_before rules cs in
     let within : k < n = omega (arith, lt, length-take n cs) in
     let inside : k < length cs = omega (arith, within, prefix_len-le-length (λ (c : CaseRow). not (begins_above rules c.line)) cs) in
     let c = get_or cs k d in
     let above = subst (λ (x : CaseRow). begins_above rules x.line ≡ false) (get_or-take n cs k d within) (before_above rules cs k d lt) in
-    subst (λ (x : CaseRow). rule_of (r ∷ rules) x ≡ Some r) (sym (get_or-take n cs k d within))
+    subst (λ (x : CaseRow). rule_containing (r ∷ rules) x ≡ Some r) (sym (get_or-take n cs k d within))
     (ap (λ b. last_or None (cond b (r ∷ filter (λ (s : RuleRow). nat_lt s.line c.line) rules) (filter (λ (s : RuleRow). nat_lt s.line c.line) rules))) (lt-ltb r.line c.line (below k d inside))
     ∙ ap (last_or (Some r)) (above_first rules c.line rising above))
 
 groups_in_rules : (r : RuleRow) (rules : List RuleRow) (cs : List CaseRow) → IsNonDecreasingBy (λ (s : RuleRow). s.line) rules → IsNonDecreasingBy (λ (c : CaseRow). c.line) cs →
-    All (λ (c : CaseRow). r.line < c.line) cs → All (InGroup (r ∷ rules)) (rule_groups (r ∷ rules) cs)
+    All (λ (c : CaseRow). r.line < c.line) cs → All (InGroup (r ∷ rules)) (groups_by_line (r ∷ rules) cs)
 groups_in_rules r [] cs rising order below = grind (arith, common_steps, All-cons, All-nil)
 groups_in_rules r (s ∷ rules) cs rising order below =
     let rest = cases_behind (s ∷ rules) cs in
     let n = count_before (s ∷ rules) cs in
     let others = groups_in_rules s rules rest (IsNonDecreasingBy-drop (λ (x : RuleRow). x.line) 1 (s ∷ rules) rising) (IsNonDecreasingBy-drop (λ (c : CaseRow). c.line) n cs order) (behind_below s rules cs order) in
-    All-cons (InGroup (r ∷ s ∷ rules)) _ (rule_groups (s ∷ rules) rest) (first_group r (s ∷ rules) cs rising below)
-    (All-weaker (InGroup (s ∷ rules)) (InGroup (r ∷ s ∷ rules)) (in_group_more r (s ∷ rules)) (rule_groups (s ∷ rules) rest) others)
+    All-cons (InGroup (r ∷ s ∷ rules)) _ (groups_by_line (s ∷ rules) rest) (first_group r (s ∷ rules) cs rising below)
+    (All-weaker (InGroup (s ∷ rules)) (InGroup (r ∷ s ∷ rules)) (in_group_more r (s ∷ rules)) (groups_by_line (s ∷ rules) rest) others)
 
-others_in_rules : (rules : List RuleRow) (cases : List CaseRow) → AreInFileOrder rules cases → All (InGroup rules) (rule_groups rules (cases_behind rules cases))
+others_in_rules : (rules : List RuleRow) (cases : List CaseRow) → AreInFileOrder rules cases → All (InGroup rules) (groups_by_line rules (cases_behind rules cases))
 others_in_rules [] cases order = All-nil (InGroup [])
 others_in_rules (r ∷ rules) cases order =
     groups_in_rules r rules (cases_behind (r ∷ rules) cases) (IsNonDecreasingBy-drop (λ (s : RuleRow). s.line) 1 (r ∷ rules) order.rising_rules)

@@ -36,7 +36,7 @@ features_more : (fs cs ss : List Status) (rows : List FeatureRow) →
     fold one_feature_more (over fs cs ss) rows ≡ over (fs ++ feature_statuses rows) (cs ++ scenario_statuses rows) (ss ++ step_statuses rows)
 unfolding over
 features_more fs cs ss [] = grind (arith, common_steps)
-features_more fs cs ss (f ∷ rows) = grind (arith, common_steps, status_more, cases_more, features_more (fs ++ f.status ∷ []) (cs ++ case_statuses f) (ss ++ statuses_of_feature f) rows, over, append_assoc)
+features_more fs cs ss (f ∷ rows) = grind (arith, common_steps, status_more, cases_more, features_more (fs ++ f.status ∷ []) (cs ++ case_statuses f.cases) (ss ++ statuses_of_feature f) rows, over, append_assoc)
 
 -- Adding the features one after another gives the summary of all.
 pub all_added : (rows : List FeatureRow) → fold one_feature_more (summary_of []) rows ≡ summary_of rows

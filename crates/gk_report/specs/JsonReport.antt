@@ -147,16 +147,16 @@ objects_text no_skipped first cases = joined first (map case_data (printed_cases
 abbrev pub objects_left : Bool → ObjectsLeft → List ℕ
 objects_left no_skipped left = objects_text no_skipped left.first (map case_row left.cases.now)
 
--- The number of scenarios that follow.
+-- Proof machinery: the number of scenarios that follow.
 abbrev pub objects_to_go : ObjectsLeft → ℕ
 objects_to_go left = length left.cases.now
 
--- The member with the rules of a feature, after a comma; empty if it has no rules.
+-- Proof machinery: the member with the rules of a feature, after a comma; empty if it has no rules.
 abbrev pub rules_member : List RuleRow → List ℕ
 rules_member [] = []
 rules_member (r ∷ rules) = codes ",\"rules\":" ++ compact_text (rules_data (r ∷ rules))
 
--- The text before the scenarios in the object of a feature.
+-- Proof machinery: the text before the scenarios in the object of a feature.
 unfoldable pub object_start : Bool → FeatureRow → List ℕ
 object_start first f =
     comma_unless first ++ codes "{\"around\":" ++ compact_text (status_data f.around) ++ codes ",\"line\":" ++ decimal f.line ++ codes ",\"name\":" ++ compact_text (string f.name)

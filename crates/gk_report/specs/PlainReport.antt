@@ -8,7 +8,7 @@ use Rattle.gk_report.specs.declared.summary.Summary.{Summary}
 use Rattle.gk_report.specs.declared.plain_report.LinesLeft.{LinesLeft}
 use Rattle.gk_run.specs.Results.{StepRow, CaseRow, RuleRow, FeatureRow, case_row, rule_row, is_passed}
 use Rattle.gk_report.specs.ReportTexts.{status_text, reason_text, one_line, line_feed, is_hidden, printed_cases}
-use Rattle.gk_report.specs.RuleGroups.{RuleGroup, cases_before, cases_behind, rule_groups}
+use Rattle.gk_report.specs.RuleGroups.{RuleGroup, cases_before, cases_behind, groups_by_line}
 
 -- A line's text, three dots, and a status.
 unfoldable pub status_line : List ℕ → List ℕ → List ℕ
@@ -50,7 +50,7 @@ group_lines no_skipped g = printed_lines no_skipped g.cases ++ rule_line g.rule
 -- The lines of the scenarios of a feature: those that aren't in a rule, then those of each rule.
 abbrev pub scenario_lines : Bool → List RuleRow → List CaseRow → List ℕ
 scenario_lines no_skipped rules cases =
-    printed_lines no_skipped (cases_before rules cases) ++ flat_map (group_lines no_skipped) (rule_groups rules (cases_behind rules cases))
+    printed_lines no_skipped (cases_before rules cases) ++ flat_map (group_lines no_skipped) (groups_by_line rules (cases_behind rules cases))
 
 -- The line of the rule that scenarios are in; empty if they are in none.
 abbrev pub line_of : Option RuleRow → List ℕ
@@ -60,13 +60,13 @@ line_of (Some r) = rule_line r
 -- The lines of scenarios that begin in a rule or in none: those before the next rule, the line of the rule that they are in, and the lines of the rules that follow.
 abbrev pub lines_in : Bool → Option RuleRow → List RuleRow → List CaseRow → List ℕ
 lines_in no_skipped rule rules cases =
-    printed_lines no_skipped (cases_before rules cases) ++ (line_of rule ++ flat_map (group_lines no_skipped) (rule_groups rules (cases_behind rules cases)))
+    printed_lines no_skipped (cases_before rules cases) ++ (line_of rule ++ flat_map (group_lines no_skipped) (groups_by_line rules (cases_behind rules cases)))
 
 -- The lines that are left.
 abbrev pub lines_left : Bool → LinesLeft → List ℕ
 lines_left no_skipped left = lines_in no_skipped (option_map rule_row left.rule) (map rule_row left.rules.now) (map case_row left.cases.now)
 
--- The number of rules and scenarios that follow.
+-- Proof machinery: the number of rules and scenarios that follow.
 abbrev pub lines_to_go : LinesLeft → ℕ
 lines_to_go left = length left.rules.now + length left.cases.now
 
@@ -108,7 +108,7 @@ count_line noun c undefined =
     passed_part noun c.passed ++ counted c.failed (codes "failed") ++ counted c.skipped (codes "skipped")
     ++ undefined ++ counted_if_any c.untested (codes "untested") ++ counted_if_any c.memory (codes "memory") ++ line_feed
 
--- The undefined ones in a line of counts, for steps only. (behave's documentation: summary)
+-- Proof machinery: the undefined ones in a line of counts, for steps only. (behave's documentation: summary)
 abbrev pub undefined_part : Bool → Counts → List ℕ
 undefined_part of_steps c = cond of_steps (counted c.undefined (codes "undefined")) []
 

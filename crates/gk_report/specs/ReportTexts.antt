@@ -56,7 +56,7 @@ printed_cases no_skipped cases = filter (λ c. not (is_hidden no_skipped c.statu
 abbrev pub Pushes : {T E Y Z : Type 0} → String Y → List ℕ → Result T E → String Z → Type 0
 Pushes old part result new = OnOk result (string_bytes new ≡ string_bytes old ++ part)
 
--- If a call succeeds, what it pushed and what is still left are what was left before.
+-- Proof machinery: if a call succeeds, what it pushed and what is still left are what was left before.
 abbrev pub PushesSome : {T E Y Z : Type 0} → String Y → List ℕ → Result T E → String Z → List ℕ → Type 0
 PushesSome old left result new still = OnOk result (string_bytes new ++ still ≡ string_bytes old ++ left)
 

@@ -27,13 +27,13 @@ pub record RuleGroup : Type 0 where
   pub cases : List CaseRow
 
 -- Rules, with the scenarios that come after the line of the first one: each rule has those before the next rule.
-abbrev pub rule_groups : List RuleRow → List CaseRow → List RuleGroup
-rule_groups [] cases = []
-rule_groups (r ∷ rules) cases = record { rule = r; cases = cases_before rules cases } ∷ rule_groups rules (cases_behind rules cases)
+abbrev pub groups_by_line : List RuleRow → List CaseRow → List RuleGroup
+groups_by_line [] cases = []
+groups_by_line (r ∷ rules) cases = record { rule = r; cases = cases_before rules cases } ∷ groups_by_line rules (cases_behind rules cases)
 
 -- The rule that a scenario is in: the last one whose line is less than the scenario's, or none. (Cucumber's Gherkin reference: rule)
-abbrev pub rule_of : List RuleRow → CaseRow → Option RuleRow
-rule_of rules c = last_or None (filter (λ (r : RuleRow). nat_lt r.line c.line) rules)
+abbrev pub rule_containing : List RuleRow → CaseRow → Option RuleRow
+rule_containing rules c = last_or None (filter (λ (r : RuleRow). nat_lt r.line c.line) rules)
 
 -- The lines of rules are non-decreasing, and so are those of scenarios, as in a file.
 pub record AreInFileOrder (rules : List RuleRow) (cases : List CaseRow) : Type 0 where
@@ -42,8 +42,8 @@ pub record AreInFileOrder (rules : List RuleRow) (cases : List CaseRow) : Type 0
 
 -- How the scenarios of a feature are grouped by its rules. Each rule has one group, in order. The scenarios before the first rule and those of the groups are all scenarios, in order. In file order, the former are in no rule, and those of a group are in its rule.
 pub record RulesFollowTheirScenarios : Type 0 where
-  pub each : (rules : List RuleRow) (cases : List CaseRow) → map (λ (g : RuleGroup). g.rule) (rule_groups rules cases) ≡ rules
-  pub whole : (rules : List RuleRow) (cases : List CaseRow) → cases_before rules cases ++ flat_map (λ (g : RuleGroup). g.cases) (rule_groups rules (cases_behind rules cases)) ≡ cases
-  pub own : (rules : List RuleRow) (cases : List CaseRow) → AreInFileOrder rules cases → All (λ c. rule_of rules c ≡ None) (cases_before rules cases)
+  pub each : (rules : List RuleRow) (cases : List CaseRow) → map (λ (g : RuleGroup). g.rule) (groups_by_line rules cases) ≡ rules
+  pub whole : (rules : List RuleRow) (cases : List CaseRow) → cases_before rules cases ++ flat_map (λ (g : RuleGroup). g.cases) (groups_by_line rules (cases_behind rules cases)) ≡ cases
+  pub own : (rules : List RuleRow) (cases : List CaseRow) → AreInFileOrder rules cases → All (λ c. rule_containing rules c ≡ None) (cases_before rules cases)
   pub others : (rules : List RuleRow) (cases : List CaseRow) → AreInFileOrder rules cases →
-      All (λ (g : RuleGroup). All (λ c. rule_of rules c ≡ Some g.rule) g.cases) (rule_groups rules (cases_behind rules cases))
+      All (λ (g : RuleGroup). All (λ c. rule_containing rules c ≡ Some g.rule) g.cases) (groups_by_line rules (cases_behind rules cases))

@@ -3,6 +3,7 @@ use Rattle.std.specs.Prelude.{◌≡◌, ℕ, ◌+◌, ◌-◌, ◌^◌, ◌||�
 use Rattle.std.specs.List.{list_any}
 use Rattle.gk_run.specs.declared.results.Status.{Status}
 use Rattle.gk_run.specs.declared.results.Status.TheVariants as statuses
+use Rattle.gk_run.specs.Running.{case_statuses}
 use Rattle.gk_report.specs.declared.summary.Counts.{Counts}
 use Rattle.gk_report.specs.declared.summary.Summary.{Summary}
 use Rattle.gk_run.specs.Results.{CaseRow, FeatureRow, Results, is_passed, is_failed, is_skipped, is_undefined, is_untested, is_memory}
@@ -30,13 +31,9 @@ counts_of statuses = record {
 abbrev pub feature_statuses : List FeatureRow → List Status
 feature_statuses rows = map (λ (f : FeatureRow). f.status) rows
 
--- The verdicts of the scenarios of a feature.
-abbrev pub case_statuses : FeatureRow → List Status
-case_statuses f = map (λ (c : CaseRow). c.status) f.cases
-
 -- The verdicts of all scenarios.
 abbrev pub scenario_statuses : List FeatureRow → List Status
-scenario_statuses rows = flat_map case_statuses rows
+scenario_statuses rows = flat_map (λ (f : FeatureRow). case_statuses f.cases) rows
 
 -- The statuses of the steps of a scenario.
 abbrev pub statuses_of_case : CaseRow → List Status

@@ -263,7 +263,7 @@ fn push_status(out: &mut String, alloc: Global, status: Status) -> Result<(), Al
     push_string(out, alloc, status_text(status))
 }
 
-// Pushes the member with the rules of a feature, if it has any.
+// Appends the member with the rules of a feature, if it has any.
 fn push_rules(out: &mut String, alloc: Global, rules: &[RuleResult]) -> Result<(), AllocError>
     ensures { Pushes out.old (rules_member (map rule_row rules.now)) result out.new }
 {
@@ -275,7 +275,7 @@ fn push_rules(out: &mut String, alloc: Global, rules: &[RuleResult]) -> Result<(
     out.push_str(array.as_str())
 }
 
-// Pushes a comma, unless nothing comes before it.
+// Appends a comma, unless nothing comes before it.
 fn push_comma(out: &mut String, first: bool) -> Result<(), AllocError>
     ensures { Pushes out.old (comma_unless first) result out.new }
 {
@@ -307,7 +307,7 @@ pub fn json_head(alloc: Global) -> Result<String, AllocError>
     Ok(String::from_str(alloc, "{\"features\":[")?)
 }
 
-/// Pushes the text before the scenarios in the object of a feature, after a comma unless the object is the first that
+/// Appends the text before the scenarios in the object of a feature, after a comma unless the object is the first that
 /// is printed. An error comes only if a growth was refused.
 #[tactic(auto, using(crate::proofs::JsonReportLemmas::start_written), unfolding(crate::specs::JsonReport::object_start))]
 pub fn push_object_start(
@@ -328,7 +328,7 @@ pub fn push_object_start(
     Ok(())
 }
 
-/// Pushes the text after the scenarios in the object of a feature. An error comes only if a growth was refused.
+/// Appends the text after the scenarios in the object of a feature. An error comes only if a growth was refused.
 #[tactic(auto, unfolding(crate::specs::JsonReport::object_end))]
 pub fn push_object_end(
     out: &mut String,
@@ -371,7 +371,7 @@ impl<'a> ObjectsLeft<'a> {
         }
     }
 
-    /// Pushes the object of the next scenario, after a comma unless the object is the first that is printed. Returns
+    /// Appends the object of the next scenario, after a comma unless the object is the first that is printed. Returns
     /// whether there was a next scenario, printed or hidden. An error comes only if a growth was refused.
     pub fn push_next(
         &mut self,

@@ -60,7 +60,7 @@ impl<'a> PartPieces<'a> {
     ghost use Rattle.gk_report.specs.JsonReport.{objects_to_go};
     ghost use Rattle.gk_report.specs.PartPieces.{rest, to_go, whole_to_go, lines_and_end, objects_and_end, IsPiece};
 
-    // Pushes the text before the scenarios of a part that is whole. Returns whether more may be left.
+    // Appends the text before the scenarios of a part that is whole. Returns whether more may be left.
     #[tactic(auto, unfolding(crate::specs::PartPieces::rest, crate::specs::PlainReport::plain_part, crate::specs::ProgressReport::progress_part, crate::specs::JsonReport::json_part))]
     fn push_start(
         &mut self,
@@ -100,7 +100,7 @@ impl<'a> PartPieces<'a> {
         }
     }
 
-    // Pushes the next of these lines, or the text after them. Returns whether more may be left.
+    // Appends the next of these lines, or the text after them. Returns whether more may be left.
     #[tactic(auto, using(crate::proofs::PartPiecesLemmas::if_err, crate::proofs::PartPiecesLemmas::some_lines), unfolding(crate::specs::PartPieces::rest))]
     fn push_lines(&mut self, out: &mut String, lines: LinesLeft<'a>) -> Result<bool, AllocError>
         ensures pushed { PushesSome out.old (lines_and_end self.old lines.entry)
@@ -120,7 +120,7 @@ impl<'a> PartPieces<'a> {
         Ok(false)
     }
 
-    // Pushes the next of these objects, or the text after them. Returns whether more may be left.
+    // Appends the next of these objects, or the text after them. Returns whether more may be left.
     #[tactic(auto, using(crate::proofs::PartPiecesLemmas::if_err, crate::proofs::PartPiecesLemmas::some_objects), unfolding(crate::specs::PartPieces::rest))]
     fn push_objects(
         &mut self,
@@ -145,7 +145,7 @@ impl<'a> PartPieces<'a> {
         Ok(false)
     }
 
-    // Pushes some of what is left: at most one scenario. Returns whether more may be left.
+    // Appends some of what is left: at most one scenario. Returns whether more may be left.
     #[tactic(auto, unfolding(crate::specs::PartPieces::rest))]
     fn push_next(&mut self, out: &mut String, alloc: Global) -> Result<bool, AllocError>
         ensures pushed { PushesSome out.old (rest self.old) result out.new (rest self.new) }
@@ -161,7 +161,7 @@ impl<'a> PartPieces<'a> {
         }
     }
 
-    // Pushes what is left, up to the end of a piece.
+    // Appends what is left, up to the end of a piece.
     #[tactic(auto, using(crate::proofs::PartPiecesLemmas::if_err, crate::proofs::PartPiecesLemmas::some_after))]
     fn push_piece(&mut self, out: &mut String, alloc: Global) -> Result<(), AllocError>
         ensures pushed { PushesSome out.old (rest self.old) result out.new (rest self.new) }
@@ -179,7 +179,8 @@ impl<'a> PartPieces<'a> {
 
     /// Makes and returns the next piece, which is never empty. A piece of fewer than 16 KB is the last one. Returns
     /// `None` if nothing is left, or if the style hides the feature; then nothing is left in later calls either. An
-    /// error comes only if a growth was refused, never if nothing is left, and it leaves the rest of the part as it was.
+    /// error comes only if a growth was refused, never if nothing is left, and it leaves the rest of the part as it
+    /// was.
     pub fn next(&mut self, alloc: Global) -> Result<Option<String>, AllocError>
         ensures piece { IfOk result (λ piece. IfSome piece (λ text.
             IsPiece (rest self.old) (string_bytes text) (rest self.new))) }

@@ -26,7 +26,7 @@ fn ending_text(status: Status) -> &'static str
     }
 }
 
-// Pushes the end of a line with a status and a reason.
+// Appends the end of a line with a status and a reason.
 fn push_reason_ending(out: &mut String, status: Status, reason: Reason) -> Result<(), AllocError>
     ensures { Pushes out.old
         (codes " ... " ++ step_verdict status (Some reason) ++ line_feed) result out.new }
@@ -38,7 +38,7 @@ fn push_reason_ending(out: &mut String, status: Status, reason: Reason) -> Resul
     out.push_str("\n")
 }
 
-/// Pushes the end of a line with a status: three dots, the status, the reason if there is one, and a line feed. An
+/// Appends the end of a line with a status: three dots, the status, the reason if there is one, and a line feed. An
 /// error comes only if a growth was refused.
 #[inline(always)]
 pub fn push_ending(
@@ -55,7 +55,7 @@ pub fn push_ending(
     }
 }
 
-// Pushes a keyword after an indent, and the text behind it.
+// Appends a keyword after an indent, and the text behind it.
 #[inline(always)]
 fn push_keyword(
     out: &mut String,
@@ -88,7 +88,7 @@ fn push_case_line(out: &mut String, case: &CaseResult) -> Result<(), AllocError>
     push_ending(out, case.status, None)
 }
 
-// Pushes the line of hooks and cleanups, unless they passed.
+// Appends the line of hooks and cleanups, unless they passed.
 #[tactic(auto, unfolding(crate::specs::PlainReport::status_line, crate::specs::PlainReport::around_line))]
 fn push_around(out: &mut String, indent: &str, around: Status) -> Result<(), AllocError>
     ensures { Pushes out.old (around_line indent.now around) result out.new }
@@ -112,7 +112,7 @@ fn push_case(out: &mut String, case: &CaseResult) -> Result<(), AllocError>
     Ok(())
 }
 
-// Pushes the lines of a scenario, unless it is hidden.
+// Appends the lines of a scenario, unless it is hidden.
 fn push_printed(out: &mut String, no_skipped: bool, case: &CaseResult) -> Result<(), AllocError>
     ensures { Pushes out.old
         (cond (is_hidden no_skipped case.now.status) [] (case_lines (case_row case.now)))
@@ -134,7 +134,7 @@ fn begins_above(rules: &[RuleResult], line: u32) -> bool
     }
 }
 
-// Pushes the line of a rule's hooks and cleanups, unless they passed.
+// Appends the line of a rule's hooks and cleanups, unless they passed.
 #[tactic(auto, unfolding(crate::specs::PlainReport::status_line, crate::specs::PlainReport::rule_line))]
 fn push_rule_line(out: &mut String, rule: RuleResult) -> Result<(), AllocError>
     ensures { Pushes out.old (rule_line (rule_row rule)) result out.new }
@@ -146,7 +146,7 @@ fn push_rule_line(out: &mut String, rule: RuleResult) -> Result<(), AllocError>
     push_ending(out, rule.around, None)
 }
 
-// Pushes the line of the rule that scenarios are in, if they are in one.
+// Appends the line of the rule that scenarios are in, if they are in one.
 fn push_line_of(out: &mut String, rule: Option<RuleResult>) -> Result<(), AllocError>
     ensures { Pushes out.old (line_of (option_map rule_row rule)) result out.new }
 {
@@ -187,7 +187,7 @@ impl<'a> LinesLeft<'a> {
         }
     }
 
-    // Pushes the line of the rule that ends. Returns whether another rule begins.
+    // Appends the line of the rule that ends. Returns whether another rule begins.
     fn push_rule(&mut self, out: &mut String, no_skipped: bool) -> Result<bool, AllocError>
         requires { cases_before
             (map rule_row self.old.rules.now) (map case_row self.old.cases.now) ≡ [] }
@@ -211,7 +211,7 @@ impl<'a> LinesLeft<'a> {
         }
     }
 
-    /// Pushes the lines of the next scenario, or the line of the rule that ends before it. Returns whether more may be
+    /// Appends the lines of the next scenario, or the line of the rule that ends before it. Returns whether more may be
     /// left. An error comes only if a growth was refused.
     pub fn push_next(&mut self, out: &mut String, no_skipped: bool) -> Result<bool, AllocError>
         ensures pushed { PushesSome out.old (lines_left no_skipped self.old)
@@ -234,7 +234,7 @@ impl<'a> LinesLeft<'a> {
     }
 }
 
-/// Pushes the text before the scenarios of a feature. An error comes only if a growth was refused.
+/// Appends the text before the scenarios of a feature. An error comes only if a growth was refused.
 #[tactic(auto, unfolding(crate::specs::PlainReport::status_line, crate::specs::PlainReport::feature_line))]
 pub fn push_feature_line(out: &mut String, feature: &FeatureResult) -> Result<(), AllocError>
     ensures { Pushes out.old (feature_line (feature_row feature.now)) result out.new }
@@ -244,7 +244,7 @@ pub fn push_feature_line(out: &mut String, feature: &FeatureResult) -> Result<()
     push_ending(out, feature.status, None)
 }
 
-/// Pushes the text after the scenarios of a feature. An error comes only if a growth was refused.
+/// Appends the text after the scenarios of a feature. An error comes only if a growth was refused.
 pub fn push_feature_end(out: &mut String, around: Status) -> Result<(), AllocError>
     ensures { Pushes out.old (feature_end around) result out.new }
 {
@@ -287,7 +287,7 @@ fn push_undefined(out: &mut String, count: u64, of_steps: bool) -> Result<(), Al
     Ok(())
 }
 
-// Pushes a line of counts. A line for steps has the undefined ones, too.
+// Appends a line of counts. A line for steps has the undefined ones, too.
 #[tactic(auto, using(crate::proofs::PushLemmas::written_after), unfolding(crate::specs::PlainReport::count_line))]
 fn push_count_line(
     out: &mut String,

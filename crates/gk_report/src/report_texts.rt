@@ -51,7 +51,7 @@ pub fn reason_text(reason: Reason) -> &'static str
     }
 }
 
-// Pushes a text that may have line feeds, with a backslash and `n` in place of each.
+// Appends a text that may have line feeds, with a backslash and `n` in place of each.
 fn push_lines(out: &mut String, text: &str) -> Result<(), AllocError>
     ensures { Pushes out.old (one_line text.now) result out.new }
 {
@@ -65,7 +65,7 @@ fn push_lines(out: &mut String, text: &str) -> Result<(), AllocError>
     Ok(())
 }
 
-/// Pushes a name or a text, with a backslash and `n` in place of each line feed. An error comes only if a growth was
+/// Appends a name or a text, with a backslash and `n` in place of each line feed. An error comes only if a growth was
 /// refused.
 #[inline(always)]
 #[tactic(auto, using(crate::proofs::PushLemmas::one_line_plain, std::proofs::lemmas::Grind::common_steps))]

@@ -80,8 +80,8 @@ impl Summary {
     }
 
     /// Returns the status that the run ends with, if its own hooks and cleanups ended with `around`. It is 4 if
-    /// `around` or a verdict is memory; otherwise 1 if one of them is failed or a step is undefined; otherwise 0. Takes
-    /// no memory.
+    /// `around` or a verdict is memory; otherwise 1 if one of them is failed or a step is undefined; otherwise 0.
+    /// Doesn't allocate.
     pub fn status(&self, around: Status) -> u8
         ensures counts { result ≡ status_by self.now around }
         ensures status { IsStatusOf self.now around result }

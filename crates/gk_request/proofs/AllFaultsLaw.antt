@@ -12,8 +12,8 @@ sources_stop chooses n (s ∷ ss) zero before source fault later read place says
 sources_stop chooses n (s ∷ ss) (suc input) before source fault later read place says rest =
     let here : n + suc input ≡ n + 1 + input = omega arith in
     inl (
-      (read.0, record { text = read.2; reads = read.3; limit = read.4 }),
-      sources_stop chooses (n + 1) ss input read.1 source fault later read.5 place
+      (read.0, read.2),
+      sources_stop chooses (n + 1) ss input read.1 source fault later read.3 place
           (subst (λ k. IsFaultOf (source_at k source.bytes) fault) here says)
           (subst (λ k. AreFaultsOf (sources_from (k + 1) (drop (suc input) ss)) later) here rest),
     )

@@ -17,7 +17,7 @@ pub use Rattle.gk_gherkin.specs.HooksGrammar.{HaveOneHooksReading}
 pub use Rattle.gk_gherkin.specs.Lines.{IsText, lines_of}
 pub use Rattle.gk_gherkin.specs.ReadFault.{FaultSays, HooksFault}
 pub use Rattle.gk_gherkin.specs.declared.feature.Feature.{Feature}
-pub use Rattle.gk_gherkin.specs.declared.lines.TheConstants.{LIMIT}
+pub use Rattle.gk_gherkin.specs.declared.lines.TheConstants.{LONGEST_FILE}
 pub use Rattle.gk_gherkin.specs.declared.read_fault.ReadFault.{ReadFault}
 pub use Rattle.gk_run.specs.Chosen.{ChosenValue, HeadValue, IsFormed, MemberValue, chosen_value, head_value, member_of, members_of}
 pub use Rattle.gk_run.specs.declared.chosen.Chosen.{Chosen}
@@ -40,7 +40,7 @@ pub use denote.Ref.{Bor}
 pub use Rattle.gk_request.specs.AllFaults.{AllFaultsAreFound, AreAdded, AreFaultsOf, IsFaultOf, RunFile, SaysOfFiles, after_library, hooks_files, library_files, source_at, sources_from}
 pub use Rattle.gk_request.specs.Counted.{calls_of, failures_of, idle_of, inner_of}
 pub use Rattle.gk_request.specs.Inputs.{AreHooks, AreRead, AreRowsIf, AreRowsOf, AreRowsReadOnto, AreRules, Inputs, InputsAreUnique, IsFirstBadText, IsLibrary, IsReadAs, IsReadOnto, IsReading, IsWithinLimit, chosen_of, head_of, member_by, with_reading, with_rows}
-pub use Rattle.gk_request.specs.Request.{AreLeftAt, Request, asked_of, bytes_of, request_of_files, suite_value}
+pub use Rattle.gk_request.specs.Request.{AreLeftAt, Request, asked_of, bytes_of, request_of_files, files_value}
 pub use Rattle.gk_request.specs.RunFault.{IsUnread, IsUnreadBefore, SaysExpansion, SaysHooks, SaysLibrary, SaysSourceAt, SaysSources, SaysTags, SaysTooMany, hooks_fault, library_fault, select_fault_at, tags_fault}
 pub use Rattle.gk_request.specs.Source.{GaveUpThrough, GivesAtMost, SourceValue, StopsAfter, names_of, source_value, without_bytes}
 pub use Rattle.gk_request.specs.declared.request.Options.{Options}

@@ -75,15 +75,13 @@ with_more chooses name (Some f) others more = refl
 -- One source more.
 pub read_one : (chooses : CaseValue → Bool) (ss : List SourceValue) (fs : List ChosenValue) (s : SourceValue) (reading : Option FeatureValue) →
     AreRead chooses ss fs → IsText s.bytes → Reads (lines_of s.bytes) reading → IsWithinLimit reading → AreRead chooses (ss ++ s ∷ []) (fs ++ with_reading chooses s.name reading [])
-read_one chooses [] fs s reading none text reads within = (reading, [], text, reads, within, refl, ap (λ x. x ++ with_reading chooses s.name reading []) none)
+read_one chooses [] fs s reading none text reads within = (reading, [], record { text = text; reads = reads; limit = within }, refl, ap (λ x. x ++ with_reading chooses s.name reading []) none)
 read_one chooses (x ∷ ss) fs s reading h text reads within = (
   h.0,
   h.1 ++ with_reading chooses s.name reading [],
   h.2,
-  h.3,
-  h.4,
-  read_one chooses ss h.1 s reading h.5 text reads within,
-  ap (λ x. x ++ with_reading chooses s.name reading []) h.6 ∙ with_more chooses x.name h.0 h.1 (with_reading chooses s.name reading []),
+  read_one chooses ss h.1 s reading h.3 text reads within,
+  ap (λ x. x ++ with_reading chooses s.name reading []) h.4 ∙ with_more chooses x.name h.0 h.1 (with_reading chooses s.name reading []),
 )
 
 with_more_rows : (reading : Option FeatureValue) (others more : List (List ExampleRowValue)) → with_rows reading others ++ more ≡ with_rows reading (others ++ more)
@@ -232,8 +230,8 @@ same_rules one (t ∷ ts) rs qs (rule, others, reads, rest, is) (rule', others',
 
 same_features : HasOneReading → (chooses : CaseValue → Bool) (ss : List SourceValue) (fs gs : List ChosenValue) → AreRead chooses ss fs → AreRead chooses ss gs → fs ≡ gs
 same_features one chooses [] fs gs f g = f ∙ sym g
-same_features one chooses (s ∷ ss) fs gs (reading, others, text, reads, within, rest, is) (reading', others', text', reads', within', rest', is') =
-    is ∙ ap (λ r. with_reading chooses s.name r others) (one (lines_of s.bytes) reading reading' reads reads')
+same_features one chooses (s ∷ ss) fs gs (reading, others, read, rest, is) (reading', others', read', rest', is') =
+    is ∙ ap (λ r. with_reading chooses s.name r others) (one (lines_of s.bytes) reading reading' read.reads read'.reads)
     ∙ ap (with_reading chooses s.name reading') (same_features one chooses ss others others' rest rest') ∙ sym is'
 
 same_library : LibraryReadingIsUnique → (file : Option (List ℕ)) (a b : LibraryValue) → IsLibrary file a → IsLibrary file b → a ≡ b

@@ -78,8 +78,7 @@ pub record IsReadAs (bytes : List ℕ) (reading : Option FeatureValue) : Type 0 
 abbrev pub AreRead : (CaseValue → Bool) → List SourceValue → List ChosenValue → Type 0
 AreRead chooses [] features = features ≡ []
 AreRead chooses (s ∷ ss) features =
-    (reading : Option FeatureValue) × (others : List ChosenValue)
-    × IsText s.bytes × Reads (lines_of s.bytes) reading × IsWithinLimit reading × AreRead chooses ss others × (features ≡ with_reading chooses s.name reading others)
+    (reading : Option FeatureValue) × (others : List ChosenValue) × IsReadAs s.bytes reading × AreRead chooses ss others × (features ≡ with_reading chooses s.name reading others)
 
 -- The rows of the outlines of a source's feature, before those of others; a source without a feature adds no list.
 abbrev pub with_rows : Option FeatureValue → List (List ExampleRowValue) → List (List ExampleRowValue)
@@ -98,7 +97,7 @@ abbrev pub AreRowsIf : Bool → List SourceValue → List (List ExampleRowValue)
 AreRowsIf true sources rows = AreRowsOf sources rows
 AreRowsIf false sources rows = rows ≡ []
 
--- The request, apart from its sources, reads as these rules of tags, this library and these hooks.
+-- The request, apart from its sources, reads as these tag rules, this library and these hooks.
 pub record IsReadBefore (r : Request) (before : ReadBefore) : Type 0 where
   pub tags : AreRules r.tags (map tag_rule_value before.rules.items)
   pub library : IsLibrary r.library (library_value before.library)

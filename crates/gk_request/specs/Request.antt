@@ -64,8 +64,8 @@ pub record FilesValue : Type 0 where
   pub sources : List SourceValue
 
 -- The value of a run's files, from the value of each file.
-abbrev pub suite_value : {S : Type 0} → (S → SourceValue) → SuiteFiles S → FilesValue
-suite_value value files = record { library = option_map value files.library; hooks = option_map value files.hooks; sources = map value files.sources.items }
+abbrev pub files_value : {S : Type 0} → (S → SourceValue) → SuiteFiles S → FilesValue
+files_value value files = record { library = option_map value files.library; hooks = option_map value files.hooks; sources = map value files.sources.items }
 
 -- The bytes of an optional file.
 abbrev pub bytes_of : Option SourceValue → Option (List ℕ)

@@ -1,7 +1,7 @@
 //! The faults of all files of a run.
 ghost use Rattle.std.specs.Prelude.{List, ◌∷◌, ◌+◌, [], drop, map, option_map, IfOk, IsSome, OnErr, OnOk};
 ghost use Rattle.gk_request.specs.AllFaults.{RunFile, source_at, AllFaultsAreFound, AreFaultsOf, AreAdded, SaysOfFiles, after_library, files_after, hooks_files, library_files, run_files, sources_from};
-ghost use Rattle.gk_request.specs.Request.{suite_value};
+ghost use Rattle.gk_request.specs.Request.{files_value};
 ghost use Rattle.gk_request.specs.Source.{source_value};
 
 use crate::inputs::{
@@ -105,7 +105,7 @@ fn add_after_library(
     alloc: Global,
     files: &SuiteFiles<Source>,
 ) -> Result<(), AllocError>
-    ensures { OnOk result (AreAdded (after_library (suite_value source_value files.now))
+    ensures { OnOk result (AreAdded (after_library (files_value source_value files.now))
         faults.old.items faults.new.items) }
 {
     add_fault(faults, check_hooks(alloc, &files.hooks))?;
@@ -118,7 +118,7 @@ fn add_all(
     alloc: Global,
     files: &SuiteFiles<Source>,
 ) -> Result<(), AllocError>
-    ensures { OnOk result (AreAdded (run_files (suite_value source_value files.now))
+    ensures { OnOk result (AreAdded (run_files (files_value source_value files.now))
         faults.old.items faults.new.items) }
 {
     add_fault(faults, check_library(alloc, &files.library))?;
@@ -132,7 +132,7 @@ fn add_after(
     files: &SuiteFiles<Source>,
     first: RunFault,
 ) -> Result<(), AllocError>
-    ensures { OnOk result (AreAdded (files_after (suite_value source_value files.now) first)
+    ensures { OnOk result (AreAdded (files_after (files_value source_value files.now) first)
         faults.old.items faults.new.items) }
 {
     let sources = files.sources.as_slice();
@@ -150,15 +150,15 @@ fn add_after(
 }
 
 /// Returns the faults of the files that a run reads after the one with its first fault. There is one for each file that
-/// doesn't read, in the order in which a run reads them. The texts of tags are read before all files. Fails only if
-/// memory can't be allocated.
+/// doesn't read, in the order in which a run reads them. The texts of tags are read before all files. An error comes
+/// only if a growth was refused.
 pub fn faults_after(
     alloc: Global,
     files: &SuiteFiles<Source>,
     first: RunFault,
 ) -> Result<Vec<RunFault>, AllocError>
     ensures { IfOk result (λ faults.
-        AreFaultsOf (files_after (suite_value source_value files.now) first) faults.items) }
+        AreFaultsOf (files_after (files_value source_value files.now) first) faults.items) }
 {
     let mut faults = Vec::new(alloc);
     add_after(&mut faults, alloc, files, first)?;

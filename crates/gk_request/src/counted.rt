@@ -28,7 +28,7 @@ fn count_one(count: &mut u64)
 impl<T> Counted<T> {
     ghost use Rattle.gk_request.specs.Counted.{inner_of, calls_of, flushes_of, failures_of, idle_of};
 
-    /// Counts the calls of `inner` from 0. It doesn't allocate.
+    /// Counts the calls of `inner` from 0. Doesn't allocate.
     pub fn new(inner: T) -> Counted<T>
         ensures inner { inner_of result ≡ inner }
         ensures calls { calls_of result ≡ 0 }
@@ -45,14 +45,14 @@ impl<T> Counted<T> {
         }
     }
 
-    /// Returns the number of calls of `read` and `write`. It doesn't allocate.
+    /// Returns the number of calls of `read` and `write`. Doesn't allocate.
     pub fn calls(&self) -> u64
         ensures { result ≡ calls_of self.now }
     {
         self.calls
     }
 
-    /// Returns the number of calls of `flush`. It doesn't allocate.
+    /// Returns the number of calls of `flush`. Doesn't allocate.
     pub fn flushes(&self) -> u64
         ensures { result ≡ flushes_of self.now }
     {
@@ -68,14 +68,14 @@ impl<T> Counted<T> {
     }
 
     /// Returns the number of calls of `read` and `write` that moved no byte: those with an empty piece, those that gave
-    /// or took nothing, and those that failed. It doesn't allocate.
+    /// or took nothing, and those that failed. Doesn't allocate.
     pub fn idle(&self) -> u64
         ensures { result ≡ idle_of self.now }
     {
         self.idle
     }
 
-    /// Returns the reader or writer itself. It doesn't allocate.
+    /// Returns the reader or writer itself. Doesn't allocate.
     pub fn inner(&self) -> &T
         ensures { result.now ≡ inner_of self.now }
     {
@@ -173,7 +173,7 @@ pub struct NotWritten;
 /// Writes all the bytes, and flushes nothing. Each call offers all bytes that are left. The writer takes at least one
 /// of them, or the call is the last and `NotWritten` is returned; a prefix of the bytes was written then. If no byte is
 /// left, no call is made. A writer that failed isn't called again. A count of the writer that has reached `u64::MAX`
-/// stays there. It doesn't allocate.
+/// stays there. Doesn't allocate.
 pub fn write_whole<W: Write>(out: &mut Counted<W>, bytes: &[u8]) -> Result<(), NotWritten>
     ensures ok { OnOk result
         (Appends (W.contents (inner_of out.old)) (W.contents (inner_of out.new)) bytes.now) }
@@ -200,9 +200,9 @@ pub fn write_whole<W: Write>(out: &mut Counted<W>, bytes: &[u8]) -> Result<(), N
     Ok(())
 }
 
-/// Writes a text as it is displayed, piece by piece, and flushes nothing. Of the calls that this takes, only a failure is
-/// counted, so the counts of calls and of idle calls stay. At `NotWritten` the writer failed, and how much was written
-/// isn't said. It doesn't allocate.
+/// Writes a text as it is displayed, piece by piece, and flushes nothing. Of the calls that this takes, only a failure
+/// is counted, so the counts of calls and of idle calls stay. At `NotWritten` the writer failed, and how much was
+/// written isn't said. Doesn't allocate.
 pub fn write_displayed<W: Write, D: Display + Drop>(
     out: &mut Counted<W>,
     text: D,

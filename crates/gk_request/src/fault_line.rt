@@ -3,7 +3,7 @@ ghost use Rattle.std.specs.Prelude.{◌≡◌, option_map, Some};
 ghost use Rattle.std.specs.Fmt.{DisplaysOnOk};
 ghost use Rattle.gk_request.specs.FaultLine as spec;
 ghost use Rattle.gk_request.specs.FaultLine.{fault_line, placed};
-ghost use Rattle.gk_request.specs.Request.{suite_value};
+ghost use Rattle.gk_request.specs.Request.{files_value};
 
 use crate::request::SuiteFiles;
 use crate::run_fault::RunFault;
@@ -16,7 +16,7 @@ pub fn file_at_fault<'a, S: FeatureSource>(
     fault: RunFault,
 ) -> Option<&'a S>
     ensures { option_map (λ file. S.value file.now) result
-        ≡ spec.file_at_fault (suite_value S.value files.now) fault }
+        ≡ spec.file_at_fault (files_value S.value files.now) fault }
 {
     match fault {
         RunFault::Read { input, .. } => files.sources.get(input),
@@ -36,7 +36,7 @@ pub fn name_at_fault<'a, S: FeatureSource>(
     fault: RunFault,
 ) -> Option<&'a str>
     ensures { option_map (λ name. name.now) result
-        ≡ spec.name_at_fault (suite_value S.value files.now) fault }
+        ≡ spec.name_at_fault (files_value S.value files.now) fault }
 {
     match file_at_fault(files, fault) {
         Some(file) => Some(file.name()),
@@ -98,9 +98,9 @@ impl fmt::Display for NamedFault<'_> {
             RunFault::Hooks(fault) => write_placed(f, self.name, fault.line(), fault),
             RunFault::Select {
                 input: Some(_),
-                fault: _,
-            } => write_placed(f, self.name, None, &"more than 1000000 steps"),
-            RunFault::Select { .. } => f.write_str("bad tag expression"),
+                fault,
+            } => write_placed(f, self.name, None, fault),
+            RunFault::Select { input: None, fault } => write!(f, "{fault}"),
             RunFault::Write => f.write_str("cannot write"),
             RunFault::Memory => f.write_str("out of memory"),
         }

@@ -1,4 +1,4 @@
-//! Reading a request: the rules of tags, the step library, the hooks, and the features with their cases and the choice
+//! Reading a request: the tag rules, the step library, the hooks, and the features with their cases and the choice
 //! among them.
 ghost use Rattle.std.specs.Prelude.{◌≡◌, ◌++◌, ◌∷◌, [], map, option_map, string_bytes, IfOk, IfErr, OnOk, Some};
 ghost use Rattle.std.specs.List.{AllByRecursion};
@@ -12,7 +12,7 @@ ghost use Rattle.gk_select.specs.TagRules.{tag_rule_value};
 ghost use Rattle.gk_steps.specs.Finding.{library_value};
 ghost use Rattle.gk_run.specs.Chosen.{chosen_value, head_value, IsFormed};
 ghost use Rattle.gk_request.specs.Source.{names_of, without_bytes};
-ghost use Rattle.gk_request.specs.Request.{suite_value, request_of_files, HaveSameNames, AreGivenUp, AreLeftAt, asked_of};
+ghost use Rattle.gk_request.specs.Request.{files_value, request_of_files, HaveSameNames, AreGivenUp, AreLeftAt, asked_of};
 ghost use Rattle.gk_request.specs.Inputs as spec;
 ghost use Rattle.gk_request.specs.Inputs.{InputsAreUnique, IsBadText, IsReadAs, AreRules, IsLibrary, AreHooks, AreRead, AreRowsIf, AreRowsReadOnto, AreInputs, IsReading, IsReadBefore, IsReadOnto, inputs_value};
 ghost use Rattle.gk_request.specs.RunFault as faults;
@@ -29,7 +29,7 @@ use gk_run::{Chosen, RuleHead};
 use gk_select::{
     Choice, ExampleRow, SelectFault, TagRule, cases_fall_into_rules, cases_keep_without_tags,
     has_room, into_cases, outline_rows, read_features_are_expandable, read_tags, selected_cases,
-    texts_have_one_rule,
+    texts_have_one_tag_rule,
 };
 use gk_steps::{Library, LibraryFault, default_library, library_reading_is_unique, read_library};
 use std::alloc::{AllocError, Global};
@@ -62,8 +62,8 @@ fn read_rules(alloc: Global, tags: &[String]) -> Result<Vec<TagRule>, SelectFaul
     Ok(rules)
 }
 
-/// Returns the first of some texts of tags that spells no rule, if there is one. Fails only if memory can't be allocated.
-/// (behave's documentation: tag expressions)
+/// Returns the first of some texts of tags that spells no rule, if there is one. An error comes only if a growth was
+/// refused. (behave's documentation: tag expressions)
 pub fn first_bad_tags(alloc: Global, tags: &[String]) -> Result<Option<&str>, AllocError>
     ensures { IfOk result (λ found.
         IsBadText (texts tags.now) (option_map (λ text. text.now) found)) }
@@ -100,7 +100,7 @@ pub fn read_step_library(alloc: Global, library: Option<&[u8]>) -> Result<Librar
     }
 }
 
-/// Returns the fault of a run for a fault of its library. It doesn't allocate.
+/// Returns the fault of a run for a fault of its library. Doesn't allocate.
 pub fn library_fault(fault: LibraryFault) -> RunFault
     ensures { result ≡ faults.library_fault fault }
 {
@@ -124,7 +124,7 @@ pub fn read_hook_file(alloc: Global, hooks: Option<&[u8]>) -> Result<HookFile, R
     }
 }
 
-/// Returns the fault of a run for a fault of its hooks. It doesn't allocate.
+/// Returns the fault of a run for a fault of its hooks. Doesn't allocate.
 pub fn hooks_fault(fault: ReadFault) -> RunFault
     ensures { result ≡ faults.hooks_fault fault }
 {
@@ -239,7 +239,7 @@ fn chosen_of(
     })
 }
 
-// Returns the fault of the source at a place for a fault of its file. It doesn't allocate.
+// Returns the fault of the source at a place for a fault of its file. Doesn't allocate.
 fn read_fault_at(input: usize, fault: ReadFault) -> RunFault
     ensures { result ≡ faults.read_fault_at input fault }
 {
@@ -249,7 +249,7 @@ fn read_fault_at(input: usize, fault: ReadFault) -> RunFault
     }
 }
 
-// Returns the fault of the source at a place for a fault of its cases. It doesn't allocate.
+// Returns the fault of the source at a place for a fault of its cases. Doesn't allocate.
 fn select_fault_at(input: usize, fault: SelectFault) -> RunFault
     ensures { result ≡ faults.select_fault_at input fault }
 {
@@ -288,8 +288,8 @@ fn check_limit(feature: &Feature) -> Result<(), SelectFault>
     }
 }
 
-/// Reads the feature, if there is one, from the bytes of the source at a place, and counts the steps of its cases without
-/// building them. An error says why they don't read; `Memory` comes only if memory can't be allocated.
+/// Reads the feature, if there is one, from the bytes of the source at a place, and counts the steps of its cases
+/// without building them. An error says why they don't read; `Memory` comes only if a growth was refused.
 pub fn read_feature_at(
     alloc: Global,
     input: usize,
@@ -469,28 +469,28 @@ pub fn read_before(
 }
 
 /// Reads the request: first the texts of tags, then the library, then the hooks, then each source. An error names the
-/// first that doesn't read. Each source drops its bytes before the next one is read, and the names stay. At an error, the
-/// sources after the one at which reading stopped have their bytes. The rows of outlines are copied only if `with_rows`
-/// asks for them.
+/// first that doesn't read. Each source drops its bytes before the next one is read, and the names stay. At an error,
+/// the sources after the one at which reading stopped have their bytes. The rows of outlines are copied only if
+/// `with_rows` asks for them.
 pub fn read_inputs<S: FeatureSource>(
     alloc: Global,
     options: &Options,
     with_rows: bool,
     files: &mut SuiteFiles<S>,
 ) -> Result<ReadInputs, RunFault>
-    ensures names { HaveSameNames (suite_value S.value files.old) (suite_value S.value files.new) }
+    ensures names { HaveSameNames (files_value S.value files.old) (files_value S.value files.new) }
     ensures given_up { OnOk result (AreGivenUp
-        (suite_value S.value files.old) (suite_value S.value files.new)) }
+        (files_value S.value files.old) (files_value S.value files.new)) }
     // The source that doesn't read and those before it have dropped their bytes, the others haven't.
     ensures left { IfErr result (AreLeftAt
         (map S.value files.old.sources.items) (map S.value files.new.sources.items)) }
     ensures read { IfOk result (λ inputs. AreInputs
-        (request_of_files options.now (suite_value S.value files.old)) (inputs_value inputs)) }
-    ensures rows { let files = suite_value S.value files.old in IfOk result (λ inputs.
+        (request_of_files options.now (files_value S.value files.old)) (inputs_value inputs)) }
+    ensures rows { let files = files_value S.value files.old in IfOk result (λ inputs.
         AreRowsIf with_rows files.sources (row_lists inputs.rows.items)) }
     ensures formed { IfOk result (λ inputs. AllByRecursion IsFormed inputs.features.items) }
     ensures fault { IfErr result (λ e. IsUnread
-        (request_of_files options.now (suite_value S.value files.old)) e) }
+        (request_of_files options.now (files_value S.value files.old)) e) }
 {
     let library = bytes_of(&files.library);
     let hooks = bytes_of(&files.hooks);
@@ -515,7 +515,7 @@ pub fn inputs_are_unique()
     ensures { InputsAreUnique }
 {
     reading_is_unique();
-    texts_have_one_rule();
+    texts_have_one_tag_rule();
     library_reading_is_unique();
     hooks_reading_is_unique();
 }

@@ -30,8 +30,8 @@ impl Options {
     ghost use Rattle.std.specs.Prelude.{◌≡◌, [], None};
     ghost use Rattle.gk_request.specs.Request.{request_of, plain_request};
 
-    /// Returns the options of a run without any: each scenario runs, and the report is plain and omits nothing. It
-    /// doesn't allocate.
+    /// Returns the options of a run without any: each scenario runs, and the report is plain and omits nothing. Doesn't
+    /// allocate.
     pub fn plain(alloc: Global) -> Options
         ensures { request_of result None None [] ≡ plain_request [] }
     {
@@ -58,7 +58,7 @@ pub struct SuiteFiles<S> {
     pub sources: Vec<S>,
 }
 
-/// Returns the bytes of a file, if it is given. It doesn't allocate.
+/// Returns the bytes of a file, if it is given. Doesn't allocate.
 pub fn bytes_of<S: FeatureSource>(file: &Option<S>) -> Option<&[u8]>
     ensures { option_map (λ bytes. bytes.now) result
         ≡ spec.bytes_of (option_map S.value file.now) }
@@ -69,7 +69,7 @@ pub fn bytes_of<S: FeatureSource>(file: &Option<S>) -> Option<&[u8]>
     }
 }
 
-/// Returns the name of a file, or an empty name if it isn't given. It doesn't allocate.
+/// Returns the name of a file, or an empty name if it isn't given. Doesn't allocate.
 pub fn name_of<S: FeatureSource>(file: &Option<S>) -> &str
     ensures { result.now ≡ spec.name_of (option_map S.value file.now) }
 {

@@ -45,7 +45,7 @@ impl RunFault {
     ghost use Rattle.gk_request.specs.RunFault.{status_of_fault};
 
     /// Returns the exit status of a program: 4 if memory was refused, 2 for a text of tags that spells no rule, and 3
-    /// otherwise. It doesn't allocate.
+    /// otherwise. Doesn't allocate.
     pub fn status(&self) -> u8
         ensures { result ≡ status_of_fault self.now }
     {

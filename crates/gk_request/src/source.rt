@@ -5,7 +5,7 @@ ghost use Rattle.gk_request.specs.Counted.{inner_of, calls_of, idle_of, HasNotFa
 ghost use Rattle.gk_request.specs.Source.{SourceValue, StopsAfter, GivesAtMost, borrowed_value, idle_after, source_value, without_bytes};
 
 use crate::counted::Counted;
-use gk_gherkin::LIMIT;
+use gk_gherkin::LONGEST_FILE;
 use std::alloc::Global;
 use std::io::Read;
 use thiserror::Error;
@@ -82,7 +82,7 @@ pub enum SourceFault {
     /// The reader failed in this call.
     #[error("cannot read")]
     Device,
-    /// The reader has more bytes than `gk_gherkin::LIMIT`.
+    /// The reader has more bytes than `gk_gherkin::LONGEST_FILE`.
     #[error("longer than 16777216 bytes")]
     TooLong,
     /// Memory couldn't be allocated.
@@ -93,9 +93,9 @@ pub enum SourceFault {
 /// The largest number of bytes that one call asks the reader for.
 const PIECE: usize = 16_384;
 
-/// Reads all bytes of a reader. At most one call gives no byte: one that finds the end, or that fails. The reader is never asked for a byte
-/// after number `gk_gherkin::LIMIT` + 1, so a reader without an end gives `TooLong`. A reader that failed isn't called
-/// again. A count of the reader that has reached `u64::MAX` stays there.
+/// Reads all bytes of a reader. At most one call gives no byte: one that finds the end, or that fails. The reader is
+/// never asked for a byte after number `gk_gherkin::LONGEST_FILE` + 1, so a reader without an end gives `TooLong`. A reader
+/// that failed isn't called again. A count of the reader that has reached `u64::MAX` stays there.
 pub fn read_source<R: Read>(alloc: Global, reader: &mut Counted<R>) -> Result<Vec<u8>, SourceFault>
     ensures whole { IfOk result (λ v.
         IfSome (R.remaining (inner_of reader.old)) (λ xs. v.items ≡ xs)) }
@@ -112,7 +112,7 @@ pub fn read_source<R: Read>(alloc: Global, reader: &mut Counted<R>) -> Result<Ve
     ensures spare { IsErrOf result SourceFault.Memory → HasNotFailed reader.old reader.new }
     ensures free { IsErrOf result SourceFault.Memory → R.remaining (inner_of reader.old) ≢ Some [] }
     // Whatever is returned, at most one call gives no byte. If the reader's bytes are known, it gives none after
-    // number LIMIT + 1; for other readers `given` says nothing.
+    // number LONGEST_FILE + 1; for other readers `given` says nothing.
     ensures idle { idle_of reader.new ≡ idle_after result (idle_of reader.old) }
     ensures given { GivesAtMost (limit + 1)
         (R.remaining (inner_of reader.old)) (R.remaining (inner_of reader.new)) }
@@ -121,8 +121,8 @@ pub fn read_source<R: Read>(alloc: Global, reader: &mut Counted<R>) -> Result<Ve
 {
     let mut bytes = Vec::new(alloc);
     let mut piece = [0u8; PIECE];
-    while bytes.len() <= LIMIT {
-        let room = (LIMIT + 1 - bytes.len()).min(PIECE);
+    while bytes.len() <= LONGEST_FILE {
+        let room = (LONGEST_FILE + 1 - bytes.len()).min(PIECE);
         match reader.read(&mut piece[..room]) {
             Ok(0) => return Ok(bytes),
             Ok(n) => {

@@ -18,7 +18,7 @@ pub use Rattle.std.specs.Slice.{IsItemAt}
 pub use Rattle.std.specs.Vec.Iter.{into_iter_items, into_iter_len}
 pub use Rattle.gk_gherkin.specs.Feature.{BlockValue, StepValue, Table, block_value, step_value, texts}
 pub use Rattle.gk_gherkin.specs.Hooks.{HookValue, hooks_value, is_for}
-pub use Rattle.gk_gherkin.specs.Text.{stands_in}
+pub use Rattle.gk_gherkin.specs.Text.{contains}
 pub use Rattle.gk_gherkin.specs.declared.feature.Block.{Block}
 pub use Rattle.gk_gherkin.specs.declared.hooks.HookFile.{HookFile}
 pub use Rattle.gk_gherkin.specs.declared.hooks.HookKind.{HookKind}

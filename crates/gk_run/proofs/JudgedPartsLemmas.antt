@@ -1,5 +1,5 @@
 -- Judged results are those of which the words hold.
-use Rattle.gk_run.proofs.Common.{list_all, All, Bool, Decides, List, [], ap, arith, cond, false, flat_map, not, refl, subst, suc, sym, take, true, zero, ℕ, ◌&&◌, ◌++◌, ◌↔◌, ◌∙◌, ◌∷◌, ◌≡◌, true≢false, common_steps, Decides-and, Decides-at, Decides-by_and, Decides-like, none-some, LibraryValue, Contents, State, state_of, Status, Level, all_stay_open, case_of, cases_of, first_or, is_failed_or_memory, without_first, stays_open, reached_row, unreached_row, unselected_row, ChosenValue, MemberValue, has_selected, Group, own_members, rule_groups, dry_case_of, dry_cases_of, dry_feature_of, dry_features_of, dry_rules_of, FeatureCuts, feature_of, feature_row_of, features_of, inside_by, uncut_feature, Inside, RuleCuts, rule_of, rule_stays_open, rules_of, uncut_rule, Cuts, Judged, dry_results, results_from, JudgedCase, JudgedCases, JudgedDryCase, JudgedDryFeature, JudgedDryRun, Each, JudgedFeature, JudgedFeatures, JudgedInside, IsGoodCase, IsGoodFeature, IsGoodRule, IsHeaded, JudgedHoldPartByPart, JudgedPartByPart, JudgedRule, JudgedSection, StepsHaveTheirResults, rule_rows, Ran, result_of, SectionRow, happened_in, no_events, section_events, section_of, section_state, Run, CaseRow, FeatureRow, Results, RuleRow, Cut, Events, around_of, before_passed, happened, nowhere}
+use Rattle.gk_run.proofs.Common.{list_all, All, Bool, Decides, List, [], ap, arith, cond, false, flat_map, not, refl, ⊤, subst, suc, sym, take, true, zero, ℕ, ◌&&◌, ◌++◌, ◌↔◌, ◌∙◌, ◌∷◌, ◌≡◌, true≢false, common_steps, Decides-and, Decides-at, Decides-by_and, Decides-like, none-some, LibraryValue, Contents, State, state_of, Status, Level, all_stay_open, case_of, cases_of, first_or, is_failed_or_memory, without_first, stays_open, reached_row, unreached_row, unselected_row, ChosenValue, MemberValue, has_selected, Group, own_members, rule_groups, dry_case_of, dry_cases_of, dry_feature_of, dry_features_of, dry_rules_of, FeatureCuts, feature_of, feature_row_of, features_of, inside_by, uncut_feature, Inside, RuleCuts, rule_of, rule_stays_open, rules_of, uncut_rule, Cuts, Judged, dry_results, results_from, JudgedCase, JudgedCases, JudgedDryCase, JudgedDryFeature, JudgedDryRun, Each, JudgedFeature, JudgedFeatures, JudgedInside, IsGoodCase, IsGoodFeature, IsGoodRule, IsHeaded, JudgedHoldPartByPart, JudgedPartByPart, JudgedRule, JudgedSection, StepsHaveTheirResults, rule_rows, Ran, result_of, SectionRow, happened_in, no_events, section_events, section_of, section_state, Run, CaseRow, FeatureRow, Results, RuleRow, Cut, Events, around_of, before_passed, happened, nowhere}
 use Rattle.gk_run.specs.declared.results.Status.TheVariants as statuses
 use Rattle.gk_run.specs.declared.section.Level.TheVariants as levels
 use Rattle.gk_run.proofs.CasesLemmas.{and_assoc, and_true}
@@ -325,18 +325,15 @@ dry_words run fs results =
 
 -- ---- the run
 
-abbrev Ready : Run → Type 0
-Ready run = run.dry_run ≡ false
-
 abbrev RealInWords : Run → State → List ChosenValue → Results → Type 0
 RealInWords run start fs results =
-    JudgedSection run levels.Run [] start (Ready run) (λ section Q rows. JudgedFeatures run section Q fs rows) (record { around = results.around; inside = results.features })
+    JudgedSection run levels.Run [] start ⊤ (λ section Q rows. JudgedFeatures run section Q fs rows) (record { around = results.around; inside = results.features })
 
-real_words : (run : Run) (start : State) (fs : List ChosenValue) (results : Results) → Ready run → RealInWords run start fs results ↔ ((cuts : Cuts) × (results ≡ results_from run start cuts fs))
-real_words run start fs results ready =
+real_words : (run : Run) (start : State) (fs : List ChosenValue) (results : Results) → RealInWords run start fs results ↔ ((cuts : Cuts) × (results ≡ results_from run start cuts fs))
+real_words run start fs results =
     let features : List FeatureCuts → State → Bool → Ran (List FeatureRow) = λ cuts section c. features_of run section c cuts fs in
     let end : SectionRow (List FeatureRow) = record { around = results.around; inside = results.features } in
-    let both = section_words run levels.Run [] start features (λ section Q rows. JudgedFeatures run section Q fs rows) (λ section c Q rows e. features_words run section c Q fs rows e) true (Ready run) end (λ t. ready, λ t. refl) in (
+    let both = section_words run levels.Run [] start features (λ section Q rows. JudgedFeatures run section Q fs rows) (λ section c Q rows e. features_words run section c Q fs rows e) true ⊤ end (λ t. tt, λ t. refl) in (
       λ w. (let c = both.0 w in (record { own = c.0; features = c.1 }, ap (λ (e : SectionRow (List FeatureRow)). record { features = e.inside; around = e.around }) c.2)),
       λ c. (let cuts = c.0 in both.1 (cuts.own, cuts.features, ap (λ (r : Results). record { around = r.around; inside = r.features }) c.1)),
     )
@@ -344,7 +341,7 @@ real_words run start fs results ready =
 -- the results by whether the run is dry
 judged_by : (run : Run) (contents : Contents) (fs : List ChosenValue) (results : Results) → JudgedPartByPart run contents fs results → (is_dry : Bool) → run.dry_run ≡ is_dry → Judged run contents fs results
 judged_by run contents fs results w true h = let c = (dry_words run fs results).0 (w.dry h) in (c.0, c.1 ∙ sym (ap (results_by run contents c.0 fs) h))
-judged_by run contents fs results w false h = let c = (real_words run (state_of contents) fs results h).0 (w.real h) in (c.0, c.1 ∙ sym (ap (results_by run contents c.0 fs) h))
+judged_by run contents fs results w false h = let c = (real_words run (state_of contents) fs results).0 (w.real h) in (c.0, c.1 ∙ sym (ap (results_by run contents c.0 fs) h))
 
 pub judged_in_words : JudgedHoldPartByPart
 judged_in_words run contents fs results = (
@@ -352,7 +349,7 @@ judged_in_words run contents fs results = (
       let by = results_by run contents judged.0 fs in
       record {
         dry = λ h. (dry_words run fs results).1 (judged.0, judged.1 ∙ ap by h);
-        real = λ h. (real_words run (state_of contents) fs results h).1 (judged.0, judged.1 ∙ ap by h);
+        real = λ h. (real_words run (state_of contents) fs results).1 (judged.0, judged.1 ∙ ap by h);
       }
       ),
   λ w. judged_by run contents fs results w run.dry_run refl,

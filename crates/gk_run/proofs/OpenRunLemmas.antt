@@ -17,10 +17,9 @@ next_opens true false failed bad = refl
 next_opens true true true bad = refl
 next_opens true true false bad = refl
 
--- what is so of a run's feature is so by the run's own hooks and stop, and by whether it is open
-pub run_so : (Is : Run → Bool → Type 0) (library : Library) (file hooks : HookFile) (stop stops is_open opens : Bool) → file ≡ hooks → stop ≡ stops → is_open ≡ opens →
-    Is (run_of library file stop) is_open → Is (run_of library hooks stops) opens
-run_so Is library file hooks stop stops is_open opens by_hooks by_stop by_open is = grind (arith, common_steps)
+-- what is so of a run's feature is so by the run's own stop, and by whether it is open
+pub run_so : (Is : Run → Bool → Type 0) (library : Library) (hooks : HookFile) (stop stops is_open opens : Bool) → stop ≡ stops → is_open ≡ opens → Is (run_of library hooks stop) is_open → Is (run_of library hooks stops) opens
+run_so Is library hooks stop stops is_open opens by_stop by_open is = grind (arith, common_steps)
 
 -- a run that was started, whose features were run, and that was finished
 pub judged_all : FinishedRunsAreJudged

@@ -30,13 +30,13 @@ OneEvent hears before event m start now ended first last = (g : Happens hears be
 told_exactly : (m : Mark) (event told : Event) → is_memory_ending (ending_of m) ≡ false → event ≡ told → SoFar false (is_memory_ending (ending_of m)) (event ∷ []) [] (told ∷ [])
 told_exactly m event told n is = subst (λ b. SoFar false b (event ∷ []) [] (told ∷ [])) (sym n) (ap (λ x. x ∷ []) is)
 
-exact_goes : {S : Type 0} (hears : S → Event → S → Type 0) (place : Stage) (step : StepValue) (this : Stepped) (s new : State) (cs left : List CleanupValue) (m : Mark) (first last : S) → is_memory_ending (ending_of m) ≡ false →
-    (m ≡ this.mark) × (new ≡ this.state) × (left ≡ cs ++ this.registered) → FoldsTo hears first (of_step place step m this.registered new ∷ []) last → OneEvent hears endings.Passed (event_of place step this) m (at s cs) (at new left) (ending_of m) first last
-exact_goes hears place step this s new cs left m first last n t h = (
+exact_goes : {S : Type 0} (hears : S → Event → S → Type 0) (stage : Stage) (step : StepValue) (this : Stepped) (s new : State) (cs left : List CleanupValue) (m : Mark) (first last : S) → is_memory_ending (ending_of m) ≡ false →
+    (m ≡ this.mark) × (new ≡ this.state) × (left ≡ cs ++ this.registered) → FoldsTo hears first (of_step stage step m this.registered new ∷ []) last → OneEvent hears endings.Passed (event_of stage step this) m (at s cs) (at new left) (ending_of m) first last
+exact_goes hears stage step this s new cs left m first last n t h = (
   record {
-    told = of_step place step m this.registered new ∷ [];
+    told = of_step stage step m this.registered new ∷ [];
     heard = h;
-    so_far = told_exactly m (event_of place step this) (of_step place step m this.registered new) n (sym (ap (λ x. of_step place step x this.registered new) t.0 ∙ ap (λ x. of_step place step this.mark this.registered x) t.1));
+    so_far = told_exactly m (event_of stage step this) (of_step stage step m this.registered new) n (sym (ap (λ x. of_step stage step x this.registered new) t.0 ∙ ap (λ x. of_step stage step this.mark this.registered x) t.1));
     ends = refl;
     leaves = ap (at new) t.2;
   },
@@ -44,66 +44,66 @@ exact_goes hears place step this s new cs left m first last n t h = (
 )
 
 -- a step was carried out
-pub step_goes : {S : Type 0} (hears : S → Event → S → Type 0) (place : Stage) (step : StepValue) (this : Stepped) (s new : State) (cs left : List CleanupValue) (m : Mark) (first last : S) → IsStepRun this cs m new left →
-    ((registered : List CleanupValue) → FoldsTo hears first (of_step place step m registered new ∷ []) last) → OneEvent hears endings.Passed (event_of place step this) m (at s cs) (at new left) (ending_of m) first last
-step_goes hears place step this s new cs left (Acted outcomes.Memory) first last t h = (
+pub step_goes : {S : Type 0} (hears : S → Event → S → Type 0) (stage : Stage) (step : StepValue) (this : Stepped) (s new : State) (cs left : List CleanupValue) (m : Mark) (first last : S) → IsStepRun this cs m new left →
+    ((registered : List CleanupValue) → FoldsTo hears first (of_step stage step m registered new ∷ []) last) → OneEvent hears endings.Passed (event_of stage step this) m (at s cs) (at new left) (ending_of m) first last
+step_goes hears stage step this s new cs left (Acted outcomes.Memory) first last t h = (
   record {
-    told = of_step place step (Acted outcomes.Memory) [] new ∷ [];
+    told = of_step stage step (Acted outcomes.Memory) [] new ∷ [];
     heard = h [];
-    so_far = record { front = []; event = event_of place step this; rest = []; left = new; whole = refl; cut = refl };
+    so_far = record { front = []; event = event_of stage step this; rest = []; left = new; whole = refl; cut = refl };
     ends = refl;
     leaves = ap (at new) (t ∙ sym (append-nil cs));
   },
   refl,
 )
-step_goes hears place step this s new cs left (Acted outcomes.Passed) first last t h = exact_goes hears place step this s new cs left (Acted outcomes.Passed) first last refl t (h this.registered)
-step_goes hears place step this s new cs left (Acted (outcomes.Failed why)) first last t h = exact_goes hears place step this s new cs left (Acted (outcomes.Failed why)) first last refl t (h this.registered)
-step_goes hears place step this s new cs left (Acted outcomes.Skip) first last t h = exact_goes hears place step this s new cs left (Acted outcomes.Skip) first last refl t (h this.registered)
-step_goes hears place step this s new cs left Undefined first last t h = exact_goes hears place step this s new cs left Undefined first last refl t (h this.registered)
-step_goes hears place step this s new cs left Skipped first last t h = exact_goes hears place step this s new cs left Skipped first last refl t (h this.registered)
-step_goes hears place step this s new cs left Untested first last t h = exact_goes hears place step this s new cs left Untested first last refl t (h this.registered)
+step_goes hears stage step this s new cs left (Acted outcomes.Passed) first last t h = exact_goes hears stage step this s new cs left (Acted outcomes.Passed) first last refl t (h this.registered)
+step_goes hears stage step this s new cs left (Acted (outcomes.Failed why)) first last t h = exact_goes hears stage step this s new cs left (Acted (outcomes.Failed why)) first last refl t (h this.registered)
+step_goes hears stage step this s new cs left (Acted outcomes.Skip) first last t h = exact_goes hears stage step this s new cs left (Acted outcomes.Skip) first last refl t (h this.registered)
+step_goes hears stage step this s new cs left Undefined first last t h = exact_goes hears stage step this s new cs left Undefined first last refl t (h this.registered)
+step_goes hears stage step this s new cs left Skipped first last t h = exact_goes hears stage step this s new cs left Skipped first last refl t (h this.registered)
+step_goes hears stage step this s new cs left Untested first last t h = exact_goes hears stage step this s new cs left Untested first last refl t (h this.registered)
 
 -- ---- a walk
 
 -- one step more of a walk
-pub walk_on : {S : Type 0} (hears : S → Event → S → Type 0) (library : LibraryValue) (place : Stage) (step : StepValue) (steps : List StepValue) (s new : State) (cs left : List CleanupValue) (m : Mark) (all : List Event) (start : SectionNow) (first here last : S) →
-    Goes hears endings.Passed all (walk library place s (step ∷ steps)) start (at s cs) endings.Passed first here → IsStepRun (one_step library (site_of place) s step) cs m new left →
-    ((registered : List CleanupValue) → FoldsTo hears here (of_step place step m registered new ∷ []) last) → Goes hears endings.Passed all (cond (has_passed (ending_of m)) (walk library place new steps) []) start (at new left) (ending_of m) first last
-walk_on hears library place step steps s new cs left m all start first here last g t h =
-    let this = one_step library (site_of place) s step in
-    let rest : Mark → State → List Event = λ x n. cond (has_passed (ending_of x)) (walk library place n steps) [] in
-    with_rest (rest m new) (chain (rest this.mark this.state) g (λ _. refl) (step_goes hears place step this s new cs left m here last t h).0)
+pub walk_on : {S : Type 0} (hears : S → Event → S → Type 0) (library : LibraryValue) (stage : Stage) (step : StepValue) (steps : List StepValue) (s new : State) (cs left : List CleanupValue) (m : Mark) (all : List Event) (start : SectionNow) (first here last : S) →
+    Goes hears endings.Passed all (walk library stage s (step ∷ steps)) start (at s cs) endings.Passed first here → IsStepRun (one_step library (site_of stage) s step) cs m new left →
+    ((registered : List CleanupValue) → FoldsTo hears here (of_step stage step m registered new ∷ []) last) → Goes hears endings.Passed all (cond (has_passed (ending_of m)) (walk library stage new steps) []) start (at new left) (ending_of m) first last
+walk_on hears library stage step steps s new cs left m all start first here last g t h =
+    let this = one_step library (site_of stage) s step in
+    let rest : Mark → State → List Event = λ x n. cond (has_passed (ending_of x)) (walk library stage n steps) [] in
+    with_rest (rest m new) (chain (rest this.mark this.state) g (λ _. refl) (step_goes hears stage step this s new cs left m here last t h).0)
     (λ n. let known = exact_step this cs m new left n t in sym (ap (λ x. rest x new) known.0 ∙ ap (rest this.mark) known.1))
 
 -- a walk whose first step becomes this, through one list and then another
-after_step : (place : Stage) (step : StepValue) (registered : List CleanupValue) (s new : State) (cs : List CleanupValue) (m : Mark) (later : SectionNow → List Event) (xs both : List Event) →
+after_step : (stage : Stage) (step : StepValue) (registered : List CleanupValue) (s new : State) (cs : List CleanupValue) (m : Mark) (later : SectionNow → List Event) (xs both : List Event) →
     both ≡ xs ++ cond (has_passed (ended_in xs)) (later (left_by (at new (cs ++ registered)) xs)) [] →
-    of_step place step m registered new ∷ cond (has_passed (ending_of m)) both [] ≡
-    (let w = of_step place step m registered new ∷ cond (has_passed (ending_of m)) xs [] in w ++ cond (has_passed (ended_in w)) (later (left_by (at s cs) w)) [])
-after_step place step registered s new cs (Acted outcomes.Passed) later xs both h = ap (λ ys. of_step place step (Acted outcomes.Passed) registered new ∷ ys) h
-after_step place step registered s new cs Skipped later xs both h = ap (λ ys. of_step place step Skipped registered new ∷ ys) h
-after_step place step registered s new cs Untested later xs both h = ap (λ ys. of_step place step Untested registered new ∷ ys) h
-after_step place step registered s new cs Undefined later xs both h = refl
-after_step place step registered s new cs (Acted (outcomes.Failed why)) later xs both h = refl
-after_step place step registered s new cs (Acted outcomes.Skip) later xs both h = refl
-after_step place step registered s new cs (Acted outcomes.Memory) later xs both h = refl
+    of_step stage step m registered new ∷ cond (has_passed (ending_of m)) both [] ≡
+    (let w = of_step stage step m registered new ∷ cond (has_passed (ending_of m)) xs [] in w ++ cond (has_passed (ended_in w)) (later (left_by (at s cs) w)) [])
+after_step stage step registered s new cs (Acted outcomes.Passed) later xs both h = ap (λ ys. of_step stage step (Acted outcomes.Passed) registered new ∷ ys) h
+after_step stage step registered s new cs Skipped later xs both h = ap (λ ys. of_step stage step Skipped registered new ∷ ys) h
+after_step stage step registered s new cs Untested later xs both h = ap (λ ys. of_step stage step Untested registered new ∷ ys) h
+after_step stage step registered s new cs Undefined later xs both h = refl
+after_step stage step registered s new cs (Acted (outcomes.Failed why)) later xs both h = refl
+after_step stage step registered s new cs (Acted outcomes.Skip) later xs both h = refl
+after_step stage step registered s new cs (Acted outcomes.Memory) later xs both h = refl
 
 -- a walk through one list, and then through another where it passed
-walk_append : (library : LibraryValue) (place : Stage) (s : State) (cs : List CleanupValue) (xs ys : List StepValue) →
-    walk library place s (xs ++ ys) ≡ (let w = walk library place s xs in w ++ cond (has_passed (ended_in w)) (let left = left_by (at s cs) w in walk library place left.state ys) [])
-walk_append library place s cs [] ys = refl
-walk_append library place s cs (x ∷ xs) ys =
-    let this = one_step library (site_of place) s x in
-    after_step place x this.registered s this.state cs this.mark (λ left. walk library place left.state ys) (walk library place this.state xs) (walk library place this.state (xs ++ ys)) (walk_append library place this.state (cs ++ this.registered) xs ys)
+walk_append : (library : LibraryValue) (stage : Stage) (s : State) (cs : List CleanupValue) (xs ys : List StepValue) →
+    walk library stage s (xs ++ ys) ≡ (let w = walk library stage s xs in w ++ cond (has_passed (ended_in w)) (let left = left_by (at s cs) w in walk library stage left.state ys) [])
+walk_append library stage s cs [] ys = refl
+walk_append library stage s cs (x ∷ xs) ys =
+    let this = one_step library (site_of stage) s x in
+    after_step stage x this.registered s this.state cs this.mark (λ left. walk library stage left.state ys) (walk library stage this.state xs) (walk library stage this.state (xs ++ ys)) (walk_append library stage this.state (cs ++ this.registered) xs ys)
 
 -- one list more of a list that is walked as one
-pub list_on : {S : Type 0} (hears : S → Event → S → Type 0) (library : LibraryValue) (place : Stage) (xs ys : List StepValue) (s : State) (cs : List CleanupValue) (now : SectionNow) (e : Ending) (all : List Event) (start : SectionNow) (first here last : S) →
-    Goes hears endings.Passed all (walk library place s (xs ++ ys)) start (at s cs) endings.Passed first here → Happens hears endings.Passed (walk library place s xs) (at s cs) now e here last →
-    Goes hears endings.Passed all (cond (has_passed e) (walk library place now.state ys) []) start now e first last
-list_on hears library place xs ys s cs now e all start first here last g h =
-    let w = walk library place s xs in
-    let rest : Ending → SectionNow → List Event = λ x left. cond (has_passed x) (walk library place left.state ys) [] in
-    with_rest (rest e now) (chain (rest (ended_in w) (left_by (at s cs) w)) g (λ _. walk_append library place s cs xs ys) h)
+pub list_on : {S : Type 0} (hears : S → Event → S → Type 0) (library : LibraryValue) (stage : Stage) (xs ys : List StepValue) (s : State) (cs : List CleanupValue) (now : SectionNow) (e : Ending) (all : List Event) (start : SectionNow) (first here last : S) →
+    Goes hears endings.Passed all (walk library stage s (xs ++ ys)) start (at s cs) endings.Passed first here → Happens hears endings.Passed (walk library stage s xs) (at s cs) now e here last →
+    Goes hears endings.Passed all (cond (has_passed e) (walk library stage now.state ys) []) start now e first last
+list_on hears library stage xs ys s cs now e all start first here last g h =
+    let w = walk library stage s xs in
+    let rest : Ending → SectionNow → List Event = λ x left. cond (has_passed x) (walk library stage left.state ys) [] in
+    with_rest (rest e now) (chain (rest (ended_in w) (left_by (at s cs) w)) g (λ _. walk_append library stage s cs xs ys) h)
     (λ n. let told = all_told (is_memory_ending e) w h.told n h.so_far in
     sym (ap (λ x. rest x now) h.ends ∙ ap (rest (ended_in h.told)) h.leaves ∙ ap (λ es. rest (ended_in es) (left_by (at s cs) es)) told))
 

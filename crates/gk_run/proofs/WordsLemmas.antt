@@ -83,31 +83,31 @@ none_in library site start k h = let e = h.1 in let no : ⊥ = cc in no
 
 -- ---- the events of a list by those of the rest of it
 
-module _ (library : LibraryValue) (place : Stage) (start : SectionNow) (step : StepValue) (steps : List StepValue) where
+module _ (library : LibraryValue) (stage : Stage) (start : SectionNow) (step : StepValue) (steps : List StepValue) where
   abbrev site : Site
-  site = site_of place
+  site = site_of stage
 
   abbrev first : Event
-  first = event_of place step (one_step library site start.state step)
+  first = event_of stage step (one_step library site start.state step)
 
   abbrev onward : SectionNow
   onward = next library site start step steps
 
-  carries_first : (others : List Event) → left_by onward others ≡ onward → CarriesOut library place start (step ∷ steps) (first ∷ others) 1 0 others
+  carries_first : (others : List Event) → left_by onward others ≡ onward → CarriesOut library stage start (step ∷ steps) (first ∷ others) 1 0 others
   carries_first others keeps = record { each = only_first; passes = λ i l. absurd (omega (arith, l)); leaves = keeps; rest = refl }
     where
-      only_first : (i : ℕ) → i < 1 → slice_get (first ∷ others) i ≡ event_at library place start (step ∷ steps) i
+      only_first : (i : ℕ) → i < 1 → slice_get (first ∷ others) i ≡ event_at library stage start (step ∷ steps) i
       only_first zero l = refl
       only_first (suc i) l = absurd (omega (arith, l))
 
   carries_later : (events : List Event) (count passed : ℕ) (others : List Event) → its_mark library site start.state step ≡ Acted outcomes.Passed →
-      CarriesOut library place onward steps events count passed others → CarriesOut library place start (step ∷ steps) (first ∷ events) (suc count) (suc passed) others
+      CarriesOut library stage onward steps events count passed others → CarriesOut library stage start (step ∷ steps) (first ∷ events) (suc count) (suc passed) others
   carries_later events count passed others m e = record { each = each_later; passes = passes_later; leaves = e.leaves ∙ sym (after_first library site start step steps count); rest = e.rest }
     where
-      each_later : (i : ℕ) → i < suc count → slice_get (first ∷ events) i ≡ event_at library place start (step ∷ steps) i
+      each_later : (i : ℕ) → i < suc count → slice_get (first ∷ events) i ≡ event_at library stage start (step ∷ steps) i
       each_later zero l = refl
       each_later (suc i) l =
-          let its_event : SectionNow → Option Event = λ before. option_map (λ (x : StepValue). event_of place x (one_step library site before.state x)) (slice_get steps i) in
+          let its_event : SectionNow → Option Event = λ before. option_map (λ (x : StepValue). event_of stage x (one_step library site before.state x)) (slice_get steps i) in
           e.each i (omega (arith, l)) ∙ sym (ap its_event (after_first library site start step steps i))
 
       passes_later : (i : ℕ) → i < suc passed → slice_get (event_marks (first ∷ events)) i ≡ Some (Acted outcomes.Passed)
@@ -115,65 +115,65 @@ module _ (library : LibraryValue) (place : Stage) (start : SectionNow) (step : S
       passes_later (suc i) l = e.passes i (omega (arith, l))
 
   -- the first step stops
-  when_stopped : (above : LaterSteps) (events : List Event) → Stops library site start.state step → EndsAt library place start (step ∷ steps) above events 0 → EndsAtTheLeastStop library place start (step ∷ steps) above events
-  when_stopped above events st at = record { ends = only_first; passes = λ n. absurd (n 0 (step, refl, st)); either = inl (0, ((step, refl, st), λ i l h. absurd (omega (arith, l)))) }
+  when_stopped : (after_stop : LaterSteps) (events : List Event) → Stops library site start.state step → EndsAt library stage start (step ∷ steps) after_stop events 0 → EndsAtTheLeastStop library stage start (step ∷ steps) after_stop events
+  when_stopped after_stop events st at = record { ends = only_first; passes = λ n. absurd (n 0 (step, refl, st)); either = inl (0, ((step, refl, st), λ i l h. absurd (omega (arith, l)))) }
     where
-      only_first : (stop : ℕ) → IsStop library site start (step ∷ steps) stop → EndsAt library place start (step ∷ steps) above events stop
+      only_first : (stop : ℕ) → IsStop library site start (step ∷ steps) stop → EndsAt library stage start (step ∷ steps) after_stop events stop
       only_first zero h = at
       only_first (suc k) h = absurd (h.1 0 (omega arith) (step, refl, st))
 
   -- the first step passed
-  when_passed : (above : LaterSteps) (events : List Event) → GoesOn library site start.state step → EndsAtTheLeastStop library place onward steps above events → EndsAtTheLeastStop library place start (step ∷ steps) above (first ∷ events)
-  when_passed above events go later = record {
+  when_passed : (after_stop : LaterSteps) (events : List Event) → GoesOn library site start.state step → EndsAtTheLeastStop library stage onward steps after_stop events → EndsAtTheLeastStop library stage start (step ∷ steps) after_stop (first ∷ events)
+  when_passed after_stop events go later = record {
     ends = ends_later;
     passes = λ n. carries_later events (length steps) (length steps) [] go.0 (later.passes (λ i st. n (suc i) (out_of_rest library site start step steps i st)));
     either = either_later library site start step steps go.1 later.either;
   }
     where
-      ends_later : (stop : ℕ) → IsStop library site start (step ∷ steps) stop → EndsAt library place start (step ∷ steps) above (first ∷ events) stop
+      ends_later : (stop : ℕ) → IsStop library site start (step ∷ steps) stop → EndsAt library stage start (step ∷ steps) after_stop (first ∷ events) stop
       ends_later zero h = absurd (go.1 (first_stops library site start step steps h.0))
       ends_later (suc k) h =
           let e = later.ends k (is_later library site start step steps k h) in
-          let others : SectionNow → List Event = λ x. above (ending_of e.0) x.state (drop (suc k) steps) in
+          let others : SectionNow → List Event = λ x. after_stop (ending_of e.0) x.state (drop (suc k) steps) in
           let same = sym (ap others (after_first library site start step steps (suc k))) in
-          (e.0, e.1, subst (CarriesOut library place start (step ∷ steps) (first ∷ events) (suc (suc k)) (suc k)) same (carries_later events (suc k) k (others (after library site onward steps (suc k))) go.0 e.2))
+          (e.0, e.1, subst (CarriesOut library stage start (step ∷ steps) (first ∷ events) (suc (suc k)) (suc k)) same (carries_later events (suc k) k (others (after library site onward steps (suc k))) go.0 e.2))
 
--- ---- events that are found step by step, and whose last are those above the stop
+-- ---- events that are found step by step, and whose last are those after the stop
 
-module _ (library : LibraryValue) (place : Stage) (above : LaterSteps) (events_of : State → List StepValue → List Event)
+module _ (library : LibraryValue) (stage : Stage) (after_stop : LaterSteps) (events_of : State → List StepValue → List Event)
     (none : (s : State) → events_of s [] ≡ [])
     (more : (s : State) (step : StepValue) (steps : List StepValue) →
-    (let this = one_step library (site_of place) s step in events_of s (step ∷ steps) ≡ event_of place step this ∷ cond (has_passed (ending_of this.mark)) (events_of this.state steps) (above (ending_of this.mark) this.state steps)))
-    (keeps : (section : SectionNow) (ended : Ending) (steps : List StepValue) → left_by section (above ended section.state steps) ≡ section) where
-  by_first : (start : SectionNow) (step : StepValue) (steps : List StepValue) → (let n = onward library place start step steps in EndsAtTheLeastStop library place n steps above (events_of n.state steps)) →
-      (Stops library (site_of place) start.state step) ⊎ GoesOn library (site_of place) start.state step → EndsAtTheLeastStop library place start (step ∷ steps) above (events_of start.state (step ∷ steps))
+    (let this = one_step library (site_of stage) s step in events_of s (step ∷ steps) ≡ event_of stage step this ∷ cond (has_passed (ending_of this.mark)) (events_of this.state steps) (after_stop (ending_of this.mark) this.state steps)))
+    (keeps : (section : SectionNow) (ended : Ending) (steps : List StepValue) → left_by section (after_stop ended section.state steps) ≡ section) where
+  by_first : (start : SectionNow) (step : StepValue) (steps : List StepValue) → (let n = onward library stage start step steps in EndsAtTheLeastStop library stage n steps after_stop (events_of n.state steps)) →
+      (Stops library (site_of stage) start.state step) ⊎ GoesOn library (site_of stage) start.state step → EndsAtTheLeastStop library stage start (step ∷ steps) after_stop (events_of start.state (step ∷ steps))
   by_first start step steps later (inl st) =
-      let this = one_step library (site_of place) start.state step in
-      let event = event_of place step this in
-      let others = above (ending_of this.mark) this.state steps in
-      let split = more start.state step steps ∙ ap (λ (b : Bool). event ∷ cond b (events_of this.state steps) others) (stopped library (site_of place) start.state step st) in
-      let carries = carries_first library place start step steps others (keeps (onward library place start step steps) (ending_of this.mark) steps) in
-      subst (EndsAtTheLeastStop library place start (step ∷ steps) above) (sym split) (when_stopped library place start step steps above (event ∷ others) st (this.mark, refl, carries))
+      let this = one_step library (site_of stage) start.state step in
+      let event = event_of stage step this in
+      let others = after_stop (ending_of this.mark) this.state steps in
+      let split = more start.state step steps ∙ ap (λ (b : Bool). event ∷ cond b (events_of this.state steps) others) (stopped library (site_of stage) start.state step st) in
+      let carries = carries_first library stage start step steps others (keeps (onward library stage start step steps) (ending_of this.mark) steps) in
+      subst (EndsAtTheLeastStop library stage start (step ∷ steps) after_stop) (sym split) (when_stopped library stage start step steps after_stop (event ∷ others) st (this.mark, refl, carries))
   by_first start step steps later (inr go) =
-      let this = one_step library (site_of place) start.state step in
-      let event = event_of place step this in
-      let others = above (ending_of this.mark) this.state steps in
+      let this = one_step library (site_of stage) start.state step in
+      let event = event_of stage step this in
+      let others = after_stop (ending_of this.mark) this.state steps in
       let split = more start.state step steps ∙ ap (λ (m : Mark). event ∷ cond (has_passed (ending_of m)) (events_of this.state steps) others) go.0 in
-      subst (EndsAtTheLeastStop library place start (step ∷ steps) above) (sym split) (when_passed library place start step steps above (events_of this.state steps) go later)
+      subst (EndsAtTheLeastStop library stage start (step ∷ steps) after_stop) (sym split) (when_passed library stage start step steps after_stop (events_of this.state steps) go later)
 
-  in_words : (start : SectionNow) (steps : List StepValue) → EndsAtTheLeastStop library place start steps above (events_of start.state steps)
+  in_words : (start : SectionNow) (steps : List StepValue) → EndsAtTheLeastStop library stage start steps after_stop (events_of start.state steps)
   in_words start [] =
-      subst (EndsAtTheLeastStop library place start [] above) (sym (none start.state))
+      subst (EndsAtTheLeastStop library stage start [] after_stop) (sym (none start.state))
       (record {
-        ends = λ stop h. absurd (none_in library (site_of place) start stop h.0);
+        ends = λ stop h. absurd (none_in library (site_of stage) start stop h.0);
         passes = λ n. record { each = λ i l. absurd (omega (arith, l)); passes = λ i l. absurd (omega (arith, l)); leaves = refl; rest = refl };
-        either = inr (none_in library (site_of place) start);
+        either = inr (none_in library (site_of stage) start);
       })
   in_words start (step ∷ steps) =
-      by_first start step steps (in_words (onward library place start step steps) steps) (decided_by library (site_of place) start.state step (found library step.step_type step.text) refl)
+      by_first start step steps (in_words (onward library stage start step steps) steps) (decided_by library (site_of stage) start.state step (found library step.step_type step.text) refl)
 
 pub walks_in_words : WalksEndAtTheLeastStop
-walks_in_words library place start steps = in_words library place (λ ended s others. []) (walk library place) (λ s. refl) (λ s step steps. refl) (λ section ended steps. refl) start steps
+walks_in_words library stage start steps = in_words library stage (λ ended s others. []) (walk library stage) (λ s. refl) (λ s step steps. refl) (λ section ended steps. refl) start steps
 
 -- ---- the steps of a case
 

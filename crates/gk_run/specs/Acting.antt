@@ -4,7 +4,7 @@ use Rattle.std.specs.Ordering.{int_eq}
 use Rattle.std.specs.Fmt.{signed_decimal}
 use Rattle.std.specs.Option.{option_or}
 use Rattle.gk_gherkin.specs.Feature.{BlockValue, Empty, Text, Table, block_value}
-use Rattle.gk_gherkin.specs.Text.{stands_in}
+use Rattle.gk_gherkin.specs.Text.{contains}
 use Rattle.gk_steps.specs.Decimal.{number_of, is_i64}
 use Rattle.gk_steps.specs.declared.action.Action.{Action}
 use Rattle.gk_steps.specs.declared.action.Action.TheVariants as actions
@@ -134,11 +134,11 @@ is_absent (Some held) = outcomes.Failed reasons.Present
 abbrev pub agreement : Bool → Outcome
 agreement agrees = cond agrees outcomes.Passed (outcomes.Failed reasons.Differs)
 
--- A check that this holds of T and of the text that is held.
+-- A check that this holds of the text that is held and of T.
 abbrev pub agrees : (List ℕ → List ℕ → Bool) → Option (List ℕ) → Option (List ℕ) → Outcome
 agrees holds held None = outcomes.Failed reasons.NoText
 agrees holds None (Some text) = outcomes.Failed reasons.Absent
-agrees holds (Some held) (Some text) = agreement (holds text held)
+agrees holds (Some held) (Some text) = agreement (holds held text)
 
 -- A check that a number, if there is one, is this one.
 abbrev pub equals : Option ℤ → ℤ → Outcome
@@ -237,7 +237,7 @@ table actions.WriteFiles g s = write_table s g.block
 table actions.FileExists g s = stays s (exists (s.files g.name))
 table actions.FileAbsent g s = stays s (is_absent (s.files g.name))
 table actions.FileIs g s = stays s (agrees bytes_eq (s.files g.name) g.text)
-table actions.FileContains g s = stays s (agrees stands_in (s.files g.name) g.text)
+table actions.FileContains g s = stays s (agrees contains (s.files g.name) g.text)
 table actions.SetEnv g s = with_T s g.text (λ text. put s g.name text (with_env s g.name text))
 table actions.RemoveEnv g s = unless s (bad_name g.name ∷ absent (s.env g.name) ∷ []) (without_env s g.name)
 table actions.EnvIs g s = stays s (agrees bytes_eq (s.env g.name) g.text)

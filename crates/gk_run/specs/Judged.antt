@@ -1,5 +1,5 @@
 -- The results that a run may have, and the same as relations: what holds of each result, by its place in its list.
-use Rattle.std.specs.Prelude.{◌≡◌, Bool, true, false, cond, ◌||◌, List, [], ◌++◌, ℕ, ◌↔◌, All, map, length, take, zip, flat_map, Some, slice_get, unwrap_or}
+use Rattle.std.specs.Prelude.{◌≡◌, ⊤, Bool, true, false, cond, ◌||◌, List, [], ◌++◌, ℕ, ◌↔◌, All, map, length, take, zip, flat_map, Some, slice_get, unwrap_or}
 use Rattle.std.specs.List.{list_any}
 use Rattle.gk_world.specs.State.{Contents, State, state_of}
 use Rattle.gk_run.specs.declared.results.Status.TheVariants as statuses
@@ -49,19 +49,19 @@ Judged run contents features results = (cuts : Cuts) × (results ≡ results_of 
 abbrev pub plain_results : Run → Contents → List ChosenValue → Results
 plain_results run contents features = results_of run contents uncut features
 
--- Memory was refused in a case.
+-- Whether memory was refused in a case.
 abbrev pub is_memory_case : CaseRow → Bool
 is_memory_case row = is_memory row.status
 
--- Memory was refused in a rule's hooks and cleanups.
+-- Whether memory was refused in a rule's hooks and cleanups.
 abbrev pub is_memory_rule : RuleRow → Bool
 is_memory_rule row = is_memory row.around
 
--- Memory was refused in a feature: in its own hooks and cleanups, in those of a rule, or in a case.
+-- Whether memory was refused in a feature: in its own hooks and cleanups, in those of a rule, or in a case.
 abbrev pub is_memory_feature : FeatureRow → Bool
 is_memory_feature row = is_memory row.around || (list_any is_memory_rule row.rules || list_any is_memory_case row.cases)
 
--- Memory was refused somewhere in a run.
+-- Whether memory was refused somewhere in a run.
 abbrev pub has_memory : Results → Bool
 has_memory results = is_memory results.around || list_any is_memory_feature results.features
 
@@ -175,7 +175,7 @@ pub record JudgedDryRun (run : Run) (features : List ChosenValue) (results : Res
 pub record JudgedPartByPart (run : Run) (contents : Contents) (features : List ChosenValue) (results : Results) : Type 0 where
   pub dry : run.dry_run ≡ true → JudgedDryRun run features results
   pub real : run.dry_run ≡ false →
-      JudgedSection run levels.Run [] (state_of contents) (run.dry_run ≡ false) (λ section Ready rows. JudgedFeatures run section Ready features rows) (record { around = results.around; inside = results.features })
+      JudgedSection run levels.Run [] (state_of contents) ⊤ (λ section Ready rows. JudgedFeatures run section Ready features rows) (record { around = results.around; inside = results.features })
 
 -- Results are judged exactly if each part of them is.
 abbrev pub JudgedHoldPartByPart : Type 0

@@ -11,8 +11,8 @@ pub mod Section
 pub mod Walk
 pub mod SectionHooks
 pub mod OpenSection
-pub mod Running
 pub mod Chosen
+pub mod Running
 pub mod Features
 pub mod DryRun
 pub mod Judged

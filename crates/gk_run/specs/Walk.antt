@@ -53,7 +53,7 @@ looked_up library matched step = cond (is_some (found library step.step_type ste
 abbrev pub unrun_step : StepValue → Mark → State → Event
 unrun_step step mark s = of_step steps_of_case step mark [] s
 
--- The events of the steps of a case, from a state and from how the case stands so far. Each step is carried out while all before it passed. After a skip each is skipped; after a failure each is looked up, and skipped if the library matches it. (behave's documentation: a failed step ends its scenario)
+-- The events of the steps of a case, from a state and from how the case has ended so far. Each step is carried out while all before it passed. After a skip each is skipped; after a failure each is looked up, and skipped if the library matches it. (behave's documentation: a failed step ends its scenario)
 abbrev pub steps_from : LibraryValue → Ending → State → List StepValue → List Event
 steps_from library stood s [] = []
 steps_from library endings.Passed s (step ∷ steps) =
@@ -126,13 +126,13 @@ LaterSteps = Ending → State → List StepValue → List Event
 
 -- A list ends at a step, counted from 0. The steps up to it are carried out, the earlier ones passed, and the events of the later ones follow from how it ended.
 abbrev pub EndsAt : LibraryValue → Stage → SectionNow → List StepValue → LaterSteps → List Event → ℕ → Type 0
-EndsAt library stage start steps above events stop =
+EndsAt library stage start steps later events stop =
     let left = after library (site_of stage) start steps (suc stop) in
-    (mark : Mark) × (slice_get (event_marks events) stop ≡ Some mark) × CarriesOut library stage start steps events (suc stop) stop (above (ending_of mark) left.state (drop (suc stop) steps))
+    (mark : Mark) × (slice_get (event_marks events) stop ≡ Some mark) × CarriesOut library stage start steps events (suc stop) stop (later (ending_of mark) left.state (drop (suc stop) steps))
 
 -- A list of steps ends at the least one that isn't found or whose outcome isn't Passed. If there is none, it passes whole: all steps are carried out, and passed. (behave's documentation: a failed step ends its scenario)
-pub record EndsAtTheLeastStop (library : LibraryValue) (stage : Stage) (start : SectionNow) (steps : List StepValue) (above : LaterSteps) (events : List Event) : Type 0 where
-  pub ends : (stop : ℕ) → IsStop library (site_of stage) start steps stop → EndsAt library stage start steps above events stop
+pub record EndsAtTheLeastStop (library : LibraryValue) (stage : Stage) (start : SectionNow) (steps : List StepValue) (later : LaterSteps) (events : List Event) : Type 0 where
+  pub ends : (stop : ℕ) → IsStop library (site_of stage) start steps stop → EndsAt library stage start steps later events stop
   pub passes : HasNoStop library (site_of stage) start steps → CarriesOut library stage start steps events (length steps) (length steps) []
   pub either : ((stop : ℕ) × IsStop library (site_of stage) start steps stop) ⊎ HasNoStop library (site_of stage) start steps
 
@@ -141,13 +141,13 @@ abbrev pub WalksEndAtTheLeastStop : Type 0
 WalksEndAtTheLeastStop = (library : LibraryValue) (stage : Stage) (start : SectionNow) (steps : List StepValue) → EndsAtTheLeastStop library stage start steps (λ ended s others. []) (walk library stage start.state steps)
 
 -- The mark of a later step, which isn't carried out. After a skip, or if the library matches it, it is skipped; otherwise it is undefined. (behave's documentation: a failed step ends its scenario)
-abbrev pub mark_above : LibraryValue → Ending → StepValue → Mark
-mark_above library endings.Skipped step = Skipped
-mark_above library ended step = looked_up library Skipped step
+abbrev pub mark_of_later : LibraryValue → Ending → StepValue → Mark
+mark_of_later library endings.Skipped step = Skipped
+mark_of_later library ended step = looked_up library Skipped step
 
 -- The events of the steps of a case that aren't carried out: they change nothing.
 abbrev pub unrun_steps : LibraryValue → LaterSteps
-unrun_steps library ended s steps = map (λ step. unrun_step step (mark_above library ended step) s) steps
+unrun_steps library ended s steps = map (λ step. unrun_step step (mark_of_later library ended step) s) steps
 
 -- The steps of each case whose before list passed whole end like this.
 abbrev pub StepsEndAtTheLeastStop : Type 0

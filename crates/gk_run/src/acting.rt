@@ -1,7 +1,7 @@
 //! What a step's action does.
 ghost use Rattle.std.specs.Prelude.{◌≡◌, ◌<◌, option_copied, bytes_eq};
 ghost use Rattle.gk_gherkin.specs.Feature.{block_value};
-ghost use Rattle.gk_gherkin.specs.Text.{stands_in};
+ghost use Rattle.gk_gherkin.specs.Text.{contains};
 ghost use Rattle.gk_steps.specs.declared.action.Action.TheVariants as actions;
 ghost use Rattle.gk_steps.specs.Finding.{library_value, found_value};
 ghost use Rattle.gk_world.specs.State.{State, state_of};
@@ -16,7 +16,7 @@ use crate::cleanups::Cleanups;
 use crate::results::{Outcome, Reason};
 use file_actions::{append_file, remove_file, rename_file, write_file, write_files};
 use gk_gherkin::Block;
-use gk_gherkin::text::stands_in;
+use gk_gherkin::text::contains;
 use gk_steps::{Action, Does, Found, Library, UsedFields, number_of};
 use gk_world::{Sandbox, WorldFault};
 use std::alloc::{AllocError, Global};
@@ -105,18 +105,18 @@ fn is_text(held: Option<&str>, text: Option<&str>) -> Outcome
     match (held, text) {
         (_, None) => Outcome::Failed(Reason::NoText),
         (None, Some(_)) => Outcome::Failed(Reason::Absent),
-        (Some(held), Some(text)) => agreement(text == held),
+        (Some(held), Some(text)) => agreement(held == text),
     }
 }
 
 // Passes if `held` contains `text`.
 fn has_text(held: Option<&str>, text: Option<&str>) -> Outcome
-    ensures { result ≡ agrees stands_in (option_copied held.entry) (option_copied text.entry) }
+    ensures { result ≡ agrees contains (option_copied held.entry) (option_copied text.entry) }
 {
     match (held, text) {
         (_, None) => Outcome::Failed(Reason::NoText),
         (None, Some(_)) => Outcome::Failed(Reason::Absent),
-        (Some(held), Some(text)) => agreement(stands_in(text, held)),
+        (Some(held), Some(text)) => agreement(contains(held, text)),
     }
 }
 
@@ -277,7 +277,8 @@ pub(crate) fn act_by(
     }
 }
 
-/// Carries out the action of a step that was found in a library, with the step's block.
+/// Carries out the action of a step that was found in a library, with the step's block. A layer of the
+/// sandbox is open.
 ///
 /// The outcome is `Passed`, `Failed` with the first of the action's reasons that holds, `Skip`, or
 /// `Memory`. `Memory` comes only if a growth was refused. It never comes for an action that only

@@ -7,7 +7,7 @@ mod section_cases;
 use crate::chosen::RuleHead;
 use crate::results::{CaseResult, Reserved, RuleResult};
 use gk_select::Case;
-pub use section_cases::{both, either, is_failed_or_memory, run_cases, stays_open};
+pub use section_cases::run_cases;
 use std::collections::VecDeque;
 
 /// A case, and whether it is selected.

@@ -9,9 +9,8 @@ ghost use Rattle.gk_run.specs.Chosen.{head_value, member_of, members_of, chosen_
 ghost use Rattle.gk_run.specs.Features.{FeatureCuts};
 ghost use Rattle.gk_run.specs.DryRun.{dry_case_of, dry_cases_of, dry_rules_of, dry_feature_of, IsDryStep, AreDrySteps};
 
-use crate::cases::either;
 use crate::chosen::{Chosen, RuleHead};
-use crate::ending::is_memory_mark;
+use crate::ending::{either, is_memory_mark};
 use crate::features::feature_status;
 use crate::results::{
     CaseResult, FeatureResult, Mark, NoRoom, Reserved, RuleResult, Status, StepResult, reserve,

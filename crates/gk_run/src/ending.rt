@@ -1,6 +1,7 @@
-//! How steps, hooks and cleanups end.
-ghost use Rattle.std.specs.Prelude.{◌≡◌};
+//! How steps, hooks and cleanups end, and whether what comes next is reached.
+ghost use Rattle.std.specs.Prelude.{◌≡◌, ◌&&◌, ◌||◌};
 ghost use Rattle.gk_run.specs.Ending as spec;
+ghost use Rattle.gk_run.specs.Running as running;
 
 use crate::results::{Mark, Outcome, Reason, Status};
 
@@ -36,14 +37,14 @@ pub fn worse(a: Ending, b: Ending) -> Ending
     }
 }
 
-/// Reports whether memory was refused.
+/// Returns whether memory was refused.
 pub fn is_memory(ending: Ending) -> bool
     ensures { result ≡ spec.is_memory_ending ending }
 {
     matches!(ending, Ending::Memory)
 }
 
-/// Reports whether none failed, is undefined or skipped the scenario, and memory was refused in none.
+/// Returns whether none failed, is undefined or skipped the scenario, and memory was refused in none.
 pub fn has_passed(ending: Ending) -> bool
     ensures { result ≡ spec.has_passed ending }
 {
@@ -62,7 +63,7 @@ pub fn ending_of(mark: Mark) -> Ending
     }
 }
 
-/// Reports whether memory was refused in a step with this mark.
+/// Returns whether memory was refused in a step with this mark.
 pub fn is_memory_mark(mark: Mark) -> bool
     ensures { result ≡ spec.is_memory_mark mark }
 {
@@ -114,4 +115,32 @@ pub fn verdict_status(ending: Ending) -> Status
         Ending::Skipped => Status::Skipped,
         Ending::Memory => Status::Memory,
     }
+}
+
+/// Returns whether a status is failed or memory.
+pub fn is_failed_or_memory(status: Status) -> bool
+    ensures { result ≡ running.is_failed_or_memory status }
+{
+    matches!(status, Status::Failed | Status::Memory)
+}
+
+/// Returns whether what comes next is still reached.
+pub fn stays_open(stop: bool, status: Status) -> bool
+    ensures { result ≡ running.stays_open_by stop status }
+{
+    !(stop && is_failed_or_memory(status))
+}
+
+/// Returns whether both hold.
+pub fn both(a: bool, b: bool) -> bool
+    ensures { result ≡ (a && b) }
+{
+    a && b
+}
+
+/// Returns whether at least one of two holds.
+pub fn either(a: bool, b: bool) -> bool
+    ensures { result ≡ (a || b) }
+{
+    a || b
 }

@@ -13,9 +13,9 @@ ghost use Rattle.gk_run.specs.Features.{IsFeatureResult, rule_statuses, feature_
 ghost use Rattle.gk_run.specs.PrivateContracts.{EndsFeature, RunsFeature, RunsInside};
 ghost use Rattle.gk_run.specs.PrivateContracts.{StopsFeature, StopsFeatureEnd, StopsInside};
 
-use crate::cases::{Cases, Content, both, either, run_cases};
+use crate::cases::{Cases, Content, run_cases};
 use crate::chosen::Chosen;
-use crate::ending::has_passed;
+use crate::ending::{both, either, has_passed};
 use crate::observer::{Observer, Unwatched};
 use crate::open_section::{end_around, leave_section, open_section};
 use crate::results::{CaseResult, FeatureResult, NoRoom, RuleResult, Status, reserve};
@@ -134,7 +134,7 @@ fn verdict_by(memory: bool, failed: bool, untested: bool, passed: bool) -> Statu
     }
 }
 
-// Reports whether the hooks and cleanups of a rule ended with the wanted status.
+// Returns whether the hooks and cleanups of a rule ended with the wanted status.
 fn has_around(rules: &[RuleResult], wanted: Status) -> bool
     ensures { result ≡ list_any (λ (r : RuleResult). rows.is_status wanted r.around) rules.now }
 {
@@ -147,7 +147,7 @@ fn has_case(cases: &[CaseResult], wanted: Status) -> bool
     cases.iter().any(|case| has_status(case.status, wanted))
 }
 
-// Reports whether a feature's hooks and cleanups, those of a rule or a case have the wanted status.
+// Returns whether a feature's hooks and cleanups, those of a rule or a case have the wanted status.
 fn has_anywhere(around: Status, rules: &[RuleResult], cases: &[CaseResult], wanted: Status) -> bool
     ensures { result
         ≡ (list_any (rows.is_status wanted) (around ∷ rule_statuses (map rule_row rules.now))
@@ -222,8 +222,8 @@ pub(crate) fn feature_in<O: Observer>(
 /// If the before hooks of a feature or a rule don't pass, its selected cases are untested; with `stop`,
 /// so are those after a case or a rule that is failed or memory. A feature or a rule without a selected
 /// case isn't begun. The sandbox is as it was, whatever is returned. `NoRoom` is returned if results
-/// couldn't be reserved; the layers that were begun are ended. (behave's documentation: context layers,
-/// environment file functions, cleanups)
+/// couldn't be reserved; the layers that were begun are ended. The sandbox has at most one open layer.
+/// (behave's documentation: context layers, environment file functions, cleanups)
 pub fn run_feature(
     alloc: Global,
     sandbox: &mut Sandbox,

@@ -1,7 +1,8 @@
 //! Running cases, features and whole runs. The input is a library, hooks, a sandbox and the cases of a
 //! feature; the output is the result of each step, case and feature. Unless memory was refused in it,
-//! each case has the result that plain maps give it alone from its section's state. Afterwards the
-//! sandbox is as it was. In a dry run, steps are only looked up.
+//! each selected case that is reached has the result that plain maps give it alone from its section's
+//! state. The others are skipped or untested. Afterwards the sandbox is as it was. In a dry run, steps
+//! are only looked up.
 #![tactic(auto)]
 
 // Results.
@@ -41,11 +42,10 @@ mod laws;
 mod open_run;
 
 pub use acting::{Arguments, Site, act, arguments_of};
-pub use cases::is_failed_or_memory;
 pub use chosen::{Chosen, RuleHead};
 pub use cleanups::Cleanups;
 pub use dry_run::dry_feature;
-pub use ending::{Ending, reason_of, status_of};
+pub use ending::{Ending, is_failed_or_memory, reason_of, status_of};
 pub use features::run_feature;
 pub use laws::{
     dry_runs_are_judged, features_without_rules_have_their_cases, finished_runs_are_judged,

@@ -62,7 +62,7 @@ impl Observer for Unwatched {
 
     ghost ends = { λ old ended new. Unit {0} };
 
-    fn step(&mut self, _place: Stage, _step: &Step, _mark: Mark, _sandbox: &Sandbox) {}
+    fn step(&mut self, _stage: Stage, _step: &Step, _mark: Mark, _sandbox: &Sandbox) {}
 
     fn cleanup(
         &mut self,

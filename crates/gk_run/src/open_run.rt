@@ -9,9 +9,8 @@ ghost use Rattle.gk_run.specs.Features.{IsFeatureTold, IsFeatureToldInPart};
 ghost use Rattle.gk_run.specs.OpenRun as spec;
 ghost use Rattle.gk_run.specs.OpenRun.{IsStarted, IsStartTold, IsKept, IsNextRun, IsFinished, IsFinishTold};
 
-use crate::cases::{either, is_failed_or_memory};
 use crate::chosen::Chosen;
-use crate::ending::has_passed;
+use crate::ending::{either, has_passed, is_failed_or_memory};
 use crate::features::feature_in;
 use crate::observer::{Observer, Unwatched};
 use crate::open_section::{OpenSection, end_around, open_section};
@@ -52,15 +51,15 @@ impl Model for Suite {
 }
 
 impl Suite {
-    // Reports whether further features are begun.
+    // Returns whether further features are begun.
     fn opens_features(&self) -> bool
         ensures { result ≡ spec.opens_features self.now }
     {
         has_passed(self.section.before) && !(self.stop && self.has_failed)
     }
 
-    /// Begins a run: begins its layer, and runs the `before_all` hook. Takes only the memory that the
-    /// hook's steps take. With `stop`, once a scenario, a rule or a feature is failed or memory, later
+    /// Begins a run: begins its layer, and runs the `before_all` hook. No layer of the sandbox is open.
+    /// Takes only the memory that the hook's steps take. With `stop`, once a scenario, a rule or a feature is failed or memory, later
     /// scenarios are untested and later rules and features aren't begun; what was begun is ended as
     /// always. No feature has failed yet. (behave's documentation: context layers, environment file
     /// functions, `--stop`)
@@ -75,27 +74,28 @@ impl Suite {
         requires { suc (suc (suc (depth sandbox.old))) < layers }
         ensures { IsStarted (run_of library.now hooks.now stop) sandbox.old sandbox.new result }
     {
-        Suite::start_watched(alloc, sandbox, library, hooks, stop, &mut Unwatched)
+        let hooks = HookTable::without_index(hooks);
+        Suite::start_watched(alloc, sandbox, library, &hooks, stop, &mut Unwatched)
     }
 
-    /// Begins a run as `start` does, and tells an observer the events of the `before_all` hook.
+    /// Begins a run as `start` does, and tells an observer the events of the `before_all` hook. No layer
+    /// of the sandbox is open.
     pub fn start_watched<O: Observer>(
         alloc: Global,
         sandbox: &mut Sandbox,
         library: &Library,
-        hooks: &HookFile,
+        hooks: &HookTable<'_>,
         stop: bool,
         observer: &mut O,
     ) -> Suite
         requires { suc (suc (suc (depth sandbox.old))) < layers }
-        ensures { IsStartTold O.hears (run_of library.now hooks.now stop)
+        ensures { IsStartTold O.hears (run_of library.now hooks.now.file.now stop)
             sandbox.old sandbox.new result observer.old observer.new }
     {
-        let hooks = HookTable::without_index(hooks);
         let run = Run {
             alloc,
             library,
-            hooks: &hooks,
+            hooks,
             stop,
         };
         let section = Section {
@@ -112,8 +112,9 @@ impl Suite {
 
     /// Runs a feature of the run, as `run_feature` does, if the `before_all` hook passed whole and the
     /// run hasn't stopped; otherwise its selected cases are untested. The sandbox is as it was,
-    /// whatever is returned, and after `NoRoom` the run is as it was. (behave's documentation: context
-    /// layers)
+    /// whatever is returned, and after `NoRoom` the run is as it was. The run's layer is the innermost
+    /// open one. Each call makes a `HookTable`; `feature_watched` is passed one. (behave's
+    /// documentation: context layers)
     pub fn feature(
         &mut self,
         alloc: Global,
@@ -130,7 +131,8 @@ impl Suite {
         ensures no_room { OnErr result (self.new ≡ self.old) }
         ensures same { IsSame sandbox.old sandbox.new }
     {
-        self.feature_watched(alloc, sandbox, library, hooks, chosen, &mut Unwatched)
+        let hooks = HookTable::new(alloc, hooks);
+        self.feature_watched(alloc, sandbox, library, &hooks, chosen, &mut Unwatched)
     }
 
     /// Runs a feature of the run as `feature` does, and tells an observer what happens: the events of
@@ -140,36 +142,36 @@ impl Suite {
     /// refused in the hooks or the cleanups of a scenario, a rule or the feature, these are told up to
     /// that event. After `NoRoom` a beginning of this was told, up to the end of a scenario or a rule,
     /// or into a list of before hooks: each scenario was told whole, and no after hook or cleanup of a
-    /// rule or a feature that hasn't ended was told.
+    /// rule or a feature that hasn't ended was told. The run's layer is the innermost open one.
     pub fn feature_watched<O: Observer>(
         &mut self,
         alloc: Global,
         sandbox: &mut Sandbox,
         library: &Library,
-        hooks: &HookFile,
+        hooks: &HookTable<'_>,
         chosen: Chosen,
         observer: &mut O,
     ) -> Result<FeatureResult, NoRoom>
         requires innermost { self.old.layer ≡ depth sandbox.old }
         requires formed { IsFormed chosen }
-        ensures ran { IfOk result (λ r. IsNextRun (run_of library.now hooks.now self.old.stop)
-            (state_of sandbox.old.now) (chosen_value chosen) (feature_row r) self.old self.new) }
+        ensures ran { IfOk result (λ r. IsNextRun
+            (run_of library.now hooks.now.file.now self.old.stop) (state_of sandbox.old.now)
+            (chosen_value chosen) (feature_row r) self.old self.new) }
         ensures told { IfOk result (λ r. IsFeatureTold O.hears O.ends
-            (run_of library.now hooks.now self.old.stop) (state_of sandbox.old.now)
+            (run_of library.now hooks.now.file.now self.old.stop) (state_of sandbox.old.now)
             (spec.opens_features self.old) (chosen_value chosen) (feature_row r)
             observer.old observer.new) }
         ensures told_in_part { OnErr result (IsFeatureToldInPart O.hears O.ends
-            (run_of library.now hooks.now self.old.stop) (state_of sandbox.old.now)
+            (run_of library.now hooks.now.file.now self.old.stop) (state_of sandbox.old.now)
             (spec.opens_features self.old) (chosen_value chosen) observer.old observer.new) }
         ensures kept { IsKept self.old self.new }
         ensures no_room { OnErr result (self.new ≡ self.old) }
         ensures same { IsSame sandbox.old sandbox.new }
     {
-        let hooks = HookTable::new(alloc, hooks);
         let run = Run {
             alloc,
             library,
-            hooks: &hooks,
+            hooks,
             stop: self.stop,
         };
         let is_open = self.opens_features();
@@ -180,7 +182,8 @@ impl Suite {
 
     /// Ends the run: runs its `after_all` hook and its cleanups, and ends its layer. Returns how its
     /// hooks and cleanups ended: `Passed`, `Failed` or `Memory`. Takes only the memory that the steps
-    /// take. (behave's documentation: context layers, environment file functions, cleanups)
+    /// take. The run's layer is the innermost open one. (behave's documentation: context layers,
+    /// environment file functions, cleanups)
     #[tactic(auto, using(std::proofs::lemmas::Grind::common_steps))]
     pub fn finish(
         self,
@@ -194,21 +197,23 @@ impl Suite {
             sandbox.old result }
         ensures ends { EndsLayer sandbox.old sandbox.new }
     {
-        self.finish_watched(alloc, sandbox, library, hooks, &mut Unwatched)
+        let hooks = HookTable::without_index(hooks);
+        self.finish_watched(alloc, sandbox, library, &hooks, &mut Unwatched)
     }
 
     /// Ends the run as `finish` does, and tells an observer the events of the `after_all` hook and of
-    /// the run's cleanups. If memory is refused in one, it tells those up to that one.
+    /// the run's cleanups. If memory is refused in one, it tells those up to that one. The run's layer
+    /// is the innermost open one.
     pub fn finish_watched<O: Observer>(
         self,
         alloc: Global,
         sandbox: &mut Sandbox,
         library: &Library,
-        hooks: &HookFile,
+        hooks: &HookTable<'_>,
         observer: &mut O,
     ) -> Status
         requires innermost { self.layer ≡ depth sandbox.old }
-        ensures told { IsFinishTold O.hears (run_of library.now hooks.now self.stop) self
+        ensures told { IsFinishTold O.hears (run_of library.now hooks.now.file.now self.stop) self
             sandbox.old result observer.old observer.new }
         ensures ends { EndsLayer sandbox.old sandbox.new }
     {
@@ -217,11 +222,10 @@ impl Suite {
             stop,
             has_failed: _,
         } = self;
-        let hooks = HookTable::without_index(hooks);
         let run = Run {
             alloc,
             library,
-            hooks: &hooks,
+            hooks,
             stop,
         };
         let section = Section {

@@ -7,9 +7,9 @@ ghost use Rattle.gk_run.specs.Events.{tells};
 ghost use Rattle.gk_run.specs.PrivateContracts.{AreRulesInPart, IsRuleInPart, RunsRule, RunsRules, members_in};
 ghost use Rattle.gk_run.specs.OpenSection.{run_value};
 
-use crate::cases::{Cases, both, run_cases, stays_open};
+use crate::cases::{Cases, run_cases};
 use crate::chosen::RuleHead;
-use crate::ending::has_passed;
+use crate::ending::{both, has_passed, stays_open};
 use crate::observer::Observer;
 use crate::open_section::{end_around, leave_section, open_section};
 use crate::results::{NoRoom, Reserved, RuleResult, Status};

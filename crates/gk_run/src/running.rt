@@ -68,7 +68,8 @@ pub(crate) fn case_in<O: Observer>(
 /// result is the one that plain maps give it alone from the sandbox's contents. If memory is refused in
 /// one of these, that event is `Memory`, those before it stay, and those after it don't happen. The
 /// sandbox is as it was, whatever is returned. `NoRoom` is returned if memory is refused before the
-/// first of them. (behave's documentation: context layers, environment file functions, cleanups)
+/// first of them. The sandbox has fewer than `gk_world::LAYERS` open layers. (behave's documentation:
+/// context layers, environment file functions, cleanups)
 pub fn run_case(
     alloc: Global,
     sandbox: &mut Sandbox,
@@ -87,7 +88,8 @@ pub fn run_case(
 /// Runs a case as `run_case` does, and tells an observer its events in order, each once it has
 /// happened, and then its result. The observer is told all events of the case, or, if memory is refused
 /// in one, those up to that one. They are the events from which the result comes. Nothing is told if
-/// `NoRoom` is returned. What is told changes nothing in the run.
+/// `NoRoom` is returned. What is told changes nothing in the run. The sandbox has fewer than
+/// `gk_world::LAYERS` open layers.
 #[tactic(auto, using(std::proofs::lemmas::Grind::common_steps))]
 pub fn run_case_watched<O: Observer>(
     alloc: Global,
@@ -106,7 +108,7 @@ pub fn run_case_watched<O: Observer>(
     ensures untold { OnErr result (observer.new ≡ observer.old) }
     ensures same { IsSame sandbox.old sandbox.new }
 {
-    let hooks = HookTable::new(alloc, hooks);
+    let hooks = HookTable::without_index(hooks);
     let run = Run {
         alloc,
         library,

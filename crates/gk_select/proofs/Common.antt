@@ -44,16 +44,16 @@ pub use Rattle.gk_select.specs.Alternatives.{AlternativeValue, ReadsAlternatives
 pub use Rattle.gk_select.specs.Case.{CaseValue, case_value}
 pub use Rattle.gk_select.specs.Choice.{chosen_by, is_at_lines}
 unfoldable pub use Rattle.gk_select.specs.Choice.{is_chosen}
-pub use Rattle.gk_select.specs.Columns.{IsIndexFrom, has_length, position_in}
-unfoldable pub use Rattle.gk_select.specs.Columns.{column_of}
+pub use Rattle.gk_select.specs.Names.{IsIndexFrom, has_length, position_in}
+unfoldable pub use Rattle.gk_select.specs.Names.{position_of}
 pub use Rattle.gk_select.specs.Counting.{examples_steps, feature_steps, left, left_of, rule_steps, scenario_steps}
 pub use Rattle.gk_select.specs.ExampleRows.{ExampleRowValue, RowsAreAtCases, RowsAreInFileOrder, cell_value, example_row_value, numbered_row, row_lines, rows_of_examples, rows_of_scenario}
 unfoldable pub use Rattle.gk_select.specs.ExampleRows.{outline_rows}
 pub use Rattle.gk_select.specs.Expansion.{ArePlain, HasNoOutline, IsExpandable, RowsFit, RowsFitHeader, case_count, case_count_of, cases_of_rows, cases_of_rules, examples_cases, plain_case, plain_cases, row_case, rule_cases, scenario_cases, step_count}
 unfoldable pub use Rattle.gk_select.specs.Expansion.{cases}
 pub use Rattle.gk_select.specs.FileOrder.{CasesAreInFileOrder, IsInFileOrder, case_lines, feature_lines, rule_lines}
-pub use Rattle.gk_select.specs.Filling.{BeginsWithNone, Byte, FillsByCut, IsCut, IsPlaceholder, Placeholder, can_stand, cell_or_byte, filled_at, filled_block, filled_part, filled_step, header_at, placeholder}
-unfoldable pub use Rattle.gk_select.specs.Filling.{cell_of, cell_under, filled, filled_from, filled_piece}
+pub use Rattle.gk_select.specs.Filling.{BeginsWithNone, Byte, FillsByCut, IsCut, IsPlaceholder, Placeholder, can_stand, cell_or_byte, cell_under, filled_at, filled_block, filled_part, filled_step, header_at, placeholder}
+unfoldable pub use Rattle.gk_select.specs.Filling.{cell_of, filled, filled_from, filled_piece}
 pub use Rattle.gk_select.specs.Inherited.{InheritedValue, background_steps, inherited_in_feature, inherited_in_rule, inherited_value}
 pub use Rattle.gk_select.specs.Outline.{AllFit, has_examples, is_outline}
 pub use Rattle.gk_select.specs.OwnTags.{HasSameCasesUntagged, untagged_rule, with_own_tags}
@@ -65,12 +65,12 @@ pub use Rattle.gk_select.specs.TagLists.{tags_of}
 pub use Rattle.gk_select.specs.TagMeasures.{Measure, built_value, measure_before, measure_of}
 pub use Rattle.gk_select.specs.TagRules.{ReadsNewForm, ReadsTags, SpellsNone, tag_rule_value}
 pub use Rattle.gk_select.specs.TagStops.{StopValue, first_place, place_after, stop_at_end, stop_in, stop_in_pieces, tag_stop, unless_after, wanted_at}
-pub use Rattle.gk_select.specs.TagTrees.{Part, State, built_from, closed, empty, expression_again, first, head, one_expression, part_of, ready, run, run_whole, step, term_from, waiting}
+pub use Rattle.gk_select.specs.TagTrees.{GroupRest, State, built_from, closed, empty, expression_again, first, head, one_expression, part_of, ready, run, run_whole, step, term_from, waiting}
 pub use Rattle.gk_select.specs.TagValues.{factor_holds, holds, seen_before, seen_depth, seen_of, seen_value, term_holds}
 pub use Rattle.gk_select.specs.TagWords.{AreWords, FirstWord, WordValue, and_word, close_word, is_of_new_form, is_parenthesis, not_word, open_word, or_word, tag_word, tags_among, word_said, word_value, words_of_text, words_with_first}
 unfoldable pub use Rattle.gk_select.specs.TagWords.{first_word}
 pub use Rattle.gk_select.specs.declared.choice.Choice.{Choice}
-pub use Rattle.gk_select.specs.declared.columns.ColumnIndex.{ColumnIndex}
+pub use Rattle.gk_select.specs.declared.names.NameIndex.{NameIndex}
 pub use Rattle.gk_select.specs.declared.select_fault.SelectFault.{SelectFault}
 pub use Rattle.gk_select.specs.declared.select_fault.SelectFault.TheVariants.{BadTagText, Memory, TooMany}
 pub use Rattle.gk_select.specs.declared.tag_stops.TagPlace.{TagPlace}

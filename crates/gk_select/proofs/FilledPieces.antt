@@ -1,5 +1,5 @@
 -- A text is filled piece by piece, each piece the text before a `>`.
-use Rattle.gk_select.proofs.Common.{◌≡◌, ◌≢◌, ℕ, zero, suc, ◌+◌, ◌<◌, false, ◌&&◌, nat_eq, List, [], ◌∷◌, ◌++◌, length, get_or, Option, Some, None, refl, ap, ◌∙◌, arith, inl, inr, common_steps, cases_Bool, cases_eq, cond-true, cond-false, ne_eqb, nat_tests, bytes_eq-Decides, starts_with, bytes_eq, can_stand, header_at, cell_under, filled_at, filled_from, filled, cell_of, cell_or_byte, filled_piece}
+use Rattle.gk_select.proofs.Common.{◌≡◌, ◌≢◌, ℕ, zero, suc, ◌+◌, ◌<◌, false, ◌&&◌, nat_eq, List, [], ◌∷◌, ◌++◌, length, get_or, Option, Some, None, refl, ap, arith, inl, inr, common_steps, cases_Bool, cases_eq, cond-true, cond-false, ne_eqb, nat_tests, bytes_eq-Decides, starts_with, bytes_eq, can_stand, header_at, cell_under, filled_at, filled_from, filled, cell_of, cell_or_byte, filled_piece}
 
 -- A text without a byte.
 pub record Without (c : ℕ) (bs : List ℕ) : Type 0 where
@@ -26,23 +26,16 @@ no_end (x ∷ h) [] w = refl
 no_end (x ∷ h) (b ∷ bs) w = let ih = no_end h bs (Without-rest w) in grind (arith, nat_tests, ih)
 
 -- The header whose placeholder begins a `<`, a piece and its `>`, is the piece, where it has a cell.
-abbrev Finds : List (List ℕ) → List (List ℕ) → List ℕ → Option (List ℕ) → Option (List ℕ) → Type 0
-Finds headers cells bs (Some h) (Some cell) = (h ≡ bs) × (cell_under headers cells bs ≡ cell)
-Finds headers cells bs None None = Unit {0}
-Finds headers cells bs _ _ = ⊥
+abbrev Finds : List ℕ → Option (List ℕ) → Option (List ℕ) → Type 0
+Finds bs (Some h) (Some cell) = h ≡ bs
+Finds bs None None = Unit {0}
+Finds bs _ _ = ⊥
 
-Finds-same : (headers cells headers' cells' : List (List ℕ)) (bs : List ℕ) (h c : Option (List ℕ)) → cell_under headers' cells' bs ≡ cell_under headers cells bs → Finds headers cells bs h c → Finds headers' cells' bs h c
-Finds-same headers cells headers' cells' bs (Some h) (Some c) e (is, cell) = (is, e ∙ cell)
-Finds-same headers cells headers' cells' bs None None e f = tt
-Finds-same headers cells headers' cells' bs (Some h) None e f = f
-Finds-same headers cells headers' cells' bs None (Some c) e f = f
-
-finds : (headers cells : List (List ℕ)) (bs after : List ℕ) → length cells ≡ length headers → Without 62 bs
-    → Finds headers cells bs (header_at headers (60 ∷ (bs ++ 62 ∷ after))) (cell_of headers cells bs)
-unfolding cell_of cell_under
+finds : (headers cells : List (List ℕ)) (bs after : List ℕ) → length cells ≡ length headers → Without 62 bs → Finds bs (header_at headers (60 ∷ (bs ++ 62 ∷ after))) (cell_of headers cells bs)
+unfolding cell_of
 finds [] cells bs after e w = tt
 finds (h ∷ headers) [] bs after e w = absurd (omega arith)
-finds (h ∷ headers) (cell ∷ cells) bs after e w = grind (arith, common_steps, finds headers cells bs after (omega arith) w, ends_piece, cases_Bool, bytes_eq-Decides, cond-true, Finds-same, cond-false)
+finds (h ∷ headers) (cell ∷ cells) bs after e w = grind (arith, common_steps, finds headers cells bs after (omega arith) w, ends_piece, cases_Bool, bytes_eq-Decides, cond-true, cond-false)
 
 -- A byte other than `<` begins no placeholder.
 no_placeholder : (headers : List (List ℕ)) (b : ℕ) (bs : List ℕ) → b ≢ 60 → header_at headers (b ∷ bs) ≡ None
@@ -61,13 +54,13 @@ skips headers cells (suc n) [] after e = let none : n ≡ 0 = omega arith in rw 
 skips headers cells (suc n) (b ∷ bs) after e = skips headers cells n bs after (omega arith)
 
 -- What a `<` before a piece gives.
-begins : (headers cells : List (List ℕ)) (bs after : List ℕ) (h c : Option (List ℕ)) → Finds headers cells bs h c
+begins : (headers cells : List (List ℕ)) (bs after : List ℕ) (h c : Option (List ℕ)) → Finds bs h c → cell_of headers cells bs ≡ c
     → filled_from headers cells 0 (bs ++ 62 ∷ after) ≡ filled_piece headers cells bs ++ filled_from headers cells 0 after
     → filled_at (cell_under headers cells) h (λ skip. filled_from headers cells skip (bs ++ 62 ∷ after)) 60 ≡ cell_or_byte c 60 (filled_piece headers cells bs) ++ filled_from headers cells 0 after
-begins headers cells bs after (Some h) (Some c) (e, cell) ih = rw (e, cell, skips headers cells (length bs + 1) bs after refl) refl
-begins headers cells bs after None None f ih = ap (λ (bs : List ℕ). 60 ∷ bs) ih
-begins headers cells bs after (Some h) None f ih = absurd f
-begins headers cells bs after None (Some c) f ih = absurd f
+begins headers cells bs after (Some h) (Some c) e cell ih = rw (e, cell, skips headers cells (length bs + 1) bs after refl) refl
+begins headers cells bs after None None f cell ih = ap (λ (bs : List ℕ). 60 ∷ bs) ih
+begins headers cells bs after (Some h) None f cell ih = absurd f
+begins headers cells bs after None (Some c) f cell ih = absurd f
 
 -- A piece and its `>` are filled as the code does it.
 pub fills_piece : (headers cells : List (List ℕ)) (bs after : List ℕ) → length cells ≡ length headers → Without 62 bs
@@ -77,7 +70,7 @@ fills_piece headers cells [] after e w = rw (no_placeholder headers 62 after (om
 fills_piece headers cells (b ∷ bs) after e w =
     let ih = fills_piece headers cells bs after e (Without-rest w) in
     elim (cases_eq b 60) [
-      | inl is ↦ rw is (begins headers cells bs after (header_at headers (60 ∷ (bs ++ 62 ∷ after))) (cell_of headers cells bs) (finds headers cells bs after e (Without-rest w)) ih)
+      | inl is ↦ rw is (begins headers cells bs after (header_at headers (60 ∷ (bs ++ 62 ∷ after))) (cell_of headers cells bs) (finds headers cells bs after e (Without-rest w)) refl ih)
       | inr differs ↦ rw (no_placeholder headers b (bs ++ 62 ∷ after) differs, ne_eqb b 60 differs) (ap (λ (bs : List ℕ). b ∷ bs) ih)
     ]
 

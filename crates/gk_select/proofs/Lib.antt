@@ -2,7 +2,7 @@ pub mod Common
 pub mod FilledPieces
 pub mod OneCut
 pub mod FillingLoops
-pub mod IndexedColumns
+pub mod IndexedNames
 pub mod Rooms
 pub mod Unfilled
 pub mod AlternativeWords

@@ -1,7 +1,7 @@
 -- Each text has one cut, and its parts filled are the filled text.
 use Rattle.gk_select.proofs.Common.{◌≡◌, ℕ, zero, suc, ◌+◌, ◌<◌, Bool, true, false, ◌&&◌, cond, nat_eq, List, [], ◌∷◌, ◌++◌, length, drop, get_or, flat_map, Option, Some, None, refl, sym, ap, subst, ◌⊎◌, ◌∙◌, arith, inl, inr, and_parts, and_from, both_ways, nat_tests, Decides-eqb, starts_is, length-append, starts_with, placeholder, can_stand, header_at, cell_under, filled_at, filled_from, filled, Placeholder, Byte, IsPlaceholder, BeginsWithNone, IsCut, filled_part, FillsByCut, common_steps}
 use Rattle.std.proofs.lemmas.List.{append_assoc}
-use Rattle.gk_select.specs.Filling.{Part}
+use Rattle.gk_select.specs.Filling.{TextPart}
 
 -- What a look-up of a header means for a text.
 abbrev Means : List (List ℕ) → List ℕ → Option (List ℕ) → Type 0
@@ -43,7 +43,7 @@ means (x ∷ headers) text (Some h) e = elim (was_found (stands text x) x (heade
 
 -- A cut of what is left of a text, and what its parts are filled with.
 record Cuts (headers cells : List (List ℕ)) (skip : ℕ) (text : List ℕ) : Type 0 where
-  parts : List Part
+  parts : List TextPart
   cut : IsCut headers (drop skip text) parts
   says : filled_from headers cells skip text ≡ flat_map (filled_part headers cells) parts
 
@@ -52,7 +52,7 @@ rest_is h b bs e = let one : length h + 1 + 1 ≡ suc (length h + 1) = omega ari
 
 at_byte : (headers cells : List (List ℕ)) (b : ℕ) (bs : List ℕ) (h : Option (List ℕ)) → Means headers (b ∷ bs) h
     → ((skip : ℕ) → Cuts headers cells skip bs)
-    → (parts : List Part) × IsCut headers (b ∷ bs) parts × (filled_at (cell_under headers cells) h (λ skip. filled_from headers cells skip bs) b ≡ flat_map (filled_part headers cells) parts)
+    → (parts : List TextPart) × IsCut headers (b ∷ bs) parts × (filled_at (cell_under headers cells) h (λ skip. filled_from headers cells skip bs) b ≡ flat_map (filled_part headers cells) parts)
 at_byte headers cells b bs None m rest = let r = rest 0 in (Byte b ∷ r.parts, (m, (bs, refl, r.cut)), ap (λ (bs : List ℕ). b ∷ bs) r.says)
 at_byte headers cells b bs (Some h) m rest = let r = rest (length h + 1) in (Placeholder h ∷ r.parts, (m.0, (drop (length h + 1) bs, rest_is h b bs m.1, r.cut)), ap (λ (bs : List ℕ). cell_under headers cells h ++ bs) r.says)
 
@@ -76,7 +76,7 @@ first_end (b ∷ h) (b' ∷ h') rest rest' s s' e =
     let r = first_end h h' rest rest' (and_parts _ _ s).1 (and_parts _ _ s').1 after in
     (rw (first, r.0) refl, r.1)
 
-only : (headers : List (List ℕ)) (text : List ℕ) (parts others : List Part) → IsCut headers text parts → IsCut headers text others → others ≡ parts
+only : (headers : List (List ℕ)) (text : List ℕ) (parts others : List TextPart) → IsCut headers text parts → IsCut headers text others → others ≡ parts
 only headers text [] [] c d = refl
 only headers text [] (Placeholder h ∷ others) c d = let no : ⊥ = cc (d.1.1) in absurd no
 only headers text [] (Byte b ∷ others) c d = let no : ⊥ = cc (d.1.1) in absurd no
@@ -86,7 +86,7 @@ only headers text (Placeholder h ∷ parts) (Placeholder h' ∷ others) c d =
     let inner : h' ++ 62 ∷ d.1.0 ≡ h ++ 62 ∷ c.1.0 = sym (append_assoc h' (62 ∷ []) d.1.0) ∙ cc both ∙ append_assoc h (62 ∷ []) c.1.0 in
     let r = first_end h' h d.1.0 c.1.0 d.0.1 c.0.1 inner in
     let rest : IsCut headers c.1.0 others = subst (λ (rest : List ℕ). IsCut headers rest others) r.1 d.1.2 in
-    rw r.0 (ap (λ (ps : List Part). Placeholder h ∷ ps) (only headers c.1.0 parts others c.1.2 rest))
+    rw r.0 (ap (λ (ps : List TextPart). Placeholder h ∷ ps) (only headers c.1.0 parts others c.1.2 rest))
 only headers text (Placeholder h ∷ parts) (Byte b ∷ others) c d = absurd (d.0 h c.1.0 c.0 c.1.1)
 only headers text (Byte b ∷ parts) [] c d = let no : ⊥ = cc (c.1.1) in absurd no
 only headers text (Byte b ∷ parts) (Placeholder h ∷ others) c d = absurd (c.0 h d.1.0 d.0 d.1.1)
@@ -95,7 +95,7 @@ only headers text (Byte b ∷ parts) (Byte b' ∷ others) c d =
     let first : b' ≡ b = cc in
     let after : d.1.0 ≡ c.1.0 = cc in
     let rest : IsCut headers c.1.0 others = subst (λ (rest : List ℕ). IsCut headers rest others) after d.1.2 in
-    rw first (ap (λ (ps : List Part). Byte b ∷ ps) (only headers c.1.0 parts others c.1.2 rest))
+    rw first (ap (λ (ps : List TextPart). Byte b ∷ ps) (only headers c.1.0 parts others c.1.2 rest))
 
 pub fills_by_cut : (headers cells : List (List ℕ)) (text : List ℕ) → FillsByCut headers cells text
 unfolding filled

@@ -1,5 +1,5 @@
 -- What the words taken so far have built is as deep as it is measured.
-use Rattle.gk_select.proofs.Common.{◌≡◌, ◌⊎◌, ◌≤◌, ◌<◌, ◌+◌, ◌-◌, ◌==◌, ℕ, zero, suc, max, min, false, List, [], ◌∷◌, ◌++◌, length, take, get_or, Option, Some, None, option_and_then, refl, ap, sym, subst, ◌∙◌, arith, map, drop, inl, inr, Err, common_steps, map-append, take-append-drop, get_or-append_seam, nat_tests, WordValue, word_value, open_word, close_word, not_word, and_word, or_word, tag_word, Expression, Term, Factor, spelling, depth, term_depth, factor_depth, depth_limit, Part, State, waiting, ready, closed, step, run, run_whole, expression_again, first, head, part_of, Measure, measure_before, measure_of, built_value, Word, SelectFault, TooMany, BadTagText, Memory, AnswersOrLacksMemory}
+use Rattle.gk_select.proofs.Common.{◌≡◌, ◌⊎◌, ◌≤◌, ◌<◌, ◌+◌, ◌-◌, ◌==◌, ℕ, zero, suc, max, min, false, List, [], ◌∷◌, ◌++◌, length, take, get_or, Option, Some, None, option_and_then, refl, ap, sym, subst, ◌∙◌, arith, map, drop, inl, inr, Err, common_steps, map-append, take-append-drop, get_or-append_seam, nat_tests, WordValue, word_value, open_word, close_word, not_word, and_word, or_word, tag_word, Expression, Term, Factor, spelling, depth, term_depth, factor_depth, depth_limit, GroupRest, State, waiting, ready, closed, step, run, run_whole, expression_again, first, head, part_of, Measure, measure_before, measure_of, built_value, Word, SelectFault, TooMany, BadTagText, Memory, AnswersOrLacksMemory}
 use Rattle.std.proofs.Common.{length-append}
 use Rattle.gk_select.proofs.TagMachine.{spelt_by}
 
@@ -14,10 +14,10 @@ abbrev later_depth : Option Expression → ℕ
 later_depth None = 0
 later_depth (Some e) = depth e
 
-abbrev pub part_depth : Part → ℕ
+abbrev pub part_depth : GroupRest → ℕ
 part_depth p = max (joined_depth p.joined) (later_depth p.later)
 
-abbrev outer_depths : List Part → List ℕ
+abbrev outer_depths : List GroupRest → List ℕ
 outer_depths [] = []
 outer_depths (p ∷ ps) = outer_depths ps ++ capped (part_depth p) ∷ []
 
@@ -28,7 +28,7 @@ measured (ready f p ps) = record { factor = Some (capped (factor_depth f)); behi
 abbrev made : Option ℕ → ℕ → List ℕ → Option Measure
 made f b o = Some (record { factor = f; behind = b; outer = o })
 
-closed_deep : (f : Factor) (p : Part) → depth (closed f p) ≡ max (factor_depth f) (part_depth p)
+closed_deep : (f : Factor) (p : GroupRest) → depth (closed f p) ≡ max (factor_depth f) (part_depth p)
 closed_deep f p = grind (arith, common_steps)
 
 seam : (xs : List ℕ) (x : ℕ) → length (xs ++ x ∷ []) - 1 ≡ length xs

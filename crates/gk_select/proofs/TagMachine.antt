@@ -1,5 +1,5 @@
 -- What words of an expression have built has those words.
-use Rattle.gk_select.proofs.Common.{◌≡◌, List, [], ◌∷◌, ◌++◌, map, Option, Some, None, option_and_then, refl, ap, sym, ◌∙◌, append_assoc, append-nil, arith, common_steps, TagRule, tag_rule_value, WordValue, word_value, open_word, close_word, not_word, and_word, or_word, tag_word, Expression, Term, Factor, tagged, negated, spelling, term_spelling, factor_spelling, SpeltBy, Part, State, waiting, ready, empty, closed, step, run, built_from}
+use Rattle.gk_select.proofs.Common.{◌≡◌, List, [], ◌∷◌, ◌++◌, map, Option, Some, None, option_and_then, refl, ap, sym, ◌∙◌, append_assoc, append-nil, arith, common_steps, TagRule, tag_rule_value, WordValue, word_value, open_word, close_word, not_word, and_word, or_word, tag_word, Expression, Term, Factor, tagged, negated, spelling, term_spelling, factor_spelling, SpeltBy, GroupRest, State, waiting, ready, empty, closed, step, run, built_from}
 
 -- What is built has the words taken so far.
 abbrev pub joined_words : Option Term → List WordValue
@@ -10,10 +10,10 @@ abbrev pub later_words : Option Expression → List WordValue
 later_words None = []
 later_words (Some e) = or_word ∷ spelling e
 
-abbrev pub part_words : Part → List WordValue
+abbrev pub part_words : GroupRest → List WordValue
 part_words p = joined_words p.joined ++ later_words p.later
 
-abbrev pub outer_words : List Part → List WordValue
+abbrev pub outer_words : List GroupRest → List WordValue
 outer_words [] = []
 outer_words (p ∷ ps) = close_word ∷ (part_words p ++ outer_words ps)
 
@@ -21,7 +21,7 @@ abbrev pub state_words : State → List WordValue
 state_words (waiting p ps) = part_words p ++ outer_words ps
 state_words (ready f p ps) = factor_spelling f ++ (part_words p ++ outer_words ps)
 
-closed_words : (f : Factor) (p : Part) → spelling (closed f p) ≡ factor_spelling f ++ part_words p
+closed_words : (f : Factor) (p : GroupRest) → spelling (closed f p) ≡ factor_spelling f ++ part_words p
 closed_words f p = grind (arith, common_steps, append_assoc)
 
 step_words : (w : WordValue) (s s' : State) → step w s ≡ Some s' → state_words s' ≡ w ∷ state_words s
@@ -51,7 +51,7 @@ pub run_words : (ws : List WordValue) (s : State) → run ws ≡ Some s → stat
 run_words [] s e = let is : waiting empty [] ≡ s = cc e in ap state_words (sym is)
 run_words (w ∷ ws) s e = some_words w ws (run ws) s (run_words ws) e
 
-pub spelt_by : (ws : List WordValue) (f : Factor) (p : Part) → run ws ≡ Some (ready f p []) → spelling (closed f p) ≡ ws
+pub spelt_by : (ws : List WordValue) (f : Factor) (p : GroupRest) → run ws ≡ Some (ready f p []) → spelling (closed f p) ≡ ws
 spelt_by ws f p e = closed_words f p ∙ ap (λ (x : List WordValue). factor_spelling f ++ x) (sym (append-nil (part_words p))) ∙ run_words ws (ready f p []) e
 
 -- What is spelt is the one expression that the words spell.

@@ -1,9 +1,5 @@
 -- What the words taken so far show of an expression's value.
-use Rattle.gk_select.proofs.Common.{◌≡◌, ◌≤◌, ◌+◌, ◌-◌, ◌==◌, ℕ, zero, suc, Bool, true, false, not, ◌&&◌, ◌||◌, if◌then◌else◌, List, [], ◌∷◌, length, map, Option, Some, None, option_and_then, refl, ap, sym, subst, ◌∙◌, arith, list_any, WordValue, open_word, close_word, not_word, and_word, or_word, tag_word, Expression, Term, Factor, tagged, negated, grouped, spelling, seen_before, seen_of, seen_value, seen_depth, holds, term_holds, factor_holds, Part, State, waiting, ready, empty, term_from, closed, step, run, run_whole, expression_again, first, head, part_of, Seen, Value, Failed, Held, common_steps}
-
-pub list_any-map : {X Y : Type 0} (test : Y → Bool) (f : X → Y) (xs : List X) → list_any (λ (x : X). test (f x)) xs ≡ list_any test (map f xs)
-list_any-map test f [] = refl
-list_any-map test f (x ∷ xs) = ap (λ (b : Bool). test (f x) || b) (list_any-map test f xs)
+use Rattle.gk_select.proofs.Common.{◌≡◌, ◌≤◌, ◌+◌, ◌-◌, ◌==◌, ℕ, zero, suc, Bool, true, false, not, ◌&&◌, ◌||◌, if◌then◌else◌, List, [], ◌∷◌, length, Option, Some, None, option_and_then, refl, ap, sym, subst, ◌∙◌, arith, WordValue, open_word, close_word, not_word, and_word, or_word, tag_word, Expression, Term, Factor, tagged, negated, grouped, spelling, seen_before, seen_of, seen_value, seen_depth, holds, term_holds, factor_holds, GroupRest, State, waiting, ready, empty, term_from, closed, step, run, run_whole, expression_again, first, head, part_of, Seen, Value, Failed, Held, common_steps}
 
 abbrev joined_holds : List (List ℕ) → Option Term → Bool
 joined_holds tags None = true
@@ -25,23 +21,23 @@ term_value : (tags : List (List ℕ)) (f : Factor) (j : Option Term) → term_ho
 term_value tags f None = and_true (factor_holds f tags)
 term_value tags f (Some t) = refl
 
-closed_value : (tags : List (List ℕ)) (f : Factor) (p : Part) → holds (closed f p) tags ≡ (factor_holds f tags && joined_holds tags p.joined) || later_holds tags p.later
+closed_value : (tags : List (List ℕ)) (f : Factor) (p : GroupRest) → holds (closed f p) tags ≡ (factor_holds f tags && joined_holds tags p.joined) || later_holds tags p.later
 closed_value tags f p = grind (arith, common_steps, term_value)
 
 -- A part that leaves the value to what comes before it; one that fails its term; one that holds.
-abbrev IsNeutral : List (List ℕ) → Part → Type 0
+abbrev IsNeutral : List (List ℕ) → GroupRest → Type 0
 IsNeutral tags p = (joined_holds tags p.joined ≡ true) × (later_holds tags p.later ≡ false)
 
-abbrev AreNeutral : List (List ℕ) → List Part → Type 0
+abbrev AreNeutral : List (List ℕ) → List GroupRest → Type 0
 AreNeutral tags [] = Unit {0}
 AreNeutral tags (p ∷ ps) = IsNeutral tags p × AreNeutral tags ps
 
-abbrev FailedAt : List (List ℕ) → ℕ → List Part → Type 0
+abbrev FailedAt : List (List ℕ) → ℕ → List GroupRest → Type 0
 FailedAt tags d [] = ⊥
 FailedAt tags zero (p ∷ ps) = ((joined_holds tags p.joined ≡ false) × (later_holds tags p.later ≡ false)) × AreNeutral tags ps
 FailedAt tags (suc d) (p ∷ ps) = FailedAt tags d ps
 
-abbrev HeldAt : List (List ℕ) → ℕ → List Part → Type 0
+abbrev HeldAt : List (List ℕ) → ℕ → List GroupRest → Type 0
 HeldAt tags d [] = ⊥
 HeldAt tags zero (p ∷ ps) = (later_holds tags p.later ≡ true) × AreNeutral tags ps
 HeldAt tags (suc d) (p ∷ ps) = HeldAt tags d ps
@@ -74,7 +70,7 @@ over : (tags : List (List ℕ)) (s : State) (d : ℕ) (x y : Seen) → Shows tag
 over tags s d x y h = grind (arith, common_steps)
 
 -- One more word, where the state goes on.
-goes_open : (tags : List (List ℕ)) (f : Factor) (p q : Part) (ps : List Part) (seen : Seen) → Shows tags (ready f p (q ∷ ps)) seen → Shows tags (ready (grouped (closed f p)) q ps) (seen_before tags open_word seen)
+goes_open : (tags : List (List ℕ)) (f : Factor) (p q : GroupRest) (ps : List GroupRest) (seen : Seen) → Shows tags (ready f p (q ∷ ps)) seen → Shows tags (ready (grouped (closed f p)) q ps) (seen_before tags open_word seen)
 goes_open tags f p q ps (Value v) h = (closed_value tags f p ∙ closes _ _ _ h.1.0.0 h.1.0.1 ∙ h.0, h.1.1)
 goes_open tags f p q ps (Failed zero) h = (closed_value tags f p ∙ fails _ _ _ h.0.0 h.0.1, h.1)
 goes_open tags f p q ps (Failed (suc d)) h = over tags (ready (grouped (closed f p)) q ps) d (Value false) (Failed (suc d - 1)) (subst (λ (k : ℕ). FailedAt tags k (q ∷ ps)) (sym (less d)) h)
@@ -84,17 +80,17 @@ goes_open tags f p q ps (Held (suc d)) h = over tags (ready (grouped (closed f p
 more : (d : ℕ) → d + 1 ≡ suc d
 more d = omega arith
 
-goes_close : (tags : List (List ℕ)) (p : Part) (ps : List Part) (seen : Seen) → Shows tags (waiting p ps) seen → Shows tags (waiting empty (p ∷ ps)) (seen_before tags close_word seen)
+goes_close : (tags : List (List ℕ)) (p : GroupRest) (ps : List GroupRest) (seen : Seen) → Shows tags (waiting p ps) seen → Shows tags (waiting empty (p ∷ ps)) (seen_before tags close_word seen)
 goes_close tags p ps (Value v) h = ((refl, refl), h)
 goes_close tags p ps (Failed d) h = subst (λ (k : ℕ). FailedAt tags k (empty ∷ p ∷ ps)) (sym (more d)) h
 goes_close tags p ps (Held d) h = subst (λ (k : ℕ). HeldAt tags k (empty ∷ p ∷ ps)) (sym (more d)) h
 
-goes_not : (tags : List (List ℕ)) (f : Factor) (p : Part) (ps : List Part) (seen : Seen) → Shows tags (ready f p ps) seen → Shows tags (ready (negated f) p ps) (seen_before tags not_word seen)
+goes_not : (tags : List (List ℕ)) (f : Factor) (p : GroupRest) (ps : List GroupRest) (seen : Seen) → Shows tags (ready f p ps) seen → Shows tags (ready (negated f) p ps) (seen_before tags not_word seen)
 goes_not tags f p ps (Value v) h = (ap not h.0, h.1)
 goes_not tags f p ps (Failed d) h = h
 goes_not tags f p ps (Held d) h = h
 
-goes_and : (tags : List (List ℕ)) (f : Factor) (p : Part) (ps : List Part) (seen : Seen) → Shows tags (ready f p ps) seen
+goes_and : (tags : List (List ℕ)) (f : Factor) (p : GroupRest) (ps : List GroupRest) (seen : Seen) → Shows tags (ready f p ps) seen
     → Shows tags (waiting (record { joined = Some (term_from f p.joined); later = p.later }) ps) (seen_before tags and_word seen)
 goes_and tags f p ps (Value true) h = ((term_value tags f p.joined ∙ rw (h.0, h.1.0.0) refl, h.1.0.1), h.1.1)
 goes_and tags f p ps (Value false) h = ((term_value tags f p.joined ∙ rw h.0 refl, h.1.0.1), h.1.1)
@@ -103,7 +99,7 @@ goes_and tags f p ps (Failed (suc d)) h = h
 goes_and tags f p ps (Held zero) h = h
 goes_and tags f p ps (Held (suc d)) h = h
 
-goes_or : (tags : List (List ℕ)) (f : Factor) (p : Part) (ps : List Part) (seen : Seen) → Shows tags (ready f p ps) seen
+goes_or : (tags : List (List ℕ)) (f : Factor) (p : GroupRest) (ps : List GroupRest) (seen : Seen) → Shows tags (ready f p ps) seen
     → Shows tags (waiting (record { joined = None; later = Some (closed f p) }) ps) (seen_before tags or_word seen)
 goes_or tags f p ps (Value true) h = (closed_value tags f p ∙ closes _ _ _ h.1.0.0 h.1.0.1 ∙ h.0, h.1.1)
 goes_or tags f p ps (Value false) h = ((refl, closed_value tags f p ∙ closes _ _ _ h.1.0.0 h.1.0.1 ∙ h.0), h.1.1)
@@ -112,7 +108,7 @@ goes_or tags f p ps (Failed (suc d)) h = over tags (waiting (record { joined = N
 goes_or tags f p ps (Held zero) h = (closed_value tags f p ∙ also_holds _ _ h.0, h.1)
 goes_or tags f p ps (Held (suc d)) h = h
 
-goes_tag : (tags : List (List ℕ)) (t : List ℕ) (p : Part) (ps : List Part) (seen : Seen) → Shows tags (waiting p ps) seen → Shows tags (ready (tagged t) p ps) (seen_before tags (tag_word t) seen)
+goes_tag : (tags : List (List ℕ)) (t : List ℕ) (p : GroupRest) (ps : List GroupRest) (seen : Seen) → Shows tags (waiting p ps) seen → Shows tags (ready (tagged t) p ps) (seen_before tags (tag_word t) seen)
 goes_tag tags t p ps (Value v) h = (refl, h)
 goes_tag tags t p ps (Failed d) h = h
 goes_tag tags t p ps (Held d) h = h
@@ -142,7 +138,7 @@ shows : (tags : List (List ℕ)) (ws : List WordValue) (s : State) → run ws �
 shows tags [] s e = let is : waiting empty [] ≡ s = cc e in subst (λ (s : State). Shows tags s (Value false)) is ((refl, refl), tt)
 shows tags (w ∷ ws) s e = some_goes tags w (run ws) s (seen_of tags ws) (shows tags ws) e
 
-whole : (tags : List (List ℕ)) (f : Factor) (p : Part) (seen : Seen) → Shows tags (ready f p []) seen → seen_value seen ≡ holds (closed f p) tags
+whole : (tags : List (List ℕ)) (f : Factor) (p : GroupRest) (seen : Seen) → Shows tags (ready f p []) seen → seen_value seen ≡ holds (closed f p) tags
 whole tags f p (Value v) h = sym (closed_value tags f p ∙ closes _ _ _ h.1.0.0 h.1.0.1 ∙ h.0)
 whole tags f p (Failed zero) h = sym (closed_value tags f p ∙ fails _ _ _ h.0.0 h.0.1)
 whole tags f p (Failed (suc d)) h = absurd h

@@ -1,4 +1,4 @@
--- A text that spells a rule stops nowhere, and the words of any other are followed to where it stops.
+-- A text that spells a tag rule stops nowhere, and the words of any other are followed to where it stops.
 use Rattle.gk_select.proofs.Common.{◌≡◌, ◌+◌, ◌-◌, ◌==◌, ◌<◌, ℕ, suc, Bool, true, false, not, if◌then◌else◌, List, [], ◌∷◌, ◌++◌, map, length, take, drop, get_or, Option, Some, None, option_and_then, option_map, refl, ap, sym, ◌∙◌, arith, append_assoc, append-nil, drop-cons, inl, inr, common_steps, is_some, find, take-append-drop, AlternativeValue, alternative, pieces, Expression, one_term, or_terms, Term, one_factor, and_factors, Factor, tagged, negated, grouped, spelling, term_spelling, factor_spelling, ReadsTags, StopValue, first_place, place_after, wanted_at, stop_at_end, unless_after, stop_in, stop_in_pieces, tag_stop, WordValue, close_word, and_word, or_word, words_of_text, word_said, first_word, TagPlace, Alternative}
 
 -- One word more: it may stand there, or the text stops at it.
@@ -100,7 +100,7 @@ passes_piece so_far more piece passes is v of one = grind (arith, common_steps, 
 pub passes_all : (text : List ℕ) (so_far : List (List ℕ)) → so_far ≡ pieces text → Passes so_far → None ≡ stop_in_pieces (pieces text)
 passes_all text so_far is passes = sym (ap stop_in_pieces (sym is ∙ sym (append-nil so_far)) ∙ passes [])
 
--- A text that spells a rule stops nowhere.
+-- A text that spells a tag rule stops nowhere.
 pub no_stop : (text : List ℕ) (rule : Expression) → ReadsTags text rule → tag_stop text ≡ None
 no_stop text rule (inl old) =
     ap (λ (v : Bool). if v then stop_in first_place (words_of_text text) else stop_in_pieces (pieces text)) old.reads.old_form

@@ -1,4 +1,4 @@
--- The old form of a rule of tags: alternatives separated by commas.
+-- The old form of a tag rule: alternatives separated by commas.
 use Rattle.std.specs.Prelude.{codes, not, ◌≡◌, ℕ, Bool, true, false, ◌==◌, ◌||◌, List, [], ◌∷◌, ◌++◌, length, map, drop, slice_index_or, Option, Some, None, IsSome, option_map, if◌then◌else◌}
 use Rattle.std.specs.List.{list_any, slice_split}
 use Rattle.std.specs.String.{string_bytes}

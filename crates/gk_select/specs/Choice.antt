@@ -7,7 +7,7 @@ use Rattle.gk_select.specs.TagGrammar.{Expression}
 use Rattle.gk_select.specs.TagValues.{holds}
 use Rattle.gk_select.specs.TagRules.{tag_rule_value}
 
--- Whether every rule holds for these tags. (behave's documentation: tag expressions)
+-- Whether every tag rule holds for these tags. (behave's documentation: tag expressions)
 abbrev pub all_hold : List Expression → List (List ℕ) → Bool
 all_hold rules tags = list_all (λ rule. holds rule tags) rules
 
@@ -15,7 +15,7 @@ all_hold rules tags = list_all (λ rule. holds rule tags) rules
 abbrev pub is_at_lines : List ℕ → ℕ → Bool
 is_at_lines lines line = (length lines == 0) || list_any (λ other. other == line) lines
 
--- Whether a case is chosen: every rule holds for its tags, and its line is among the lines or there are none. (behave's documentation: tag expressions; lines are this project's profile)
+-- Whether a case is chosen: every tag rule holds for its tags, and its line is among the lines or there are none. (behave's documentation: tag expressions; lines are this project's profile)
 unfoldable pub is_chosen : List Expression → List ℕ → CaseValue → Bool
 is_chosen rules lines case = all_hold rules case.tags && is_at_lines lines case.line
 

@@ -1,14 +1,14 @@
--- The number of steps of the cases, counted without the cases.
+-- Proof machinery: the number of steps of the cases, counted without the cases. No public contract cites it.
 use Rattle.std.specs.Prelude.{ℕ, ◌+◌, ◌*◌, ◌-◌, nat_lt, length, sum_by, Option, Some, None, if◌then◌else◌}
 use Rattle.gk_gherkin.specs.Feature.{ExamplesValue, ScenarioValue, RuleValue, FeatureValue}
 use Rattle.gk_select.specs.Inherited.{background_steps}
 use Rattle.gk_select.specs.Outline.{is_outline}
 
--- Proof machinery: the room left after n, or `None` if n is more than the room.
+-- The room left after n, or `None` if n is more than the room.
 abbrev pub left : ℕ → ℕ → Option ℕ
 left room n = if nat_lt room n then None else Some (room - n)
 
--- Proof machinery: the same, for room that may already be used up.
+-- The same, for room that may already be used up.
 abbrev pub left_of : Option ℕ → ℕ → Option ℕ
 left_of None n = None
 left_of (Some room) n = left room n

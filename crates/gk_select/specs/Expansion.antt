@@ -6,10 +6,9 @@ use Rattle.gk_gherkin.specs.declared.feature.Examples.{Examples}
 use Rattle.gk_gherkin.specs.declared.feature.Scenario.{Scenario}
 use Rattle.gk_gherkin.specs.declared.feature.Rule.{Rule}
 use Rattle.gk_gherkin.specs.declared.feature.Feature.{Feature}
-use Rattle.gk_gherkin.specs.Feature.{RowValue, ExamplesValue, ScenarioValue, RuleValue, FeatureValue, row_value, examples_value, scenario_value, rule_value, feature_value}
+use Rattle.gk_gherkin.specs.Feature.{texts, RowValue, ExamplesValue, ScenarioValue, RuleValue, FeatureValue, row_value, examples_value, scenario_value, rule_value, feature_value}
 use Rattle.gk_select.specs.declared.inherited.Inherited.{Inherited}
 use Rattle.gk_select.specs.Case.{CaseValue}
-use Rattle.gk_select.specs.Copies.{filled_by}
 use Rattle.gk_select.specs.Filling.{filled, filled_step}
 use Rattle.gk_select.specs.Inherited.{InheritedValue, inherited_value, inherited_in_feature, inherited_in_rule}
 use Rattle.gk_select.specs.Outline.{is_outline, outline_name, FitsHeader, AllFit}
@@ -44,7 +43,7 @@ rows_cases inherited s e examples n rows = map (λ (r : ℕ × RowValue). row_ca
 
 -- The cases of Examples: one for each row, counted from 1. (Cucumber's Gherkin reference: examples)
 abbrev pub examples_cases : InheritedValue → ScenarioValue → ℕ × ExamplesValue → List CaseValue
-examples_cases inherited s e = map (λ (r : ℕ × RowValue). row_case inherited s e.0 e.1 r.0 r.1) (enumerate_from 1 e.1.rows)
+examples_cases inherited s e = rows_cases inherited s e.0 e.1 1 e.1.rows
 
 -- The cases of a scenario: those of an outline's Examples, counted from 1; of any other scenario one. (Cucumber's Gherkin reference: scenario outline; an outline without rows has none by this project's profile)
 abbrev pub scenario_cases : InheritedValue → ScenarioValue → List CaseValue
@@ -69,6 +68,10 @@ step_limit = 1000000
 -- The cases have more steps than the limit.
 abbrev pub HasTooManySteps : FeatureValue → Type 0
 HasTooManySteps f = step_limit < step_count f
+
+-- A feature with a scenario or a rule. Expanding any other feature asks for no memory.
+abbrev pub HasPart : FeatureValue → Type 0
+HasPart f = 0 < length f.scenarios + length f.rules
 
 -- Each row of Examples in these scenarios has as many cells as its header.
 abbrev pub RowsFit : List ScenarioValue → Type 0
@@ -98,9 +101,11 @@ case_count_of s = if is_outline s then sum_by (λ (e : ExamplesValue). length e.
 abbrev pub case_count : FeatureValue → ℕ
 case_count f = sum_by case_count_of f.scenarios + sum_by (λ (r : RuleValue). sum_by case_count_of r.scenarios) f.rules
 
--- The same for the values of the code, from here on: the name of a row's case.
+-- Proof machinery, from here on: the same for the values of the code.
+
+-- The name of a row's case.
 abbrev pub name_of_row : Scenario → ℕ → Examples → ℕ → Row → List ℕ
-name_of_row s e examples n row = outline_name (filled_by examples.header.items row.cells.items (scenario_value s).name) e n (examples_value examples).name
+name_of_row s e examples n row = outline_name (filled (texts examples.header.items) (texts row.cells.items) (scenario_value s).name) e n (examples_value examples).name
 
 -- The case of a row.
 abbrev pub case_of_row : Inherited → Scenario → ℕ → Examples → ℕ → Row → CaseValue

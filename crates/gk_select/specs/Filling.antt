@@ -1,5 +1,5 @@
 -- Texts and steps, filled from a row of Examples.
-use Rattle.std.specs.Prelude.{codes, not, ◌≡◌, ℕ, zero, suc, ◌+◌, Bool, true, ◌==◌, ◌&&◌, nat_eq, List, [], ◌∷◌, ◌++◌, length, map, find, flat_map, Contains, Option, Some, None, if◌then◌else◌}
+use Rattle.std.specs.Prelude.{codes, not, ◌≡◌, ℕ, zero, suc, ◌+◌, Bool, true, ◌==◌, ◌&&◌, nat_eq, List, [], ◌∷◌, ◌++◌, length, map, find, flat_map, Contains, Option, Some, None, unwrap_or, if◌then◌else◌}
 use Rattle.std.specs.List.{list_all, starts_with}
 use Rattle.std.specs.Str.{bytes_eq}
 use Rattle.gk_gherkin.specs.Feature.{BlockValue, Empty, Text, Table, StepValue}
@@ -16,10 +16,14 @@ can_stand header = list_all (λ b. not (b == 62)) header
 abbrev pub header_at : List (List ℕ) → List ℕ → Option (List ℕ)
 header_at headers text = find (λ header. can_stand header && starts_with nat_eq text (placeholder header)) headers
 
+-- The cell of a row under the first header that equals a name, if any.
+unfoldable pub cell_of : List (List ℕ) → List (List ℕ) → List ℕ → Option (List ℕ)
+cell_of (h ∷ headers) (cell ∷ cells) name = if bytes_eq h name then Some cell else cell_of headers cells name
+cell_of _ _ name = None
+
 -- The cell of a row under a header. Of equal headers the first counts.
-unfoldable pub cell_under : List (List ℕ) → List (List ℕ) → List ℕ → List ℕ
-cell_under (h ∷ headers) (cell ∷ cells) header = if bytes_eq h header then cell else cell_under headers cells header
-cell_under _ _ header = []
+abbrev pub cell_under : List (List ℕ) → List (List ℕ) → List ℕ → List ℕ
+cell_under headers cells header = unwrap_or (cell_of headers cells header) []
 
 -- A filled text: the cell of the placeholder that begins it, or its first byte, and then the rest of it, filled.
 abbrev pub filled_at : (List ℕ → List ℕ) → Option (List ℕ) → (ℕ → List ℕ) → ℕ → List ℕ
@@ -38,9 +42,9 @@ unfoldable pub filled : List (List ℕ) → List (List ℕ) → List ℕ → Lis
 filled headers cells text = filled_from headers cells 0 text
 
 -- A part of a text: a placeholder, or one byte at which no placeholder begins.
-pub data Part : Type 0 where
-  Placeholder : List ℕ → Part
-  Byte : ℕ → Part
+pub data TextPart : Type 0 where
+  Placeholder : List ℕ → TextPart
+  Byte : ℕ → TextPart
 
 -- A header of the row whose placeholder is looked up in texts.
 abbrev pub IsPlaceholder : List (List ℕ) → List ℕ → Type 0
@@ -51,21 +55,21 @@ abbrev pub BeginsWithNone : List (List ℕ) → List ℕ → Type 0
 BeginsWithNone headers text = (header rest : List ℕ) → IsPlaceholder headers header → text ≡ placeholder header ++ rest → ⊥
 
 -- The cut of a text for a header row: parts that concatenate to it.
-abbrev pub IsCut : List (List ℕ) → List ℕ → List Part → Type 0
+abbrev pub IsCut : List (List ℕ) → List ℕ → List TextPart → Type 0
 IsCut headers text [] = text ≡ []
 IsCut headers text (Placeholder header ∷ parts) = IsPlaceholder headers header × ((rest : List ℕ) × (text ≡ placeholder header ++ rest) × IsCut headers rest parts)
 IsCut headers text (Byte b ∷ parts) = BeginsWithNone headers text × ((rest : List ℕ) × (text ≡ b ∷ rest) × IsCut headers rest parts)
 
 -- The filled part: a placeholder is replaced by the row's cell.
-abbrev pub filled_part : List (List ℕ) → List (List ℕ) → Part → List ℕ
+abbrev pub filled_part : List (List ℕ) → List (List ℕ) → TextPart → List ℕ
 filled_part headers cells (Placeholder header) = cell_under headers cells header
 filled_part headers cells (Byte b) = b ∷ []
 
 -- A text has exactly one cut, and the filled text is made of the filled parts.
 pub record FillsByCut (headers cells : List (List ℕ)) (text : List ℕ) : Type 0 where
-  pub parts : List Part
+  pub parts : List TextPart
   pub cut : IsCut headers text parts
-  pub only : (others : List Part) → IsCut headers text others → others ≡ parts
+  pub only : (others : List TextPart) → IsCut headers text others → others ≡ parts
   pub says : filled headers cells text ≡ flat_map (filled_part headers cells) parts
 
 -- A block filled from a row: its text, or the cells of its table. (Cucumber's Gherkin reference: scenario outline)
@@ -79,11 +83,6 @@ abbrev pub filled_step : (List ℕ → List ℕ) → StepValue → StepValue
 filled_step fill s = record { keyword = s.keyword; step_type = s.step_type; text = fill s.text; block = filled_block fill s.block; line = s.line }
 
 -- Proof machinery, from here on: what one call of the code fills.
-
--- The cell under the first header that equals a name, if any.
-unfoldable pub cell_of : List (List ℕ) → List (List ℕ) → List ℕ → Option (List ℕ)
-cell_of (h ∷ headers) (cell ∷ cells) name = if bytes_eq h name then Some cell else cell_of headers cells name
-cell_of _ _ name = None
 
 -- A cell if one was found; otherwise a byte and what follows it.
 abbrev pub cell_or_byte : Option (List ℕ) → ℕ → List ℕ → List ℕ

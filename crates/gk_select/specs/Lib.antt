@@ -1,7 +1,7 @@
--- The cases of a feature and the choice among them, in reading order. Definitions that only the proofs use come last in their files.
+-- The cases of a feature and the choice among them, in reading order. Definitions that only proofs and private functions need are marked as proof machinery.
 pub mod Case
 pub mod Filling
-pub mod Columns
+pub mod Names
 pub mod Copies
 pub mod Inherited
 pub mod Outline
@@ -11,7 +11,6 @@ pub mod FileOrder
 pub mod ExampleRows
 pub mod Counting
 pub mod OwnTags
-pub mod TagLists
 pub mod TagWords
 pub mod TagGrammar
 pub mod TagValues
@@ -22,5 +21,6 @@ pub mod Choice
 pub mod SelectFault
 -- Proof machinery: what the words of an expression build, read from the last to the first, and how deep it is; and a choice so far.
 pub mod TagTrees
+pub mod TagLists
 pub mod TagMeasures
 pub mod Selecting

@@ -1,4 +1,4 @@
--- Rules of tags, and the texts that spell them. A rule is an expression.
+-- Tag rules, and the texts that spell them. The value of a tag rule is an expression.
 use Rattle.std.specs.Prelude.{◌≡◌, ◌⊎◌, ◌≤◌, ℕ, true, List, [], ◌∷◌, slice_index_or, IsSome}
 use Rattle.std.specs.List.{list_any}
 use Rattle.gk_select.specs.TagWords.{is_of_new_form, words_of_text, word_said, AreWords}
@@ -10,24 +10,24 @@ use Rattle.gk_select.specs.declared.tag_values.TagRule.{TagRule}
 abbrev pub tag_rule_value : TagRule → Expression
 tag_rule_value r = r.spelt.0
 
--- A text of the old form: the rule is the `or` of its alternatives. (behave's documentation: tag expressions)
+-- A text of the old form: the tag rule is the `or` of its alternatives. (behave's documentation: tag expressions)
 pub record ReadsOldForm (text : List ℕ) (rule : Expression) : Type 0 where
   pub first : AlternativeValue
   pub others : List AlternativeValue
   pub reads : ReadsAlternatives text (first ∷ others)
   pub is : rule ≡ or_of first others
 
--- A text of the new form: it has a space, a tab or a parenthesis, its words spell the rule, and at most 100 `not` and `(` are nested. (Cucumber's tag expressions)
+-- A text of the new form: it has a space, a tab or a parenthesis, its words spell the tag rule, and at most 100 `not` and `(` are nested. (Cucumber's tag expressions)
 pub record ReadsNewForm (text : List ℕ) (rule : Expression) : Type 0 where
   pub new_form : list_any is_of_new_form text ≡ true
   pub says : AreWords text (spelling rule)
   pub shallow : depth rule ≤ depth_limit
 
--- The text of a rule, in either form. (behave's documentation: tag expressions; Cucumber's tag expressions)
+-- The text of a tag rule, in either form. (behave's documentation: tag expressions; Cucumber's tag expressions)
 abbrev pub ReadsTags : List ℕ → Expression → Type 0
 ReadsTags text rule = ReadsOldForm text rule ⊎ ReadsNewForm text rule
 
--- A text that spells no rule. (behave's documentation: tag expressions; Cucumber's tag expressions)
+-- A text that spells no tag rule. (behave's documentation: tag expressions; Cucumber's tag expressions)
 abbrev pub SpellsNone : List ℕ → Type 0
 SpellsNone text = (rule : Expression) → ReadsTags text rule → ⊥
 

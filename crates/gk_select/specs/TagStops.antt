@@ -1,4 +1,4 @@
--- The place at which a text stops spelling a rule of tags.
+-- The place at which a text stops spelling a tag rule.
 use Rattle.std.specs.Prelude.{ℕ, ◌+◌, ◌-◌, ◌==◌, true, false, List, [], ◌∷◌, Option, Some, None, option_map, is_some, find, not, if◌then◌else◌}
 use Rattle.std.specs.List.{list_any}
 use Rattle.gk_select.specs.Alternatives.{alternative, pieces}
@@ -8,7 +8,7 @@ use Rattle.gk_select.specs.declared.tag_stops.TagStop.{TagStop}
 use Rattle.gk_select.specs.declared.tag_stops.Wanted.{Wanted}
 use Rattle.gk_select.specs.declared.tag_stops.Wanted.TheVariants.{Operand, Operator, Close, Alternative}
 
--- A place at which a text stops: the word or the alternative that can't stand there, or the end, and what has to.
+-- A place at which a text stops: the word or the alternative that isn't allowed there, or the end, and what is.
 pub record StopValue : Type 0 where
   pub at : Option (List ℕ)
   pub wanted : Wanted
@@ -35,7 +35,7 @@ after_operator groups (Some or_word) = Some (record { operand = true; groups = g
 after_operator groups (Some close_word) = if groups == 0 then None else Some (record { operand = false; groups = groups - 1 })
 after_operator groups word = None
 
--- The place after a word, if the word may stand at this place.
+-- The place after a word, if the word is allowed at this place.
 abbrev pub place_after : TagPlace → Option WordValue → Option TagPlace
 place_after place word = if place.operand then after_operand place.groups word else after_operator place.groups word
 
@@ -54,15 +54,15 @@ abbrev pub unless_after : StopValue → Option TagPlace → (TagPlace → Option
 unless_after stop None go_on = Some stop
 unless_after stop (Some place) go_on = go_on place
 
--- The stop in words that begin at this place: the first word that may not stand where it stands, or the end.
+-- The stop in words that begin at this place: the first word that isn't allowed where it is, or the end.
 abbrev pub stop_in : TagPlace → List (List ℕ) → Option StopValue
 stop_in place [] = stop_at_end place
 stop_in place (word ∷ words) = unless_after (record { at = Some word; wanted = wanted_at place }) (place_after place (word_said word)) (λ next. stop_in next words)
 
--- The stop in a text of alternatives: the first piece that is none.
+-- The stop in a text of alternatives: the first malformed one.
 abbrev pub stop_in_pieces : List (List ℕ) → Option StopValue
 stop_in_pieces texts = option_map (λ piece. record { at = Some piece; wanted = Alternative }) (find (λ piece. not (is_some (alternative piece))) texts)
 
--- The place at which a text stops spelling a rule, in either form; `None` also for one that is too deep. (behave's documentation: tag expressions; Cucumber's tag expressions)
+-- The place at which a text stops spelling a tag rule, in either form; `None` also for one that is too deep. (behave's documentation: tag expressions; Cucumber's tag expressions)
 abbrev pub tag_stop : List ℕ → Option StopValue
 tag_stop text = if list_any is_of_new_form text then stop_in first_place (words_of_text text) else stop_in_pieces (pieces text)

@@ -8,17 +8,17 @@ use Rattle.gk_select.specs.TagWords.{WordValue, word_value_set, open_word, close
 use Rattle.gk_select.specs.TagGrammar.{Expression, one_term, or_terms, Term, one_factor, and_factors, Factor, tagged, negated, grouped, spelling, term_spelling, factor_spelling, SpeltBy}
 
 -- The rest of a group after a factor: what is joined to the factor by `and`, and what comes after the next `or`.
-pub record Part : Type 0 where
+pub record GroupRest : Type 0 where
   pub joined : Option Term
   pub later : Option Expression
 
 -- What is built: the part of the innermost group, with the factor before it if one is read, and the parts of the enclosing groups.
 pub data State : Type 0 where
-  waiting : Part → List Part → State
-  ready : Factor → Part → List Part → State
+  waiting : GroupRest → List GroupRest → State
+  ready : Factor → GroupRest → List GroupRest → State
 
 -- The part of a group in which nothing is read yet.
-abbrev pub empty : Part
+abbrev pub empty : GroupRest
 empty = record { joined = None; later = None }
 
 -- The term of a factor and what is joined to it.
@@ -32,7 +32,7 @@ expression_from t None = one_term t
 expression_from t (Some e) = or_terms t e
 
 -- The expression of a factor and the part after it.
-abbrev pub closed : Factor → Part → Expression
+abbrev pub closed : Factor → GroupRest → Expression
 closed f p = expression_from (term_from f p.joined) p.later
 
 -- What is built once a word is read before those that built a state; `None` if it can't come there.
@@ -81,7 +81,7 @@ term_again (one_factor f) = refl
 term_again (and_factors f t) = refl
 
 -- An expression without its first factor.
-abbrev pub part_of : Expression → Part
+abbrev pub part_of : Expression → GroupRest
 part_of e = record { joined = others (head e); later = tail e }
 
 -- The first factor and the rest make the expression again.
@@ -90,7 +90,7 @@ expression_again (one_term t) = ap one_term (term_again t)
 expression_again (or_terms t e) = ap (λ (t : Term). or_terms t e) (term_again t)
 
 mutual
-  run_factor : (f : Factor) (ws : List WordValue) (p : Part) (ps : List Part) → run ws ≡ Some (waiting p ps) → run (factor_spelling f ++ ws) ≡ Some (ready f p ps)
+  run_factor : (f : Factor) (ws : List WordValue) (p : GroupRest) (ps : List GroupRest) → run ws ≡ Some (waiting p ps) → run (factor_spelling f ++ ws) ≡ Some (ready f p ps)
   run_factor (tagged t) ws p ps h = ap (option_and_then (step (tag_word t))) h
   run_factor (negated f) ws p ps h = ap (option_and_then (step not_word)) (run_factor f ws p ps h)
   run_factor (grouped e) ws p ps h =
@@ -99,7 +99,7 @@ mutual
       ∙ ap (option_and_then (step open_word)) inner
       ∙ ap (λ (e : Expression). Some (ready (grouped e) p ps)) (expression_again e)
 
-  run_term : (t : Term) (ws : List WordValue) (l : Option Expression) (ps : List Part) → run ws ≡ Some (waiting (record { joined = None; later = l }) ps)
+  run_term : (t : Term) (ws : List WordValue) (l : Option Expression) (ps : List GroupRest) → run ws ≡ Some (waiting (record { joined = None; later = l }) ps)
       → run (term_spelling t ++ ws) ≡ Some (ready (first t) (record { joined = others t; later = l }) ps)
   run_term (one_factor f) ws l ps h = run_factor f ws (record { joined = None; later = l }) ps h
   run_term (and_factors f t) ws l ps h =
@@ -107,7 +107,7 @@ mutual
       ap (option_and_then (step and_word)) (run_term t ws l ps h) ∙ ap (λ (t : Term). Some (waiting (record { joined = Some t; later = l }) ps)) (term_again t) in
       ap run (append_assoc (factor_spelling f) (and_word ∷ term_spelling t) ws) ∙ run_factor f (and_word ∷ (term_spelling t ++ ws)) (record { joined = Some t; later = l }) ps after
 
-  run_expression : (e : Expression) (ws : List WordValue) (ps : List Part) → run ws ≡ Some (waiting empty ps) → run (spelling e ++ ws) ≡ Some (ready (first (head e)) (part_of e) ps)
+  run_expression : (e : Expression) (ws : List WordValue) (ps : List GroupRest) → run ws ≡ Some (waiting empty ps) → run (spelling e ++ ws) ≡ Some (ready (first (head e)) (part_of e) ps)
   run_expression (one_term t) ws ps h = run_term t ws None ps h
   run_expression (or_terms t e) ws ps h =
       let after : run (or_word ∷ (spelling e ++ ws)) ≡ Some (waiting (record { joined = None; later = Some e }) ps) =

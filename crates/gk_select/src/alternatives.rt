@@ -1,4 +1,4 @@
-//! The old form of a rule of tags: alternatives separated by commas.
+//! The old form of a tag rule: alternatives separated by commas.
 ghost use Rattle.std.specs.Prelude.{◌≡◌, ◌⊎◌, ℕ, List, [], ◌∷◌, Err, false, IsSome, is_some, IfOk, IfErr, map, slice_index_or};
 ghost use Rattle.std.specs.List.{list_any};
 ghost use Rattle.std.specs.String.{string_bytes};
@@ -21,23 +21,6 @@ pub struct Alternative {
     tag: String,
 }
 
-fn tag_named(alloc: Global, text: &str) -> Result<String, SelectFault>
-    ensures { AnswersOrLacksMemory string_bytes result (spec.tag_named text.now) }
-{
-    if begins(text, "@") {
-        if text.len() < 2 {
-            return Err(SelectFault::BadTagText);
-        }
-        return Ok(String::from_str(alloc, text)?);
-    }
-    if text.is_empty() || begins(text, "~") || begins(text, "-") {
-        return Err(SelectFault::BadTagText);
-    }
-    let mut tag = String::from_str(alloc, "@")?;
-    tag.push_str(text)?;
-    Ok(tag)
-}
-
 // Returns whether a text names a tag.
 fn names_tag(text: &str) -> bool
     ensures { result ≡ is_some (spec.tag_named text.now) }
@@ -47,6 +30,20 @@ fn names_tag(text: &str) -> bool
     } else {
         !(text.is_empty() || begins(text, "~") || begins(text, "-"))
     }
+}
+
+fn tag_named(alloc: Global, text: &str) -> Result<String, SelectFault>
+    ensures { AnswersOrLacksMemory string_bytes result (spec.tag_named text.now) }
+{
+    if !names_tag(text) {
+        return Err(SelectFault::BadTagText);
+    }
+    if begins(text, "@") {
+        return Ok(String::from_str(alloc, text)?);
+    }
+    let mut tag = String::from_str(alloc, "@")?;
+    tag.push_str(text)?;
+    Ok(tag)
 }
 
 /// Returns whether a text is an alternative.

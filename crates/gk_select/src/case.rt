@@ -11,7 +11,7 @@ pub struct Case {
     pub keyword: Keyword,
     /// The line of the scenario's heading, or of the row, counted from 1.
     pub line: u32,
-    /// The index of the case's Rule among the Rules of the file, counted from 0; `None` for a case in no Rule.
+    /// The index of the case's rule among the feature's rules, counted from 0; `None` if it is in no rule.
     pub rule: Option<u32>,
     /// The tags of the feature, the rule, the scenario and the Examples, in that order, each with its `@`.
     pub tags: Vec<String>,

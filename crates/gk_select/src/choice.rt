@@ -1,15 +1,18 @@
 //! The choice of cases by tags and lines.
 ghost use Rattle.std.specs.Prelude.{◌≡◌, ◌&&◌, map};
 ghost use Rattle.std.specs.List.Sorted.{IsNonDecreasing};
+ghost use Rattle.gk_gherkin.specs.Feature.{texts};
 ghost use Rattle.gk_select.specs.Case.{case_value};
 ghost use Rattle.gk_select.specs.TagLists.{tags_of};
 ghost use Rattle.gk_select.specs.TagRules.{tag_rule_value};
 
 use crate::case::Case;
+use crate::names::Names;
 use crate::tag_lists::TagLists;
 use crate::tag_values::TagRule;
+use std::alloc::Global;
 
-/// A condition by which cases are chosen: every rule holds for the case's tags, and its line is among the
+/// A condition by which cases are chosen: every tag rule holds for the case's tags, and its line is among the
 /// lines, if there are any. (behave's documentation: tag expressions)
 #[derive(Debug, Drop)]
 pub struct Choice {
@@ -21,7 +24,7 @@ pub struct Choice {
 impl Choice {
     ghost use Rattle.gk_select.specs.Choice.{all_hold, chosen_by, is_at_lines, is_chosen};
 
-    /// Returns the choice by these rules and lines, which may be in any order. Doesn't allocate.
+    /// Returns the choice by these tag rules and lines, which may be in any order. Doesn't allocate.
     pub fn new(rules: Vec<TagRule>, lines: Vec<u32>) -> Choice
         ensures { chosen_by result ≡ is_chosen (map tag_rule_value rules.items) lines.items }
     {
@@ -35,17 +38,36 @@ impl Choice {
     pub fn chooses(&self, case: &Case) -> bool
         ensures { result ≡ chosen_by self.now (case_value case.now) }
     {
-        self.takes(self.rules_hold(&TagLists::of(&case.tags)), case.line)
+        let all = Names::scanned(&case.tags);
+        let none = Names::scanned(&[]);
+        let tags = TagLists {
+            feature: &all,
+            rule: &none,
+            scenario: &none,
+            examples: &none,
+        };
+        self.takes(self.rules_hold(&tags), case.line)
     }
 
-    /// Returns whether every rule holds for the tags of a case.
-    pub(crate) fn rules_hold(&self, tags: &TagLists<'_>) -> bool
+    /// Returns tags for lookup, without an index if there are no rules.
+    pub(crate) fn lookup<'a>(&self, alloc: Global, tags: &'a [String]) -> Names<'a>
+        ensures { result ≡ texts tags.now }
+    {
+        if self.rules.is_empty() {
+            Names::scanned(tags)
+        } else {
+            Names::new(alloc, tags)
+        }
+    }
+
+    /// Returns whether every tag rule holds for the tags of a case.
+    pub(crate) fn rules_hold(&self, tags: &TagLists<'_, '_>) -> bool
         ensures { result ≡ all_hold (map tag_rule_value self.now.rules.items) (tags_of tags.now) }
     {
         self.rules.iter().all(|rule| rule.holds_for(tags))
     }
 
-    /// Returns whether a case at a line is chosen, if the rules hold for its tags or don't.
+    /// Returns whether a case at this line is chosen. `hold`: whether the tag rules hold for its tags.
     pub(crate) fn takes(&self, hold: bool, line: u32) -> bool
         ensures { result ≡ hold && is_at_lines self.now.lines.items line }
     {

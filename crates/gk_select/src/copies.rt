@@ -2,11 +2,11 @@
 ghost use Rattle.std.specs.Prelude.{◌≡◌, length, map, IfOk};
 ghost use Rattle.std.specs.String.{string_bytes};
 ghost use Rattle.gk_gherkin.specs.Feature.{texts, block_value, step_value};
-ghost use Rattle.gk_select.specs.Copies.{Appends, filled_by};
+ghost use Rattle.gk_select.specs.Copies.{Appends};
 ghost use Rattle.gk_select.specs.Filling.{filled, filled_block, filled_step};
 
-use crate::columns::Columns;
 use crate::filling::fill;
+use crate::names::Names;
 use gk_gherkin::{Block, Step};
 use std::alloc::{AllocError, Global};
 
@@ -32,7 +32,7 @@ pub fn copied_texts(alloc: Global, from: &[String]) -> Result<Vec<String>, Alloc
 fn fill_texts(
     alloc: Global,
     from: &[String],
-    columns: &Columns<'_>,
+    columns: &Names<'_>,
     row: &[String],
 ) -> Result<Vec<String>, AllocError>
     requires { length row.now ≡ length columns.now }
@@ -49,7 +49,7 @@ fn fill_texts(
 fn fill_table(
     alloc: Global,
     from: &[Vec<String>],
-    columns: &Columns<'_>,
+    columns: &Names<'_>,
     row: &[String],
 ) -> Result<Vec<Vec<String>>, AllocError>
     requires { length row.now ≡ length columns.now }
@@ -66,7 +66,7 @@ fn fill_table(
 fn fill_block(
     alloc: Global,
     block: &Block,
-    columns: &Columns<'_>,
+    columns: &Names<'_>,
     row: &[String],
 ) -> Result<Block, AllocError>
     requires { length row.now ≡ length columns.now }
@@ -80,11 +80,13 @@ fn fill_block(
     }
 }
 
-// Returns a step as it is run for a row under these columns.
-fn fill_step_under(
+/// Returns a step of an outline as it is run for a row: its text, its doc string and its table's cells are
+/// filled from the row. The row must have as many cells as there are columns. An error comes only if a growth was
+/// refused. (Cucumber's Gherkin reference: scenario outline)
+pub fn fill_step(
     alloc: Global,
     step: &Step,
-    columns: &Columns<'_>,
+    columns: &Names<'_>,
     row: &[String],
 ) -> Result<Step, AllocError>
     requires { length row.now ≡ length columns.now }
@@ -102,29 +104,12 @@ fn fill_step_under(
     })
 }
 
-/// Returns a step of an outline as it is run for a row: its text, its doc string and its table's cells are
-/// filled from the row. The row must have as many cells as the header. An error comes only if a growth was
-/// refused. (Cucumber's Gherkin reference: scenario outline)
-pub fn fill_step(
-    alloc: Global,
-    step: &Step,
-    header: &[String],
-    row: &[String],
-) -> Result<Step, AllocError>
-    requires { length row.now ≡ length header.now }
-    ensures { IfOk result (λ s.
-        step_value s ≡ filled_step (filled_by header.now row.now) (step_value step.now)) }
-{
-    let columns = Columns::scanned(header);
-    fill_step_under(alloc, step, &columns, row)
-}
-
 /// Appends steps, filled from a row.
 pub fn push_filled_steps(
     alloc: Global,
     into: &mut Vec<Step>,
     from: &[Step],
-    columns: &Columns<'_>,
+    columns: &Names<'_>,
     row: &[String],
 ) -> Result<(), AllocError>
     requires { length row.now ≡ length columns.now }
@@ -132,7 +117,7 @@ pub fn push_filled_steps(
         (map (filled_step (filled columns.now (texts row.now))) (map step_value from.now)) }
 {
     for step in from {
-        into.push(fill_step_under(alloc, step, columns, row)?)?;
+        into.push(fill_step(alloc, step, columns, row)?)?;
     }
     Ok(())
 }
@@ -142,6 +127,6 @@ pub fn push_filled_steps(
 pub fn push_steps(alloc: Global, into: &mut Vec<Step>, from: &[Step]) -> Result<(), AllocError>
     ensures { Appends step_value result into.old.items into.new.items (map step_value from.now) }
 {
-    let columns = Columns::scanned(&[]);
+    let columns = Names::scanned(&[]);
     push_filled_steps(alloc, into, from, &columns, &[])
 }

@@ -7,7 +7,7 @@ ghost use Rattle.gk_select.specs.Case.{case_value};
 ghost use Rattle.gk_select.specs.Copies.{Appends};
 ghost use Rattle.gk_select.specs.Filling.{filled, filled_step};
 ghost use Rattle.gk_select.specs.Expansion as spec;
-ghost use Rattle.gk_select.specs.Expansion.{cases, step_count, step_limit, HasTooManySteps, IsExpandable, RowsFit};
+ghost use Rattle.gk_select.specs.Expansion.{cases, step_count, step_limit, HasPart, HasTooManySteps, IsExpandable, RowsFit};
 ghost use Rattle.gk_select.specs.Expansion.{name_of_row, case_of_row, cases_of_rows, RowsFitHeader};
 ghost use Rattle.gk_select.specs.Expansion.{cases_of_parts, cases_of_scenarios, cases_of_rules};
 ghost use Rattle.gk_select.specs.Inherited.{inherited_value};
@@ -15,7 +15,6 @@ ghost use Rattle.gk_select.specs.Outline.{FitsHeader, AllFit};
 ghost use Rattle.gk_select.specs.declared.select_fault.SelectFault.TheVariants.{TooMany, Memory};
 
 use crate::case::Case;
-use crate::columns::Columns;
 use crate::copies::{copied_texts, push_filled_steps, push_steps, push_texts};
 use crate::counting::has_room;
 use crate::filling::push_filled;
@@ -23,6 +22,7 @@ use crate::inherited::{
     Inherited, after_inherited_steps, after_inherited_tags, inherited_in_feature,
     inherited_in_rule, push_inherited_steps,
 };
+use crate::names::Names;
 use crate::outline::{case_name, is_outline};
 use crate::select_fault::SelectFault;
 use gk_gherkin::{Examples, Feature, Row, Rule, Scenario, Step};
@@ -58,10 +58,10 @@ fn plain_case(
 
 // Examples of an outline, with their number, counted from 1, and the columns of their header.
 #[derive(Drop)]
-struct Part<'a> {
+struct NumberedExamples<'a> {
     number: usize,
     examples: &'a Examples,
-    columns: Columns<'a>,
+    columns: Names<'a>,
 }
 
 // The room for the numbers in the name of a row's case. With greater numbers the name grows.
@@ -72,7 +72,7 @@ const NUMBERS_ROOM: usize = 16;
 fn row_name(
     alloc: Global,
     scenario: &Scenario,
-    part: &Part<'_>,
+    part: &NumberedExamples<'_>,
     row_number: usize,
     row: &Row,
 ) -> Result<String, AllocError>
@@ -107,7 +107,7 @@ fn row_steps(
     alloc: Global,
     inherited: &Inherited<'_>,
     scenario: &Scenario,
-    columns: &Columns<'_>,
+    columns: &Names<'_>,
     cells: &[String],
 ) -> Result<Vec<Step>, AllocError>
     requires { length cells.now ≡ length columns.now }
@@ -129,7 +129,7 @@ fn row_case(
     alloc: Global,
     inherited: &Inherited<'_>,
     scenario: &Scenario,
-    part: &Part<'_>,
+    part: &NumberedExamples<'_>,
     row_number: usize,
     row: &Row,
 ) -> Result<Case, AllocError>
@@ -155,7 +155,7 @@ fn push_row_cases(
     cases: &mut Vec<Case>,
     inherited: &Inherited<'_>,
     scenario: &Scenario,
-    part: &Part<'_>,
+    part: &NumberedExamples<'_>,
     rows: &[Row],
 ) -> Result<(), AllocError>
     requires fit { RowsFitHeader part.now.examples.now rows.now }
@@ -182,10 +182,10 @@ fn push_examples_cases(
     ensures { Appends case_value result cases.old.items cases.new.items (cases_of_rows
         inherited.now scenario.now examples_number examples.now 1 examples.now.rows.items) }
 {
-    let part = Part {
+    let part = NumberedExamples {
         number: examples_number,
         examples,
-        columns: Columns::new(alloc, &examples.header)?,
+        columns: Names::new(alloc, &examples.header),
     };
     push_row_cases(alloc, cases, inherited, scenario, &part, &examples.rows)
 }
@@ -232,8 +232,9 @@ fn push_scenarios_cases(
     scenarios: Vec<Scenario>,
 ) -> Result<(), AllocError>
     requires { RowsFit (map scenario_value scenarios.items) }
-    ensures { Appends case_value result cases.old.items cases.new.items
+    ensures cases { Appends case_value result cases.old.items cases.new.items
         (cases_of_scenarios inherited.now scenarios.items) }
+    ensures memory { IfErr result (λ e. 0 < length scenarios.items) }
 {
     for scenario in scenarios {
         push_scenario_cases(alloc, cases, inherited, scenario)?;
@@ -266,8 +267,9 @@ fn push_rules_cases(
 ) -> Result<(), AllocError>
     requires fit { AllByRecursion (λ r. RowsFit r.scenarios) (map rule_value rules.items) }
     requires counted { length rules.items < 2 ^ 32 }
-    ensures { Appends case_value result cases.old.items cases.new.items
+    ensures cases { Appends case_value result cases.old.items cases.new.items
         (cases_of_rules feature.now 0 rules.items) }
+    ensures memory { IfErr result (λ e. 0 < length rules.items) }
 {
     let mut index: u32 = 0;
     for rule in rules {
@@ -281,7 +283,8 @@ fn push_rules_cases(
 #[tactic(auto, unfolding(crate::specs::Expansion::cases))]
 fn moved_cases(alloc: Global, feature: Feature) -> Result<Vec<Case>, AllocError>
     requires { IsExpandable (feature_value feature) }
-    ensures { IfOk result (λ v. map case_value v.items ≡ cases (feature_value feature)) }
+    ensures cases { IfOk result (λ v. map case_value v.items ≡ cases (feature_value feature)) }
+    ensures memory { IfErr result (λ e. HasPart (feature_value feature)) }
 {
     let mut feature = feature;
     let scenarios = replace(&mut feature.scenarios, Vec::new(alloc));
@@ -341,8 +344,9 @@ fn push_copied_scenarios(
     scenarios: &[Scenario],
 ) -> Result<(), AllocError>
     requires { RowsFit (map scenario_value scenarios.now) }
-    ensures { Appends case_value result cases.old.items cases.new.items
+    ensures cases { Appends case_value result cases.old.items cases.new.items
         (cases_of_scenarios inherited.now scenarios.now) }
+    ensures memory { IfErr result (λ e. 0 < length scenarios.now) }
 {
     for scenario in scenarios {
         push_copied_scenario(alloc, cases, inherited, scenario)?;
@@ -354,7 +358,8 @@ fn push_copied_scenarios(
 #[tactic(auto, unfolding(crate::specs::Expansion::cases))]
 fn copied_cases(alloc: Global, feature: &Feature) -> Result<Vec<Case>, AllocError>
     requires { IsExpandable (feature_value feature.now) }
-    ensures { IfOk result (λ v. map case_value v.items ≡ cases (feature_value feature.now)) }
+    ensures cases { IfOk result (λ v. map case_value v.items ≡ cases (feature_value feature.now)) }
+    ensures memory { IfErr result (λ e. HasPart (feature_value feature.now)) }
 {
     let mut cases = Vec::new(alloc);
     let inherited = inherited_in_feature(feature);
@@ -386,6 +391,8 @@ pub fn expand(alloc: Global, feature: &Feature) -> Result<Vec<Case>, SelectFault
     // The fault is `TooMany` if there are more steps than the limit, otherwise `Memory`.
     ensures fault { IfErr result (λ e. MatchBool
         (nat_lt step_limit (step_count (feature_value feature.now))) (e ≡ TooMany) (e ≡ Memory)) }
+    // Memory is refused only if the feature has a scenario or a rule.
+    ensures memory { result ≡ Err Memory → HasPart (feature_value feature.now) }
 {
     if !has_room(feature) {
         return Err(SelectFault::TooMany);
@@ -404,6 +411,8 @@ pub fn into_cases(alloc: Global, feature: Feature) -> Result<Vec<Case>, SelectFa
     // The fault is `TooMany` if there are more steps than the limit, otherwise `Memory`.
     ensures fault { IfErr result (λ e. MatchBool
         (nat_lt step_limit (step_count (feature_value feature))) (e ≡ TooMany) (e ≡ Memory)) }
+    // Memory is refused only if the feature has a scenario or a rule.
+    ensures memory { result ≡ Err Memory → HasPart (feature_value feature) }
 {
     if !has_room(&feature) {
         return Err(SelectFault::TooMany);

@@ -5,14 +5,14 @@ ghost use Rattle.gk_gherkin.specs.Feature.{texts};
 ghost use Rattle.gk_select.specs.Filling as spec;
 ghost use Rattle.gk_select.specs.Filling.{filled};
 
-use crate::columns::Columns;
+use crate::names::Names;
 use std::alloc::{AllocError, Global};
 
 /// Appends the filled text of `piece` and the `>` after it. `piece` itself has no `>`.
 fn push_piece(
     filled: &mut String,
     piece: &str,
-    columns: &Columns<'_>,
+    columns: &Names<'_>,
     row: &[String],
 ) -> Result<(), AllocError>
     requires { length row.now ≡ length columns.now }
@@ -36,7 +36,7 @@ fn push_piece(
 pub fn push_filled(
     filled: &mut String,
     text: &str,
-    columns: &Columns<'_>,
+    columns: &Names<'_>,
     row: &[String],
 ) -> Result<(), AllocError>
     requires { length row.now ≡ length columns.now }
@@ -60,7 +60,7 @@ pub fn push_filled(
 pub fn fill(
     alloc: Global,
     text: &str,
-    columns: &Columns<'_>,
+    columns: &Names<'_>,
     row: &[String],
 ) -> Result<String, AllocError>
     requires { length row.now ≡ length columns.now }

@@ -1,12 +1,12 @@
 //! Expansion of features into cases, and the choice of cases by tags and lines. A feature becomes its cases in
-//! file order; a `--tags` text becomes a rule of tags.
+//! file order; a `--tags` text becomes a tag rule.
 #![tactic(auto)]
 
 // A case.
 mod case;
 
-// Columns of a header, by their names.
-mod columns;
+// Names in a list, for lookup.
+mod names;
 
 // Parts of a case: filled texts, copied and inherited tags and steps, a name.
 mod copies;
@@ -49,11 +49,12 @@ pub use counting::{STEP_LIMIT, has_room};
 pub use example_rows::{ExampleCell, ExampleRow, outline_rows};
 pub use expansion::{expand, into_cases};
 pub use laws::{
-    alternatives_are_rules, cases_are_in_file_order, cases_fall_into_rules,
+    alternatives_are_tag_rules, cases_are_in_file_order, cases_fall_into_rules,
     cases_keep_without_tags, plain_scenarios_are_cases, read_features_are_expandable,
     rows_are_at_cases, rows_are_cases, rows_are_in_file_order, texts_have_one_cut,
-    texts_have_one_rule,
+    texts_have_one_tag_rule,
 };
+pub use names::Names;
 pub use outline::is_outline;
 pub use select_fault::SelectFault;
 pub use selecting::selected_cases;

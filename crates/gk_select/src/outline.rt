@@ -5,7 +5,8 @@ ghost use Rattle.gk_gherkin.specs.Feature.{scenario_value};
 ghost use Rattle.gk_select.specs.Outline as spec;
 ghost use Rattle.gk_select.specs.Outline.{outline_name};
 
-use gk_gherkin::{Keyword, Scenario, trim_back};
+use gk_gherkin::text::trim_back;
+use gk_gherkin::{Keyword, Scenario};
 use std::alloc::AllocError;
 
 /// Returns whether a scenario is an outline: by its keyword, or because it has Examples. (Cucumber's

@@ -11,7 +11,7 @@ use std::fmt;
 pub enum SelectFault {
     /// The cases of a feature have more than `STEP_LIMIT` steps.
     TooMany,
-    /// The text spells no rule of tags.
+    /// The text spells no tag rule.
     BadTagText,
     /// A growth of memory was refused.
     Memory,

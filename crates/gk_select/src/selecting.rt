@@ -3,17 +3,16 @@ ghost use Rattle.std.specs.Prelude.{◌≡◌, ◌<◌, ◌++◌, length, flat_m
 ghost use Rattle.gk_gherkin.specs.Feature.{row_value, examples_value, scenario_value, feature_value};
 ghost use Rattle.gk_select.specs.Choice.{chosen_by};
 ghost use Rattle.gk_select.specs.Expansion.{cases, IsExpandable};
-ghost use Rattle.gk_select.specs.Inherited.{inherited_value};
 ghost use Rattle.gk_select.specs.Selecting.{rows_selected, examples_selected, plain_selected, scenario_selected};
 
 use crate::choice::Choice;
-use crate::inherited::{Inherited, inherited_in_feature, inherited_in_rule};
+use crate::names::Names;
 use crate::outline::is_outline;
 use crate::tag_lists::TagLists;
 use gk_gherkin::{Examples, Feature, Row, Scenario};
 use std::alloc::{AllocError, Global};
 
-// Appends for each row whether its case is chosen, if the rules hold for its tags or don't.
+// Appends for each row whether its case is chosen. `hold`: whether the tag rules hold for its tags.
 fn select_rows(
     choice: &Choice,
     hold: bool,
@@ -31,102 +30,123 @@ fn select_rows(
     Ok(())
 }
 
-// Appends for each row of Examples whether its case is chosen. The rows have the same tags.
-fn select_examples(
+// Appends for each row of Examples whether its case is chosen, if its scenario has these tags of its own.
+#[tactic(auto, using(std::proofs::lemmas::Grind::common_steps, std::proofs::lemmas::List::append_assoc))]
+fn select_examples<'t, 'a>(
+    alloc: Global,
     choice: &Choice,
-    inherited: &Inherited<'_>,
-    scenario: &Scenario,
-    examples: &Examples,
+    feature: &'t Names<'a>,
+    rule: &'t Names<'a>,
+    own: &'t Names<'a>,
+    examples: &'a Examples,
     selected: &mut Vec<bool>,
 ) -> Result<(), AllocError>
     ensures chosen { OnOk result (selected.new.items ≡ selected.old.items
-        ++ examples_selected choice.now (inherited_value inherited.now)
-        (scenario_value scenario.now) (examples_value examples.now)) }
+        ++ examples_selected choice.now (feature.now ++ rule.now) own.now
+        (examples_value examples.now)) }
     ensures memory { IfErr result (λ e.
-        0 < length (examples_selected choice.now (inherited_value inherited.now)
-        (scenario_value scenario.now) (examples_value examples.now))) }
+        0 < length (examples_selected choice.now (feature.now ++ rule.now) own.now
+        (examples_value examples.now))) }
 {
-    let tags = TagLists {
-        feature: inherited.feature_tags,
-        rule: inherited.rule_tags,
-        scenario: &scenario.tags,
-        examples: &examples.tags,
+    let tags = choice.lookup(alloc, &examples.tags);
+    let lists = TagLists {
+        feature: &*feature,
+        rule: &*rule,
+        scenario: &*own,
+        examples: &tags,
     };
-    select_rows(choice, choice.rules_hold(&tags), &examples.rows, selected)
+    let hold = choice.rules_hold(&lists);
+    select_rows(choice, hold, &examples.rows, selected)
 }
 
 // Appends for each row of an outline whether its case is chosen.
-fn select_outline(
+fn select_outline<'t, 'a>(
+    alloc: Global,
     choice: &Choice,
-    inherited: &Inherited<'_>,
-    scenario: &Scenario,
+    feature: &'t Names<'a>,
+    rule: &'t Names<'a>,
+    scenario: &'a Scenario,
     selected: &mut Vec<bool>,
 ) -> Result<(), AllocError>
-    ensures chosen { OnOk result (selected.new.items ≡ selected.old.items
-        ++ flat_map (examples_selected choice.now (inherited_value inherited.now)
-        (scenario_value scenario.now)) (scenario_value scenario.now).examples) }
-    ensures memory { IfErr result (λ e.
-        0 < length (flat_map (examples_selected choice.now (inherited_value inherited.now)
-        (scenario_value scenario.now)) (scenario_value scenario.now).examples)) }
+    ensures chosen { let s = scenario_value scenario.now in OnOk result (selected.new.items
+        ≡ selected.old.items
+        ++ flat_map (examples_selected choice.now (feature.now ++ rule.now) s.tags) s.examples) }
+    ensures memory { let s = scenario_value scenario.now in IfErr result (λ e. 0 < length
+        (flat_map (examples_selected choice.now (feature.now ++ rule.now) s.tags) s.examples)) }
 {
+    let own = choice.lookup(alloc, &scenario.tags);
     for examples in &scenario.examples {
-        select_examples(choice, inherited, scenario, examples, selected)?;
+        select_examples(alloc, choice, &*feature, &*rule, &own, examples, selected)?;
     }
     Ok(())
 }
 
 // Returns whether the case of a plain scenario is chosen.
-fn takes_plain(choice: &Choice, inherited: &Inherited<'_>, scenario: &Scenario) -> bool
+#[tactic(auto, using(std::proofs::lemmas::Grind::common_steps, std::proofs::lemmas::List::append_assoc))]
+fn takes_plain<'t, 'a>(
+    alloc: Global,
+    choice: &Choice,
+    feature: &'t Names<'a>,
+    rule: &'t Names<'a>,
+    scenario: &'a Scenario,
+) -> bool
     ensures { let s = scenario_value scenario.now in
-        result ≡ plain_selected choice.now (inherited_value inherited.now) s }
+        result ≡ plain_selected choice.now (feature.now ++ rule.now) s }
 {
-    let tags = TagLists {
-        feature: inherited.feature_tags,
-        rule: inherited.rule_tags,
-        scenario: &scenario.tags,
-        examples: &[],
+    let own = choice.lookup(alloc, &scenario.tags);
+    let none = Names::scanned(&[]);
+    let lists = TagLists {
+        feature: &*feature,
+        rule: &*rule,
+        scenario: &own,
+        examples: &none,
     };
-    choice.takes(choice.rules_hold(&tags), scenario.line)
+    let hold = choice.rules_hold(&lists);
+    choice.takes(hold, scenario.line)
 }
 
 // Appends for each case of a scenario whether it is chosen.
-fn select_scenario(
+fn select_scenario<'t, 'a>(
+    alloc: Global,
     choice: &Choice,
-    inherited: &Inherited<'_>,
-    scenario: &Scenario,
+    feature: &'t Names<'a>,
+    rule: &'t Names<'a>,
+    scenario: &'a Scenario,
     selected: &mut Vec<bool>,
 ) -> Result<(), AllocError>
     ensures chosen { OnOk result (selected.new.items ≡ selected.old.items
-        ++ scenario_selected choice.now (inherited_value inherited.now)
+        ++ scenario_selected choice.now (feature.now ++ rule.now)
         (scenario_value scenario.now)) }
     ensures memory { IfErr result (λ e.
-        0 < length (scenario_selected choice.now (inherited_value inherited.now)
+        0 < length (scenario_selected choice.now (feature.now ++ rule.now)
         (scenario_value scenario.now))) }
 {
     if is_outline(scenario) {
-        return select_outline(choice, inherited, scenario, selected);
+        return select_outline(alloc, choice, feature, rule, scenario, selected);
     }
-    selected.push(takes_plain(choice, inherited, scenario))?;
+    selected.push(takes_plain(alloc, choice, feature, rule, scenario))?;
     Ok(())
 }
 
 // Appends for each case of scenarios whether it is chosen.
 #[tactic(auto, using(crate::proofs::Selected::if_err, crate::proofs::Selected::some_part))]
-fn select_scenarios(
+fn select_scenarios<'t, 'a>(
+    alloc: Global,
     choice: &Choice,
-    inherited: &Inherited<'_>,
-    scenarios: &[Scenario],
+    feature: &'t Names<'a>,
+    rule: &'t Names<'a>,
+    scenarios: &'a [Scenario],
     selected: &mut Vec<bool>,
 ) -> Result<(), AllocError>
     ensures chosen { OnOk result (selected.new.items ≡ selected.old.items
-        ++ flat_map (scenario_selected choice.now (inherited_value inherited.now))
+        ++ flat_map (scenario_selected choice.now (feature.now ++ rule.now))
         (map scenario_value scenarios.now)) }
     ensures memory { IfErr result (λ e.
-        0 < length (flat_map (scenario_selected choice.now (inherited_value inherited.now))
+        0 < length (flat_map (scenario_selected choice.now (feature.now ++ rule.now))
         (map scenario_value scenarios.now))) }
 {
     for scenario in scenarios {
-        select_scenario(choice, inherited, scenario, selected)?;
+        select_scenario(alloc, choice, feature, rule, scenario, selected)?;
     }
     Ok(())
 }
@@ -147,11 +167,19 @@ pub fn selected_cases(
     ensures memory { IfErr result (λ e. 0 < length (cases (feature_value feature.now))) }
 {
     let mut selected = Vec::new(alloc);
-    let inherited = inherited_in_feature(feature);
-    select_scenarios(choice, &inherited, &feature.scenarios, &mut selected)?;
-    for (index, rule) in feature.rules.iter().enumerate() {
-        let inherited = inherited_in_rule(feature, index as u32, rule);
-        select_scenarios(choice, &inherited, &rule.scenarios, &mut selected)?;
+    let tags = choice.lookup(alloc, &feature.tags);
+    let none = Names::scanned(&[]);
+    select_scenarios(
+        alloc,
+        choice,
+        &tags,
+        &none,
+        &feature.scenarios,
+        &mut selected,
+    )?;
+    for rule in &feature.rules {
+        let own = choice.lookup(alloc, &rule.tags);
+        select_scenarios(alloc, choice, &tags, &own, &rule.scenarios, &mut selected)?;
     }
     Ok(selected)
 }

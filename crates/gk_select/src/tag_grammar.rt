@@ -35,12 +35,6 @@ fn deeper(depth: usize) -> usize
     }
 }
 
-fn larger(a: usize, b: usize) -> usize
-    ensures { result ≡ max a b }
-{
-    if a < b { b } else { a }
-}
-
 impl Built {
     // Returns what is built once the word before those read so far is read too.
     fn before(self, word: &Word) -> Result<Built, SelectFault>
@@ -75,7 +69,7 @@ impl Built {
                     let next = outer[groups - 1];
                     outer.truncate(groups - 1);
                     Ok(Built {
-                        factor: Some(deeper(larger(factor, behind))),
+                        factor: Some(deeper(factor.max(behind))),
                         behind: next,
                         outer,
                     })
@@ -87,7 +81,7 @@ impl Built {
                 }),
                 Word::And | Word::Or => Ok(Built {
                     factor: None,
-                    behind: larger(factor, behind),
+                    behind: factor.max(behind),
                     outer,
                 }),
                 Word::Close | Word::Tag(_) => Err(SelectFault::BadTagText),
@@ -120,7 +114,7 @@ pub fn check_words(alloc: Global, words: &[Word]) -> Result<(), SelectFault>
     match built.factor {
         None => Err(SelectFault::BadTagText),
         Some(factor) => {
-            if built.outer.len() == 0 && larger(factor, built.behind) <= DEPTH_LIMIT {
+            if built.outer.len() == 0 && factor.max(built.behind) <= DEPTH_LIMIT {
                 return Ok(());
             }
             Err(SelectFault::BadTagText)

@@ -1,4 +1,4 @@
-//! Rules of tags, read from a text.
+//! Tag rules, read from a text.
 ghost use Rattle.std.specs.Prelude.{◌≡◌, ◌⊎◌, Some, Err, true, false, IfOk, IfErr};
 ghost use Rattle.std.specs.List.{list_any};
 ghost use Rattle.gk_select.specs.declared.select_fault.SelectFault.TheVariants.{BadTagText, Memory};
@@ -55,7 +55,7 @@ fn read_either_form(alloc: Global, text: &str) -> Result<TagRule, SelectFault>
     }
 }
 
-/// Returns the rule that a text spells.
+/// Returns the tag rule that a text spells.
 ///
 /// A text with a space, a tab or a parenthesis is an expression. Any other text is alternatives separated by
 /// commas; at least one of them has to hold.
@@ -66,25 +66,25 @@ fn read_either_form(alloc: Global, text: &str) -> Result<TagRule, SelectFault>
 /// An alternative is an optional `~`, an optional `@` and a name of at least one byte. With `~` the tag has to
 /// be absent. A name without an `@` must not begin with `~` or `-`; the `@` is added.
 ///
-/// A text of alternatives spells no rule if one of them is malformed. An expression spells none if its words
+/// A text of alternatives spells no tag rule if one of them is malformed. An expression spells none if its words
 /// don't follow the grammar, or if one of its tags has a comma or a backslash. Nor does it if more than 100
 /// `not` and `(` are nested.
 ///
-/// `BadTagText` comes only for a text that spells no rule. `Memory` comes only if a growth was refused, so it
-/// can come in place of a rule or of `BadTagText`. It never comes if the first alternative is malformed, if the
+/// `BadTagText` comes only for a text that spells no tag rule. `Memory` comes only if a growth was refused, so it
+/// can come in place of a tag rule or of `BadTagText`. It never comes if the first alternative is malformed, if the
 /// first word of an expression is invalid, or if there is no word.
 ///
 /// The time is linear in the length of the text. (behave's documentation: tag expressions; Cucumber's tag
 /// expressions)
 pub fn read_tags(alloc: Global, text: &str) -> Result<TagRule, SelectFault>
-    // The result is a rule that the text spells.
+    // The result is a tag rule that the text spells.
     ensures found { IfOk result (λ r. ReadsTags text.now (tag_rule_value r)) }
-    // If the text spells a rule, that rule is returned, unless memory runs out.
+    // If the text spells a tag rule, that one is returned, unless memory runs out.
     ensures only { (rule : Expression) → ReadsTags text.now rule →
         AnswersOrLacksMemory tag_rule_value result (Some rule) }
     // Memory runs out only if the first alternative, or the first word of an expression, is valid.
     ensures memory { result ≡ Err Memory → NeedsMemory text.now }
-    // The fault is `Memory` or, only for a text that spells no rule, `BadTagText`.
+    // The fault is `Memory` or, only for a text that spells no tag rule, `BadTagText`.
     ensures fault { IfErr result (λ e. (e ≡ Memory) ⊎ ((e ≡ BadTagText) × SpellsNone text.now)) }
 {
     read_either_form(alloc, text)

@@ -1,5 +1,5 @@
-//! The place where a text stops spelling a rule of tags.
-ghost use Rattle.std.specs.Prelude.{◌≡◌, ◌≤◌, ◌<◌, ◌+◌, Some, None, option_map};
+//! The place where a text stops spelling a tag rule.
+ghost use Rattle.std.specs.Prelude.{◌≡◌, ◌≤◌, ◌<◌, ◌+◌, ◌-◌, ◌^◌, Some, None, option_map};
 ghost use Rattle.gk_select.specs.Alternatives as of_alternatives;
 ghost use Rattle.gk_select.specs.TagGrammar.{Expression};
 ghost use Rattle.gk_select.specs.TagRules.{ReadsTags};
@@ -13,7 +13,7 @@ use crate::tag_rules::has_new_form;
 use crate::tag_words::{is_tag_word, word_end};
 use gk_gherkin::text::is_blank;
 
-/// What a rule of tags has to have at a place.
+/// What a tag rule has to have at a place.
 #[derive(Clone, Copy, Debug, PartialEq, Eq)]
 pub enum Wanted {
     /// A tag, `not` or `(`.
@@ -22,14 +22,14 @@ pub enum Wanted {
     Operator,
     /// `)`, since the text ends in a group.
     Close,
-    /// A tag, with or without `~`, between two commas.
+    /// A tag, with or without `~`.
     Alternative,
 }
 
-/// A place at which a text stops spelling a rule of tags.
+/// A place at which a text stops spelling a tag rule.
 #[derive(Clone, Copy, Debug)]
 pub struct TagStop<'a> {
-    /// The word, or the text between two commas, that can't stand there. None at the end of the text.
+    /// The word or the alternative that isn't allowed there; `None` at the end of the text.
     pub at: Option<&'a str>,
     pub wanted: Wanted,
 }
@@ -46,7 +46,7 @@ struct TagPlace {
 impl TagPlace {
     // Returns the place after an operand's word, if it is one.
     fn after_operand(self, word: &str) -> Option<TagPlace>
-        requires { self.groups < 18446744073709551615 }
+        requires { self.groups < 2 ^ 64 - 1 }
         ensures place { result ≡ spec.after_operand self.groups (word_said word.now) }
         ensures grown { (next : TagPlace) → result ≡ Some next → next.groups ≤ self.groups + 1 }
     {
@@ -96,7 +96,7 @@ impl TagPlace {
 
     // Returns the place after a word, if the word may stand here.
     fn after(self, word: &str) -> Option<TagPlace>
-        requires { self.groups < 18446744073709551615 }
+        requires { self.groups < 2 ^ 64 - 1 }
         ensures place { result ≡ spec.place_after self (word_said word.now) }
         ensures grown { (next : TagPlace) → result ≡ Some next → next.groups ≤ self.groups + 1 }
     {
@@ -138,7 +138,7 @@ impl TagPlace {
     }
 }
 
-// Returns the first word of a text that may not stand where it stands.
+// Returns the stop in the words of a text, if there is one: the first word that isn't allowed where it is, or the end.
 fn stop_in_words(text: &str) -> Option<TagStop<'_>>
     ensures { option_map stop_value result
         ≡ spec.stop_in spec.first_place (words_of_text text.now) }
@@ -167,7 +167,7 @@ fn stop_in_words(text: &str) -> Option<TagStop<'_>>
     place.end()
 }
 
-// Returns the first text between two commas that is no alternative.
+// Returns the stop at the first malformed alternative, if there is one.
 fn stop_in_alternatives(text: &str) -> Option<TagStop<'_>>
     ensures { option_map stop_value result
         ≡ spec.stop_in_pieces (of_alternatives.pieces text.now) }
@@ -183,13 +183,12 @@ fn stop_in_alternatives(text: &str) -> Option<TagStop<'_>>
     None
 }
 
-/// Returns the place at which a text stops spelling a rule of tags. In an expression it is the first word that may not
-/// follow the words before it, or the end. Otherwise it is the first text between two commas that is no alternative. A
-/// text whose groups are only nested too deep stops nowhere. (behave's documentation: tag expressions; Cucumber's tag
-/// expressions)
+/// Returns the place at which a text stops spelling a tag rule, if it does. In an expression it is the first word that
+/// isn't allowed after the words before it, or the end. Otherwise it is the first malformed alternative. A text whose
+/// groups are only nested too deep stops nowhere. (behave's documentation: tag expressions; Cucumber's tag expressions)
 pub fn tag_stop(text: &str) -> Option<TagStop<'_>>
     ensures stop { option_map stop_value result ≡ spec.tag_stop text.now }
-    // A text that spells a rule stops nowhere.
+    // A text that spells a tag rule stops nowhere.
     ensures none { (rule : Expression) → ReadsTags text.now rule → spec.tag_stop text.now ≡ None }
 {
     if has_new_form(text) {

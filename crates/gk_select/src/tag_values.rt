@@ -1,4 +1,4 @@
-//! Rules of tags, evaluated for a set of tags. The words of an expression are read from the last to the first.
+//! Tag rules, evaluated for a set of tags. The words of an expression are read from the last to the first.
 ghost use Rattle.std.specs.Prelude.{◌≡◌, ◌-◌, ◌<◌, ◌^◌, ◌++◌, map, OnOk, IfOk};
 ghost use Rattle.std.specs.List.{list_any};
 ghost use Rattle.std.specs.Str.{bytes_eq};
@@ -9,6 +9,7 @@ ghost use Rattle.gk_select.specs.TagTrees.{spelt_once};
 ghost use Rattle.gk_select.specs.TagValues.{holds, seen_before, seen_value, seen_depth};
 ghost use Rattle.gk_select.specs.TagWords.{word_value, tags_among};
 
+use crate::names::Names;
 use crate::tag_lists::TagLists;
 use crate::tag_words::Word;
 use std::alloc::{AllocError, Global};
@@ -27,6 +28,7 @@ pub enum Seen {
 }
 
 impl Seen {
+    /// Returns the value of the expression once all of its words are read.
     pub fn value(self) -> bool
         ensures { result ≡ seen_value self }
     {
@@ -38,7 +40,7 @@ impl Seen {
     }
 
     // Returns the state once the word before those read so far is read too.
-    pub fn before(self, word: &Word, tags: &TagLists<'_>) -> Seen
+    pub fn before(self, word: &Word, tags: &TagLists<'_, '_>) -> Seen
         requires { seen_depth self < 2 ^ 64 - 1 }
         ensures { result ≡ seen_before (tags_of tags.now) (word_value word.now) self }
     {
@@ -73,20 +75,11 @@ impl Seen {
     }
 }
 
-fn is_among(tag: &str, tags: &[String]) -> bool
-    ensures { result ≡ list_any (bytes_eq tag.now) (texts tags.now) }
-{
-    tags.iter().any(|other| tag == other.as_str())
-}
-
 // Returns whether a tag is in one of the lists of a case's tags.
-fn is_in_one(tag: &str, tags: &TagLists<'_>) -> bool
+fn is_in_one(tag: &str, tags: &TagLists<'_, '_>) -> bool
     ensures { result ≡ list_any (bytes_eq tag.now) (tags_of tags.now) }
 {
-    is_among(tag, tags.feature)
-        || is_among(tag, tags.rule)
-        || is_among(tag, tags.scenario)
-        || is_among(tag, tags.examples)
+    tags.feature.has(tag) || tags.rule.has(tag) || tags.scenario.has(tag) || tags.examples.has(tag)
 }
 
 // Appends the tags among the words.
@@ -102,7 +95,7 @@ fn push_tags<'a>(all: &mut Vec<&'a str>, words: &'a [Word]) -> Result<(), AllocE
     Ok(())
 }
 
-/// A tag expression, which either holds for a set of tags or doesn't.
+/// A tag rule, in either form. It holds for a set of tags or doesn't.
 #[derive(Debug, Drop)]
 pub struct TagRule {
     words: Vec<Word>,
@@ -112,7 +105,7 @@ pub struct TagRule {
 impl TagRule {
     ghost use Rattle.gk_select.specs.TagRules.{tag_rule_value};
 
-    /// Returns the rule that these words spell.
+    /// Returns the tag rule that these words spell.
     pub(crate) fn of_words(words: Vec<Word>) -> TagRule
         requires { SpeltBy (map word_value words.items) }
         ensures { (e : Expression) → spelling e ≡ map word_value words.items →
@@ -121,17 +114,24 @@ impl TagRule {
         TagRule { words }
     }
 
-    /// Returns whether the rule holds for a set of tags, each with its `@`. Doesn't allocate. (behave's
+    /// Returns whether the tag rule holds for a set of tags, each with its `@`. Doesn't allocate. (behave's
     /// documentation: tag expressions; Cucumber's tag expressions)
     pub fn selects(&self, tags: &[String]) -> bool
         ensures { result ≡ holds (tag_rule_value self.now) (texts tags.now) }
     {
-        self.holds_for(&TagLists::of(tags))
+        let all = Names::scanned(tags);
+        let none = Names::scanned(&[]);
+        self.holds_for(&TagLists {
+            feature: &all,
+            rule: &none,
+            scenario: &none,
+            examples: &none,
+        })
     }
 
-    /// Returns whether the rule holds for the tags of a case. Doesn't allocate.
+    /// Returns whether the tag rule holds for the tags of a case. Doesn't allocate.
     #[tactic(auto, using(std::proofs::lemmas::Grind::common_steps, crate::proofs::TagShows::value_seen, crate::proofs::TagShows::depth_seen))]
-    pub(crate) fn holds_for(&self, tags: &TagLists<'_>) -> bool
+    pub(crate) fn holds_for(&self, tags: &TagLists<'_, '_>) -> bool
         ensures { result ≡ holds (tag_rule_value self.now) (tags_of tags.now) }
     {
         let words = self.words.as_slice();
@@ -144,7 +144,7 @@ impl TagRule {
         seen.value()
     }
 
-    /// Returns the tags that the rule names, each with its `@`, in the order of its text. A tag is listed as
+    /// Returns the tags that the tag rule names, each with its `@`, in the order of its text. A tag is listed as
     /// often as it occurs there, whether negated or not. An error comes only if a growth was refused.
     #[tactic(auto, using(crate::proofs::TagNames::among_words))]
     pub fn tags(&self, alloc: Global) -> Result<Vec<&str>, AllocError>

@@ -11,6 +11,7 @@ pub use Rattle.std.proofs.lemmas.Iterator.Splits.{YieldsList-from_lines}
 pub use Rattle.std.proofs.lemmas.List.{append-nil, drop-drop, drop_all, drop_at, drop_more, get_or-drop, get_or-map, get_or-take, get_or_append_left, get_or_push, get_or_read, length-map, length-take-le, length_push, map-append, take-append-drop, take-map, take-take, take_all, take_at, take_more, take_rest}
 pub use Rattle.std.proofs.lemmas.List.Elements.{filter-append}
 pub use Rattle.std.proofs.lemmas.List.Sums.{passes_at_first, prefix_len-le-length, prefix_len_passes}
+pub use Rattle.std.proofs.lemmas.Result.{err_from_is_err_and}
 pub use Rattle.std.proofs.lemmas.Slice.Eq.{bytes_eq-Decides}
 pub use Rattle.std.proofs.lemmas.Str.{IsCharBoundary-after_ascii, IsCharBoundary-before_ascii, IsCharBoundary-end, IsCharBoundary-from_drop, IsCharBoundary-from_rest, IsCharBoundary-from_take, IsCharBoundary-past_char, IsCharBoundary-start, IsUtf8-append, IsUtf8-between, IsUtf8-drop, IsUtf8-from_ascii, IsUtf8-from_is_utf8, IsUtf8-string_bytes, IsUtf8-take, chars-append, chars-nil, chars_past_char, drop_past_char, encode_same, is_utf8-from_IsUtf8, len_utf8_bounds, length-encode}
 pub use Rattle.std.proofs.lemmas.Str.Parse.{digits_value-take-le}
@@ -33,9 +34,9 @@ pub use Rattle.gk_gherkin.specs.Text.{begins}
 pub use Rattle.gk_gherkin.specs.declared.feature.StepType.{StepType}
 pub use denote.Shadow.{shadow}
 pub use denote.Text.{Utf8}
-pub use Rattle.gk_steps.specs.Action.{ActionRowValue, action_row_value, kind_of_field, row_among, words_said}
+pub use Rattle.gk_steps.specs.Action.{ActionRowValue, action_row_value, kind_of_field, row_among, word_texts}
 unfoldable pub use Rattle.gk_steps.specs.Action.{action_row}
-pub use Rattle.gk_steps.specs.Advances.{HasDigits, IsAdvance, IsAdvanceTo, IsDigitsTo, IsLongest, IsLongestTo, IsMatchedTo, IsNearest, IsNotAfter, IsReachTo, IsRunTo, Takes, part, values_of}
+pub use Rattle.gk_steps.specs.Advances.{HasDigits, IsAdvance, IsAdvanceTo, IsDigitsTo, IsLongest, IsLongestTo, IsMatchedTo, IsNearest, IsNotAfter, IsReachTo, IsRunTo, CanTake, part, values_of}
 pub use Rattle.gk_steps.specs.Captures.{AreKept, Hit, HitsWhatIsFound, IsHit, IsKeptResult, KeepsMore, KeepsRest, hit_of, kept_if}
 pub use Rattle.gk_steps.specs.CharBoundaries.{AreBoundaries, AreBoundariesFrom}
 pub use Rattle.gk_steps.specs.Decimal.{IsNumber, is_i64, is_number, is_numeral, number_of}
@@ -49,10 +50,10 @@ pub use Rattle.gk_steps.specs.Finding.{EntryValue, FindsWhatIsFound, FitsLibrary
 unfoldable pub use Rattle.gk_steps.specs.Finding.{found, found_any}
 pub use Rattle.gk_steps.specs.Leftmost.{CanStandAt, FindsRest, IsFirst, IsLeft, IsPieceEnd, StandsNowhereBefore, TakesUpTo}
 pub use Rattle.gk_steps.specs.Library.{are_for_each_from, is_for_one_before}
-pub use Rattle.gk_steps.specs.LibraryFault.{LibraryFaultIsUnique, LibraryFaultSays}
-pub use Rattle.gk_steps.specs.LibraryFile.{EntryNeedsMemory, HasNeededFields, HasPattern, HasRightKinds, IsAmbiguous, IsBadPattern, IsBadType, IsMissingField, IsOtherKind, IsReadableLibrary, IsUnknownAction, LibraryNeedsMemory, LibraryReadingIsUnique, NoneMatches, ReadsLibrary, Sides, SpellEntries, SpellsEntry, StopsLibraryAt, is_ignored}
+pub use Rattle.gk_steps.specs.LibraryFault.{LibraryFaultIsUnique, LibraryFaultSays, LibraryLinesFaultSays}
+pub use Rattle.gk_steps.specs.LibraryFile.{EntryNeedsMemory, HasNeededFields, HasPattern, HasRightKinds, IsAmbiguous, IsBadPattern, IsBadType, IsMissingField, IsOtherKind, IsReadableLibrary, IsUnknownAction, LibraryNeedsMemory, LibraryReadingIsUnique, ReadsLibrary, Sides, SpellEntries, SpellsEntry, StopsLibraryAt, is_ignored}
 unfoldable pub use Rattle.gk_steps.specs.LibraryFile.{last_arrow, sides_of, type_of}
-pub use Rattle.gk_steps.specs.LibraryLine.{AddsLine, EntryFaultSays, EntryTextFaultSays, FitsAction, HasOtherKind, Ignored, IsEntryText, LacksField, LibraryLinesFaultSays, LineFaultSays, Spelled, has_needed, has_right_kind, has_right_kinds, is_none_or_kind}
+pub use Rattle.gk_steps.specs.LibraryLine.{AddsLine, EntryFaultSays, EntryTextFaultSays, FitsAction, HasOtherKind, Ignored, IsEntryText, LacksField, LineFaultSays, Spelled, has_needed, has_right_kind, has_right_kinds, is_none_or_kind}
 pub use Rattle.gk_steps.specs.LiteralEnds.{EndsWith, EndsWithPiece, FitsEnd, FitsStart, IsAfterStart}
 pub use Rattle.gk_steps.specs.Matching.{AreSpans, FieldValue, IsBestMatch, IsMatchResult, IsPreferred, IsSpan, Matches, MatchesNot, NumberField, TextField, best_match, field_match, field_value, is_span, longest_match, rest_where, shortest_match, span_value, span_values, spans_with, woven}
 unfoldable pub use Rattle.gk_steps.specs.Matching.{match_of}
@@ -65,9 +66,9 @@ pub use Rattle.gk_steps.specs.UsedFields.{AreFirst, AreJoined, HasRest, IsAdded,
 pub use Rattle.gk_steps.specs.declared.action.Action.{Action}
 pub use Rattle.gk_steps.specs.declared.action.ActionRow.{ActionRow}
 pub use Rattle.gk_steps.specs.declared.captures.NoCaptures.{NoCaptures}
-pub use Rattle.gk_steps.specs.declared.entry_index.Head.{Head}
+pub use Rattle.gk_steps.specs.declared.entry_index.HeadWord.{HeadWord}
 pub use Rattle.gk_steps.specs.declared.entry_index.Index.{Index}
-pub use Rattle.gk_steps.specs.declared.filled_cells.Cells.{Cells}
+pub use Rattle.gk_steps.specs.declared.filled_cells.CellCounter.{CellCounter}
 pub use Rattle.gk_steps.specs.declared.library.Entry.{Entry}
 pub use Rattle.gk_steps.specs.declared.library_fault.LibraryFault.{LibraryFault}
 pub use Rattle.gk_steps.specs.declared.pattern.FieldKind.{FieldKind}

@@ -1,5 +1,5 @@
 -- The default library is what its text says.
-use Rattle.gk_steps.proofs.Common.{◌≡◌, ℕ, ◌<◌, ◌≤◌, Bool, true, false, not, nat_lt, ◌&&◌, List, [], ◌∷◌, ◌++◌, length, map, option_map, flat_map, IsTrue, Option, Some, None, refl, arith, lit≤, common_steps, ⊤, is_some, filter, AllByRecursion, list_all, bytes_eq, chars, is_utf8, nat_tests, bytes_eq-Decides, StepType, LineValue, Lines, limit, lines_of, Action, PieceValue, Literal, FieldPiece, spelled_piece, is_field_name, field_names, field_kind, AreLongestRuns, SpellsPattern, MatchesNot, best_match, ActionRowValue, action_row, kind_of_field, EntryValue, LibraryValue, is_of_type, Sides, is_ignored, type_of, sides_of, last_arrow, NoneMatches, SpellsEntry, SpellEntries, ReadsLibrary, is_none_or_kind, is_pattern, default_text, default_entries}
+use Rattle.gk_steps.proofs.Common.{◌≡◌, ℕ, zero, suc, ◌<◌, ◌≤◌, Bool, true, false, not, nat_lt, ◌&&◌, List, [], ◌∷◌, ◌++◌, length, map, option_map, flat_map, IsTrue, Option, Some, None, refl, arith, lit≤, common_steps, ⊤, is_some, filter, AllByRecursion, list_all, bytes_eq, chars, is_utf8, nat_tests, bytes_eq-Decides, StepType, LineValue, Lines, limit, lines_of, Action, PieceValue, Literal, FieldPiece, spelled_piece, is_field_name, field_names, field_kind, AreLongestRuns, SpellsPattern, MatchesNot, best_match, ActionRowValue, action_row, kind_of_field, EntryValue, LibraryValue, is_of_type, Sides, is_ignored, type_of, sides_of, last_arrow, NoneFound, SpellsEntry, SpellEntries, ReadsLibrary, is_none_or_kind, is_pattern, default_text, default_entries}
 use lib.Utf8
 use Rattle.gk_steps.proofs.BestMatchLemmas.{best_match_is}
 use Rattle.gk_steps.proofs.SpellingLemmas.{spells}
@@ -46,9 +46,10 @@ passes_so : (step_type : Option StepType) (text : List ℕ) (e : EntryValue) →
 unfolding passes
 passes_so step_type text e is same = grind (arith, common_steps, best_match_is)
 
-none_so : (earlier : LibraryValue) (step_type : Option StepType) (text : List ℕ) → list_all (passes step_type text) earlier ≡ true → NoneMatches earlier step_type text
-none_so [] step_type text e = tt
-none_so (x ∷ xs) step_type text e = let parts = and_so (passes step_type text x) (list_all (passes step_type text) xs) e in (passes_so step_type text x parts.0, none_so xs step_type text parts.1)
+none_so : (earlier : LibraryValue) (step_type : Option StepType) (text : List ℕ) → list_all (passes step_type text) earlier ≡ true → NoneFound earlier step_type text
+none_so [] step_type text e position entry is = let bad : ⊥ = cc in absurd bad
+none_so (x ∷ xs) step_type text e zero entry is = grind (arith, common_steps, and_so, passes_so)
+none_so (x ∷ xs) step_type text e (suc position) entry is = none_so xs step_type text (and_so (passes step_type text x) (list_all (passes step_type text) xs) e).1 position entry is
 
 -- a line that is good
 good : (earlier : LibraryValue) (line : LineValue) (e : EntryValue) (sides : Sides) (row : ActionRowValue) → type_of line ≡ Some e.step_type → sides_of line ≡ Some sides → action_row sides.action ≡ Some row → e.action ≡ row.action

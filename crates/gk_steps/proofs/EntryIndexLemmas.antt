@@ -1,5 +1,5 @@
 -- An index over the literals at the ends of patterns.
-use Rattle.gk_steps.proofs.Common.{◌≡◌, ℕ, Bool, zero, suc, ◌+◌, ◌-◌, ◌*◌, ◌%◌, ◌^◌, ◌<◌, ◌≤◌, ◌⊎◌, inl, inr, List, [], ◌∷◌, ◌++◌, length, take, drop, map, get_or, Option, Some, refl, ap, sym, subst, ◌∙◌, arith, length-append, None, common_steps, slice_get, slice_set, is_some, true, false, eq-or-lt_of_le, cases_lt, append-nil, take_at, drop_at, take_all, Entry, Piece, Index, Head, PieceValue, Literal, FieldPiece, piece_value, pattern_value, Matches, MatchesNot, woven, FitsEnd, StepType, EntryValue, entry_value, NoneBefore, cells_of_type, literal_of, first_literal, last_literal, first_length, last_length, key_over, ends_key, items_under, IsAmong, IsMarked, Lists, AreListed, IsIndexOf, IsLeastFrom, Skips, CanStand, HasFirst, HasEnds, IsShorter, IsAny, SkipsEntries, word_of, head_of, IsOther, PassesHeads, StandsFor, AreHeads, AreSingle}
+use Rattle.gk_steps.proofs.Common.{◌≡◌, ℕ, Bool, zero, suc, ◌+◌, ◌-◌, ◌*◌, ◌%◌, ◌^◌, ◌<◌, ◌≤◌, ◌⊎◌, inl, inr, List, [], ◌∷◌, ◌++◌, length, take, drop, map, get_or, Option, Some, refl, ap, sym, subst, ◌∙◌, arith, length-append, None, common_steps, slice_get, slice_set, is_some, true, false, eq-or-lt_of_le, cases_lt, append-nil, take_at, drop_at, take_all, Entry, Piece, Index, HeadWord, PieceValue, Literal, FieldPiece, piece_value, pattern_value, Matches, MatchesNot, woven, FitsEnd, StepType, EntryValue, entry_value, NoneBefore, cells_of_type, literal_of, first_literal, last_literal, first_length, last_length, key_over, ends_key, items_under, IsAmong, IsMarked, Lists, AreListed, IsIndexOf, IsLeastFrom, Skips, CanStand, HasFirst, HasEnds, IsShorter, IsAny, SkipsEntries, word_of, head_of, IsOther, PassesHeads, StandsFor, AreHeads, AreSingle}
 use Rattle.gk_steps.proofs.LiteralEndLemmas.{match_fits}
 
 -- the last literal
@@ -249,11 +249,11 @@ match_word ps text spans word m e =
     word_more (first_literal ps) a.0 word e ∙ ap word_of (sym a.1)
 
 -- entries that are passed over by their heads
-other_never : (o : Option ℕ) (heads : List Head) (entries : List Entry) (position other : ℕ) (head : Head) (entry : Entry) (word : Option ℕ) (text : List ℕ) → head.word ≡ o → word ≡ word_of text → AreHeads heads entries → StandsFor heads position other head → slice_get entries other ≡ Some entry → IsOther o word → MatchesNot (pattern_value entry.pattern) text
+other_never : (o : Option ℕ) (heads : List HeadWord) (entries : List Entry) (position other : ℕ) (head : HeadWord) (entry : Entry) (word : Option ℕ) (text : List ℕ) → head.word ≡ o → word ≡ word_of text → AreHeads heads entries → StandsFor heads position other head → slice_get entries other ≡ Some entry → IsOther o word → MatchesNot (pattern_value entry.pattern) text
 other_never None heads entries position other head entry word text own e h for is never spans m = never
 other_never (Some w) heads entries position other head entry word text own e h for is never spans m = never (match_word (pattern_value entry.pattern) text spans w m (h position other w head entry for own is) ∙ sym e)
 
-pub heads_passed : (heads : List Head) (entries : List Entry) (from middle result : ℕ) (word : Option ℕ) (text : List ℕ) → word ≡ word_of text → AreHeads heads entries → SkipsEntries entries from text middle → PassesHeads heads middle word result → SkipsEntries entries from text result
+pub heads_passed : (heads : List HeadWord) (entries : List Entry) (from middle result : ℕ) (word : Option ℕ) (text : List ℕ) → word ≡ word_of text → AreHeads heads entries → SkipsEntries entries from text middle → PassesHeads heads middle word result → SkipsEntries entries from text result
 heads_passed heads entries from middle result word text e h s p = record {
   low = λ le. omega (arith, s.low le, p.low);
   skipped = λ other entry is low under. elim (cases_lt other middle) [
@@ -266,7 +266,7 @@ pub other_none : (head : Option ℕ) → is_some head ≡ true → IsOther head 
 other_none None e = let bad : ⊥ = cc in bad
 other_none (Some word) e = λ same. let bad : ⊥ = cc in bad
 
-pub passes_more : (heads : List Head) (from position next : ℕ) (word : Option ℕ) (head : Head) → slice_get heads position ≡ Some head → IsOther head.word word → position < next → next ≤ position + 1 + head.more → PassesHeads heads from word position → PassesHeads heads from word next
+pub passes_more : (heads : List HeadWord) (from position next : ℕ) (word : Option ℕ) (head : HeadWord) → slice_get heads position ≡ Some head → IsOther head.word word → position < next → next ≤ position + 1 + head.more → PassesHeads heads from word position → PassesHeads heads from word next
 passes_more heads from position next word head is other later most h = record {
   low = omega (arith, h.low, later);
   passed = λ before low under. elim (cases_lt before position) [
@@ -276,7 +276,7 @@ passes_more heads from position next word head is other later most h = record {
 }
 
 -- the heads of entries
-pub heads_push : (old new : List Head) (entries items : List Entry) (head : Head) (x : Entry) → length old ≡ length entries → new ≡ old ++ head ∷ [] → items ≡ entries ++ x ∷ [] → head.word ≡ head_of (pattern_value x.pattern) → AreSingle new → AreHeads old entries → AreHeads new items
+pub heads_push : (old new : List HeadWord) (entries items : List Entry) (head : HeadWord) (x : Entry) → length old ≡ length entries → new ≡ old ++ head ∷ [] → items ≡ entries ++ x ∷ [] → head.word ≡ head_of (pattern_value x.pattern) → AreSingle new → AreHeads old entries → AreHeads new items
 heads_push old new entries items head x size same_heads same own single h position other word found entry for is_word is =
     let here : other ≡ position = omega (arith, for.low, for.high, single position found for.there) in
     elim (get_push old head position found (ap (λ hs. slice_get hs position) (sym same_heads) ∙ for.there)) [
@@ -286,11 +286,11 @@ heads_push old new entries items head x size same_heads same own single h positi
       ]
       | inr a ↦ elim (get_push entries x other entry (ap (λ es. slice_get es other) (sym same) ∙ is)) [
         | inl b ↦ absurd (omega (arith, get_within entries other entry b, a.0, size, here))
-        | inr b ↦ sym is_word ∙ ap (λ (f : Head). f.word) (sym a.1) ∙ own ∙ ap (λ (v : Entry). head_of (pattern_value v.pattern)) b.1
+        | inr b ↦ sym is_word ∙ ap (λ (f : HeadWord). f.word) (sym a.1) ∙ own ∙ ap (λ (v : Entry). head_of (pattern_value v.pattern)) b.1
       ]
     ]
 
-pub single_push : (old new : List Head) (head : Head) → new ≡ old ++ head ∷ [] → head.more ≡ 0 → AreSingle old → AreSingle new
+pub single_push : (old new : List HeadWord) (head : HeadWord) → new ≡ old ++ head ∷ [] → head.more ≡ 0 → AreSingle old → AreSingle new
 single_push old new head same none h position found there = grind (arith, common_steps, get_push)
 
 get_set : {X : Type 0} (xs : List X) (i : ℕ) (y : X) (k : ℕ) (z : X) → slice_get (slice_set xs i y) k ≡ Some z → (slice_get xs k ≡ Some z) ⊎ ((k ≡ i) × (y ≡ z))
@@ -301,12 +301,12 @@ get_set (x ∷ xs) (suc i) y zero z e = inl e
 get_set (x ∷ xs) (suc i) y (suc k) z e = elim (get_set xs i y k z e) [ inl a ↦ inl a | inr b ↦ inr (ap suc b.0, b.1) ]
 
 -- a head that stands for the entries of an equal one after it, too
-pub heads_joined : (heads : List Head) (position : ℕ) (own later new : Head) → slice_get heads position ≡ Some own → slice_get heads (position + 1) ≡ Some later → own.word ≡ later.word → new.word ≡ later.word → new.more ≤ later.more + 1 → (entries : List Entry) → AreHeads heads entries → AreHeads (slice_set heads position new) entries
+pub heads_joined : (heads : List HeadWord) (position : ℕ) (own later new : HeadWord) → slice_get heads position ≡ Some own → slice_get heads (position + 1) ≡ Some later → own.word ≡ later.word → new.word ≡ later.word → new.more ≤ later.more + 1 → (entries : List Entry) → AreHeads heads entries → AreHeads (slice_set heads position new) entries
 heads_joined heads position own later new is_own is_later same kept most entries h k other word head entry for is_word is = elim (get_set heads position new k head for.there) [
   | inl a ↦ h k other word head entry (record { there = a; low = for.low; high = for.high }) is_word is
   | inr b ↦
-      let later_word : later.word ≡ Some word = sym kept ∙ ap (λ (f : Head). f.word) b.1 ∙ is_word in
-      let reach : other ≤ position + new.more = omega (arith, for.high, ap (λ (f : Head). f.more) b.1, b.0) in
+      let later_word : later.word ≡ Some word = sym kept ∙ ap (λ (f : HeadWord). f.word) b.1 ∙ is_word in
+      let reach : other ≤ position + new.more = omega (arith, for.high, ap (λ (f : HeadWord). f.more) b.1, b.0) in
       elim (cases_lt position other) [
         | inl after ↦ h (position + 1) other word later entry (record { there = is_later; low = omega (arith, after); high = omega (arith, reach, most) }) later_word is
         | inr le ↦ h position other word own entry (record { there = is_own; low = omega (arith, for.low, b.0); high = omega (arith, le) }) (same ∙ later_word) is
@@ -316,9 +316,9 @@ heads_joined heads position own later new is_own is_later same kept most entries
 pub written_back : {X : Type 0} (n : ℕ) (new old : List X) → length new ≡ length old → n ≡ length old → take n (new ++ drop (length new) old) ≡ new
 written_back n new old same size = grind (arith, common_steps)
 
-pub heads_taken : (heads some : List Head) (entries slice : List Entry) (n : ℕ) → some ≡ take n heads → slice ≡ take n entries → AreHeads heads entries → AreHeads some slice
+pub heads_taken : (heads some : List HeadWord) (entries slice : List Entry) (n : ℕ) → some ≡ take n heads → slice ≡ take n entries → AreHeads heads entries → AreHeads some slice
 heads_taken heads some entries slice n same_heads same h position other word head entry for is_word is =
     h position other word head entry (record { there = get_taken heads n position head (ap (λ hs. slice_get hs position) (sym same_heads) ∙ for.there); low = for.low; high = for.high }) is_word (get_taken entries n other entry (ap (λ es. slice_get es other) (sym same) ∙ is))
 
-pub heads_size : (old new : List Head) (entries items : List Entry) (head : Head) (x : Entry) → length old ≡ length entries → new ≡ old ++ head ∷ [] → items ≡ entries ++ x ∷ [] → length new ≡ length items
+pub heads_size : (old new : List HeadWord) (entries items : List Entry) (head : HeadWord) (x : Entry) → length old ≡ length entries → new ≡ old ++ head ∷ [] → items ≡ entries ++ x ∷ [] → length new ≡ length items
 heads_size old new entries items head x size same_heads same = grind (arith, common_steps)

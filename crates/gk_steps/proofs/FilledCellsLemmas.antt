@@ -1,5 +1,5 @@
 -- How many cells were filled.
-use Rattle.gk_steps.proofs.Common.{◌≡◌, inl, inr, ℕ, zero, suc, ◌+◌, ◌*◌, ◌<◌, ◌≤◌, List, [], ◌∷◌, length, take, drop, map, get_or, Option, ap, sym, subst, ◌∙◌, arith, length-append, common_steps, chars, IsCharBoundary, mul-le-mul, take-append-drop, length-map, take-map, IsUtf8-take, chars-append, StepType, Entry, Piece, PieceValue, piece_value, AreBoundaries, LibraryValue, entry_value, table_cells, cells_of_type, GoesOnBy}
+use Rattle.gk_steps.proofs.Common.{◌≡◌, inl, inr, ℕ, zero, suc, ◌+◌, ◌-◌, ◌*◌, ◌^◌, ◌<◌, ◌≤◌, List, [], ◌∷◌, length, take, drop, map, get_or, Option, ap, sym, subst, ◌∙◌, arith, length-append, common_steps, chars, IsCharBoundary, mul-le-mul, take-append-drop, length-map, take-map, IsUtf8-take, chars-append, StepType, Entry, Piece, PieceValue, piece_value, AreBoundaries, LibraryValue, entry_value, table_cells, cells_of_type, GoesOnBy}
 use Rattle.std.specs.Str.{IsUtf8}
 use Rattle.gk_steps.proofs.LeftmostLemmas.{IsCutOrWhole}
 use Rattle.gk_steps.proofs.TableLemmas.{width_is}
@@ -63,5 +63,5 @@ typed_cells entries slice typed step_type text same =
     omega (arith, cut, first_cells (map entry_value entries) typed step_type text)
 
 -- a whole table, counted from 0
-pub whole_table : (n m a b rows width old new : ℕ) → a ≡ n → b ≡ m → rows ≡ n → width ≡ m → old ≡ 0 → (a + 1) * b ≤ 18446744073709551615 → GoesOnBy ((rows + 1) * width) old new → new ≡ (n + 1) * m
+pub whole_table : (n m a b rows width old new : ℕ) → a ≡ n → b ≡ m → rows ≡ n → width ≡ m → old ≡ 0 → (a + 1) * b ≤ 2 ^ 64 - 1 → GoesOnBy ((rows + 1) * width) old new → new ≡ (n + 1) * m
 whole_table n m a b rows width old new ea eb er ew start fits goes = grind (arith, common_steps)

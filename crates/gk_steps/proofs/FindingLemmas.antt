@@ -149,13 +149,9 @@ found_only es step_type text None h = other_computed es step_type text None h.0 
 found_only es step_type text (Some f) (inl h) = own_computed es step_type text f h
 found_only es step_type text (Some f) (inr h) = other_computed es step_type text (Some f) h.0 h.1
 
-is_any : (es : LibraryValue) (text : List ℕ) (a : Option FoundValue) → IsFoundAny es text a → IsFoundOf es None text a
-is_any es text None h = h
-is_any es text (Some f) h = h
-
 found_any_is : (es : LibraryValue) (text : List ℕ) → IsFoundAny es text (found_any es text)
 unfolding found_any
-found_any_is es text = grind (arith, common_steps, of_is)
+found_any_is es text = of_is es None text
 
 have_kinds : (ps : List PieceValue) (spans : List (List ℕ)) → AreSpans ps spans → HaveKindsOf ps (span_values ps spans)
 have_kinds [] [] h = tt
@@ -177,7 +173,7 @@ finds = record {
   is_found = found_is;
   only = found_only;
   is_found_any = found_any_is;
-  only_any = λ es text a h. any_computed es text a (is_any es text a h);
+  only_any = any_computed;
   fits = found_fits;
   fits_any = λ es text f h. first_fits es None text f h;
 }

@@ -1,5 +1,5 @@
 -- One line of a step library.
-use Rattle.gk_steps.proofs.Common.{◌≡◌, ℕ, zero, suc, ◌+◌, ◌-◌, ◌<◌, ◌≤◌, Bool, true, false, ◌&&◌, nat_eq, List, [], ◌∷◌, ◌++◌, length, take, drop, get_or, codes, Option, Some, None, refl, ap, sym, subst, arith, Bor, length-drop, common_steps, is_some, IsSome, slice_get, Result, Ok, Err, IfErr, IsErrAnd, AllByRecursion, list_all, IsCharBoundary, nat_tests, take_all, drop_all, IsCharBoundary-after_ascii, IsCharBoundary-before_ascii, StepType, LineValue, begins, Action, FieldKind, LibraryFault, PieceValue, SpellsPattern, field_kind, ActionRowValue, action_row, kind_of_field, words_said, EntryValue, LibraryValue, FoundValue, NoneFound, IsFirstFound, IsFoundOf, Sides, last_arrow, NoneMatches, SpellsEntry, HasPattern, IsAmbiguous, EntryNeedsMemory, is_none_or_kind, has_needed, has_right_kinds, FitsAction, LacksField, HasOtherKind, IsEntryText, EntryTextFaultSays, EntryFaultSays}
+use Rattle.gk_steps.proofs.Common.{◌≡◌, ℕ, zero, suc, ◌+◌, ◌-◌, ◌<◌, ◌≤◌, Bool, true, false, ◌&&◌, nat_eq, List, [], ◌∷◌, ◌++◌, length, take, drop, get_or, codes, Option, Some, None, refl, ap, sym, subst, arith, Bor, length-drop, common_steps, is_some, IsSome, slice_get, Result, Ok, Err, IfErr, IsErrAnd, AllByRecursion, list_all, IsCharBoundary, nat_tests, take_all, drop_all, IsCharBoundary-after_ascii, IsCharBoundary-before_ascii, StepType, LineValue, begins, Action, FieldKind, LibraryFault, PieceValue, SpellsPattern, field_kind, ActionRowValue, action_row, kind_of_field, word_texts, EntryValue, LibraryValue, FoundValue, NoneFound, IsFirstFound, IsFoundOf, Sides, last_arrow, SpellsEntry, HasPattern, IsAmbiguous, EntryNeedsMemory, is_none_or_kind, has_needed, has_right_kinds, FitsAction, LacksField, HasOtherKind, IsEntryText, EntryTextFaultSays, EntryFaultSays}
 use Rattle.std.specs.Str.{IsUtf8}
 use Rattle.gk_steps.specs.declared.library_fault.LibraryFault.TheVariants as faults
 use Rattle.gk_steps.proofs.SpellingLemmas.{pattern_begins}
@@ -54,7 +54,7 @@ kinds_test ps [] h = refl
 kinds_test ps (name ∷ names) h = grind (arith, common_steps, kinds_test ps names h.1)
 
 -- a test of borrowed words
-pub words_pass : (p : List ℕ → Bool) (words : List (Bor (List ℕ))) → list_all (λ word. p word.now) words ≡ list_all p (words_said words)
+pub words_pass : (p : List ℕ → Bool) (words : List (Bor (List ℕ))) → list_all (λ word. p word.now) words ≡ list_all p (word_texts words)
 words_pass p [] = refl
 words_pass p (word ∷ words) = ap (λ v. p word.now && v) (words_pass p words)
 
@@ -118,13 +118,9 @@ ambiguous earlier line step_type text name ps action f c s a first =
       matches = first.fields.1.matches;
     }
 
-none_matches : (earlier : LibraryValue) (step_type : Option StepType) (text : List ℕ) → NoneFound earlier step_type text → NoneMatches earlier step_type text
-none_matches [] step_type text h = tt
-none_matches (e ∷ es) step_type text h = (λ same. h 0 e refl same, none_matches es step_type text (λ position entry is same. h (suc position) entry is same))
-
 pub spells_entry : (earlier : LibraryValue) (line : LineValue) (step_type : Option StepType) (text name : List ℕ) (ps : List PieceValue) (action : Action) → IsEntryText line step_type text name → SpellsPattern text ps → FitsAction name ps action → NoneFound earlier step_type text
     → SpellsEntry earlier line (record { step_type = step_type; pattern = ps; action = action })
-spells_entry earlier line step_type text name ps action c s a none = grind (arith, common_steps, none_matches)
+spells_entry earlier line step_type text name ps action c s a none = grind (arith, common_steps)
 
 -- the arrow at a position of the loop
 pub arrow_end : (text : List ℕ) (n : ℕ) → length text ≤ n → last_arrow (drop n text) ≡ None

@@ -1,5 +1,5 @@
 -- How far a line of a library is good before its fault, and that no line has two faults.
-use Rattle.gk_steps.proofs.Common.{◌≡◌, ℕ, zero, suc, ◌<◌, ◌≤◌, inl, inr, List, [], ◌∷◌, ◌++◌, Option, Some, sym, subst, ◌∙◌, arith, common_steps, eq-or-lt_of_le, StepType, LineValue, PieceValue, MatchesNot, ActionRowValue, action_row, EntryValue, LibraryValue, Sides, type_of, sides_of, HasNeededFields, HasRightKinds, NoneMatches, SpellsEntry, HasPattern, IsBadType, IsBadPattern, IsUnknownAction, IsMissingField, IsOtherKind, IsAmbiguous}
+use Rattle.gk_steps.proofs.Common.{◌≡◌, ℕ, zero, suc, ◌<◌, ◌≤◌, inl, inr, List, [], ◌∷◌, ◌++◌, Option, Some, refl, sym, subst, ◌∙◌, arith, common_steps, eq-or-lt_of_le, StepType, LineValue, PieceValue, Matches, MatchesNot, ActionRowValue, action_row, EntryValue, LibraryValue, Sides, type_of, sides_of, HasNeededFields, HasRightKinds, NoneFound, SpellsEntry, HasPattern, IsBadType, IsBadPattern, IsUnknownAction, IsMissingField, IsOtherKind, IsAmbiguous}
 use Rattle.gk_steps.proofs.SpellingLemmas.{spelling}
 
 pub some_same : {A : Type 0} (x y : A) → ◌≡◌ {A = Option A} (Some x) (Some y) → x ≡ y
@@ -88,12 +88,16 @@ record IsSame (line : LineValue) (ps : List PieceValue) (row : ActionRowValue) (
 same_action : (line : LineValue) (step_type : Option StepType) (sides : Sides) (ps : List PieceValue) (row : ActionRowValue) → HasPattern line step_type sides ps → action_row sides.action ≡ Some row → (h : HasAction line) → IsSame line ps row h
 same_action line step_type sides ps row g a h = grind (arith, common_steps, sides_same, spelling, some_same)
 
-none_there : (before : LibraryValue) (x : EntryValue) (after : LibraryValue) (step_type : Option StepType) (text : List ℕ) → NoneMatches (before ++ x ∷ after) step_type text → x.step_type ≡ step_type → MatchesNot x.pattern text
-none_there [] x after step_type text h = h.0
-none_there (b ∷ before) x after step_type text h = none_there before x after step_type text h.1
+none_there : (before : LibraryValue) (x : EntryValue) (after : LibraryValue) (step_type : Option StepType) (text : List ℕ) → NoneFound (before ++ x ∷ after) step_type text → x.step_type ≡ step_type → MatchesNot x.pattern text
+none_there [] x after step_type text h = h 0 x refl
+none_there (b ∷ before) x after step_type text h = none_there before x after step_type text (λ position. h (suc position))
 
 unambiguous : (earlier : LibraryValue) (line : LineValue) → IsAmbiguous earlier line → (e : EntryValue) → SpellsEntry earlier line e → ⊥
-unambiguous earlier line f e s = grind (arith, common_steps, sides_same, some_same, none_there)
+unambiguous earlier line f e s =
+    let types : f.step_type ≡ e.step_type = some_same f.step_type e.step_type (sym f.good.is_type ∙ s.is_type) in
+    let sides : f.sides ≡ s.sides = sides_same line f.step_type f.sides s.sides f.ps f.good s.is_cut in
+    none_there f.before f.entry f.after e.step_type s.sides.pattern (subst (λ (es : LibraryValue). NoneFound es e.step_type s.sides.pattern) f.whole s.unambiguous) (f.same ∙ types)
+    f.spans (subst (λ (q : Sides). Matches f.entry.pattern q.pattern f.spans) sides f.matches)
 
 denied : (k : ℕ) (earlier : LibraryValue) (line : LineValue) → FaultAfter k earlier line → Reaches (suc k) earlier line → ⊥
 denied zero earlier line f r = grind (arith, common_steps)

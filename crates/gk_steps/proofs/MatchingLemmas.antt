@@ -1,5 +1,5 @@
 -- Matches of a pattern, taken apart at its first piece; and that the preferred one is unique.
-use Rattle.gk_steps.proofs.Common.{◌≡◌, ℕ, inl, inr, List, [], ◌∷◌, ◌++◌, length, take, drop, Option, Some, None, refl, ap, sym, ◌∙◌, arith, common_steps, take-append_seam, drop-append_seam, Plain, Decimal, PieceValue, Literal, FieldPiece, woven, Matches, IsPreferred, IsBestMatch, IsMatchResult, FieldValue, span_values, Takes}
+use Rattle.gk_steps.proofs.Common.{◌≡◌, ℕ, inl, inr, List, [], ◌∷◌, ◌++◌, length, take, drop, Option, Some, None, refl, ap, sym, ◌∙◌, arith, common_steps, take-append_seam, drop-append_seam, Plain, Decimal, PieceValue, Literal, FieldPiece, woven, Matches, IsPreferred, IsBestMatch, IsMatchResult, FieldValue, span_values, CanTake}
 
 -- two ways to cut a list after as many elements are one
 pub same_prefix : (a b x y : List ℕ) → a ++ x ≡ b ++ y → length a ≡ length b → a ≡ b
@@ -18,7 +18,7 @@ pub record IsSplit (piece : PieceValue) (ps : List PieceValue) (text : List ℕ)
   pub x : List ℕ
   pub rest : List ℕ
   pub xs : List (List ℕ)
-  pub takes : Takes piece x
+  pub takes : CanTake piece x
   pub whole : text ≡ x ++ rest
   pub after : Matches ps rest xs
   pub spans_are : spans ≡ with_span piece x xs
@@ -28,7 +28,7 @@ split (Literal literal) ps text spans m = record { x = literal; rest = woven ps 
 split (FieldPiece name kind) ps text [] m = absurd m.spans_fit
 split (FieldPiece name kind) ps text (x ∷ xs) m = record { x = x; rest = woven ps xs; xs = xs; takes = m.spans_fit.0; whole = m.whole; after = record { spans_fit = m.spans_fit.1; whole = refl }; spans_are = refl }
 
-pub join : (piece : PieceValue) (ps : List PieceValue) (text x rest : List ℕ) (xs : List (List ℕ)) → Takes piece x → text ≡ x ++ rest → Matches ps rest xs → Matches (piece ∷ ps) text (with_span piece x xs)
+pub join : (piece : PieceValue) (ps : List PieceValue) (text x rest : List ℕ) (xs : List (List ℕ)) → CanTake piece x → text ≡ x ++ rest → Matches ps rest xs → Matches (piece ∷ ps) text (with_span piece x xs)
 join (Literal literal) ps text x rest xs takes whole m = record { spans_fit = m.spans_fit; whole = whole ∙ ap (λ f. f ++ rest) takes ∙ ap (λ r. literal ++ r) m.whole }
 join (FieldPiece name kind) ps text x rest xs takes whole m = record { spans_fit = (takes, m.spans_fit); whole = whole ∙ ap (λ r. x ++ r) m.whole }
 

@@ -1,5 +1,5 @@
 -- Rows of the table, and steps through it.
-use Rattle.gk_steps.proofs.Common.{◌≡◌, ℕ, zero, suc, cond, ◌==◌, ◌+◌, ◌-◌, ◌<◌, ◌≤◌, ◌⊎◌, inl, inr, Bool, true, false, List, [], ◌∷◌, ◌++◌, length, take, drop, get_or, Option, Some, None, is_some, refl, ap, sym, subst, ◌∙◌, arith, length-append, common_steps, IsUtf8, chars, IsCharBoundary, eq-or-lt_of_le, take-append_seam, drop-append_seam, drop-length, take-append-drop, drop-drop, IsUtf8-drop, IsCharBoundary-from_take, IsCharBoundary-from_rest, IsUtf8-from_ascii, IsCharBoundary-end, IsCharBoundary-start, chars-nil, AllDigits, IsNumeral, without_leading_sign, without_leading_plus, eqb-true, Plain, Decimal, PieceValue, Literal, FieldPiece, IsSpan, Matches, MatchesNot, IsPreferred, IsBestMatch, AreBoundaries, part, Takes, IsAdvanceTo, IsNotAfter, IsAdvance, IsCell, IsRowTo, IsRow}
+use Rattle.gk_steps.proofs.Common.{◌≡◌, ℕ, zero, suc, cond, ◌==◌, ◌+◌, ◌-◌, ◌<◌, ◌≤◌, ◌⊎◌, inl, inr, Bool, true, false, List, [], ◌∷◌, ◌++◌, length, take, drop, get_or, Option, Some, None, is_some, refl, ap, sym, subst, ◌∙◌, arith, length-append, common_steps, IsUtf8, chars, IsCharBoundary, eq-or-lt_of_le, take-append_seam, drop-append_seam, drop-length, take-append-drop, drop-drop, IsUtf8-drop, IsCharBoundary-from_take, IsCharBoundary-from_rest, IsUtf8-from_ascii, IsCharBoundary-end, IsCharBoundary-start, chars-nil, AllDigits, IsNumeral, without_leading_sign, without_leading_plus, eqb-true, Plain, Decimal, PieceValue, Literal, FieldPiece, IsSpan, Matches, MatchesNot, IsPreferred, IsBestMatch, AreBoundaries, part, CanTake, IsAdvanceTo, IsNotAfter, IsAdvance, IsCell, IsRowTo, IsRow}
 use Rattle.gk_steps.proofs.MatchingLemmas.{same_prefix, same_back, with_span, IsSplit, split, join}
 
 -- a literal is text
@@ -31,7 +31,7 @@ signed_ascii x h i = minus_ascii x (get_or x 0 0 == 45) refl h.1 i
 decimal_utf8 : (x : List ℕ) → IsSpan Decimal x → IsUtf8 x
 decimal_utf8 x h = IsUtf8-from_ascii x (signed_ascii x h.0)
 
-taken_utf8 : (piece : PieceValue) (x : List ℕ) → IsTextPiece piece → Takes piece x → IsUtf8 x
+taken_utf8 : (piece : PieceValue) (x : List ℕ) → IsTextPiece piece → CanTake piece x → IsUtf8 x
 taken_utf8 (Literal literal) x t h = subst IsUtf8 (sym h) t
 taken_utf8 (FieldPiece name Plain) x t h = h.0
 taken_utf8 (FieldPiece name Decimal) x t h = decimal_utf8 x h
@@ -89,7 +89,7 @@ true_cell ps text true h e = h
 true_cell ps text false h e = let bad : ⊥ = cc in absurd bad
 
 -- each match steps so
-pub stepped : (piece : PieceValue) (ps : List PieceValue) (text boundaries : List ℕ) (row : List Bool) (c : ℕ) (x rest : List ℕ) (xs : List (List ℕ)) → IsRow ps text boundaries row → (to : Lands text boundaries c x rest) → Takes piece x → Matches ps rest xs → IsAdvanceTo piece text boundaries row c to.d
+pub stepped : (piece : PieceValue) (ps : List PieceValue) (text boundaries : List ℕ) (row : List Bool) (c : ℕ) (x rest : List ℕ) (xs : List (List ℕ)) → IsRow ps text boundaries row → (to : Lands text boundaries c x rest) → CanTake piece x → Matches ps rest xs → IsAdvanceTo piece text boundaries row c to.d
 stepped piece ps text boundaries row c x rest xs r to takes m = grind (arith, common_steps)
 
 -- a column's cell, from the step over the piece
@@ -122,7 +122,7 @@ same_step (FieldPiece name kind) ps text x rest x' rest' xs xs' e e' n h m = gri
 
 other_step : (piece : PieceValue) (ps : List PieceValue) (text boundaries : List ℕ) (c d e : ℕ) (x rest x' rest' : List ℕ) (xs xs' : List (List ℕ)) → AreBoundaries text boundaries → d < length boundaries → e < length boundaries
     → get_or boundaries d 0 ≡ get_or boundaries c 0 + length x → get_or boundaries e 0 ≡ get_or boundaries c 0 + length x' → drop (get_or boundaries c 0) text ≡ x ++ rest → drop (get_or boundaries c 0) text ≡ x' ++ rest' → IsBestMatch ps rest xs → Matches ps rest' xs'
-    → Takes piece x → Takes piece x' → IsNotAfter piece d e → (with_span piece x' xs' ≡ with_span piece x xs) ⊎ IsPreferred (piece ∷ ps) (with_span piece x xs) (with_span piece x' xs')
+    → CanTake piece x → CanTake piece x' → IsNotAfter piece d e → (with_span piece x' xs' ≡ with_span piece x xs) ⊎ IsPreferred (piece ∷ ps) (with_span piece x xs) (with_span piece x' xs')
 other_step (Literal literal) ps text boundaries c d e x rest x' rest' xs xs' h kd ke pd pe cut cut' b m t t' n = same_step (Literal literal) ps (drop (get_or boundaries c 0) text) x rest x' rest' xs xs' cut cut' (ap length t ∙ sym (ap length t')) b m
 other_step (FieldPiece name Plain) ps text boundaries c d e x rest x' rest' xs xs' h kd ke pd pe cut cut' b m t t' n = elim (eq-or-lt_of_le n) [
   | inl same ↦ same_step (FieldPiece name Plain) ps (drop (get_or boundaries c 0) text) x rest x' rest' xs xs' cut cut' (let at : get_or boundaries e 0 ≡ get_or boundaries d 0 = ap (λ k. get_or boundaries k 0) same in omega arith) b m

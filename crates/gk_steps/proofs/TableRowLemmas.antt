@@ -28,8 +28,8 @@ plain_cell name ps text boundaries below c true u h r l any = step_cell (FieldPi
 plain_cell name ps text boundaries below c false u h r l any = no_step_cell (FieldPiece name Plain) ps text boundaries below c u tt h r l (λ d s.
     let is_false = any d (before (FieldPiece name Plain) text boundaries below c d h l s s.takes.1) in let is_true = s.rest in let bad : ⊥ = cc in bad)
 
-pub plain_row : (name : List ℕ) (ps : List PieceValue) (text boundaries : List ℕ) (below row : List Bool) → IsUtf8 text → AreBoundaries text boundaries → IsRow ps text boundaries below → IsPlainRow (length below) below row → IsRow (FieldPiece name Plain ∷ ps) text boundaries row
-plain_row name ps text boundaries below row u h r p = grind (arith, common_steps, plain_cell)
+pub plain_field_row : (name : List ℕ) (ps : List PieceValue) (text boundaries : List ℕ) (below row : List Bool) → IsUtf8 text → AreBoundaries text boundaries → IsRow ps text boundaries below → IsPlainRow (length below) below row → IsRow (FieldPiece name Plain ∷ ps) text boundaries row
+plain_field_row name ps text boundaries below row u h r p = grind (arith, common_steps, plain_cell)
 
 pub if_ok : {T E : Type 0} (r : Result T E) (P Q : T → Type 0) → ((x : T) → P x → Q x) → IfOk r P → IfOk r Q
 if_ok (Ok x) P Q f h = f x h

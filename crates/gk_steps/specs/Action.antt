@@ -15,8 +15,8 @@ use Rattle.gk_steps.specs.declared.action.Takes.TheVariants.{Nothing, Text, Tabl
 use Rattle.gk_steps.specs.declared.action.ActionRow.{ActionRow}
 
 -- The contents of borrowed words.
-abbrev pub words_said : List (Bor (List ℕ)) → List (List ℕ)
-words_said words = map (λ word. word.now) words
+abbrev pub word_texts : List (Bor (List ℕ)) → List (List ℕ)
+word_texts words = map (λ word. word.now) words
 
 -- A row of the table of actions: a name, its action, what the action does, what it acts on, what it takes besides its other fields, the fields that it needs, and all fields that it uses.
 pub record ActionRowValue : Type 0 where
@@ -36,8 +36,8 @@ action_row_value row = record {
   does = row.does;
   acts_on = row.acts_on;
   takes = row.takes;
-  needs = words_said row.needs.now;
-  uses = words_said row.uses.now;
+  needs = word_texts row.needs.now;
+  uses = word_texts row.uses.now;
 }
 
 -- The field for a name.
@@ -76,7 +76,7 @@ text_row name action does acts_on = record { name = name; action = action; does 
 abbrev pub table_row : List ℕ → Action → Does → ActsOn → ActionRowValue
 table_row name action does acts_on = record { name = name; action = action; does = does; acts_on = acts_on; takes = Table; needs = []; uses = [] }
 
--- The row of each action: its name, what it does, what it acts on, and the fields that it needs. An action that is given no name counts as one on values.
+-- The row of each action: its name, what it does, what it acts on, and the fields that it needs. `at_cleanup`, `skip_scenario`, `pass` and `fail`, which act on nothing, have `Value`, too.
 abbrev pub row_of : Action → ActionRowValue
 row_of actions.WriteFile = text_row (codes "write_file") actions.WriteFile Changes File
 row_of actions.AppendFile = text_row (codes "append_file") actions.AppendFile Changes File

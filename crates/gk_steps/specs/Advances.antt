@@ -10,15 +10,15 @@ abbrev pub part : List ℕ → List ℕ → ℕ → ℕ → List ℕ
 part text boundaries c d = take (slice_index boundaries d - slice_index boundaries c) (drop (slice_index boundaries c) text)
 
 -- The texts that a piece can take.
-abbrev pub Takes : PieceValue → List ℕ → Type 0
-Takes (Literal literal) x = x ≡ literal
-Takes (FieldPiece name kind) x = IsSpan kind x
+abbrev pub CanTake : PieceValue → List ℕ → Type 0
+CanTake (Literal literal) x = x ≡ literal
+CanTake (FieldPiece name kind) x = IsSpan kind x
 
 -- An advance over a piece from one column to another, after which the rest matches, as the row below says.
 pub record IsAdvanceTo (piece : PieceValue) (text : List ℕ) (boundaries : List ℕ) (below : List Bool) (c : ℕ) (d : ℕ) : Type 0 where
   pub within : d ≤ c
   pub rest : slice_index_or below d false ≡ true
-  pub takes : Takes piece (part text boundaries c d)
+  pub takes : CanTake piece (part text boundaries c d)
 
 -- An advance that isn't less preferred than another: a plain field takes as little as it can, the other kind as much as it can.
 abbrev pub IsNotAfter : PieceValue → ℕ → ℕ → Type 0

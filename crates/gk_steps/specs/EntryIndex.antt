@@ -7,7 +7,7 @@ use Rattle.std.specs.declared.alloc.Global.{Global}
 use Rattle.gk_steps.specs.declared.library.Entry.{Entry}
 use Rattle.gk_steps.specs.declared.library.LibraryBuilder.{LibraryBuilder}
 use Rattle.gk_steps.specs.declared.entry_index.Index.{Index}
-use Rattle.gk_steps.specs.declared.entry_index.Head.{Head}
+use Rattle.gk_steps.specs.declared.entry_index.HeadWord.{HeadWord}
 use Rattle.gk_steps.specs.declared.entry_index.IndexedEntries.{IndexedEntries}
 use Rattle.gk_steps.specs.Pattern.{PieceValue, Literal, FieldPiece, pattern_value}
 use Rattle.gk_steps.specs.Matching.{MatchesNot}
@@ -127,23 +127,23 @@ IsOther None word = ⊥
 IsOther (Some head) word = Some head ≡ word → ⊥
 
 -- A head stands for the entry at this other position: the entry is at the head's position or among the `more` after it.
-pub record StandsFor (heads : List Head) (position other : ℕ) (head : Head) : Type 0 where
+pub record StandsFor (heads : List HeadWord) (position other : ℕ) (head : HeadWord) : Type 0 where
   pub there : slice_get heads position ≡ Some head
   pub low : position ≤ other
   pub high : other ≤ position + head.more
 
 -- The heads of the entries between two positions are other words than that of a text.
-pub record PassesHeads (heads : List Head) (from : ℕ) (word : Option ℕ) (result : ℕ) : Type 0 where
+pub record PassesHeads (heads : List HeadWord) (from : ℕ) (word : Option ℕ) (result : ℕ) : Type 0 where
   pub low : from ≤ result
-  pub passed : (other : ℕ) → from ≤ other → other < result → (position : ℕ) × (head : Head) × StandsFor heads position other head × IsOther head.word word
+  pub passed : (other : ℕ) → from ≤ other → other < result → (position : ℕ) × (head : HeadWord) × StandsFor heads position other head × IsOther head.word word
 
 -- Each head that is a word is that of every entry that it stands for.
-abbrev pub AreHeads : List Head → List Entry → Type 0
-AreHeads heads entries = (position other word : ℕ) (head : Head) (entry : Entry) → StandsFor heads position other head → head.word ≡ Some word → slice_get entries other ≡ Some entry → Some word ≡ head_of (pattern_value entry.pattern)
+abbrev pub AreHeads : List HeadWord → List Entry → Type 0
+AreHeads heads entries = (position other word : ℕ) (head : HeadWord) (entry : Entry) → StandsFor heads position other head → head.word ≡ Some word → slice_get entries other ≡ Some entry → Some word ≡ head_of (pattern_value entry.pattern)
 
 -- Each head stands for one entry.
-abbrev pub AreSingle : List Head → Type 0
-AreSingle heads = (position : ℕ) (head : Head) → slice_get heads position ≡ Some head → head.more ≡ 0
+abbrev pub AreSingle : List HeadWord → Type 0
+AreSingle heads = (position : ℕ) (head : HeadWord) → slice_get heads position ≡ Some head → head.more ≡ 0
 
 -- The heads of these entries are theirs, and their index lists the first of them.
 pub record IsIndexed (indexed : IndexedEntries) : Type 0 where

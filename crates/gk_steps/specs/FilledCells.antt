@@ -1,5 +1,5 @@
 -- The number of cells in the tables of matches.
-use Rattle.std.specs.Prelude.{◌≡◌, ◌≤◌, ◌+◌, ◌*◌, ℕ, List, [], ◌∷◌, length, Option, Some, None, if◌then◌else◌}
+use Rattle.std.specs.Prelude.{◌≡◌, ◌≤◌, ◌+◌, ◌-◌, ◌*◌, ◌^◌, ℕ, List, [], ◌∷◌, length, Option, Some, None, if◌then◌else◌}
 use Rattle.std.specs.Str.{chars}
 use Rattle.gk_gherkin.specs.declared.feature.StepType.{StepType}
 use Rattle.gk_steps.specs.Pattern.{PieceValue}
@@ -20,4 +20,4 @@ cells_of_step entries step_type text = cells_of_type entries (Some step_type) te
 
 -- A 64-bit count grew by exactly this number, if the sum fits in 64 bits.
 abbrev pub GoesOnBy : ℕ → ℕ → ℕ → Type 0
-GoesOnBy more old new = old + more ≤ 18446744073709551615 → new ≡ old + more
+GoesOnBy more old new = old + more ≤ 2 ^ 64 - 1 → new ≡ old + more

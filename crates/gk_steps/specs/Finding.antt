@@ -28,8 +28,8 @@ abbrev pub entry_value : Entry → EntryValue
 entry_value e = record { step_type = e.step_type; pattern = pattern_value e.pattern; action = e.action }
 
 -- The values of entries, in order.
-abbrev pub entries_said : List Entry → List EntryValue
-entries_said entries = map entry_value entries
+abbrev pub entry_values : List Entry → List EntryValue
+entry_values entries = map entry_value entries
 
 -- The entries of a library, in order. (behave's documentation: step implementations)
 abbrev pub LibraryValue : Type 0
@@ -95,13 +95,17 @@ HasTableCandidateFor entries step_type text = HasTableCandidate entries (Some st
 abbrev pub NoneFound : LibraryValue → Option StepType → List ℕ → Type 0
 NoneFound entries step_type text = (position : ℕ) (entry : EntryValue) → slice_get entries position ≡ Some entry → entry.step_type ≡ step_type → MatchesNot entry.pattern text
 
+-- No entry of exactly this type before a position matches the text.
+abbrev pub NoneBefore : ℕ → LibraryValue → Option StepType → List ℕ → Type 0
+NoneBefore size entries step_type text = (earlier : ℕ) (other : EntryValue) → earlier < size → slice_get entries earlier ≡ Some other → other.step_type ≡ step_type → MatchesNot other.pattern text
+
 -- The preferred match of the first entry of this type that has a match, in library order.
 pub record IsFirstFound (entries : LibraryValue) (step_type : Option StepType) (text : List ℕ) (found : FoundValue) : Type 0 where
   pub entry : EntryValue
   pub position : slice_get entries found.entry ≡ Some entry
   pub is_type : entry.step_type ≡ step_type
   pub fields : IsMatchResult entry.pattern text (Some found.fields)
-  pub first : (earlier : ℕ) (other : EntryValue) → earlier < found.entry → slice_get entries earlier ≡ Some other → other.step_type ≡ step_type → MatchesNot other.pattern text
+  pub first : NoneBefore found.entry entries step_type text
 
 -- The result of a search among the entries of one type.
 abbrev pub IsFoundOf : LibraryValue → Option StepType → List ℕ → Option FoundValue → Type 0
@@ -115,8 +119,7 @@ IsFound entries step_type text (Some found) = IsFirstFound entries (Some step_ty
 
 -- The result of looking up a text among the entries of type `step` only.
 abbrev pub IsFoundAny : LibraryValue → List ℕ → Option FoundValue → Type 0
-IsFoundAny entries text None = NoneFound entries None text
-IsFoundAny entries text (Some found) = IsFirstFound entries None text found
+IsFoundAny entries text found = IsFoundOf entries None text found
 
 -- Whether two step types are equal.
 abbrev pub is_same_type : StepType → StepType → Bool
@@ -176,9 +179,9 @@ pub record FindsWhatIsFound : Type 0 where
   pub fits : (library : LibraryValue) (step_type : StepType) (text : List ℕ) (f : FoundValue) → IsFound library step_type text (Some f) → FitsLibrary library f
   pub fits_any : (library : LibraryValue) (text : List ℕ) (f : FoundValue) → IsFoundAny library text (Some f) → FitsLibrary library f
 
--- The action of a found entry; an entry that a text finds always has one.
+-- The action of a found entry; `Fail` if the library has no entry at its position. An entry that a text finds has one.
 abbrev pub action_of : LibraryValue → FoundValue → Action
-action_of library f = option_map_or (λ (e : EntryValue). e.action) (slice_get library f.entry) actions.Pass
+action_of library f = option_map_or (λ (e : EntryValue). e.action) (slice_get library f.entry) actions.Fail
 
 -- The field of this name among those of a pattern; none if it has no such field. (behave's documentation: step parameters)
 abbrev pub field_named : List ℕ → List PieceValue → List FieldValue → Option FieldValue
@@ -230,7 +233,3 @@ abbrev pub IsUseOf : LibraryValue → Option FoundValue → Option FoundUse → 
 IsUseOf library None None = Unit {0}
 IsUseOf library (Some f) (Some u) = HasUse library f u
 IsUseOf library _ _ = ⊥
-
--- Proof machinery: no entry of this type before a position matches.
-abbrev pub NoneBefore : ℕ → LibraryValue → Option StepType → List ℕ → Type 0
-NoneBefore size entries step_type text = (earlier : ℕ) (other : EntryValue) → earlier < size → slice_get entries earlier ≡ Some other → other.step_type ≡ step_type → MatchesNot other.pattern text

@@ -7,7 +7,7 @@ use Rattle.gk_steps.specs.declared.pattern.FieldKind.TheVariants.{Plain}
 use Rattle.gk_steps.specs.Pattern.{PieceValue, Literal, FieldPiece}
 use Rattle.gk_steps.specs.Matching.{MatchesNot, IsMatchResult, FieldValue}
 use Rattle.gk_steps.specs.Finding.{DependsOnMore}
-use Rattle.gk_steps.specs.Advances.{Takes, values_of}
+use Rattle.gk_steps.specs.Advances.{CanTake, values_of}
 
 -- A literal occurs in a text at a position that is a character boundary.
 pub record CanStandAt (literal : List ℕ) (text : List ℕ) (position : ℕ) : Type 0 where
@@ -33,7 +33,7 @@ IsFirstPosition literal text (Some position) = IsFirst literal text position
 -- A piece takes the text before a position. What the whole pattern finds is the value of the piece, followed by what the rest of the pattern finds after the position.
 pub record TakesUpTo (piece : PieceValue) (ps : List PieceValue) (text : List ℕ) (position : ℕ) : Type 0 where
   pub boundary : IsCharBoundary text position
-  pub takes : Takes piece (take position text)
+  pub takes : CanTake piece (take position text)
   pub goes_on : (found : Option (List FieldValue)) → IsMatchResult ps (drop position text) found → IsMatchResult (piece ∷ ps) text (option_map (λ (fields : List FieldValue). values_of piece (take position text) ++ fields) found)
 
 -- What is known about the first piece: what it takes, or that the pattern has no match. It is unknown only if it depends on more.

@@ -1,22 +1,27 @@
 -- The meaning of the faults of a library file.
 use Rattle.std.specs.Prelude.{codes, ◌≡◌, ◌≢◌, ℕ, List, Option, Some, None}
-use Rattle.gk_gherkin.specs.Lines.{lines_of, IsText, IsTooLong, IsNotUtf8At}
+use Rattle.gk_gherkin.specs.Lines.{Lines, lines_of, IsText, IsTooLong, IsNotUtf8At}
 use Rattle.gk_gherkin.specs.ReadFault.{FaultSaid, said_no_memory, said_not_utf8, said_too_long}
 use Rattle.gk_steps.specs.declared.library_fault.LibraryFault.{LibraryFault}
 use Rattle.gk_steps.specs.declared.library_fault.LibraryFault.TheVariants as faults
 use Rattle.gk_steps.specs.LibraryFile.{StopsLibraryAt, IsBadType, IsBadPattern, IsUnknownAction, IsMissingField, IsOtherKind, IsAmbiguous, LibraryNeedsMemory}
 
--- What a fault says about the bytes. `TooLong` comes before `NotUtf8`, and both come before any fault of the lines. `Memory` says that the lines ask for memory.
+-- What a fault says about the lines. Refused memory says that they ask for some.
+abbrev pub LibraryLinesFaultSays : LibraryFault → Lines → Type 0
+LibraryLinesFaultSays faults.Memory ls = LibraryNeedsMemory ls
+LibraryLinesFaultSays (faults.BadType n) ls = StopsLibraryAt ls n IsBadType
+LibraryLinesFaultSays (faults.BadPattern n) ls = StopsLibraryAt ls n IsBadPattern
+LibraryLinesFaultSays (faults.UnknownAction n) ls = StopsLibraryAt ls n IsUnknownAction
+LibraryLinesFaultSays (faults.MissingField n) ls = StopsLibraryAt ls n IsMissingField
+LibraryLinesFaultSays (faults.FieldKind n) ls = StopsLibraryAt ls n IsOtherKind
+LibraryLinesFaultSays (faults.Ambiguous n) ls = StopsLibraryAt ls n IsAmbiguous
+LibraryLinesFaultSays _ ls = ⊥
+
+-- What a fault says about the bytes. `TooLong` comes before `NotUtf8`, and both come before any fault of the lines.
 abbrev pub LibraryFaultSays : LibraryFault → List ℕ → Type 0
-LibraryFaultSays faults.Memory bytes = IsText bytes × LibraryNeedsMemory (lines_of bytes)
 LibraryFaultSays faults.TooLong bytes = IsTooLong bytes
 LibraryFaultSays (faults.NotUtf8 n) bytes = IsNotUtf8At bytes n
-LibraryFaultSays (faults.BadType n) bytes = IsText bytes × StopsLibraryAt (lines_of bytes) n IsBadType
-LibraryFaultSays (faults.BadPattern n) bytes = IsText bytes × StopsLibraryAt (lines_of bytes) n IsBadPattern
-LibraryFaultSays (faults.UnknownAction n) bytes = IsText bytes × StopsLibraryAt (lines_of bytes) n IsUnknownAction
-LibraryFaultSays (faults.MissingField n) bytes = IsText bytes × StopsLibraryAt (lines_of bytes) n IsMissingField
-LibraryFaultSays (faults.FieldKind n) bytes = IsText bytes × StopsLibraryAt (lines_of bytes) n IsOtherKind
-LibraryFaultSays (faults.Ambiguous n) bytes = IsText bytes × StopsLibraryAt (lines_of bytes) n IsAmbiguous
+LibraryFaultSays fault bytes = IsText bytes × LibraryLinesFaultSays fault (lines_of bytes)
 
 -- No bytes have two faults as a library file, neither of two kinds nor on two lines. Refused memory is excluded: it is no fault of the bytes.
 abbrev pub LibraryFaultIsUnique : Type 0

@@ -12,8 +12,8 @@ use Rattle.gk_steps.specs.declared.library.Library.{Library}
 use Rattle.gk_steps.specs.declared.library_fault.LibraryFault.{LibraryFault}
 use Rattle.gk_steps.specs.declared.library_fault.LibraryFault.TheVariants.{Memory}
 use Rattle.gk_steps.specs.Pattern.{PieceValue, BeginsWithPiece, SpellsPattern, field_kind}
-use Rattle.gk_steps.specs.Matching.{Matches, MatchesNot}
-use Rattle.gk_steps.specs.Finding.{EntryValue, LibraryValue, library_value}
+use Rattle.gk_steps.specs.Matching.{Matches}
+use Rattle.gk_steps.specs.Finding.{EntryValue, LibraryValue, NoneFound, library_value}
 use Rattle.gk_steps.specs.Action.{ActionRowValue, action_row, kind_of_field}
 
 -- Ignored lines: trimmed, they are empty or begin with `#`.
@@ -64,11 +64,7 @@ HasNeededFields row ps = AllByRecursion (λ name. IsSome (field_kind ps name)) r
 abbrev pub HasRightKinds : ActionRowValue → List PieceValue → Type 0
 HasRightKinds row ps = AllByRecursion (λ name. (kind : FieldKind) → field_kind ps name ≡ Some kind → kind ≡ kind_of_field name) row.uses
 
--- No earlier entry of this type matches a text. (behave's documentation: ambiguous steps)
-abbrev pub NoneMatches : List EntryValue → Option StepType → List ℕ → Type 0
-NoneMatches earlier step_type text = AllByRecursion (λ (e : EntryValue). e.step_type ≡ step_type → MatchesNot e.pattern text) earlier
-
--- A line that spells an entry, after earlier ones: a type, a pattern and an action. The pattern has the fields that the action needs, and those that it uses are of the right kinds. No earlier entry of the type matches the pattern's text as written.
+-- A line that spells an entry, after earlier ones: a type, a pattern and an action. The pattern has the fields that the action needs, and those that it uses are of the right kinds. No earlier entry of the type matches the pattern's text as written. (behave's documentation: ambiguous steps)
 pub record SpellsEntry (earlier : List EntryValue) (line : LineValue) (entry : EntryValue) : Type 0 where
   pub sides : Sides
   pub row : ActionRowValue
@@ -79,7 +75,7 @@ pub record SpellsEntry (earlier : List EntryValue) (line : LineValue) (entry : E
   pub action : entry.action ≡ row.action
   pub needs : HasNeededFields row entry.pattern
   pub kinds : HasRightKinds row entry.pattern
-  pub unambiguous : NoneMatches earlier entry.step_type sides.pattern
+  pub unambiguous : NoneFound earlier entry.step_type sides.pattern
 
 -- Lines that spell entries, one each, in order.
 abbrev pub SpellEntries : List EntryValue → Lines → List EntryValue → Type 0

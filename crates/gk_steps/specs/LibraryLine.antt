@@ -1,7 +1,7 @@
--- Reading one line of a step library, part by part.
+-- The type, the pattern's text and the action's name of a library's line; and the kinds of fields.
 use Rattle.std.specs.Prelude.{◌≡◌, ℕ, Bool, true, false, is_some, List, [], ◌∷◌, ◌++◌, Option, Some, None}
 use Rattle.std.specs.List.{list_all}
-use Rattle.gk_gherkin.specs.Lines.{LineValue, Lines}
+use Rattle.gk_gherkin.specs.Lines.{LineValue}
 use Rattle.gk_gherkin.specs.declared.feature.StepType.{StepType}
 use Rattle.gk_steps.specs.declared.action.Action.{Action}
 use Rattle.gk_steps.specs.declared.pattern.FieldKind.{FieldKind}
@@ -11,11 +11,18 @@ use Rattle.gk_steps.specs.declared.library_fault.LibraryFault.TheVariants as fau
 use Rattle.gk_steps.specs.Pattern.{PieceValue, BeginsWithPiece, SpellsPattern, field_kind}
 use Rattle.gk_steps.specs.Action.{ActionRowValue, action_row, kind_of_field}
 use Rattle.gk_steps.specs.Finding.{EntryValue}
-use Rattle.gk_steps.specs.LibraryFile.{Sides, SpellsEntry, is_ignored, type_of, sides_of, HasNeededFields, HasRightKinds, IsBadType, IsBadPattern, IsUnknownAction, IsMissingField, IsOtherKind, IsAmbiguous, StopsLibraryAt, EntryNeedsMemory, LibraryNeedsMemory}
+use Rattle.gk_steps.specs.LibraryFile.{Sides, SpellsEntry, is_ignored, type_of, sides_of, HasNeededFields, HasRightKinds, IsBadType, IsBadPattern, IsUnknownAction, IsMissingField, IsOtherKind, IsAmbiguous, EntryNeedsMemory}
 
--- The texts on the two sides of an arrow: a pattern and an action's name.
-abbrev pub sides : List ℕ → List ℕ → Sides
-sides pattern action = record { pattern = pattern; action = action }
+-- A line's type and the two sides of its arrow.
+pub record IsEntryText (line : LineValue) (step_type : Option StepType) (pattern : List ℕ) (action : List ℕ) : Type 0 where
+  pub is_type : type_of line ≡ Some step_type
+  pub is_cut : sides_of line ≡ Some (record { pattern = pattern; action = action })
+
+-- The reason why a line has no type, or no arrow after it.
+abbrev pub EntryTextFaultSays : LibraryFault → LineValue → Type 0
+EntryTextFaultSays (faults.BadType n) line = (n ≡ line.line) × (type_of line ≡ None)
+EntryTextFaultSays (faults.BadPattern n) line = (n ≡ line.line) × (step_type : Option StepType) × (type_of line ≡ Some step_type) × (sides_of line ≡ None)
+EntryTextFaultSays _ line = ⊥
 
 -- Whether two field kinds are equal.
 abbrev pub is_same_kind : FieldKind → FieldKind → Bool
@@ -28,17 +35,23 @@ abbrev pub is_none_or_kind : Option FieldKind → FieldKind → Bool
 is_none_or_kind None kind = true
 is_none_or_kind (Some other) kind = is_same_kind other kind
 
--- Whether a pattern has all needed fields.
-abbrev pub has_needed : List (List ℕ) → List PieceValue → Bool
-has_needed names ps = list_all (λ name. is_some (field_kind ps name)) names
-
 -- Whether the field of this name, if there is one, is of the kind that the name requires.
 abbrev pub has_right_kind : List PieceValue → List ℕ → Bool
 has_right_kind ps name = is_none_or_kind (field_kind ps name) (kind_of_field name)
 
+-- Proof machinery, from here on: reading a line, part by part.
+
+-- The texts on the two sides of an arrow: a pattern and an action's name.
+abbrev pub sides : List ℕ → List ℕ → Sides
+sides pattern action = record { pattern = pattern; action = action }
+
+-- Whether a pattern has all needed fields.
+abbrev pub has_needed : List (List ℕ) → List PieceValue → Bool
+has_needed names ps = list_all (λ name. is_some (field_kind ps name)) names
+
 -- Whether all used fields are of the kinds that their names require.
 abbrev pub has_right_kinds : List (List ℕ) → List PieceValue → Bool
-has_right_kinds names ps = list_all (λ name. is_none_or_kind (field_kind ps name) (kind_of_field name)) names
+has_right_kinds names ps = list_all (has_right_kind ps) names
 
 -- The action of this name; the pattern has its needed fields, and its used fields are of the right kinds.
 pub record FitsAction (name : List ℕ) (ps : List PieceValue) (action : Action) : Type 0 where
@@ -74,17 +87,6 @@ PatternFaultSays (faults.BadPattern n) line text = (n ≡ line) × ((ps : List P
 PatternFaultSays faults.Memory line text = BeginsWithPiece text
 PatternFaultSays _ line text = ⊥
 
--- A line's type and the two sides of its arrow.
-pub record IsEntryText (line : LineValue) (step_type : Option StepType) (pattern : List ℕ) (action : List ℕ) : Type 0 where
-  pub is_type : type_of line ≡ Some step_type
-  pub is_cut : sides_of line ≡ Some (record { pattern = pattern; action = action })
-
--- The reason why a line has no type, or no arrow after it.
-abbrev pub EntryTextFaultSays : LibraryFault → LineValue → Type 0
-EntryTextFaultSays (faults.BadType n) line = (n ≡ line.line) × (type_of line ≡ None)
-EntryTextFaultSays (faults.BadPattern n) line = (n ≡ line.line) × (step_type : Option StepType) × (type_of line ≡ Some step_type) × (sides_of line ≡ None)
-EntryTextFaultSays _ line = ⊥
-
 -- The reason why a line spells no entry, or that it asks for memory.
 abbrev pub EntryFaultSays : LibraryFault → List EntryValue → LineValue → Type 0
 EntryFaultSays faults.Memory earlier line = EntryNeedsMemory line
@@ -95,17 +97,6 @@ EntryFaultSays (faults.MissingField n) earlier line = (n ≡ line.line) × IsMis
 EntryFaultSays (faults.FieldKind n) earlier line = (n ≡ line.line) × IsOtherKind earlier line
 EntryFaultSays (faults.Ambiguous n) earlier line = (n ≡ line.line) × IsAmbiguous earlier line
 EntryFaultSays _ earlier line = ⊥
-
--- What a fault says about the lines. Refused memory says that they ask for some.
-abbrev pub LibraryLinesFaultSays : LibraryFault → Lines → Type 0
-LibraryLinesFaultSays faults.Memory ls = LibraryNeedsMemory ls
-LibraryLinesFaultSays (faults.BadType n) ls = StopsLibraryAt ls n IsBadType
-LibraryLinesFaultSays (faults.BadPattern n) ls = StopsLibraryAt ls n IsBadPattern
-LibraryLinesFaultSays (faults.UnknownAction n) ls = StopsLibraryAt ls n IsUnknownAction
-LibraryLinesFaultSays (faults.MissingField n) ls = StopsLibraryAt ls n IsMissingField
-LibraryLinesFaultSays (faults.FieldKind n) ls = StopsLibraryAt ls n IsOtherKind
-LibraryLinesFaultSays (faults.Ambiguous n) ls = StopsLibraryAt ls n IsAmbiguous
-LibraryLinesFaultSays _ ls = ⊥
 
 -- Entries with one more, spelled by a line.
 pub record AddsEntry (before : List EntryValue) (line : LineValue) (after : List EntryValue) : Type 0 where

@@ -67,8 +67,8 @@ field_value (fields.Text text) = TextField (string_bytes text)
 field_value (fields.Number n) = NumberField n
 
 -- The values of fields, if there are any.
-abbrev pub fields_said : Option (Vec Field Global) → Option (List FieldValue)
-fields_said found = option_map (λ (fields : Vec Field Global). map field_value fields.items) found
+abbrev pub field_values : Option (Vec Field Global) → Option (List FieldValue)
+field_values found = option_map (λ (fields : Vec Field Global). map field_value fields.items) found
 
 -- The value of a field's span.
 abbrev pub span_value : FieldKind → List ℕ → FieldValue

@@ -19,8 +19,8 @@ piece_value (pieces.Literal text) = Literal (string_bytes text)
 piece_value (pieces.Field name kind) = FieldPiece (string_bytes name) kind
 
 -- The values of pieces, in order.
-abbrev pub pieces_said : List Piece → List PieceValue
-pieces_said pieces = map piece_value pieces
+abbrev pub piece_values : List Piece → List PieceValue
+piece_values pieces = map piece_value pieces
 
 -- The value of a `Pattern`.
 abbrev pub pattern_value : Pattern → List PieceValue

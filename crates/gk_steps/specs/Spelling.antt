@@ -7,7 +7,7 @@ use Rattle.gk_steps.specs.declared.pattern.FieldKind.TheVariants.{Plain, Decimal
 use Rattle.gk_steps.specs.declared.pattern.Piece.{Piece}
 use Rattle.gk_steps.specs.declared.pattern.PatternFault.{PatternFault}
 use Rattle.gk_steps.specs.declared.pattern.PatternFault.TheVariants.{Memory}
-use Rattle.gk_steps.specs.Pattern.{PieceValue, Literal, FieldPiece, piece_value, pieces_said, spelled_literal, spelled_piece, is_name_byte, is_field_name, field_names, field_kind, AreLongestRuns}
+use Rattle.gk_steps.specs.Pattern.{PieceValue, Literal, FieldPiece, piece_value, piece_values, spelled_literal, spelled_piece, is_name_byte, is_field_name, field_names, field_kind, AreLongestRuns}
 
 -- A brace: `{` or `}`.
 abbrev pub is_brace : ℕ → Bool
@@ -78,11 +78,11 @@ pub record AddsField (text : List ℕ) (before : List PieceValue) (after : List 
 
 -- The field that a text begins with is added to the values of pieces, and this is the rest.
 abbrev pub PushesField : List ℕ → List Piece → List Piece → List ℕ → Type 0
-PushesField text before after rest = AddsField text (pieces_said before) (pieces_said after) rest
+PushesField text before after rest = AddsField text (piece_values before) (piece_values after) rest
 
 -- The literal that a text begins with is added to the values of pieces, and this is the rest.
 abbrev pub PushesLiteral : List ℕ → List Piece → List Piece → List ℕ → Type 0
-PushesLiteral text before after rest = AddsLiteral text (pieces_said before) (pieces_said after) rest
+PushesLiteral text before after rest = AddsLiteral text (piece_values before) (piece_values after) rest
 
 -- Pieces whose first, if there is one, is a field.
 abbrev pub BeginWithField : List PieceValue → Type 0

@@ -1,6 +1,6 @@
 -- Proof machinery: the rows of the table of a match. Each row is for a number of the pattern's last pieces.
 use Rattle.std.specs.Prelude.{◌≡◌, ◌<◌, ◌+◌, ◌-◌, ℕ, Bool, true, false, List, ◌∷◌, length, drop, slice_index, Vec, slice_index_or}
-use Rattle.gk_steps.specs.Pattern.{PieceValue, pieces_said}
+use Rattle.gk_steps.specs.Pattern.{PieceValue, piece_values}
 use Rattle.gk_steps.specs.declared.pattern.Piece.{Piece}
 use Rattle.std.specs.declared.alloc.Global.{Global}
 use Rattle.gk_steps.specs.Matching.{Matches, MatchesNot}
@@ -40,4 +40,4 @@ pub record IsTable (size : ℕ) (ps : List PieceValue) (text : List ℕ) (bounda
 
 -- All rows of a pattern's table, from no pieces to the whole pattern.
 abbrev pub IsWholeTable : List Piece → List ℕ → List ℕ → List (Vec Bool Global) → Type 0
-IsWholeTable pieces text boundaries rows = IsTable (length pieces + 1) (pieces_said pieces) text boundaries rows
+IsWholeTable pieces text boundaries rows = IsTable (length pieces + 1) (piece_values pieces) text boundaries rows

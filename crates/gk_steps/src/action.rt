@@ -4,7 +4,8 @@ ghost use Rattle.std.specs.Str.{bytes_eq};
 ghost use Rattle.gk_steps.specs.Action.{action_row, action_row_value, action_table, row_among, row_of};
 
 /// The action of a step that finds an entry: what it does, and the reasons for which it fails, in the order in which
-/// they are looked for. `tools/tables.py` writes these into the guide.
+/// they are looked for. An action that takes a text fails before all of these with `no text` if it has none.
+/// `tools/tables.py` writes these into the guide.
 #[derive(Clone, Copy, Debug, PartialEq, Eq)]
 pub enum Action {
     /// Writes the file, replacing an old text. Reasons: bad name, text too long.
@@ -78,8 +79,8 @@ pub enum ActsOn {
     File,
     /// A variable.
     Variable,
-    /// A value: the one that is seen, or the one of the innermost layer. An action that is given no name counts as
-    /// one on values.
+    /// A value: the visible one, or that of the innermost layer. `at_cleanup`, `skip_scenario`, `pass` and `fail`,
+    /// which act on nothing, have it, too.
     Value,
 }
 

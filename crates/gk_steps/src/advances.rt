@@ -1,5 +1,5 @@
 //! Advances over a piece, from one column of the table to another.
-ghost use Rattle.std.specs.Prelude.{◌≡◌, ◌<◌, ◌++◌, ℕ, List, [], length, Option, Some, None, IfSome, IsSomeAnd};
+ghost use Rattle.std.specs.Prelude.{◌≡◌, ◌<◌, [], length};
 ghost use Rattle.gk_steps.specs.declared.pattern.FieldKind.TheVariants.{Decimal};
 ghost use Rattle.gk_steps.specs.Pattern.{Literal, FieldPiece, piece_value};
 ghost use Rattle.gk_steps.specs.CharBoundaries.{AreBoundaries};
@@ -7,20 +7,8 @@ ghost use Rattle.gk_steps.specs.Advances.{IsAdvance, IsNearest};
 
 use crate::decimal::LARGEST;
 use crate::digits::longest_digits;
+use crate::literal_ends::rest_after;
 use crate::pattern::{FieldKind, Piece};
-
-/// Returns the rest of a text after a prefix, or `None` if the text doesn't begin with it.
-pub(crate) fn rest_after<'a>(text: &'a str, prefix: &str) -> Option<&'a str>
-    ensures found { IfSome result (λ rest. text.entry.now ≡ prefix.now ++ rest.now) }
-    ensures only { (rest : List ℕ) → text.entry.now ≡ prefix.now ++ rest
-        → IsSomeAnd result (λ found. found.now ≡ rest) }
-{
-    if text.starts_with(prefix) {
-        Some(&text[prefix.len()..])
-    } else {
-        None
-    }
-}
 
 /// Returns the advance over a literal.
 fn literal_advance(

@@ -2,7 +2,7 @@
 ghost use Rattle.std.specs.Prelude.{◌≡◌, ◌++◌, ◌∷◌, ℕ, List, [], map, IfOk, IfErr, OnOk};
 ghost use Rattle.gk_steps.specs.Pattern.{PieceValue, Literal, piece_value};
 ghost use Rattle.gk_steps.specs.Matching.{FieldValue, IsSpan, field_value, span_value};
-ghost use Rattle.gk_steps.specs.Advances.{Takes, values_of};
+ghost use Rattle.gk_steps.specs.Advances.{CanTake, values_of};
 ghost use Rattle.gk_steps.specs.Captures.{capture_value};
 
 use crate::decimal::number_of;
@@ -30,7 +30,7 @@ pub(crate) trait Captures<'t>: Drop {
 
     /// Adds what is kept of a piece that took a span.
     fn add(&mut self, alloc: Global, piece: &Piece, span: &'t str) -> Result<(), AllocError>
-        requires { Takes (piece_value piece.now) span.now }
+        requires { CanTake (piece_value piece.now) span.now }
         ensures kept { let p = piece_value piece.now in
             OnOk result ((ps : List PieceValue) (before : List FieldValue)
             → keeps ps self.old before
@@ -76,7 +76,7 @@ fn push_capture(
     piece: &Piece,
     span: &str,
 ) -> Result<(), AllocError>
-    requires { Takes (piece_value piece.now) span.now }
+    requires { CanTake (piece_value piece.now) span.now }
     ensures { let more = values_of (piece_value piece.now) span.now in
         OnOk result (map field_value fields.new.items ≡ map field_value fields.old.items ++ more) }
 {

@@ -1,6 +1,6 @@
 //! An index over the literals at the ends of patterns.
 ghost use Rattle.std.specs.Prelude.{◌≡◌, ℕ, List, take, true, false, Option, Some, None, IsTrue, OnOk};
-ghost use Rattle.gk_steps.specs.Pattern.{PieceValue, piece_value, pieces_said};
+ghost use Rattle.gk_steps.specs.Pattern.{PieceValue, piece_value, piece_values};
 ghost use Rattle.gk_steps.specs.EntryIndex as spec;
 ghost use Rattle.gk_steps.specs.EntryIndex.{IsAmong, IsMarked, items_under, Lists, IsIndexOf};
 ghost use Rattle.gk_steps.specs.EntryIndex.{IsLeastFrom, Skips, HasFirst, HasEnds};
@@ -13,10 +13,16 @@ use crate::pattern::Piece;
 use std::alloc::{AllocError, Global};
 use std::collections::HashMap;
 
+/// The number of entries up to which the index lists none.
+const UNLISTED: usize = 64;
+
+/// The number of tries after which a search no longer uses the index.
+const MOST_TRIES: usize = 8;
+
 /// The word at the head of an entry's pattern, if it has one, and the number of entries after it that are known to have
 /// the same. A search passes over all of these at once.
 #[derive(Clone, Copy, Debug)]
-pub(crate) struct Head {
+pub(crate) struct HeadWord {
     pub word: Option<u64>,
     pub more: usize,
 }
@@ -49,7 +55,7 @@ fn literal_of(piece: &Piece) -> &str
 
 // Returns the literal that a pattern begins with, or an empty text if there is none.
 fn first_literal(pieces: &[Piece]) -> &str
-    ensures { result.now ≡ spec.first_literal (pieces_said pieces.now) }
+    ensures { result.now ≡ spec.first_literal (piece_values pieces.now) }
 {
     match pieces.first() {
         Some(piece) => literal_of(piece),
@@ -60,7 +66,7 @@ fn first_literal(pieces: &[Piece]) -> &str
 // Returns the literal that a pattern ends with, or an empty text if there is none.
 #[tactic(auto, using(crate::proofs::EntryIndexLemmas::last_is))]
 fn last_literal(pieces: &[Piece]) -> &str
-    ensures { result.now ≡ spec.last_literal (pieces_said pieces.now) }
+    ensures { result.now ≡ spec.last_literal (piece_values pieces.now) }
 {
     match pieces.last() {
         Some(piece) => literal_of(piece),
@@ -85,7 +91,7 @@ pub(crate) fn word_of(text: &str) -> Option<u64>
 
 /// Returns the head of a pattern: the word of the literal that it begins with.
 pub(crate) fn head_of(pieces: &[Piece]) -> Option<u64>
-    ensures { result ≡ spec.head_of (pieces_said pieces.now) }
+    ensures { result ≡ spec.head_of (piece_values pieces.now) }
 {
     word_of(first_literal(pieces))
 }
@@ -103,7 +109,7 @@ fn is_other(head: Option<u64>, word: u64) -> bool
 
 // Returns the first position at or after `from` whose head isn't another word than this one.
 #[inline(always)]
-fn next_other(heads: &[Head], from: usize, word: u64) -> usize
+fn next_other(heads: &[HeadWord], from: usize, word: u64) -> usize
     ensures { PassesHeads heads.now from (Some word) result }
 {
     let mut position = from;
@@ -114,7 +120,7 @@ fn next_other(heads: &[Head], from: usize, word: u64) -> usize
 }
 
 // Returns the first position at or after `from` that has no head.
-fn next_without_head(heads: &[Head], from: usize) -> usize
+fn next_without_head(heads: &[HeadWord], from: usize) -> usize
     ensures { PassesHeads heads.now from None result }
 {
     let mut position = from;
@@ -126,7 +132,7 @@ fn next_without_head(heads: &[Head], from: usize) -> usize
 
 // Returns the first position at or after `from` whose head isn't another word than that of a text.
 #[inline(always)]
-fn next_head(heads: &[Head], from: usize, word: Option<u64>) -> usize
+fn next_head(heads: &[HeadWord], from: usize, word: Option<u64>) -> usize
     ensures { PassesHeads heads.now from word result }
 {
     match word {
@@ -137,7 +143,7 @@ fn next_head(heads: &[Head], from: usize, word: Option<u64>) -> usize
 
 /// Returns the heads before a position.
 #[tactic(auto, using(crate::proofs::EntryIndexLemmas::all_before))]
-pub(crate) fn heads_before(heads: &[Head], size: usize) -> &[Head]
+pub(crate) fn heads_before(heads: &[HeadWord], size: usize) -> &[HeadWord]
     ensures { result.now ≡ take size heads.now }
 {
     if size < heads.len() {
@@ -161,14 +167,14 @@ fn is_same_word(a: Option<u64>, b: Option<u64>) -> bool
 }
 
 /// Counts at each head the equal ones after it.
-pub(crate) fn count_equal(heads: &mut [Head])
+pub(crate) fn count_equal(heads: &mut [HeadWord])
     ensures { (entries : List Entry) → AreHeads heads.old entries → AreHeads heads.new entries }
 {
     for back in 1..heads.len() {
         let position = heads.len() - 1 - back;
         let later = heads[position + 1];
         if is_same_word(heads[position].word, later.word) {
-            heads[position] = Head {
+            heads[position] = HeadWord {
                 word: later.word,
                 more: later.more.saturating_add(1),
             };
@@ -273,7 +279,7 @@ impl Index {
     fn add(&mut self, position: usize, pieces: &[Piece]) -> Result<(), AllocError>
         ensures kept { OnOk result ((p : ℕ) (ps : List PieceValue)
             → Lists self.old p ps → Lists self.new p ps) }
-        ensures added { OnOk result (Lists self.new position (pieces_said pieces.now)) }
+        ensures added { OnOk result (Lists self.new position (piece_values pieces.now)) }
     {
         let first = first_literal(pieces);
         let last = last_literal(pieces);
@@ -285,12 +291,12 @@ impl Index {
         Ok(())
     }
 
-    /// Lists the entries that aren't listed yet, once there are more than 64.
+    /// Lists the entries that aren't listed yet, once there are more than `UNLISTED`.
     pub(crate) fn grow(&mut self, entries: &[Entry]) -> Result<(), AllocError>
         requires { IsIndexOf self.old entries.now }
         ensures { OnOk result (IsIndexOf self.new entries.now) }
     {
-        while 64 < entries.len() && self.listed < entries.len() {
+        while UNLISTED < entries.len() && self.listed < entries.len() {
             let position = self.listed;
             self.add(position, &entries[position].pattern.pieces)?;
             self.listed = position + 1;
@@ -358,19 +364,19 @@ impl Index {
 #[derive(Clone, Copy, Debug)]
 pub(crate) struct IndexedEntries<'a> {
     pub entries: &'a [Entry],
-    pub heads: &'a [Head],
+    pub heads: &'a [HeadWord],
     pub index: &'a Index,
 }
 
 impl IndexedEntries<'_> {
     // Returns a position at or after `from`, by the index. No entry from `from` up to, but not including, that position
-    // matches a text. After a few tries the index isn't used, because a lookup would take longer.
+    // matches a text. After `MOST_TRIES` the index isn't used, because a lookup would take longer.
     #[inline(always)]
     fn next_listed(&self, from: usize, tries: usize, text: &str) -> usize
         requires { IsIndexed self.now }
         ensures { SkipsEntries self.now.entries.now from text.now result }
     {
-        if tries < 8 && from < self.index.listed {
+        if tries < MOST_TRIES && from < self.index.listed {
             self.index.next(from, self.index.listed, text)
         } else {
             from

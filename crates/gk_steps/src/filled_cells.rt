@@ -6,17 +6,17 @@ use std::alloc::AllocError;
 
 /// Counts the cells of tables as matches fill them. The count stops at the largest 64-bit number.
 #[derive(Debug, Drop)]
-pub(crate) struct Cells {
+pub(crate) struct CellCounter {
     /// The number of cells filled so far.
     pub filled: u64,
 }
 
-impl Cells {
+impl CellCounter {
     /// Returns a count of 0.
-    pub(crate) fn new() -> Cells
+    pub(crate) fn new() -> CellCounter
         ensures { result.filled ≡ 0 }
     {
-        Cells { filled: 0 }
+        CellCounter { filled: 0 }
     }
 
     /// Fills a cell and counts it. No other call fills a cell of a table. The count never decreases.

@@ -4,7 +4,7 @@ ghost use Rattle.gk_steps.specs.Matching.{FieldValue};
 ghost use Rattle.gk_steps.specs.Finding as spec;
 ghost use Rattle.gk_steps.specs.Finding.{HasCandidate, HasCandidateFor};
 ghost use Rattle.gk_steps.specs.Finding.{HasTableCandidate, HasTableCandidateFor};
-ghost use Rattle.gk_steps.specs.Finding.{FoundValue, LibraryValue, entries_said, library_value, found_value};
+ghost use Rattle.gk_steps.specs.Finding.{FoundValue, LibraryValue, entry_values, library_value, found_value};
 ghost use Rattle.gk_steps.specs.Captures.{IsHit, HitsWhatIsFound, hit_of};
 ghost use Rattle.gk_steps.specs.FilledCells.{cells_of_type, cells_of_step};
 ghost use Rattle.gk_steps.specs.EntryIndex.{IsIndexed};
@@ -12,7 +12,7 @@ ghost use Rattle.gk_steps.specs.EntryIndex.{IsIndexed};
 use crate::action::Action;
 use crate::captures::{Captures, NoCaptures};
 use crate::entry_index::{IndexedEntries, word_of};
-use crate::filled_cells::Cells;
+use crate::filled_cells::CellCounter;
 use crate::library::Library;
 use crate::matching::match_fitting;
 use crate::pattern::Field;
@@ -44,7 +44,7 @@ fn is_same(a: Option<StepType>, b: Option<StepType>) -> bool
 // don't fit the text is passed over here, before a match begins.
 #[inline(always)]
 pub(crate) fn find_of<'t, K: Captures<'t>>(
-    cells: &mut Cells,
+    cells: &mut CellCounter,
     alloc: Global,
     kept: &mut K,
     indexed: &IndexedEntries<'_>,
@@ -52,14 +52,14 @@ pub(crate) fn find_of<'t, K: Captures<'t>>(
     text: &'t str,
 ) -> Result<Option<usize>, AllocError>
     requires { IsIndexed indexed.now }
-    ensures found { let entries = entries_said indexed.now.entries.now in IfOk result (λ entry.
+    ensures found { let entries = entry_values indexed.now.entries.now in IfOk result (λ entry.
         HitsWhatIsFound K.keeps entries step_type text.now (hit_of kept.new entry)) }
     ensures memory { IfErr result (λ e.
-        HasCandidate (entries_said indexed.now.entries.now) step_type text.now) }
+        HasCandidate (entry_values indexed.now.entries.now) step_type text.now) }
     ensures table { IfErr result (λ e. K.allocates
-        ⊎ HasTableCandidate (entries_said indexed.now.entries.now) step_type text.now) }
+        ⊎ HasTableCandidate (entry_values indexed.now.entries.now) step_type text.now) }
     ensures most { cells.new.filled ≤ cells.old.filled
-        + cells_of_type (entries_said indexed.now.entries.now) step_type text.now }
+        + cells_of_type (entry_values indexed.now.entries.now) step_type text.now }
     ensures least { cells.old.filled ≤ cells.new.filled }
 {
     let entries = indexed.entries;
@@ -101,7 +101,7 @@ impl Library {
     pub(crate) fn search<'t, K: Captures<'t>>(
         &self,
         alloc: Global,
-        cells: &mut Cells,
+        cells: &mut CellCounter,
         kept: &mut K,
         step_type: StepType,
         text: &'t str,
@@ -131,7 +131,7 @@ impl Library {
     fn search_any<'t, K: Captures<'t>>(
         &self,
         alloc: Global,
-        cells: &mut Cells,
+        cells: &mut CellCounter,
         kept: &mut K,
         text: &'t str,
     ) -> Result<Option<usize>, AllocError>
@@ -166,7 +166,7 @@ impl Library {
         ensures memory { IfErr result (λ e.
             HasCandidateFor (library_value self.now) step_type text.now) }
     {
-        let mut cells = Cells::new();
+        let mut cells = CellCounter::new();
         let mut fields = Vec::new(alloc);
         let entry = self.search(alloc, &mut cells, &mut fields, step_type, text)?;
         Ok(found_of(entry, fields))
@@ -180,7 +180,7 @@ impl Library {
         // Memory is refused only if the text fits the ends of such an entry.
         ensures memory { IfErr result (λ e. HasCandidate (library_value self.now) None text.now) }
     {
-        let mut cells = Cells::new();
+        let mut cells = CellCounter::new();
         let mut fields = Vec::new(alloc);
         let entry = self.search_any(alloc, &mut cells, &mut fields, text)?;
         Ok(found_of(entry, fields))
@@ -198,7 +198,7 @@ impl Library {
         ensures table { IfErr result (λ e.
             HasTableCandidateFor (library_value self.now) step_type text.now) }
     {
-        let mut cells = Cells::new();
+        let mut cells = CellCounter::new();
         let entry = self.search(alloc, &mut cells, &mut NoCaptures, step_type, text)?;
         Ok(entry.is_some())
     }
@@ -211,11 +211,11 @@ impl Library {
     {
         match self.entries.get(entry) {
             Some(entry) => entry.action,
-            None => Action::Pass,
+            None => Action::Fail,
         }
     }
 
-    /// Returns the action of what was found in this library, or `Pass` if the library has no entry at that position.
+    /// Returns the action of what was found in this library, or `Fail` if the library has no entry at that position.
     /// Doesn't allocate.
     pub fn action(&self, found: &Found) -> Action
         ensures { result ≡ spec.action_of (library_value self.now) (found_value found.now) }

@@ -1,4 +1,4 @@
-//! Properties of this crate's definitions, stated by functions that do nothing.
+//! Laws of this crate's definitions. Each is the contract of an empty function.
 ghost use Rattle.gk_gherkin.specs.Lines.{lines_of};
 ghost use Rattle.gk_steps.specs.DefaultFile.{default_entries, default_text};
 ghost use Rattle.gk_steps.specs.Finding.{FindsWhatIsFound};

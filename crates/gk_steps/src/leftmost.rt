@@ -1,7 +1,7 @@
 //! What the first pieces of a pattern take from the left, if the pieces after them leave no choice.
 ghost use Rattle.std.specs.Prelude.{◌≡◌, ◌≤◌, [], ◌∷◌, ℕ, List, length, MatchBool};
 ghost use Rattle.gk_steps.specs.declared.pattern.FieldKind.TheVariants as kinds;
-ghost use Rattle.gk_steps.specs.Pattern.{Literal, FieldPiece, piece_value, pieces_said};
+ghost use Rattle.gk_steps.specs.Pattern.{Literal, FieldPiece, piece_value, piece_values};
 ghost use Rattle.gk_steps.specs.Leftmost.{CanStandAt, IsFirstPosition, IsPieceEnd, IsEndBefore};
 
 use crate::literal_ends::{begins_with, begins_with_bytes, ends_with};
@@ -69,7 +69,7 @@ fn first_position(literal: &str, text: &str) -> Option<usize>
 // Returns what a literal takes.
 #[inline(always)]
 fn literal_end(literal: &str, after: &[Piece], text: &str) -> PieceEnd
-    ensures { IsPieceEnd (Literal literal.now) (pieces_said after.now) text.now result }
+    ensures { IsPieceEnd (Literal literal.now) (piece_values after.now) text.now result }
 {
     if begins_with(text, literal) {
         PieceEnd::At(literal.len())
@@ -94,7 +94,7 @@ fn end_before_last(literal: &str, text: &str) -> PieceEnd
 // more is left for the other.
 #[inline(always)]
 fn end_before_field(literal: &str, other: &str, after: &[Piece], text: &str) -> PieceEnd
-    ensures { let left = FieldPiece other.now kinds.Plain ∷ pieces_said after.now in
+    ensures { let left = FieldPiece other.now kinds.Plain ∷ piece_values after.now in
         IsEndBefore literal.now left text.now result }
 {
     match first_position(literal, text) {
@@ -106,7 +106,7 @@ fn end_before_field(literal: &str, other: &str, after: &[Piece], text: &str) -> 
 // Returns what a plain field takes before a literal.
 #[inline(always)]
 fn end_before(literal: &str, after: &[Piece], text: &str) -> PieceEnd
-    ensures { IsEndBefore literal.now (pieces_said after.now) text.now result }
+    ensures { IsEndBefore literal.now (piece_values after.now) text.now result }
 {
     match after.split_first() {
         None => end_before_last(literal, text),
@@ -124,7 +124,7 @@ fn end_before(literal: &str, after: &[Piece], text: &str) -> PieceEnd
 #[inline(always)]
 fn plain_end(after: &[Piece], text: &str) -> PieceEnd
     ensures { (name : List ℕ)
-        → IsPieceEnd (FieldPiece name kinds.Plain) (pieces_said after.now) text.now result }
+        → IsPieceEnd (FieldPiece name kinds.Plain) (piece_values after.now) text.now result }
 {
     match after.split_first() {
         None => {
@@ -144,7 +144,7 @@ fn plain_end(after: &[Piece], text: &str) -> PieceEnd
 /// Returns what the first piece of a pattern takes, if that is known without a table.
 #[inline(always)]
 pub(crate) fn piece_end(piece: &Piece, after: &[Piece], text: &str) -> PieceEnd
-    ensures { IsPieceEnd (piece_value piece.now) (pieces_said after.now) text.now result }
+    ensures { IsPieceEnd (piece_value piece.now) (piece_values after.now) text.now result }
 {
     match piece {
         Piece::Literal(literal) => literal_end(literal, after, text),

@@ -2,29 +2,42 @@
 //! text, with its fields. A comment that names no source describes this project's profile.
 #![tactic(auto)]
 
-mod action;
+// Patterns, and reading one from its text.
+mod pattern;
+mod spelling;
+
+// Numbers, and the ends of patterns.
+mod decimal;
+mod literal_ends;
+
+// Matching a text: from the left, or by a table.
 mod advances;
 mod captures;
 mod char_boundaries;
-mod decimal;
-mod default_file;
 mod digits;
-mod entry_index;
-mod files_table;
 mod filled_cells;
-mod finding;
-mod laws;
 mod leftmost;
+mod matching;
+mod table_rows;
+
+// Actions, and the table of files.
+mod action;
+mod files_table;
+
+// A library, and finding an entry.
+mod entry_index;
+mod finding;
 mod library;
-mod library_fault;
+mod used_fields;
+
+// Library files, and the default one.
+mod default_file;
 mod library_file;
 mod library_line;
-mod literal_ends;
-mod matching;
-mod pattern;
-mod spelling;
-mod table_rows;
-mod used_fields;
+
+// Faults and laws.
+mod laws;
+mod library_fault;
 
 pub use action::{Action, ActionRow, ActsOn, Does, Takes, action_rows, row_named};
 pub use decimal::number_of;

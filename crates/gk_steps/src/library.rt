@@ -5,7 +5,7 @@ ghost use Rattle.gk_steps.specs.Library.{IsTypedEnd, are_for_each_from, is_for_o
 ghost use Rattle.gk_steps.specs.EntryIndex.{AreHeads, AreListed, HasIndex, IsIndexed};
 
 use crate::action::Action;
-use crate::entry_index::{Head, Index, IndexedEntries, count_equal, head_of, heads_before};
+use crate::entry_index::{HeadWord, Index, IndexedEntries, count_equal, head_of, heads_before};
 use crate::pattern::Pattern;
 use gk_gherkin::StepType;
 use std::alloc::{AllocError, Global};
@@ -28,7 +28,7 @@ pub struct Library {
     pub(crate) typed: usize,
     // The heads of the first entries; none if the library was not read from lines. An entry whose head is another word
     // than that of a text is passed over.
-    heads: Vec<Head>,
+    heads: Vec<HeadWord>,
     // Which entries may match a text. It lists none if the library is short or was not read from lines.
     index: Index,
     ghost typed_end: { IsTypedEnd typed entries.items } by { Prim.hlevel props },
@@ -53,7 +53,7 @@ fn typed_len(entries: &[Entry]) -> usize
 #[derive(Debug, Drop)]
 pub(crate) struct LibraryBuilder {
     pub entries: Vec<Entry>,
-    pub heads: Vec<Head>,
+    pub heads: Vec<HeadWord>,
     pub index: Index,
 }
 
@@ -78,7 +78,7 @@ impl LibraryBuilder {
         ensures indexed { OnOk result (HasIndex self.new) }
     {
         let head = head_of(&entry.pattern.pieces);
-        self.heads.push(Head {
+        self.heads.push(HeadWord {
             word: head,
             more: 0,
         })?;
@@ -102,7 +102,8 @@ impl LibraryBuilder {
 }
 
 impl Library {
-    /// Returns the library of these entries.
+    /// Returns the library of these entries, in this order. It has no index, so a look-up tries each of them;
+    /// `read_library` makes one.
     pub fn new(entries: Vec<Entry>) -> Library
         ensures { result.entries ≡ entries }
     {

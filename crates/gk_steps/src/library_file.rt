@@ -5,16 +5,15 @@ ghost use Rattle.gk_gherkin.specs.declared.read_fault.ReadFault.TheVariants.{Mem
 ghost use Rattle.gk_gherkin.specs.Lines.{borrowed_value, numbered_from, lines_of, IsText};
 ghost use Rattle.std.specs.Str.Lines.{lines};
 ghost use Rattle.gk_steps.specs.EntryIndex.{HasIndex};
-ghost use Rattle.gk_steps.specs.Finding.{LibraryValue, entries_said, library_value};
+ghost use Rattle.gk_steps.specs.Finding.{LibraryValue, entry_values, library_value};
 ghost use Rattle.gk_steps.specs.LibraryFile.{ReadsLibrary, AnswersLibrary};
-ghost use Rattle.gk_steps.specs.LibraryFault.{LibraryFaultSays};
-ghost use Rattle.gk_steps.specs.LibraryLine.{EntryFaultSays, LineFaultSays, LibraryLinesFaultSays};
-ghost use Rattle.gk_steps.specs.LibraryLine.{AddsEntry, AddsLine};
+ghost use Rattle.gk_steps.specs.LibraryFault.{LibraryFaultSays, LibraryLinesFaultSays};
+ghost use Rattle.gk_steps.specs.LibraryLine.{AddsEntry, AddsLine, EntryFaultSays, LineFaultSays};
 
 use crate::library::{Library, LibraryBuilder};
 use crate::library_fault::LibraryFault;
 use crate::library_line::{is_ignored, read_entry};
-use gk_gherkin::{BorrowedLine, LIMIT, ReadFault, borrowed_line, text_of};
+use gk_gherkin::{BorrowedLine, LONGEST_FILE, ReadFault, borrowed_line, text_of};
 use std::alloc::Global;
 
 // Converts a fault of reading the lines of a file.
@@ -40,17 +39,13 @@ fn add_entry(
     requires { HasIndex builder.old }
     ensures indexed { OnOk result (HasIndex builder.new) }
     ensures fault { IfErr result (λ f.
-        EntryFaultSays f (entries_said builder.old.entries.items) (borrowed_value line.now)) }
-    ensures added { OnOk result (AddsEntry (entries_said builder.old.entries.items)
-        (borrowed_value line.now) (entries_said builder.new.entries.items)) }
+        EntryFaultSays f (entry_values builder.old.entries.items) (borrowed_value line.now)) }
+    ensures added { OnOk result (AddsEntry (entry_values builder.old.entries.items)
+        (borrowed_value line.now) (entry_values builder.new.entries.items)) }
 {
-    match read_entry(alloc, &builder.indexed(), line) {
-        Ok(entry) => {
-            builder.push(entry)?;
-            Ok(())
-        }
-        Err(fault) => Err(fault),
-    }
+    let entry = read_entry(alloc, &builder.indexed(), line)?;
+    builder.push(entry)?;
+    Ok(())
 }
 
 // Adds the entry of a line, unless the line is ignored.
@@ -61,36 +56,30 @@ fn add_line(
 ) -> Result<(), LibraryFault>
     requires { HasIndex builder.old }
     ensures indexed { OnOk result (HasIndex builder.new) }
-    ensures added { OnOk result (AddsLine (entries_said builder.old.entries.items)
-        (borrowed_value line.now) (entries_said builder.new.entries.items)) }
+    ensures added { OnOk result (AddsLine (entry_values builder.old.entries.items)
+        (borrowed_value line.now) (entry_values builder.new.entries.items)) }
     ensures fault { IfErr result (λ f.
-        LineFaultSays f (entries_said builder.old.entries.items) (borrowed_value line.now)) }
+        LineFaultSays f (entry_values builder.old.entries.items) (borrowed_value line.now)) }
 {
     if is_ignored(line) {
         return Ok(());
     }
-    match add_entry(builder, alloc, line) {
-        Ok(()) => Ok(()),
-        Err(fault) => Err(fault),
-    }
+    add_entry(builder, alloc, line)
 }
 
 // Reads the entries that the lines of a text spell.
 fn read_entries(alloc: Global, text: &str) -> Result<LibraryBuilder, LibraryFault>
-    requires { length text.now ≤ LIMIT }
+    requires { length text.now ≤ LONGEST_FILE }
     ensures indexed { IfOk result (λ g. HasIndex g) }
     ensures found { IfOk result (λ g.
-        ReadsLibrary (numbered_from 1 (lines text.now)) (entries_said g.entries.items)) }
+        ReadsLibrary (numbered_from 1 (lines text.now)) (entry_values g.entries.items)) }
     ensures fault { IfErr result (λ f.
         LibraryLinesFaultSays f (numbered_from 1 (lines text.now))) }
 {
     let mut builder = LibraryBuilder::new(alloc);
     let mut number: u32 = 1;
     for part in text.lines() {
-        match add_line(&mut builder, alloc, &borrowed_line(number, part)) {
-            Ok(()) => {}
-            Err(fault) => return Err(fault),
-        }
+        add_line(&mut builder, alloc, &borrowed_line(number, part))?;
         number += 1;
     }
     Ok(builder)
@@ -116,10 +105,7 @@ pub fn read_library(alloc: Global, bytes: &[u8]) -> Result<Library, LibraryFault
     ensures fault { IfErr result (λ e. LibraryFaultSays e bytes.now) }
 {
     match text_of(bytes) {
-        Ok(text) => match read_entries(alloc, text) {
-            Ok(builder) => Ok(Library::built(builder)),
-            Err(fault) => Err(fault),
-        },
+        Ok(text) => Ok(Library::built(read_entries(alloc, text)?)),
         Err(fault) => Err(lines_fault(fault)),
     }
 }

@@ -2,14 +2,14 @@
 ghost use Rattle.std.specs.Prelude.{◌≡◌, is_some, codes, option_map, IfOk, IfErr};
 ghost use Rattle.gk_gherkin.specs.Text as texts;
 ghost use Rattle.gk_gherkin.specs.Lines.{borrowed_value};
-ghost use Rattle.gk_steps.specs.Pattern.{pattern_value, pieces_said, SpellsPattern};
+ghost use Rattle.gk_steps.specs.Pattern.{pattern_value, piece_values, SpellsPattern};
 ghost use Rattle.gk_steps.specs.Pattern.{field_kind as field_kind_of};
-ghost use Rattle.gk_steps.specs.Finding.{entries_said, entry_value};
+ghost use Rattle.gk_steps.specs.Finding.{entry_values, entry_value};
 ghost use Rattle.gk_steps.specs.EntryIndex.{IsIndexed};
 ghost use Rattle.gk_steps.specs.LibraryFile as spec;
 ghost use Rattle.gk_steps.specs.LibraryFile.{SpellsEntry};
 ghost use Rattle.gk_steps.specs.Action as actions;
-ghost use Rattle.gk_steps.specs.LibraryLine as machinery;
+ghost use Rattle.gk_steps.specs.LibraryLine as parts;
 ghost use Rattle.std.specs.List.{list_all};
 ghost use Rattle.gk_steps.specs.LibraryLine.{FitsAction, ActionFaultSays, PatternFaultSays};
 ghost use Rattle.gk_steps.specs.LibraryLine.{IsEntryText, EntryTextFaultSays, EntryFaultSays};
@@ -17,7 +17,7 @@ ghost use Rattle.gk_steps.specs.LibraryLine.{IsEntryText, EntryTextFaultSays, En
 use crate::action::{Action, row_named};
 use crate::captures::NoCaptures;
 use crate::entry_index::IndexedEntries;
-use crate::filled_cells::Cells;
+use crate::filled_cells::CellCounter;
 use crate::finding::find_of;
 use crate::library::Entry;
 use crate::library_fault::LibraryFault;
@@ -61,7 +61,7 @@ fn is_arrow(bytes: &[u8]) -> bool
 
 // Returns the two sides of the last arrow.
 fn last_arrow<'a>(text: &'a str) -> Option<(&'a str, &'a str)>
-    ensures { option_map (λ p. machinery.sides p.0.now p.1.now) result
+    ensures { option_map (λ p. parts.sides p.0.now p.1.now) result
         ≡ spec.last_arrow text.entry.now }
 {
     let bytes = text.as_bytes();
@@ -117,23 +117,21 @@ fn pattern_at(alloc: Global, line: u32, text: &str) -> Result<Pattern, LibraryFa
 {
     match read_pattern(alloc, text) {
         Ok(pattern) => Ok(pattern),
-        Err(fault) => match fault {
-            PatternFault::BadPattern => Err(LibraryFault::BadPattern { line }),
-            PatternFault::Memory => Err(LibraryFault::Memory),
-        },
+        Err(PatternFault::BadPattern) => Err(LibraryFault::BadPattern { line }),
+        Err(PatternFault::Memory) => Err(LibraryFault::Memory),
     }
 }
 
 // Returns whether pieces have a field of this name.
 fn has_field(pieces: &[Piece], name: &str) -> bool
-    ensures { result ≡ is_some (field_kind_of (pieces_said pieces.now) name.now) }
+    ensures { result ≡ is_some (field_kind_of (piece_values pieces.now) name.now) }
 {
     field_kind(pieces, name).is_some()
 }
 
 fn has_needed(names: &[&str], pieces: &[Piece]) -> bool
     ensures { result
-        ≡ list_all (λ name. is_some (field_kind_of (pieces_said pieces.now) name.now)) names.now }
+        ≡ list_all (λ name. is_some (field_kind_of (piece_values pieces.now) name.now)) names.now }
 {
     names.iter().all(|name| has_field(pieces, *name))
 }
@@ -141,7 +139,7 @@ fn has_needed(names: &[&str], pieces: &[Piece]) -> bool
 // Returns whether the field of this name, if there is one, is of this kind.
 fn is_none_or_kind(pieces: &[Piece], name: &str, kind: FieldKind) -> bool
     ensures { result
-        ≡ machinery.is_none_or_kind (field_kind_of (pieces_said pieces.now) name.now) kind }
+        ≡ parts.is_none_or_kind (field_kind_of (piece_values pieces.now) name.now) kind }
 {
     match field_kind(pieces, name) {
         None => true,
@@ -172,22 +170,22 @@ fn kind_of_field(name: &str) -> FieldKind
 /// Returns whether the field of this name, if there is one, is of the kind that the name requires: a number for `n`,
 /// and a text for any other name.
 pub fn has_right_kind(pieces: &[Piece], name: &str) -> bool
-    ensures { result ≡ machinery.has_right_kind (pieces_said pieces.now) name.now }
+    ensures { result ≡ parts.has_right_kind (piece_values pieces.now) name.now }
 {
     is_none_or_kind(pieces, name, kind_of_field(name))
 }
 
 fn has_right_kinds(names: &[&str], pieces: &[Piece]) -> bool
     ensures { result
-        ≡ list_all (λ name. machinery.has_right_kind (pieces_said pieces.now) name.now) names.now }
+        ≡ list_all (λ name. parts.has_right_kind (piece_values pieces.now) name.now) names.now }
 {
     names.iter().all(|name| has_right_kind(pieces, *name))
 }
 
 // Returns the action of this name, if the pieces have its needed fields and its used fields are of the right kinds.
 fn action_at(line: u32, name: &str, pieces: &[Piece]) -> Result<Action, LibraryFault>
-    ensures action { IfOk result (λ a. FitsAction name.now (pieces_said pieces.now) a) }
-    ensures fault { IfErr result (λ f. ActionFaultSays f line name.now (pieces_said pieces.now)) }
+    ensures action { IfOk result (λ a. FitsAction name.now (piece_values pieces.now) a) }
+    ensures fault { IfErr result (λ f. ActionFaultSays f line name.now (piece_values pieces.now)) }
 {
     match row_named(name) {
         None => Err(LibraryFault::UnknownAction { line }),
@@ -214,21 +212,15 @@ fn entry_from(
     requires said { IsEntryText (borrowed_value line.now)
         said.now.step_type said.now.pattern.now said.now.action.now }
     ensures entry { IfOk result (λ e.
-        SpellsEntry (entries_said earlier.now.entries.now)
+        SpellsEntry (entry_values earlier.now.entries.now)
         (borrowed_value line.now) (entry_value e)) }
     ensures fault { IfErr result (λ f.
-        EntryFaultSays f (entries_said earlier.now.entries.now) (borrowed_value line.now)) }
+        EntryFaultSays f (entry_values earlier.now.entries.now) (borrowed_value line.now)) }
 {
     let number = line.place.line;
-    let pattern = match pattern_at(alloc, number, said.pattern) {
-        Ok(pattern) => pattern,
-        Err(fault) => return Err(fault),
-    };
-    let action = match action_at(number, said.action, &pattern.pieces) {
-        Ok(action) => action,
-        Err(fault) => return Err(fault),
-    };
-    let mut cells = Cells::new();
+    let pattern = pattern_at(alloc, number, said.pattern)?;
+    let action = action_at(number, said.action, &pattern.pieces)?;
+    let mut cells = CellCounter::new();
     match find_of(
         &mut cells,
         alloc,
@@ -255,13 +247,11 @@ pub(crate) fn read_entry(
 ) -> Result<Entry, LibraryFault>
     requires { IsIndexed earlier.now }
     ensures entry { IfOk result (λ e.
-        SpellsEntry (entries_said earlier.now.entries.now)
+        SpellsEntry (entry_values earlier.now.entries.now)
         (borrowed_value line.now) (entry_value e)) }
     ensures fault { IfErr result (λ f.
-        EntryFaultSays f (entries_said earlier.now.entries.now) (borrowed_value line.now)) }
+        EntryFaultSays f (entry_values earlier.now.entries.now) (borrowed_value line.now)) }
 {
-    match entry_text(line) {
-        Ok(said) => entry_from(alloc, earlier, line, &said),
-        Err(fault) => Err(fault),
-    }
+    let said = entry_text(line)?;
+    entry_from(alloc, earlier, line, &said)
 }

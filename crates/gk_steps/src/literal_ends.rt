@@ -1,8 +1,8 @@
 //! Texts that a pattern can't match because of its ends, found without a table.
-ghost use Rattle.std.specs.Prelude.{◌≡◌, ◌≤◌, length, false, IsTrue, MatchBool, nat_eq};
+ghost use Rattle.std.specs.Prelude.{◌≡◌, ◌≤◌, ◌++◌, ℕ, List, length, false, IsTrue, MatchBool, nat_eq, IfSome, IsSomeAnd};
 ghost use Rattle.std.specs.List.{starts_with, ends_with};
 ghost use Rattle.std.specs.Str.{chars};
-ghost use Rattle.gk_steps.specs.Pattern.{pieces_said, pattern_value};
+ghost use Rattle.gk_steps.specs.Pattern.{piece_values, pattern_value};
 ghost use Rattle.gk_steps.specs.Matching.{MatchesNot};
 ghost use Rattle.gk_steps.specs.LiteralEnds.{BeginsWith, BeginsNotWith, EndsWith, EndsNotWith};
 ghost use Rattle.gk_steps.specs.LiteralEnds.{FitsStart, FitsEnd, IsAfterStart};
@@ -52,10 +52,19 @@ pub(crate) fn begins_with(text: &str, start: &str) -> bool
     begins_with_bytes(text.as_bytes(), start.as_bytes())
 }
 
+/// Returns the rest of a text after a prefix, or `None` if the text doesn't begin with it.
+pub(crate) fn rest_after<'a>(text: &'a str, prefix: &str) -> Option<&'a str>
+    ensures found { IfSome result (λ rest. text.entry.now ≡ prefix.now ++ rest.now) }
+    ensures only { (rest : List ℕ) → text.entry.now ≡ prefix.now ++ rest
+        → IsSomeAnd result (λ found. found.now ≡ rest) }
+{
+    text.strip_prefix(prefix)
+}
+
 // Returns whether the first piece, if it is a literal, begins the text.
 fn fits_start(pieces: &[Piece], text: &str) -> bool
-    ensures kept { IsTrue result → FitsStart (pieces_said pieces.now) text.now }
-    ensures refused { result ≡ false → MatchesNot (pieces_said pieces.now) text.now }
+    ensures kept { IsTrue result → FitsStart (piece_values pieces.now) text.now }
+    ensures refused { result ≡ false → MatchesNot (piece_values pieces.now) text.now }
 {
     match pieces.first() {
         Some(piece) => match piece {
@@ -68,8 +77,8 @@ fn fits_start(pieces: &[Piece], text: &str) -> bool
 
 // Returns whether the last piece, if it is a literal, ends the text.
 fn fits_end(pieces: &[Piece], text: &str) -> bool
-    ensures kept { IsTrue result → FitsEnd (pieces_said pieces.now) text.now }
-    ensures refused { result ≡ false → MatchesNot (pieces_said pieces.now) text.now }
+    ensures kept { IsTrue result → FitsEnd (piece_values pieces.now) text.now }
+    ensures refused { result ≡ false → MatchesNot (piece_values pieces.now) text.now }
 {
     match pieces.last() {
         Some(piece) => match piece {
@@ -84,9 +93,9 @@ fn fits_end(pieces: &[Piece], text: &str) -> bool
 /// and the whole text if the pattern begins with a field or has no pieces.
 #[inline(always)]
 pub(crate) fn after_start<'p, 't>(pieces: &'p [Piece], text: &'t str) -> (&'p [Piece], &'t str)
-    requires { FitsStart (pieces_said pieces.now) text.now }
-    ensures cut { IsAfterStart (pieces_said pieces.now) text.now
-        (pieces_said result.0.now) result.1.now }
+    requires { FitsStart (piece_values pieces.now) text.now }
+    ensures cut { IsAfterStart (piece_values pieces.now) text.now
+        (piece_values result.0.now) result.1.now }
     ensures fewer { length (chars result.1.now) ≤ length (chars text.now) }
 {
     if let Some((Piece::Literal(literal), after)) = pieces.split_first() {

@@ -1,10 +1,10 @@
 //! Matching a text by a table.
-ghost use Rattle.std.specs.Prelude.{◌≡◌, ◌⊎◌, ◌<◌, ◌≤◌, ◌+◌, ◌*◌, ◌++◌, ◌∷◌, [], ℕ, List, length};
+ghost use Rattle.std.specs.Prelude.{◌≡◌, ◌⊎◌, ◌<◌, ◌≤◌, ◌+◌, ◌-◌, ◌*◌, ◌^◌, ◌++◌, ◌∷◌, [], ℕ, List, length};
 ghost use Rattle.std.specs.Prelude.{false, IfOk, IfErr, OnOk, IsTrue, Some};
 ghost use Rattle.std.specs.Str.{chars};
-ghost use Rattle.gk_steps.specs.Pattern.{Literal, piece_value, pieces_said, pattern_value};
+ghost use Rattle.gk_steps.specs.Pattern.{Literal, piece_value, piece_values, pattern_value};
 ghost use Rattle.gk_steps.specs.Matching.{Matches, IsMatchResult};
-ghost use Rattle.gk_steps.specs.Matching.{fields_said};
+ghost use Rattle.gk_steps.specs.Matching.{field_values};
 ghost use Rattle.gk_steps.specs.CharBoundaries.{AreBoundaries};
 ghost use Rattle.gk_steps.specs.TableRows.{IsWholeTable};
 ghost use Rattle.gk_steps.specs.Captures.{IsKeptResult, KeepsMore, kept_if};
@@ -15,7 +15,7 @@ ghost use Rattle.gk_steps.specs.FilledCells.{GoesOnBy, table_cells};
 use crate::advances::advance;
 use crate::captures::Captures;
 use crate::char_boundaries::boundaries_of;
-use crate::filled_cells::Cells;
+use crate::filled_cells::CellCounter;
 use crate::leftmost::{PieceEnd, piece_end};
 use crate::literal_ends::after_start;
 use crate::pattern::{Field, Pattern, Piece};
@@ -25,9 +25,9 @@ use std::alloc::{AllocError, Global};
 // Returns whether 64 bits can count the cells of a whole table.
 fn can_count(pieces: &[Piece], boundaries: &[usize]) -> bool
     ensures fits { IsTrue result
-        → (length pieces.now + 1) * length boundaries.now ≤ 18446744073709551615 }
+        → (length pieces.now + 1) * length boundaries.now ≤ 2 ^ 64 - 1 }
     ensures only { result ≡ false → 0 < length boundaries.now
-        → 18446744073709551615 < (length pieces.now + 1) * length boundaries.now }
+        → 2 ^ 64 - 1 < (length pieces.now + 1) * length boundaries.now }
 {
     match pieces.len().checked_add(1) {
         Some(rows) => rows.checked_mul(boundaries.len()).is_some(),
@@ -37,7 +37,7 @@ fn can_count(pieces: &[Piece], boundaries: &[usize]) -> bool
 
 // Returns the rows for the last pieces, from none to all of them.
 fn table_of(
-    cells: &mut Cells,
+    cells: &mut CellCounter,
     alloc: Global,
     pieces: &[Piece],
     text: &str,
@@ -74,9 +74,9 @@ fn read<'t, K: Captures<'t>>(
 ) -> Result<K, AllocError>
     requires boundaries { AreBoundaries text.now boundaries.now }
     requires table { IsWholeTable pieces.now text.now boundaries.now rows.now }
-    requires matched { (spans : List (List ℕ)) × Matches (pieces_said pieces.now) text.now spans }
+    requires matched { (spans : List (List ℕ)) × Matches (piece_values pieces.now) text.now spans }
     ensures { IfOk result (λ kept.
-        IsKeptResult K.keeps (pieces_said pieces.now) text.now (Some kept)) }
+        IsKeptResult K.keeps (piece_values pieces.now) text.now (Some kept)) }
 {
     let mut kept = K::empty(alloc);
     let mut column = boundaries.len() - 1;
@@ -92,7 +92,7 @@ fn read<'t, K: Captures<'t>>(
 
 // Matches pieces by a table over these boundaries.
 fn match_pieces<'t, K: Captures<'t>>(
-    cells: &mut Cells,
+    cells: &mut CellCounter,
     alloc: Global,
     pieces: &[Piece],
     text: &'t str,
@@ -100,7 +100,7 @@ fn match_pieces<'t, K: Captures<'t>>(
 ) -> Result<Option<K>, AllocError>
     requires { AreBoundaries text.now boundaries.now }
     ensures found { IfOk result (λ found.
-        IsKeptResult K.keeps (pieces_said pieces.now) text.now found) }
+        IsKeptResult K.keeps (piece_values pieces.now) text.now found) }
     ensures most { cells.new.filled
         ≤ cells.old.filled + (length pieces.now + 1) * length boundaries.now }
     ensures least { cells.old.filled ≤ cells.new.filled }
@@ -126,7 +126,7 @@ impl Pattern {
         text: &str,
     ) -> Result<(Option<Vec<Field>>, u64), AllocError>
         ensures found { IfOk result (λ r.
-            IsMatchResult (pattern_value self.now) text.now (fields_said r.0)) }
+            IsMatchResult (pattern_value self.now) text.now (field_values r.0)) }
         ensures count { IfOk result (λ r.
             r.1 ≡ (length self.now.pieces.items + 1) * (length (chars text.now) + 1)) }
     {
@@ -134,7 +134,7 @@ impl Pattern {
         if !can_count(&self.pieces, &boundaries) {
             return Err(AllocError);
         }
-        let mut cells = Cells::new();
+        let mut cells = CellCounter::new();
         let found = match_pieces(&mut cells, alloc, &self.pieces, text, &boundaries)?;
         Ok((found, cells.filled))
     }
@@ -143,18 +143,18 @@ impl Pattern {
 // Matches the pieces that are left by a table, and adds to what is kept so far.
 #[inline(never)]
 fn match_rest<'t, K: Captures<'t>>(
-    cells: &mut Cells,
+    cells: &mut CellCounter,
     alloc: Global,
     kept: &mut K,
     left: &[Piece],
     rest: &'t str,
 ) -> Result<bool, AllocError>
     ensures found { IfOk result (λ found. KeepsMore K.keeps kept.old
-        (pieces_said left.now) rest.now (kept_if found kept.new)) }
+        (piece_values left.now) rest.now (kept_if found kept.new)) }
     ensures most { cells.new.filled
-        ≤ cells.old.filled + table_cells (pieces_said left.now) rest.now }
+        ≤ cells.old.filled + table_cells (piece_values left.now) rest.now }
     ensures least { cells.old.filled ≤ cells.new.filled }
-    ensures filled { OnOk result (GoesOnBy (table_cells (pieces_said left.now) rest.now)
+    ensures filled { OnOk result (GoesOnBy (table_cells (piece_values left.now) rest.now)
         cells.old.filled cells.new.filled) }
 {
     let boundaries = boundaries_of(alloc, rest)?;
@@ -172,17 +172,17 @@ fn match_rest<'t, K: Captures<'t>>(
 // Kept out of line, so that an entry that is passed over costs little.
 #[inline(never)]
 fn match_from_left<'t, K: Captures<'t>>(
-    cells: &mut Cells,
+    cells: &mut CellCounter,
     alloc: Global,
     kept: &mut K,
     pieces: &[Piece],
     text: &'t str,
 ) -> Result<bool, AllocError>
     ensures found { IfOk result (λ found. KeepsMore K.keeps kept.old
-        (pieces_said pieces.now) text.now (kept_if found kept.new)) }
-    ensures table { IfErr result (λ e. K.allocates ⊎ MayNeedTable (pieces_said pieces.now)) }
+        (piece_values pieces.now) text.now (kept_if found kept.new)) }
+    ensures table { IfErr result (λ e. K.allocates ⊎ MayNeedTable (piece_values pieces.now)) }
     ensures most { cells.new.filled
-        ≤ cells.old.filled + table_cells (pieces_said pieces.now) text.now }
+        ≤ cells.old.filled + table_cells (piece_values pieces.now) text.now }
     ensures least { cells.old.filled ≤ cells.new.filled }
 {
     let mut left = pieces;
@@ -204,7 +204,7 @@ fn match_from_left<'t, K: Captures<'t>>(
 // Matches pieces and the literal after them, which ends the text if it isn't longer, and adds to what is kept so far.
 #[inline(always)]
 fn match_before<'t, K: Captures<'t>>(
-    cells: &mut Cells,
+    cells: &mut CellCounter,
     alloc: Global,
     kept: &mut K,
     pieces: &[Piece],
@@ -215,10 +215,10 @@ fn match_before<'t, K: Captures<'t>>(
     requires last { piece_value last.now ≡ Literal literal.now }
     requires ends { length literal.now ≤ length text.now → EndsWith text.now literal.now }
     ensures found { IfOk result (λ found. KeepsMore K.keeps kept.old
-        (pieces_said pieces.now ++ Literal literal.now ∷ []) text.now (kept_if found kept.new)) }
-    ensures table { IfErr result (λ e. K.allocates ⊎ MayNeedTable (pieces_said pieces.now)) }
+        (piece_values pieces.now ++ Literal literal.now ∷ []) text.now (kept_if found kept.new)) }
+    ensures table { IfErr result (λ e. K.allocates ⊎ MayNeedTable (piece_values pieces.now)) }
     ensures most { cells.new.filled
-        ≤ cells.old.filled + table_cells (pieces_said pieces.now) text.now }
+        ≤ cells.old.filled + table_cells (piece_values pieces.now) text.now }
     ensures least { cells.old.filled ≤ cells.new.filled }
 {
     if text.len() < literal.len() {
@@ -237,19 +237,19 @@ fn match_before<'t, K: Captures<'t>>(
 /// kept is unspecified if there is no match, or after an error.
 #[inline(always)]
 pub(crate) fn match_fitting<'t, K: Captures<'t>>(
-    cells: &mut Cells,
+    cells: &mut CellCounter,
     alloc: Global,
     kept: &mut K,
     pieces: &[Piece],
     text: &'t str,
 ) -> Result<bool, AllocError>
-    requires start { FitsStart (pieces_said pieces.now) text.now }
-    requires back { FitsEnd (pieces_said pieces.now) text.now }
+    requires start { FitsStart (piece_values pieces.now) text.now }
+    requires back { FitsEnd (piece_values pieces.now) text.now }
     ensures found { IfOk result (λ found.
-        IsKeptResult K.keeps (pieces_said pieces.now) text.now (kept_if found kept.new)) }
-    ensures table { IfErr result (λ e. K.allocates ⊎ MayNeedTable (pieces_said pieces.now)) }
+        IsKeptResult K.keeps (piece_values pieces.now) text.now (kept_if found kept.new)) }
+    ensures table { IfErr result (λ e. K.allocates ⊎ MayNeedTable (piece_values pieces.now)) }
     ensures most { cells.new.filled
-        ≤ cells.old.filled + table_cells (pieces_said pieces.now) text.now }
+        ≤ cells.old.filled + table_cells (piece_values pieces.now) text.now }
     ensures least { cells.old.filled ≤ cells.new.filled }
 {
     *kept = K::empty(alloc);
@@ -269,7 +269,7 @@ impl Pattern {
     /// (characters + 1) cells. An error comes only if memory was refused, and never for a text that is passed over.
     pub fn matches(&self, alloc: Global, text: &str) -> Result<Option<Vec<Field>>, AllocError>
         ensures found { IfOk result (λ found.
-            IsMatchResult (pattern_value self.now) text.now (fields_said found)) }
+            IsMatchResult (pattern_value self.now) text.now (field_values found)) }
         // Memory is never refused to a text that is passed over.
         ensures memory { IfErr result (λ e. FitsStart (pattern_value self.now) text.now
             × FitsEnd (pattern_value self.now) text.now) }
@@ -277,7 +277,7 @@ impl Pattern {
         if !self.can_match(text) {
             return Ok(None);
         }
-        let mut cells = Cells::new();
+        let mut cells = CellCounter::new();
         let mut fields = Vec::new(alloc);
         let found = match_fitting(&mut cells, alloc, &mut fields, &self.pieces, text)?;
         Ok(if found { Some(fields) } else { None })

@@ -5,14 +5,14 @@ ghost use Rattle.std.specs.List.{prefix_len, position_or_len, list_all};
 ghost use Rattle.gk_steps.specs.declared.pattern.FieldKind.{FieldKind as Kind};
 ghost use Rattle.gk_steps.specs.declared.pattern.PatternFault.TheVariants.{BadPattern, Memory};
 ghost use Rattle.gk_steps.specs.Pattern as spec;
-ghost use Rattle.gk_steps.specs.Pattern.{PieceValue, pieces_said, pattern_value, spelled_literal};
+ghost use Rattle.gk_steps.specs.Pattern.{PieceValue, piece_values, pattern_value, spelled_literal};
 ghost use Rattle.gk_steps.specs.Pattern.{BeginsWithPiece, SpellsPattern};
 ghost use Rattle.gk_steps.specs.Spelling as machinery;
 ghost use Rattle.gk_steps.specs.Spelling.{BeginsAtBrace, EndsLiteral, IsOnlyName, HasLiteral};
 ghost use Rattle.gk_steps.specs.Spelling.{HasField, HasNoField, PushesLiteral, PushesField};
 ghost use Rattle.gk_steps.specs.Spelling.{IsSpelled, AnswersPieces, field_tail};
 
-use crate::advances::rest_after;
+use crate::literal_ends::rest_after;
 use crate::pattern::{FieldKind, Pattern, PatternFault, Piece};
 use std::alloc::{AllocError, Global};
 
@@ -25,13 +25,13 @@ fn is_brace(byte: u8) -> bool
 fn is_name_letter(byte: u8) -> bool
     ensures { result ≡ spec.is_name_letter byte }
 {
-    (65 <= byte && byte <= 90) || ((97 <= byte && byte <= 122) || (byte == 95))
+    byte.is_ascii_alphabetic() || byte == b'_'
 }
 
 fn is_name_byte(byte: u8) -> bool
     ensures { result ≡ spec.is_name_byte byte }
 {
-    is_name_letter(byte) || (48 <= byte && byte <= 57)
+    is_name_letter(byte) || byte.is_ascii_digit()
 }
 
 fn are_name_bytes(text: &[u8]) -> bool
@@ -211,7 +211,7 @@ fn push_field<'a>(
 
 // Returns the pieces that a text spells, if names may occur twice.
 fn read_pieces(alloc: Global, text: &str) -> Result<Vec<Piece>, PatternFault>
-    ensures found { IfOk result (λ ps. IsSpelled text.now (pieces_said ps.items)) }
+    ensures found { IfOk result (λ ps. IsSpelled text.now (piece_values ps.items)) }
     ensures only { (ps : List PieceValue) → IsSpelled text.now ps → AnswersPieces result ps }
     ensures memory { result ≡ Err Memory → BeginsWithPiece text.now }
 {
@@ -228,7 +228,7 @@ fn read_pieces(alloc: Global, text: &str) -> Result<Vec<Piece>, PatternFault>
 
 /// Returns the kind of the field of this name, or `None` if the pieces have no such field.
 pub fn field_kind(pieces: &[Piece], name: &str) -> Option<FieldKind>
-    ensures { result ≡ spec.field_kind (pieces_said pieces.now) name.now }
+    ensures { result ≡ spec.field_kind (piece_values pieces.now) name.now }
 {
     for piece in pieces {
         if let Piece::Field { name: other, kind } = piece {
@@ -242,7 +242,7 @@ pub fn field_kind(pieces: &[Piece], name: &str) -> Option<FieldKind>
 
 // Returns whether no name occurs twice.
 fn are_distinct(pieces: &[Piece]) -> bool
-    ensures { result ≡ machinery.are_distinct (pieces_said pieces.now) }
+    ensures { result ≡ machinery.are_distinct (piece_values pieces.now) }
 {
     let mut rest = pieces;
     while let Some((piece, later)) = rest.split_first() {
@@ -258,7 +258,7 @@ fn are_distinct(pieces: &[Piece]) -> bool
 
 // Returns whether pieces form a pattern: there is at least one, and no name occurs twice.
 fn is_pattern(pieces: &[Piece]) -> bool
-    ensures { result ≡ machinery.is_pattern (pieces_said pieces.now) }
+    ensures { result ≡ machinery.is_pattern (piece_values pieces.now) }
 {
     !pieces.is_empty() && are_distinct(pieces)
 }

@@ -8,13 +8,13 @@ ghost use Rattle.gk_steps.specs.TableRows.{IsRow, IsRowOver, IsPlainRow};
 
 use crate::advances::advance;
 use crate::digits::{Digits, has_number};
-use crate::filled_cells::Cells;
+use crate::filled_cells::CellCounter;
 use crate::pattern::{FieldKind, Piece};
 use std::alloc::{AllocError, Global};
 
 /// Returns the row of no pieces, which match only an empty text.
 pub(crate) fn first_row(
-    cells: &mut Cells,
+    cells: &mut CellCounter,
     alloc: Global,
     boundaries: &[usize],
 ) -> Result<Vec<bool>, AllocError>
@@ -33,7 +33,11 @@ pub(crate) fn first_row(
 }
 
 // Returns the row of a plain field: each cell says whether a cell before it is true in the row below.
-fn plain_row(cells: &mut Cells, alloc: Global, below: &[bool]) -> Result<Vec<bool>, AllocError>
+fn plain_field_row(
+    cells: &mut CellCounter,
+    alloc: Global,
+    below: &[bool],
+) -> Result<Vec<bool>, AllocError>
     ensures row { IfOk result (λ row. IsPlainRow (length below.now) below.now row.items) }
     ensures most { cells.new.filled ≤ cells.old.filled + length below.now }
     ensures least { cells.old.filled ≤ cells.new.filled }
@@ -51,7 +55,7 @@ fn plain_row(cells: &mut Cells, alloc: Global, below: &[bool]) -> Result<Vec<boo
 
 // Returns the row of a number, in one pass: at a leading zero it uses what is known at the column after.
 fn decimal_row(
-    cells: &mut Cells,
+    cells: &mut CellCounter,
     alloc: Global,
     text: &str,
     boundaries: &[usize],
@@ -86,7 +90,7 @@ fn decimal_row(
 /// Returns the row of a piece in front of those of the row below. Each cell says whether they match the text after its
 /// position.
 pub(crate) fn row_over(
-    cells: &mut Cells,
+    cells: &mut CellCounter,
     alloc: Global,
     piece: &Piece,
     text: &str,
@@ -105,7 +109,7 @@ pub(crate) fn row_over(
 {
     if let Piece::Field { kind, .. } = piece {
         return match kind {
-            FieldKind::Plain => plain_row(cells, alloc, below),
+            FieldKind::Plain => plain_field_row(cells, alloc, below),
             FieldKind::Decimal => decimal_row(cells, alloc, text, boundaries, below),
         };
     }

@@ -1,16 +1,16 @@
 //! Field values that actions use.
 ghost use Rattle.std.specs.Prelude.{◌≡◌, ◌++◌, ◌∷◌, [], codes, map, List, IfOk, IfErr, option_map, option_and_then};
-ghost use Rattle.gk_steps.specs.Pattern.{PieceValue, piece_value, pieces_said};
-ghost use Rattle.gk_steps.specs.Advances.{Takes, values_of};
+ghost use Rattle.gk_steps.specs.Pattern.{PieceValue, piece_value, piece_values};
+ghost use Rattle.gk_steps.specs.Advances.{CanTake, values_of};
 ghost use Rattle.gk_steps.specs.Matching.{FieldValue, field_value};
 ghost use Rattle.gk_steps.specs.Finding as spec;
 ghost use Rattle.gk_steps.specs.Finding.{FoundValue, HasCandidateFor, HasTableCandidateFor, HasUsedFields, IsUseOf, LibraryValue, library_value, found_value};
 ghost use Rattle.gk_steps.specs.Captures.{capture_value};
-ghost use Rattle.gk_steps.specs.UsedFields.{said, first_of, AreFirst, AreJoined, IsAdded, KeepsFirst};
+ghost use Rattle.gk_steps.specs.UsedFields.{captured, first_of, AreFirst, AreJoined, IsAdded, KeepsFirst};
 
 use crate::action::Action;
 use crate::captures::{Capture, Captures, capture_of};
-use crate::filled_cells::Cells;
+use crate::filled_cells::CellCounter;
 use crate::finding::Found;
 use crate::library::Library;
 use crate::pattern::{Field, Piece};
@@ -86,7 +86,8 @@ const NO_FIELDS: FirstFields<'static> = FirstFields {
 // Adds one more field to the first field of a name, if it has that name.
 #[inline(always)]
 fn add_first<'a>(first: &mut Option<Capture<'a>>, is_named: bool, taken: Capture<'a>)
-    ensures { said first.new ≡ first_of (said first.old) is_named (capture_value taken.entry) }
+    ensures { captured first.new
+        ≡ first_of (captured first.old) is_named (capture_value taken.entry) }
 {
     if is_named && first.is_none() {
         *first = Some(taken);
@@ -108,7 +109,7 @@ fn add_field<'a>(firsts: &mut FirstFields<'a>, name: &str, taken: Capture<'a>)
 // Adds one more piece that took a span to the first fields. Only a field changes them.
 #[inline(always)]
 fn add_piece<'a>(firsts: &mut FirstFields<'a>, piece: &Piece, span: &'a str)
-    requires { Takes (piece_value piece.now) span.now }
+    requires { CanTake (piece_value piece.now) span.now }
     ensures { let p = piece_value piece.now in (ps : List PieceValue) (before : List FieldValue)
         → KeepsFirst ps firsts.old before
         → KeepsFirst (ps ++ p ∷ []) firsts.new (before ++ values_of p span.now) }
@@ -146,7 +147,7 @@ fn lent<'a>(field: &'a Field) -> Capture<'a>
 // Returns the first fields of the names. Looks at each field once.
 #[inline(always)]
 fn first_fields<'a>(pieces: &[Piece], fields: &'a [Field]) -> FirstFields<'a>
-    ensures { let ps = pieces_said pieces.now in let fs = map field_value fields.now in
+    ensures { let ps = piece_values pieces.now in let fs = map field_value fields.now in
         AreFirst (λ name. spec.field_named name ps fs) result }
 {
     let mut firsts = NO_FIELDS;
@@ -166,7 +167,7 @@ fn first_fields<'a>(pieces: &[Piece], fields: &'a [Field]) -> FirstFields<'a>
 // Returns the text that a field took, if it took one.
 #[inline(always)]
 fn text_in<'a>(taken: Option<Capture<'a>>) -> Option<&'a str>
-    ensures { option_map (λ t. t.now) result ≡ option_and_then spec.as_text (said taken.entry) }
+    ensures { option_map (λ t. t.now) result ≡ option_and_then spec.as_text (captured taken.entry) }
 {
     match taken? {
         Capture::Text(text) => Some(text),
@@ -177,7 +178,7 @@ fn text_in<'a>(taken: Option<Capture<'a>>) -> Option<&'a str>
 // Returns the number that a field took, if it took one.
 #[inline(always)]
 fn number_in(taken: Option<Capture<'_>>) -> Option<i64>
-    ensures { result ≡ option_and_then spec.as_number (said taken.entry) }
+    ensures { result ≡ option_and_then spec.as_number (captured taken.entry) }
 {
     match taken? {
         Capture::Text(_) => None,
@@ -250,7 +251,7 @@ impl Library {
         ensures table { IfErr result (λ e.
             HasTableCandidateFor (library_value self.now) step_type text.now) }
     {
-        let mut cells = Cells::new();
+        let mut cells = CellCounter::new();
         let mut firsts = NO_FIELDS;
         match self.search(alloc, &mut cells, &mut firsts, step_type, text)? {
             Some(entry) => Ok(Some(FoundUse {

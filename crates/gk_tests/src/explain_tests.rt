@@ -3,7 +3,7 @@ ghost use Rattle.gk_run.specs.Chosen.{IsFormed};
 use crate::run_tests::feature_of;
 use crate::suite_tests::chosen;
 use gk_explain::{Explainer, push_entry, push_place, push_shown, type_word};
-use gk_gherkin::{HookFile, StepType, read_hooks};
+use gk_gherkin::{HookFile, HookTable, StepType, read_hooks};
 use gk_run::{Chosen, FeatureResult, NoRoom, Suite};
 use gk_select::{ExampleRow, outline_rows};
 use gk_steps::{Library, default_library, read_library};
@@ -82,12 +82,13 @@ fn ready(
 ) -> (Result<String, AllocError>, Result<String, AllocError>)
     requires { IsFormed chosen }
 {
+    let hooks = HookTable::new(alloc, hooks);
     let mut sandbox = Sandbox::new(alloc);
-    let mut suite = Suite::start_watched(alloc, &mut sandbox, library, hooks, false, explainer);
+    let mut suite = Suite::start_watched(alloc, &mut sandbox, library, &hooks, false, explainer);
     explainer.begin_feature("boxes.feature");
-    let ran = suite.feature_watched(alloc, &mut sandbox, library, hooks, chosen, explainer);
+    let ran = suite.feature_watched(alloc, &mut sandbox, library, &hooks, chosen, explainer);
     let feature_ready = ready_after(explainer, ran);
-    let around = suite.finish_watched(alloc, &mut sandbox, library, hooks, explainer);
+    let around = suite.finish_watched(alloc, &mut sandbox, library, &hooks, explainer);
     explainer.end_run(around);
     (feature_ready, explainer.take_ready())
 }

@@ -1,5 +1,5 @@
 use gk_gherkin::{Block, Examples, Keyword, Scenario, Step, StepType};
-use gk_select::{copied_texts, fill_step, is_outline};
+use gk_select::{Names, copied_texts, fill_step, is_outline};
 use std::alloc::{AllocError, Global};
 use std::test::Fail;
 
@@ -39,7 +39,7 @@ fn filled(alloc: Global, step: &Step) -> Result<String, Fail> {
     if header.len() != row.len() {
         return Err("another number of cells".into());
     }
-    let filled = fill_step(alloc, step, &header, &row)?;
+    let filled = fill_step(alloc, step, &Names::new(alloc, &header), &row)?;
     Ok(format!(in alloc; "{filled:?}")?)
 }
 

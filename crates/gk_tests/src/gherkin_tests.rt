@@ -1,6 +1,5 @@
-use gk_gherkin::{
-    HookKind, HookTable, Keyword, ReadFault, read_feature, read_hooks, read_lines, trim_back,
-};
+use gk_gherkin::text::trim_back;
+use gk_gherkin::{HookKind, HookTable, Keyword, ReadFault, read_feature, read_hooks, read_lines};
 use std::alloc::Global;
 use std::test::Fail;
 

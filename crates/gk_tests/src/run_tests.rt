@@ -49,7 +49,7 @@ fn selections(alloc: Global, choice: &Choice, cases: &[Case]) -> Result<Vec<bool
     Ok(selected)
 }
 
-// Returns the choice by one rule of tags.
+// Returns the choice by one tag rule.
 fn choice_by(alloc: Global, tags: &str) -> Result<Choice, Fail> {
     let mut rules = Vec::new(alloc);
     rules.push(read_tags(alloc, tags)?)?;

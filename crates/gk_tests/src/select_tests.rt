@@ -84,7 +84,7 @@ fn rows_are_listed(rt: HostRuntime) -> Result<(), Fail> {
     Ok(())
 }
 
-// Texts, and the rules of tags that they spell.
+// Texts, and the tag rules that they spell.
 const RULES: [(&str, &str); 25] = [
     (
         "slow,~@db",

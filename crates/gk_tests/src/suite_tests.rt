@@ -2,7 +2,7 @@ ghost use Rattle.std.specs.Prelude.{IfOk};
 ghost use Rattle.gk_run.specs.Chosen.{IsFormed};
 
 use crate::run_tests::{cases_of, chosen_of, feature_of};
-use gk_gherkin::{Block, HookFile, Step, read_hooks};
+use gk_gherkin::{Block, HookFile, HookTable, Step, read_hooks};
 use gk_report::{Format, Style, part};
 use gk_run::{
     CaseResult, Chosen, FeatureResult, Level, Mark, NoRoom, Observer, Outcome, Reason, RuleResult,
@@ -185,14 +185,15 @@ fn run_told(
 ) -> (Option<(Status, Status)>, Status, String)
     requires { IsFormed chosen }
 {
+    let hooks = HookTable::new(alloc, hooks);
     let mut sandbox = Sandbox::new(alloc);
     let mut teller = Teller {
         told: String::new(alloc),
     };
-    let mut suite = Suite::start_watched(alloc, &mut sandbox, library, hooks, false, &mut teller);
-    let ran = suite.feature_watched(alloc, &mut sandbox, library, hooks, chosen, &mut teller);
+    let mut suite = Suite::start_watched(alloc, &mut sandbox, library, &hooks, false, &mut teller);
+    let ran = suite.feature_watched(alloc, &mut sandbox, library, &hooks, chosen, &mut teller);
     let statuses = statuses_of(ran);
-    let around = suite.finish_watched(alloc, &mut sandbox, library, hooks, &mut teller);
+    let around = suite.finish_watched(alloc, &mut sandbox, library, &hooks, &mut teller);
     (statuses, around, teller.told)
 }
 

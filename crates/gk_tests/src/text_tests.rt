@@ -1,6 +1,7 @@
-use gk_gherkin::text::{begins, is_blank, split_word, stands_in, trim};
+use gk_gherkin::text::{begins, begins_word, contains, is_blank, split_word, trim};
 use gk_gherkin::{
-    FaultText, HookKind, LIMIT, Place, ReadFault, borrowed_line, read_hooks, text_of,
+    Class, FaultText, Fence, HookKind, LONGEST_FILE, Place, ReadFault, borrowed_line,
+    class_of_line, closes, read_hooks, text_of,
 };
 use gk_select::SelectFault;
 use std::test::Fail;
@@ -26,8 +27,9 @@ fn words_are_split(rt: HostRuntime) {
 fn texts_are_looked_for(rt: HostRuntime) {
     assert!(rt; begins("Given a", "Given") && begins("a", "") && begins("", ""));
     assert!(rt; !begins("Give", "Given") && !begins("given a", "Given"));
-    assert!(rt; stands_in("bc", "abcd") && stands_in("", "a") && stands_in("", ""));
-    assert!(rt; !stands_in("ca", "abc") && !stands_in("abc", "ab"));
+    assert!(rt; begins_word("Given\ta", "Given") && !begins_word("Givena", "Given"));
+    assert!(rt; contains("abcd", "bc") && contains("a", "") && contains("", ""));
+    assert!(rt; !contains("abc", "ca") && !contains("ab", "abc"));
 }
 
 #[test]
@@ -40,11 +42,20 @@ fn lines_have_their_places(rt: HostRuntime) {
 }
 
 #[test]
+fn lines_have_classes(rt: HostRuntime) {
+    let rule = borrowed_line(1, "\tRule: a");
+    assert!(rt; matches!(class_of_line(&rule), Class::RuleHeading));
+    let fence = borrowed_line(2, " \"\"\" ");
+    assert!(rt; matches!(class_of_line(&fence), Class::FenceLine(Fence::Quotes)));
+    assert!(rt; closes(Fence::Quotes, &fence) && !closes(Fence::Backticks, &fence));
+}
+
+#[test]
 fn bytes_are_texts(rt: HostRuntime) -> Result<(), Fail> {
     assert_eq!(rt; text_of(b"a\r\nb"), Ok("a\r\nb"));
     assert_eq!(rt; text_of(b"\xEF\xBB\xBFa"), Ok("a"));
     assert_eq!(rt; text_of(b"a\n\xFF\n"), Err(ReadFault::NotUtf8 { line: 2 }));
-    let bytes = vec![in rt.alloc(); b'a'; LIMIT + 1]?;
+    let bytes = vec![in rt.alloc(); b'a'; LONGEST_FILE + 1]?;
     assert_eq!(rt; text_of(&bytes), Err(ReadFault::TooLong));
     Ok(())
 }

@@ -24,13 +24,14 @@ pub use Rattle.std.specs.String.Boundary.{IsSplitPoint}
 pub use Rattle.indexmap.proofs.CallerLemmas.{insert_entry-new}
 pub use Rattle.indexmap.specs.IndexMap.{IndexMap, insert_entry, set_value_at}
 pub use Rattle.gk_world.specs.Cells.{Cell, IsOnly, Slot, cell_at}
-pub use Rattle.gk_world.specs.Journal.{FitAll, StaysFit, rewound}
+pub use Rattle.gk_world.specs.Journal.{FitAll, rewound}
 pub use Rattle.gk_world.specs.Listing.{AreEntries, Lists, Notes, is_named, texts_of}
 pub use Rattle.gk_world.specs.Refusals.{IsAnswer, IsFault, append_refusal, delete_refusal, is_too_long, joined, put_refusal}
-pub use Rattle.gk_world.specs.Reversible.{rewind, with_values}
-pub use Rattle.gk_world.specs.Sandbox.{AreStarts, Becomes, ChangesAreOfState, EndsByUndos, EndsLayer, HasShortTexts, IsSound, LayersGiveBack, LeadsTo, NoneTooLong, Records, Rewinds, SandboxValue, TextsAreShort, UndosGiveBack, change, depth, done, layer, layer_begun, open_starts, saved_of, seen_undo, seen_undos, value_of, with_layers, with_value, without_value}
+pub use Rattle.gk_world.specs.Reversible.{with_values}
+pub use Rattle.gk_world.specs.Sandbox.{Becomes, ChangesAreOfState, EndsByUndos, EndsLayer, HasShortTexts, LayersGiveBack, LeadsTo, NoneTooLong, Records, Rewinds, SandboxValue, TextsAreShort, UndosGiveBack, change, depth, done, layer, layer_begun, with_layers, with_value, without_value}
 pub use Rattle.gk_world.specs.Slots.{HasCell, IsAt, IsMissing, IsNew, IsNewest, IsPosition, NamesDiffer, Undoes, Writes, cells_of, cut_to, grown, layers_of, map_at, name_at, name_of, old_of, seen, slots_of, with_cell, with_cells}
 pub use Rattle.gk_world.specs.State.{Contents, Map, Texts, enter, laid, laid_over, layers, outer_of, own_of, see, state_of, with_entry, with_innermost, with_layer, with_text, without}
+pub use Rattle.gk_world.specs.Stored.{AreStarts, IsSound, open_starts, saved_of, seen_undo, seen_undos, value_of}
 pub use Rattle.gk_world.specs.Values.{IsLayer, state_at}
 pub use Rattle.gk_world.specs.World.{CanApply, Fits, IsClear, IsHere, Refuses, Steps, changed, contents_of, refusal, undone}
 pub use Rattle.gk_world.specs.declared.refusals.WorldFault.{WorldFault}

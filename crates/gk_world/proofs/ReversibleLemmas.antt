@@ -1,5 +1,5 @@
 -- What the undos of a sandbox are on its contents.
-use Rattle.gk_world.proofs.Common.{◌≡◌, ℕ, zero, suc, ◌+◌, List, [], ◌∷◌, ◌++◌, length, drop, refl, sym, ap, subst, ◌∙◌, arith, common_steps, rewound, FitAll, World, WorldUndo, File, Env, Value, with_layer, layers, map_at, layers_of, contents_of, Fits, undone, IsClear, rewind, SandboxValue, with_layers, Rewinds, UndosGiveBack, seen_undo, seen_undos, saved_of, value_of, AreStarts, IsSound}
+use Rattle.gk_world.proofs.Common.{◌≡◌, ℕ, zero, suc, ◌+◌, List, [], ◌∷◌, ◌++◌, length, drop, refl, sym, ap, subst, ◌∙◌, arith, common_steps, rewound, FitAll, World, WorldUndo, File, Env, Value, with_layer, layers, map_at, layers_of, contents_of, Fits, undone, IsClear, SandboxValue, with_layers, Rewinds, UndosGiveBack, seen_undo, seen_undos, saved_of, value_of, AreStarts, IsSound}
 use Rattle.gk_world.proofs.JournalLemmas.{rewound-append, FitAll-drop}
 use Rattle.gk_world.specs.Slots as slot
 use Rattle.gk_world.specs.World.{NamesDiffer}
@@ -23,7 +23,7 @@ differ_rewound [] w n = n
 differ_rewound (u ∷ us) w n = grind (arith, common_steps, differ_rewound us w n, differ_undone)
 
 -- many undos, on the contents
-pub contents_rewound : (d : ℕ) (us : List WorldUndo) (w : World) → NamesDiffer w → FitAll undone Fits us w → contents_of d (rewound undone us w) ≡ rewind (seen_undos w us) (contents_of d w)
+pub contents_rewound : (d : ℕ) (us : List WorldUndo) (w : World) → NamesDiffer w → FitAll undone Fits us w → contents_of d (rewound undone us w) ≡ rewound contents.undone (seen_undos w us) (contents_of d w)
 contents_rewound d [] w n h = refl
 contents_rewound d (u ∷ us) w n h = grind (arith, common_steps, contents_undone, differ_rewound, contents_rewound d us w n h.0)
 
@@ -45,7 +45,7 @@ saved_rewinds : (inside n : ℕ) (ms : List ℕ) (us : List WorldUndo) (w : Worl
 saved_rewinds inside n [] us w names fit h = tt
 saved_rewinds inside n (m ∷ ms) us w names fit h =
     let e : inside + length (m ∷ ms) ≡ suc inside + length ms = omega arith in (
-      ap (λ us. rewind us (contents_of (inside + length (m ∷ ms)) w)) (sym (drop-seen_undos m w us))
+      ap (λ us. rewound contents.undone us (contents_of (inside + length (m ∷ ms)) w)) (sym (drop-seen_undos m w us))
           ∙ sym (contents_rewound (inside + length (m ∷ ms)) (drop m us) w names (FitAll-drop undone Fits m us w fit))
           ∙ ap (λ n. contents_of n (rewound undone (drop m us) w)) e
           ∙ without_values (suc inside) (length ms) (rewound undone (drop m us) w) h.1,

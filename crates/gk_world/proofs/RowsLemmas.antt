@@ -1,6 +1,6 @@
 -- The entries of an index map as slots.
-use Rattle.gk_world.proofs.Common.{◌≡◌, ℕ, zero, suc, ◌+◌, ◌<◌, Bool, true, false, cond, List, [], ◌∷◌, ◌++◌, get_or, set, length, take, option_to_list, Option, None, Some, is_some, IsSome, MatchOption, String, string_bytes, position, slice_get, bytes_eq, string_eq, refl, sym, ap, ◌∙◌, subst, true≢false, arith, length-append, position-Some, Global, lookup, keys_of, values_of, IndexMap, set_value_at, insert_entry, insert_entry-new, Slot, Cell, cell_at, Writes, HasCell, cells_of, name_at, with_cells, with_cell, IsPosition, IsMissing, IsAt, IsNew, NamesDiffer, seen, slots_of}
-use Rattle.gk_world.proofs.SlotsLemmas.{position_is, writes, has_cell, cell-back, differ-with_cells, differ-front, push-back}
+use Rattle.gk_world.proofs.Common.{◌≡◌, ℕ, zero, suc, ◌+◌, ◌<◌, Bool, true, false, cond, List, [], ◌∷◌, ◌++◌, get_or, set, length, take, option_to_list, Option, None, Some, is_some, IsSome, MatchOption, String, string_bytes, position, slice_get, bytes_eq, string_eq, refl, sym, ap, ◌∙◌, subst, true≢false, arith, length-append, position-Some, Global, lookup, keys_of, values_of, IndexMap, set_value_at, insert_entry, insert_entry-new, Slot, Cell, cells_of, name_at, with_cells, with_cell, IsPosition, IsMissing, IsAt, IsNew, NamesDiffer, seen, slots_of}
+use Rattle.gk_world.proofs.SlotsLemmas.{position_is, differ-with_cells, differ-front, push-back}
 
 -- whether a key is this name
 abbrev pub is_name : List ℕ → String Global → Bool
@@ -80,31 +80,11 @@ module _ {C : Type 0} (cells : C → List Cell) where
   no-name-at-position es s i is at = no-name es i at ∙ ap (λ s. name_at s i) is
 
   -- a write of one cell of the row at i
-  row-write : (es : List (String Global × C)) (s : List Slot) (i j : ℕ) (x new : C) (c : Cell) → slots_of cells es ≡ s → slice_get (values_of es) i ≡ Some x → cells new ≡ set (cells x) j c → slots_of cells (set_value_at es i new) ≡ with_cell s i j c
+  pub row-write : (es : List (String Global × C)) (s : List Slot) (i j : ℕ) (x new : C) (c : Cell) → slots_of cells es ≡ s → slice_get (values_of es) i ≡ Some x → cells new ≡ set (cells x) j c → slots_of cells (set_value_at es i new) ≡ with_cell s i j c
   row-write es s i j x new c is at e =
       rows-set es i new
       ∙ ap (with_cells (slots_of cells es) i) (e ∙ ap (λ l. set l j c) (cells-at-position es s i x is at))
       ∙ ap (λ t. with_cells t i (set (cells_of s i) j c)) is
-
-  -- what a write of one cell of the row at i makes of slots, and what its undo makes of these
-  pub record IsWritten (width : ℕ) (s t : List Slot) (i j : ℕ) (c old : Cell) : Type 0 where
-    pub set_to : t ≡ with_cell s i j c
-    pub on_maps : (name : List ℕ) → IsPosition name s i → Writes name j c s t
-    pub has : HasCell width t i j
-    pub back : with_cell t i j old ≡ s
-
-  pub written : (width : ℕ) (es : List (String Global × C)) (s : List Slot) (i j : ℕ) (x new : C) (c old : Cell) → slots_of cells es ≡ s → i < length s → j < width → slice_get (values_of es) i ≡ Some x → j < length (cells x) → cells new ≡ set (cells x) j c → old ≡ cell_at j (cells x) → IsWritten width s (slots_of cells (set_value_at es i new)) i j c old
-  written width es s i j x new c old is there allowed at within e was =
-      let t = slots_of cells (set_value_at es i new) in
-      let row : cells x ≡ cells_of s i = cells-at-position es s i x is at in
-      let same : t ≡ with_cell s i j c = row-write es s i j x new c is at e in
-      let here : j < length (cells_of s i) = subst (λ l. j < length l) row within in
-      record {
-        set_to = same;
-        on_maps = λ name found. writes name s t i j c same found here;
-        has = has_cell width s t i j c same there here allowed;
-        back = cell-back s t i j c old same there (was ∙ ap (cell_at j) row);
-      }
 
   pub differ-written : (es : List (String Global × C)) (i : ℕ) (new : C) → NamesDiffer (slots_of cells es) → NamesDiffer (slots_of cells (set_value_at es i new))
   differ-written es i new d = subst NamesDiffer (sym (rows-set es i new)) (differ-with_cells (slots_of cells es) i (cells new) d)

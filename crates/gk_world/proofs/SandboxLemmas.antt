@@ -1,8 +1,8 @@
 -- How a sandbox keeps what is seen of it.
-use Rattle.gk_world.proofs.Common.{◌≡◌, ◌⊎◌, inl, inr, ℕ, zero, suc, ◌+◌, ◌-◌, ◌<◌, ◌≤◌, None, Result, Ok, Err, OnOk, OnErr, IfErr, List, [], ◌∷◌, ◌++◌, length, drop, take, set, get_or, get_or-set_other, get_or-set_same, refl, sym, ap, subst, ◌∙◌, arith, common_steps, length-take-le, take-append-drop, AllByRecursion, drop-length, rewound, FitAll, StaysFit, WorldFault, Memory, World, WorldUndo, WorldChange, map_at, layers_of, IsFault, IsAnswer, delete_refusal, state_of, layers, state_at, IsLayer, contents_of, Fits, undone, Steps, Refuses, CanApply, IsHere, changed, refusal, IsClear, SandboxValue, depth, layer_begun, EndsLayer, EndsByUndos, Becomes, Records, NoneTooLong, HasShortTexts, TextsAreShort, seen_undo, seen_undos, open_starts, saved_of, value_of, AreStarts, IsSound}
+use Rattle.gk_world.proofs.Common.{◌≡◌, ◌⊎◌, inl, inr, ℕ, zero, suc, ◌+◌, ◌-◌, ◌<◌, ◌≤◌, None, Result, Ok, Err, OnOk, OnErr, IfErr, List, [], ◌∷◌, ◌++◌, length, drop, take, set, get_or, get_or-set_other, get_or-set_same, refl, sym, ap, subst, ◌∙◌, arith, common_steps, length-take-le, take-append-drop, AllByRecursion, drop-length, rewound, FitAll, WorldFault, Memory, World, WorldUndo, WorldChange, map_at, layers_of, IsFault, IsAnswer, delete_refusal, state_of, layers, state_at, IsLayer, contents_of, Fits, undone, Steps, Refuses, CanApply, IsHere, changed, refusal, IsClear, SandboxValue, depth, layer_begun, EndsLayer, EndsByUndos, Becomes, Records, NoneTooLong, HasShortTexts, TextsAreShort, seen_undo, seen_undos, open_starts, saved_of, value_of, AreStarts, IsSound}
 use Rattle.std.proofs.lemmas.List.{length-append}
 use Rattle.gk_world.proofs.UndoLemmas.{length-layers_of}
-use Rattle.gk_world.proofs.JournalLemmas.{FitAll-drop}
+use Rattle.gk_world.proofs.JournalLemmas.{rewound-since, FitAll-since, rewound-before, FitAll-before, FitAll-drop}
 use Rattle.gk_world.specs.World.{NamesDiffer}
 use Rattle.gk_world.proofs.WorldLemmas.{contents_changed, contents_allow, contents_refuse, clear_still, here_applies}
 use Rattle.gk_world.proofs.TextsLemmas.{short_empty, short_changed, short_begun, short_ended}
@@ -101,14 +101,16 @@ module _ (w : World) (us : List WorldUndo) (d n : ℕ) (starts : List ℕ) (v : 
 
 -- ---- a layer ends
 module _ (w : World) (us : List WorldUndo) (m : ℕ) (ms : List ℕ) (h : IsSound w us (m ∷ ms)) (t : World) (vs : List WorldUndo)
-    (back : t ≡ rewound undone (drop m us) w) (left : vs ≡ take m us) (same : Same m us vs w t)
-    (older : (k : ℕ) → k ≤ m → FitAll undone Fits (drop k us) w → FitAll undone Fits (drop k vs) t) where
+    (back : t ≡ rewound undone (drop m us) w) (left : vs ≡ take m us) where
+  same_before : Same m us vs w t
+  same_before k le = rewound-before undone us vs k m w t le h.ordered.0 left back
+
   left_are : length vs ≡ m
   left_are = ap length left ∙ length-take-le m us h.ordered.0
 
   ends_outside : EndsLayer (value_of w us (m ∷ ms)) (value_of t vs ms)
   ends_outside = record {
-    given_back = λ i. contents_of (length ms) (sym back i) ∷ sym (saved_of-same ms m us vs w t h.ordered.2 same) i;
+    given_back = λ i. contents_of (length ms) (sym back i) ∷ sym (saved_of-same ms m us vs w t h.ordered.2 same_before) i;
     forgotten = λ i. (sym left_are ∙ sym (length-seen_undos t vs)) i ∷ ms;
   }
 
@@ -116,8 +118,8 @@ module _ (w : World) (us : List WorldUndo) (m : ℕ) (ms : List ℕ) (h : IsSoun
   sound_outside = record {
     room = omega (arith, h.room);
     clear = subst (IsClear (length ms)) (sym back) h.ordered.1;
-    ordered = subst (λ n. AreStarts ms n vs t) (sym left_are) (starts-same ms m us vs w t h.ordered.2 same);
-    fit = older 0 (omega arith) h.fit;
+    ordered = subst (λ n. AreStarts ms n vs t) (sym left_are) (starts-same ms m us vs w t h.ordered.2 same_before);
+    fit = FitAll-before undone Fits us vs 0 m w t (omega arith) h.ordered.0 left back h.fit;
     texts = short_ended (value_of w us (m ∷ ms)) (value_of t vs ms) ends_outside h.texts;
   }
 
@@ -152,17 +154,15 @@ module _ (w : World) (us : List WorldUndo) (d number : ℕ) (starts : List ℕ) 
   fit_since = FitAll-drop undone Fits (get_or starts (number - 1) 0) us w h.fit
 
   module _ (t : World) (vs : List WorldUndo)
-      (back : t ≡ rewound undone (drop (get_or starts (number - 1) 0) us) w) (left : vs ≡ take (get_or starts (number - 1) 0) us)
-      (same : Same (get_or starts (number - 1) 0) us vs w t)
-      (older : (k : ℕ) → k ≤ get_or starts (number - 1) 0 → FitAll undone Fits (drop k us) w → FitAll undone Fits (drop k vs) t) where
+      (back : t ≡ rewound undone (drop (get_or starts (number - 1) 0) us) w) (left : vs ≡ take (get_or starts (number - 1) 0) us) where
     pub ended_sound : IsSound t vs (open_starts (number - 1) starts)
-    ended_sound = sound_outside w us _ _ sound_here t vs back left same older
+    ended_sound = sound_outside w us _ _ sound_here t vs back left
 
     pub ended : EndsLayer v (value_of t vs (open_starts (number - 1) starts))
-    ended = subst (λ v. EndsLayer v (value_of t vs (open_starts (number - 1) starts))) (ap (λ d. value_of w us (open_starts d starts)) (sym outer_is) ∙ is) (ends_outside w us _ _ sound_here t vs back left same older)
+    ended = subst (λ v. EndsLayer v (value_of t vs (open_starts (number - 1) starts))) (ap (λ d. value_of w us (open_starts d starts)) (sym outer_is) ∙ is) (ends_outside w us _ _ sound_here t vs back left)
 
     pub ended_undone : NamesDiffer w → EndsByUndos v (value_of t vs (open_starts (number - 1) starts))
-    ended_undone names = subst (λ v. EndsByUndos v (value_of t vs (open_starts (number - 1) starts))) (ap (λ d. value_of w us (open_starts d starts)) (sym outer_is) ∙ is) (undone_outside w us _ _ sound_here t vs back left same older names)
+    ended_undone names = subst (λ v. EndsByUndos v (value_of t vs (open_starts (number - 1) starts))) (ap (λ d. value_of w us (open_starts d starts)) (sym outer_is) ∙ is) (undone_outside w us _ _ sound_here t vs back left names)
 
 -- ---- what is recorded
 records : (d : ℕ) (ms : List ℕ) (us vs : List WorldUndo) (w t : World) (u : WorldUndo) → vs ≡ us ++ u ∷ [] → FitAll undone Fits us w → Fits u t → undone u t ≡ w → NamesDiffer t → d ≡ length ms → 0 < length ms → Records (saved_of ms us w) (value_of w us ms) (value_of t vs ms)
@@ -191,30 +191,30 @@ module _ (c : WorldChange) (w : World) (us : List WorldUndo) (ms : List ℕ) (v 
   pub allows : (t : World) → Steps c w t → refusal c v.now ≡ None
   allows t s = subst (λ (v : SandboxValue). refusal c v.now ≡ None) is (contents_allow c (length ms) w t here_now s)
 
-  module _ (t : World) (vs : List WorldUndo) (s : Steps c w t) (same : Same (length us) us vs w t) where
+  module _ (t : World) (vs : List WorldUndo) (s : Steps c w t) (u : WorldUndo) (e : vs ≡ us ++ u ∷ []) (fits : Fits u t) (back : undone u t ≡ w) (lt : 0 < length ms) where
+    same_since : Same (length us) us vs w t
+    same_since m le = rewound-since undone us vs u m w t le e back
+
     short_still : TextsAreShort (value_of t vs ms)
     short_still = record {
       now = subst HasShortTexts (sym (contents_changed c (length ms) w t here_now s)) (short_changed c (contents_of (length ms) w) (contents_allow c (length ms) w t here_now s) h.texts.now);
-      saved = subst (AllByRecursion HasShortTexts) (sym (saved_of-same ms (length us) us vs w t h.ordered same)) h.texts.saved;
+      saved = subst (AllByRecursion HasShortTexts) (sym (saved_of-same ms (length us) us vs w t h.ordered same_since)) h.texts.saved;
     }
 
-    becomes : Records (saved_of ms us w) (value_of w us ms) (value_of t vs ms) → Becomes (changed c v.now) v (value_of t vs ms)
-    becomes more = subst (λ (v : SandboxValue). Becomes (changed c v.now) v (value_of t vs ms)) is (record {
+    pub becomes : NamesDiffer t → Becomes (changed c v.now) v (value_of t vs ms)
+    becomes names = subst (λ (v : SandboxValue). Becomes (changed c v.now) v (value_of t vs ms)) is (record {
       contents = contents_changed c (length ms) w t here_now s;
-      layers = saved_of-same ms (length us) us vs w t h.ordered same;
+      layers = saved_of-same ms (length us) us vs w t h.ordered same_since;
       starts = refl;
-      recorded = more;
+      recorded = records (length ms) ms us vs w t u e h.fit fits back names refl lt;
     })
 
-    pub becomes_recorded : (u : WorldUndo) → vs ≡ us ++ u ∷ [] → Fits u t → undone u t ≡ w → NamesDiffer t → 0 < length ms → Becomes (changed c v.now) v (value_of t vs ms)
-    becomes_recorded u e fits back names lt = becomes (records (length ms) ms us vs w t u e h.fit fits back names refl lt)
-
-    pub sound_still : (u : WorldUndo) → vs ≡ us ++ u ∷ [] → (0 < length ms) → FitAll undone Fits vs t → IsSound t vs ms
-    sound_still u is lt fit = record {
+    pub sound_still : IsSound t vs ms
+    sound_still = record {
       room = h.room;
       clear = clear_still c (length ms) w t here_now s h.clear;
-      ordered = starts-more ms (length us) (length vs) vs t lt (omega (arith, ap length is, length-append us (u ∷ []))) (starts-same ms (length us) us vs w t h.ordered same);
-      fit = fit;
+      ordered = starts-more ms (length us) (length vs) vs t lt (omega (arith, ap length e, length-append us (u ∷ []))) (starts-same ms (length us) us vs w t h.ordered same_since);
+      fit = FitAll-since undone Fits us vs u 0 w t (omega arith) e fits back h.fit;
       texts = short_still;
     }
 
@@ -239,13 +239,13 @@ unrecorded_sound c w t us (suc d) starts e r here h s err = absurd (omega arith)
 
 -- a change of an open layer, whether it is refused or not
 module _ {A : Type 0} (c : WorldChange) (w : World) (us : List WorldUndo) (ms : List ℕ) (v : SandboxValue) (is : value_of w us ms ≡ v) (here : IsHere c (depth v)) (h : IsSound w us ms) (lt : 0 < length ms) (t : World) (vs : List WorldUndo) where
-  pub recorded_value : (r : Result A WorldFault) → NamesDiffer t → OnOk r (Steps c w t) → OnOk r (Same (length us) us vs w t) → OnOk r ((u : WorldUndo) × (vs ≡ us ++ u ∷ []) × Fits u t × (undone u t ≡ w)) → OnOk r (Becomes (changed c v.now) v (value_of t vs ms))
-  recorded_value (Ok x) names s same more = becomes_recorded c w us ms v is here h t vs s same more.0 more.1 more.2 more.3 names lt
-  recorded_value (Err e) names s same more = tt
+  pub recorded_value : (r : Result A WorldFault) → NamesDiffer t → OnOk r (Steps c w t) → OnOk r ((u : WorldUndo) × (vs ≡ us ++ u ∷ []) × Fits u t × (undone u t ≡ w)) → OnOk r (Becomes (changed c v.now) v (value_of t vs ms))
+  recorded_value (Ok x) names s more = becomes c w us ms v is here h t vs s more.0 more.1 more.2 more.3 lt names
+  recorded_value (Err e) names s more = tt
 
-  pub recorded_sound : (r : Result A WorldFault) → OnOk r (Steps c w t) → OnOk r (Same (length us) us vs w t) → OnOk r ((u : WorldUndo) × (vs ≡ us ++ u ∷ []) × Fits u t × (undone u t ≡ w)) → OnOk r (StaysFit undone Fits us w vs t) → OnErr r ((vs ≡ us) × (t ≡ w)) → IsSound t vs ms
-  recorded_sound (Ok x) s same more fit err = sound_still c w us ms v is here h t vs s same more.0 more.1 lt (fit 0 (omega arith) h.fit)
-  recorded_sound (Err e) s same more fit err = subst (λ t. IsSound t vs ms) (sym err.1) (subst (λ us. IsSound w us ms) (sym err.0) h)
+  pub recorded_sound : (r : Result A WorldFault) → OnOk r (Steps c w t) → OnOk r ((u : WorldUndo) × (vs ≡ us ++ u ∷ []) × Fits u t × (undone u t ≡ w)) → OnErr r ((vs ≡ us) × (t ≡ w)) → IsSound t vs ms
+  recorded_sound (Ok x) s more err = sound_still c w us ms v is here h t vs s more.0 more.1 more.2 more.3 lt
+  recorded_sound (Err e) s more err = subst (λ t. IsSound t vs ms) (sym err.1) (subst (λ us. IsSound w us ms) (sym err.0) h)
 
   pub recorded_answer : (r : Result A WorldFault) → refusal c v.now ≡ None → IfErr r (λ e. (e ≡ Memory) ⊎ Refuses c w e) → IsAnswer (refusal c v.now) r
   recorded_answer (Ok x) none refused = none

@@ -25,16 +25,16 @@ pub record IsListing (s : State) (l : Listing) : Type 0 where
   pub env : Lists s.env l.env.items
   pub values : Lists (see s) l.values.items
 
--- The pairs are the entries of a map, sorted by name.
+-- Proof machinery: the pairs are the entries of a map, sorted by name.
 pub record AreEntries {Y Z : Type 0} (m : BTreeMap (String Y) (String Z)) (pairs : List (String Y × String Z)) : Type 0 where
   pub same : pairs ≡ m.entries
   pub ascending : IsStrictlySortedBy string_cmp (keys_of pairs)
 
--- A name gets this text, if there is one, and the rest stays.
+-- Proof machinery: a name gets this text, if there is one, and the rest stays.
 abbrev pub Notes : {Y Z : Type 0} → List ℕ → Option (List ℕ) → BTreeMap (String Y) (String Z) → BTreeMap (String Y) (String Z) → Type 0
 Notes name text old new = (other : List ℕ) → finite.get (texts_of new.entries) other ≡ cond (bytes_eq other name) (option_or text (finite.get (texts_of old.entries) other)) (finite.get (texts_of old.entries) other)
 
--- Whether a slot has this name.
+-- Proof machinery: whether a slot has this name.
 abbrev pub is_named : List ℕ → List Slot → Bool
 is_named name [] = false
 is_named name (s ∷ ss) = bytes_eq name s.0 || is_named name ss

@@ -28,8 +28,3 @@ with_map (of_layer number) change c = record c { values = with_values number cha
 -- The contents after an undo: its name has its old text again, or is gone, and the rest stays.
 abbrev pub undone : UndoValue → Contents → Contents
 undone u c = with_map u.which (λ m. with_entry m u.name u.old) c
-
--- The contents after all undos of a list, applied from its end: the list has the oldest first.
-abbrev pub rewind : List UndoValue → Contents → Contents
-rewind [] c = c
-rewind (u ∷ us) c = undone u (rewind us c)

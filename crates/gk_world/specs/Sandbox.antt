@@ -1,19 +1,13 @@
 -- A sandbox as contracts see it.
-use Rattle.std.specs.Prelude.{◌≡◌, ℕ, zero, suc, ◌<◌, ◌≤◌, List, [], ◌∷◌, ◌++◌, length, drop, slice_index, Option, Some, None, IfSome, false, refl}
+use Rattle.std.specs.Prelude.{◌≡◌, ℕ, zero, suc, ◌<◌, List, [], ◌∷◌, ◌++◌, length, drop, Option, Some, None, IfSome, false, refl}
 use Rattle.std.specs.FinMap as finite
 use Rattle.std.specs.List.{AllByRecursion}
 use Rattle.std.specs.Coded.{Coded, code_by, coded×, coded_list, coded_option, coded_ℕ}
 use Rattle.std.proofs.Common.{ap}
-use Rattle.gk_world.specs.declared.world.World.{World}
-use Rattle.gk_world.specs.declared.world.WorldUndo.{WorldUndo}
-use Rattle.gk_world.specs.declared.world.WorldUndo.TheVariants.{File, Env, Value}
 use Rattle.gk_world.specs.State.{layers, Texts, Contents, with_layer, with_innermost, nothing_yet, contents_code, with_text, without, state_of}
 use Rattle.gk_world.specs.Refusals.{joined, is_too_long}
-use Rattle.gk_world.specs.Reversible.{Which, of_files, of_env, of_layer, UndoValue, undone, rewind}
-use Rattle.gk_world.specs.Slots.{name_of, cell_of, old_of}
-use Rattle.gk_world.specs.Journal.{rewound, FitAll}
-use Rattle.gk_world.specs.World as world
-use Rattle.gk_world.specs.World.{contents_of, Fits, IsClear}
+use Rattle.gk_world.specs.Journal.{rewound}
+use Rattle.gk_world.specs.Reversible.{Which, of_files, of_env, of_layer, UndoValue, undone}
 
 -- A sandbox as contracts see it: the contents; for each open layer, the innermost first, what its end restores; the recorded undos, the oldest first. `starts` has the number of undos that were recorded when each layer began.
 pub record SandboxValue : Type 0 where
@@ -43,7 +37,7 @@ pub record EndsLayer (old new : SandboxValue) : Type 0 where
 pub record EndsByUndos (old new : SandboxValue) : Type 0 where
   pub since : List UndoValue
   pub older : old.entries ≡ new.entries ++ since
-  pub given_back : rewind since old.now ≡ with_layer new.now
+  pub given_back : rewound undone since old.now ≡ with_layer new.now
 
 -- A change is recorded as the newest undo, which restores the contents before it, and the older ones stay. If no layer is open, nothing is recorded.
 abbrev pub Records : List Contents → SandboxValue → SandboxValue → Type 0
@@ -87,7 +81,7 @@ with_layers (suc n) c = with_layer (with_layers n c)
 -- For each open layer, the undos recorded since its start lead back to what its end restores, with an empty map for that layer and each inner one. The lists have the innermost layer first, and `inside` counts the layers inside the first of them.
 abbrev pub Rewinds : ℕ → List Contents → List ℕ → List UndoValue → Contents → Type 0
 Rewinds inside [] [] entries now = Unit {0}
-Rewinds inside (c ∷ cs) (start ∷ starts) entries now = (rewind (drop start entries) now ≡ with_layers (suc inside) c) × Rewinds (suc inside) cs starts entries now
+Rewinds inside (c ∷ cs) (start ∷ starts) entries now = (rewound undone (drop start entries) now ≡ with_layers (suc inside) c) × Rewinds (suc inside) cs starts entries now
 Rewinds inside [] (start ∷ starts) entries now = ⊥
 Rewinds inside (c ∷ cs) [] entries now = ⊥
 
@@ -205,41 +199,3 @@ pub record ChangesAreOfState : Type 0 where
   pub no_env : (c : Contents) (name : List ℕ) → state_of (without_env c name) ≡ record (state_of c) { env = without (state_of c).env name }
   pub value : (c : Contents) (name text : List ℕ) → 0 < length c.values → state_of (with_value c name text) ≡ record (state_of c) { own = with_text (state_of c).own name text }
   pub no_value : (c : Contents) (name : List ℕ) → 0 < length c.values → state_of (without_value c name) ≡ record (state_of c) { own = without (state_of c).own name }
-
--- The value of an undo in this world.
-abbrev pub seen_undo : World → WorldUndo → UndoValue
-seen_undo w (File u) = record { which = of_files; name = name_of w.files u; old = old_of w.files u }
-seen_undo w (Env u) = record { which = of_env; name = name_of w.env u; old = old_of w.env u }
-seen_undo w (Value u) = record { which = of_layer (suc (cell_of u)); name = name_of w.values u; old = old_of w.values u }
-
--- The values of undos, oldest first: each in the world with the newer ones undone, so as it was recorded.
-abbrev pub seen_undos : World → List WorldUndo → List UndoValue
-seen_undos w [] = []
-seen_undos w (u ∷ us) = seen_undo (rewound world.undone us w) u ∷ seen_undos w us
-
--- The starts of the open layers, the innermost first.
-abbrev pub open_starts : ℕ → List ℕ → List ℕ
-open_starts zero starts = []
-open_starts (suc d) starts = slice_index starts d ∷ open_starts d starts
-
--- The contents that rewinding to each start would give.
-abbrev pub saved_of : List ℕ → List WorldUndo → World → List Contents
-saved_of [] us w = []
-saved_of (m ∷ ms) us w = contents_of (length ms) (rewound world.undone (drop m us) w) ∷ saved_of ms us w
-
--- The sandbox's value that a world, its undos and its starts give.
-abbrev pub value_of : World → List WorldUndo → List ℕ → SandboxValue
-value_of w us ms = record { now = contents_of (length ms) w; saved = saved_of ms us w; entries = seen_undos w us; starts = ms }
-
--- No start is above n or an inner start. The outermost start is 0, and so is n if no layer is open. No layer had values before it began.
-abbrev pub AreStarts : List ℕ → ℕ → List WorldUndo → World → Type 0
-AreStarts [] n us w = n ≡ 0
-AreStarts (m ∷ ms) n us w = (m ≤ n) × IsClear (length ms) (rewound world.undone (drop m us) w) × AreStarts ms m us w
-
--- The invariant of a sandbox between its calls.
-pub record IsSound (w : World) (us : List WorldUndo) (ms : List ℕ) : Type 0 where
-  pub room : length ms ≤ layers
-  pub clear : IsClear (length ms) w
-  pub ordered : AreStarts ms (length us) us w
-  pub fit : FitAll world.undone Fits us w
-  pub texts : TextsAreShort (value_of w us ms)

@@ -1,7 +1,6 @@
 //! A journal of changes.
 ghost use Rattle.std.specs.Prelude.{◌≡◌, ◌<◌, ◌≤◌, List, [], length, drop, take, IfErr, ◌⊎◌, OnOk, OnErr};
 ghost use Rattle.gk_world.specs.Journal.{rewound, FitAll, Records};
-ghost use Rattle.gk_world.specs.Journal.{RewindsTheSame, RewindsTheSameTo, StaysFit, StaysFitTo};
 
 use crate::refusals::WorldFault;
 use crate::reversible::Reversible;
@@ -43,10 +42,6 @@ impl<T: Reversible> Journal<T> {
         requires { T.can_apply change }
         ensures recorded { OnOk result (Records T.undone T.fits
             self.old (T.slots on.old) self.new (T.slots on.new)) }
-        ensures same { OnOk result (RewindsTheSame T.undone
-            self.old (T.slots on.old) self.new (T.slots on.new)) }
-        ensures fit { OnOk result (StaysFit T.undone T.fits
-            self.old (T.slots on.old) self.new (T.slots on.new)) }
         ensures done { OnOk result (T.stepped change (T.slots on.old) (T.slots on.new)) }
         ensures refused { IfErr result (λ e.
             (e ≡ WorldFault.Memory) ⊎ T.refuses change (T.slots on.old) e) }
@@ -66,10 +61,6 @@ impl<T: Reversible> Journal<T> {
         requires fit { FitAll T.undone T.fits (drop count self.old) (T.slots on.old) }
         ensures slots { T.slots on.new ≡ rewound T.undone (drop count self.old) (T.slots on.old) }
         ensures entries { self.new ≡ take count self.old }
-        ensures same { RewindsTheSameTo T.undone count
-            self.old (T.slots on.old) self.new (T.slots on.new) }
-        ensures older { StaysFitTo T.undone T.fits count
-            self.old (T.slots on.old) self.new (T.slots on.new) }
     {
         while self.entries.len() > count {
             let undo = self.entries.pop().unwrap();

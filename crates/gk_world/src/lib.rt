@@ -2,18 +2,26 @@
 //! in a layer is recorded with its inverse, and the end of the layer restores exactly the contents at its beginning.
 #![tactic(auto)]
 
-mod cells;
-mod journal;
-mod laws;
+// What is refused, and what is listed.
 mod listing;
 mod refusals;
+
+// Changes that can be undone.
+mod journal;
 mod reversible;
-mod sandbox;
+
+// How texts are stored.
+mod cells;
 mod slots;
 mod table;
 mod values;
 mod world;
 
+// The sandbox, and laws.
+mod laws;
+mod sandbox;
+
+pub use cells::LAYERS;
 pub use journal::Journal;
 pub use laws::{changes_are_of_state, layers_enter, layers_give_back, put_texts, removed_texts};
 pub use listing::Listing;

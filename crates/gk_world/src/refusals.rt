@@ -1,8 +1,8 @@
 //! The changes of names and texts that are refused, and why.
-ghost use Rattle.std.specs.Prelude.{◌≡◌, ◌++◌, IfOk, None, string_bytes};
+ghost use Rattle.std.specs.Prelude.{◌≡◌, ◌++◌, None};
 ghost use Rattle.gk_world.specs.Refusals as refusals;
 
-use std::alloc::{AllocError, Global};
+use std::alloc::AllocError;
 
 /// The reason why a change is refused. A refused change changes nothing. If there are several reasons, the first in the
 /// order `BadName`, `Absent`, `OtherLayer`, `TextTooLong` is returned.
@@ -62,18 +62,4 @@ pub fn put_refusal(name: &str, text: &str) -> Option<WorldFault>
         return Some(WorldFault::TextTooLong);
     }
     None
-}
-
-/// Copies a name and a text, unless the text can't be put under the name.
-pub fn copied_for_put(alloc: Global, name: &str, text: &str) -> Result<(String, String), WorldFault>
-    ensures answer { refusals.IsAnswer (refusals.put_refusal name.now text.now) result }
-    ensures copies { IfOk result (λ copies.
-        (string_bytes copies.0 ≡ name.now) × (string_bytes copies.1 ≡ text.now)) }
-{
-    if let Some(fault) = put_refusal(name, text) {
-        return Err(fault);
-    }
-    let name = String::from_str(alloc, name)?;
-    let text = String::from_str(alloc, text)?;
-    Ok((name, text))
 }

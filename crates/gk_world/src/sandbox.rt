@@ -1,5 +1,5 @@
 //! The world that steps change: files, variables and values, in layers that a journal undoes.
-ghost use Rattle.std.specs.Prelude.{◌≡◌, ◌<◌, length, None, OnOk, OnErr, IfOk, option_copied};
+ghost use Rattle.std.specs.Prelude.{◌≡◌, ◌<◌, length, None, OnOk, OnErr, IfOk, option_copied, string_bytes};
 ghost use Rattle.std.specs.FinMap as finite;
 ghost use Rattle.gk_world.specs.Listing.{IsListing};
 ghost use Rattle.gk_world.specs.State.{see, state_of, layers};
@@ -11,7 +11,7 @@ ghost use Rattle.gk_world.specs.Sandbox.{PutsFile, AppendsToFile, RemovesFile, P
 use crate::cells::LAYERS;
 use crate::journal::Journal;
 use crate::listing::Listing;
-use crate::refusals::{WorldFault, copied_for_put};
+use crate::refusals::{WorldFault, put_refusal};
 use crate::reversible::Reversible;
 use crate::table::TableChange;
 use crate::values::ValueChange;
@@ -22,7 +22,6 @@ use std::marker::Model;
 /// An open layer: its number, counted from 1 at the outermost. It can't be dropped, and only `Sandbox::end` consumes
 /// it. (behave's documentation: context layers)
 pub struct Layer {
-    // Its position, counted from 1 at the outermost.
     number: usize,
 }
 
@@ -49,7 +48,8 @@ pub struct Sandbox {
 }
 
 impl Model for Sandbox {
-    ghost use Rattle.gk_world.specs.Sandbox.{SandboxValue, sandbox_code, value_of, open_starts, IsSound};
+    ghost use Rattle.gk_world.specs.Sandbox.{SandboxValue, sandbox_code};
+    ghost use Rattle.gk_world.specs.Stored.{value_of, open_starts, IsSound};
 
     ghost Value = { SandboxValue };
 
@@ -58,6 +58,20 @@ impl Model for Sandbox {
     ghost view = { λ s. value_of s.world s.journal (open_starts s.depth s.starts) };
 
     ghost invariant = { λ s. IsSound s.world s.journal (open_starts s.depth s.starts) };
+}
+
+// Copies a name and a text, unless the text can't be put under the name.
+fn copied_for_put(alloc: Global, name: &str, text: &str) -> Result<(String, String), WorldFault>
+    ensures answer { IsAnswer (refusals.put_refusal name.now text.now) result }
+    ensures copies { IfOk result (λ copies.
+        (string_bytes copies.0 ≡ name.now) × (string_bytes copies.1 ≡ text.now)) }
+{
+    if let Some(fault) = put_refusal(name, text) {
+        return Err(fault);
+    }
+    let name = String::from_str(alloc, name)?;
+    let text = String::from_str(alloc, text)?;
+    Ok((name, text))
 }
 
 impl Sandbox {
@@ -108,8 +122,8 @@ impl Sandbox {
         let _ = &self.world;
     }
 
-    /// Begins a layer inside the open ones. Its number is the new depth, and it has no values yet. It doesn't allocate.
-    /// (behave's documentation: context layers)
+    /// Begins a layer inside the open ones, of which there have to be fewer than `LAYERS`. Its number is the new depth,
+    /// and it has no values yet. It doesn't allocate. (behave's documentation: context layers)
     pub fn begin(&mut self) -> Layer
         requires { depth self.old < layers }
         ensures ok { self.new ≡ layer_begun self.old }
@@ -144,13 +158,8 @@ impl Sandbox {
         ensures err { OnErr result (self.new ≡ self.old) }
     {
         if self.depth == 0 {
-            return match self.world.apply(change) {
-                Ok(undo) => {
-                    drop(undo);
-                    Ok(())
-                }
-                Err(fault) => Err(fault),
-            };
+            drop(self.world.apply(change)?);
+            return Ok(());
         }
         let answer = self.journal.change(&mut self.world, change);
         self.world.names_differ();

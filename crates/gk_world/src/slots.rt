@@ -40,6 +40,7 @@ impl<C: Cells> Model for Slots<C> {
 }
 
 impl<C: Cells> Slots<C> {
+    /// Returns slots without rows. It doesn't allocate.
     pub fn new(alloc: Global) -> Self
         ensures { result ≡ [] }
     {
@@ -74,8 +75,7 @@ impl<C: Cells> Slots<C> {
         ensures fits { Fits C.width result self.new }
         ensures before { undone result self.new ≡ self.old }
     {
-        let cells = &mut self.rows[position];
-        let old = cells.replace(cell, text);
+        let old = self.exchange(position, cell, text);
         SlotUndo::Restore(position, cell, old)
     }
 

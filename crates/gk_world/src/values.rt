@@ -17,8 +17,8 @@ use std::alloc::{AllocError, Global};
 use std::collections::BTreeMap;
 use std::marker::Model;
 
-/// A change of the values of a layer, counted from 1 at the outermost. Cells of inner layers are ignored.
-/// (behave's documentation: context layers)
+/// A change of the values of a layer, from 1 for the outermost to `LAYERS`. A refusal looks only at this layer and outer
+/// ones. (behave's documentation: context layers)
 #[derive(Drop)]
 pub enum ValueChange {
     /// The name gets this text in this layer.
@@ -52,7 +52,8 @@ impl Values {
         }
     }
 
-    /// Returns the visible value of a name with `layers` open layers, if there is one. It doesn't allocate.
+    /// Returns the visible value of a name with `layers` open layers, at most `LAYERS`, if there is one. It doesn't
+    /// allocate.
     pub fn get(&self, layers: usize, name: &str) -> Option<&str>
         requires { layers ≤ state.layers }
         ensures { option_copied result ≡ see (state_at layers self.now) name.now }
@@ -65,7 +66,8 @@ impl Values {
         None
     }
 
-    /// Returns the reason why a name can't be deleted in the innermost of `layers` layers, if there is one.
+    /// Returns the reason why a name can't be deleted in the innermost of `layers` layers, from 1 to `LAYERS`, if there
+    /// is one.
     pub fn delete_refusal(&self, layers: usize, name: &str) -> Option<WorldFault>
         requires { IsLayer layers }
         ensures { IsReason (refusals.delete_refusal (state_at layers self.now) name.now) result }

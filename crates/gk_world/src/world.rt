@@ -38,6 +38,7 @@ pub struct World {
 }
 
 impl World {
+    /// Returns an empty world. It doesn't allocate.
     pub fn new(alloc: Global) -> Self
         ensures files { result.files ≡ [] }
         ensures env { result.env ≡ [] }
@@ -98,18 +99,9 @@ impl Reversible for World {
 
     fn apply(&mut self, change: WorldChange) -> Result<WorldUndo, WorldFault> {
         match change {
-            WorldChange::File(change) => match self.files.apply(change) {
-                Ok(undo) => Ok(WorldUndo::File(undo)),
-                Err(fault) => Err(fault),
-            },
-            WorldChange::Env(change) => match self.env.apply(change) {
-                Ok(undo) => Ok(WorldUndo::Env(undo)),
-                Err(fault) => Err(fault),
-            },
-            WorldChange::Value(change) => match self.values.apply(change) {
-                Ok(undo) => Ok(WorldUndo::Value(undo)),
-                Err(fault) => Err(fault),
-            },
+            WorldChange::File(change) => Ok(WorldUndo::File(self.files.apply(change)?)),
+            WorldChange::Env(change) => Ok(WorldUndo::Env(self.env.apply(change)?)),
+            WorldChange::Value(change) => Ok(WorldUndo::Value(self.values.apply(change)?)),
         }
     }
 

@@ -1,9 +1,8 @@
 //! Running the cases of a section, one after another.
-ghost use Rattle.std.specs.Prelude.{◌≡◌, true, ◌+◌, ◌≤◌, ◌<◌, ◌^◌, suc, length, nat_eq, false, ◌&&◌, ◌||◌, vec_capacity, MatchOption, IfOk, OnErr, IfSome};
+ghost use Rattle.std.specs.Prelude.{◌≡◌, true, ◌+◌, ◌≤◌, ◌<◌, ◌^◌, suc, length, nat_eq, false, vec_capacity, MatchOption, IfOk, OnErr, IfSome};
 ghost use Rattle.gk_select.specs.RuleOrder as order;
 ghost use Rattle.gk_world.specs.State.{state_of, layers};
 ghost use Rattle.gk_world.specs.Sandbox.{depth, IsSame};
-ghost use Rattle.gk_run.specs.Running as spec;
 ghost use Rattle.gk_run.specs.Events.{tells};
 ghost use Rattle.gk_run.specs.PrivateContracts.{AreCasesInPart, IsMember, RunsCases, TakesMember, members_in};
 ghost use Rattle.gk_run.specs.Chosen.{has_selected, member_of, falls_from, members_of_rank};
@@ -11,6 +10,7 @@ ghost use Rattle.gk_run.specs.Results.{case_row};
 ghost use Rattle.gk_run.specs.OpenSection.{run_value};
 
 use crate::cases::{Cases, Member};
+use crate::ending::{both, stays_open};
 use crate::observer::Observer;
 use crate::results::{CaseResult, Mark, NoRoom, Reserved, Status};
 use crate::running::{case_in, unrun_case};
@@ -28,7 +28,7 @@ fn rank_of(rule: Option<u32>) -> usize
     }
 }
 
-// Reports whether there is a case and it has this rank.
+// Returns whether there is a case and it has this rank.
 fn is_of_rank(case: Option<&Case>, rank: usize) -> bool
     ensures { MatchOption case.entry (result ≡ false) (λ c.
         result ≡ nat_eq (order.rank c.now.rule) rank) }
@@ -39,7 +39,7 @@ fn is_of_rank(case: Option<&Case>, rank: usize) -> bool
     }
 }
 
-// Reports whether there is a choice and it selects.
+// Returns whether there is a choice and it selects.
 fn is_selected(selected: Option<&bool>) -> bool
     ensures { MatchOption selected.entry (result ≡ false) (λ s. result ≡ s.now) }
 {
@@ -82,7 +82,7 @@ impl Cases {
         Some(Member { case, selected })
     }
 
-    /// Reports whether a case of the rank is selected.
+    /// Returns whether a case of the rank is selected.
     pub fn has_selected(&self) -> bool
         ensures { result ≡ has_selected (members_of_rank self.now.rank (members_in self.now)) }
     {
@@ -132,34 +132,6 @@ fn run_member<O: Observer>(
         return unrun_case(run.alloc, case, Status::Untested, Mark::Untested);
     }
     case_in(run, sandbox, case, observer)
-}
-
-/// Reports whether both hold.
-pub fn both(a: bool, b: bool) -> bool
-    ensures { result ≡ (a && b) }
-{
-    a && b
-}
-
-/// Reports whether at least one of two holds.
-pub fn either(a: bool, b: bool) -> bool
-    ensures { result ≡ (a || b) }
-{
-    a || b
-}
-
-/// Reports whether a status is failed or memory.
-pub fn is_failed_or_memory(status: Status) -> bool
-    ensures { result ≡ spec.is_failed_or_memory status }
-{
-    matches!(status, Status::Failed | Status::Memory)
-}
-
-/// Reports whether what comes next is still reached.
-pub fn stays_open(stop: bool, status: Status) -> bool
-    ensures { result ≡ spec.stays_open_by stop status }
-{
-    !(stop && is_failed_or_memory(status))
 }
 
 /// Runs the cases of the rank in a section. `is_open` says whether the section is open. Returns whether

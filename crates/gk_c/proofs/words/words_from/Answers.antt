@@ -1,26 +1,18 @@
-use Rattle.std.proofs.Common.{◌+◌, ◌++◌, ◌∷◌, [], ap, drop, map, string_bytes, subst, sym, ◌≡◌}
-use Rattle.std.specs.Prelude.{IsUtf8}
-use Rattle.gk_c.specs.Words.{text_value, with_name}
-use Rattle.gk_c.proofs.CallLemmas.{all_copied, all_good, bad_word, copied_more, good_more}
+use Rattle.std.proofs.Common.{◌∙◌, ◌+◌, ◌++◌, ◌∷◌, [], ap, drop, map, string_bytes}
+use Rattle.gk_c.specs.Words.{text_value}
+use Rattle.gk_c.proofs.CallLemmas.{bad_here, good_here, one_more}
 use Rattle.gk_c.proofs.words.words_from.Goals as goal
 
-pub returns-in-Err : goal.returns-in-Err
-returns-in-Err c = bad_word c.args.arguments.now c.loop-argument.argument-index _ c.in-Err.fault c.loop-argument-test.true c.in-Err.ensures
+pub returns-in_default-from_utf8 : goal.returns-in_default-from_utf8
+returns-in_default-from_utf8 c = bad_here c.args.arguments.now c.loop-argument.argument-index _ c.loop-argument-test.true c.in_default-from_utf8.ensures.cases.0
 
 pub loop-argument-preserved : goal.loop-argument-preserved
 loop-argument-preserved c =
     let arguments = c.args.arguments.now in
-    let index = c.loop-argument.argument-index in
+    let i = c.loop-argument.argument-index in
+    let words = map string_bytes c.loop-argument.words.items in
+    let read = c.in-Ok-from_utf8.ensures.cases in
     record {
-      copied = subst (λ words. map string_bytes words ++ map text_value (drop (index + 1) arguments) ≡ with_name (map text_value arguments)) (sym c.in_ok-add_word-in-Ok.ensures.added)
-          (copied_more string_bytes text_value c.loop-argument.words.items c.in-Ok.word arguments index _ _ c.loop-argument-test.true c.in-Ok.ensures.0 c.loop-argument.invariant.copied);
-      good = good_more IsUtf8 text_value arguments index _ c.loop-argument-test.true c.in-Ok.ensures.1 c.loop-argument.invariant.good;
+      copied = ap (λ l. l ++ map text_value (drop (i + 1) arguments)) (c.in-Ok-add_word.ensures ∙ ap (λ t. words ++ t ∷ []) read.0) ∙ one_more arguments i _ c.loop-argument-test.true words ∙ c.loop-argument.invariant.copied;
+      good = λ later. c.loop-argument.invariant.good (good_here arguments i _ c.loop-argument-test.true read.1 later);
     }
-
-pub returns : goal.returns
-returns c =
-    let arguments = c.args.arguments.now in
-    let index = c.loop-argument.argument-index in (
-      all_copied string_bytes text_value c.loop-argument.words.items arguments index _ c.loop-argument-test.false c.loop-argument.invariant.copied,
-      all_good IsUtf8 text_value arguments index c.loop-argument-test.false c.loop-argument.invariant.good,
-    )

@@ -5,6 +5,7 @@ use Rattle.gk_cli.proofs.explained_run.write_explanation.Goals as goal
 pub returns-clause-ok : goal.returns-clause-ok
 returns-clause-ok g c =
     let silent = rw (c.as_slice.ensures.value) at c.new-explainer.ensures.said in
+    let ran = rw (c.new-table.ensures) at c.tell_run.ensures.ok in
     if_ok c.tell_run.result (λ status told. record {
       results = told.results;
       judged = told.judged;
@@ -14,7 +15,7 @@ returns-clause-ok g c =
       explains = told.tells_all;
       written = told.written;
       returned = told.returned;
-    }) c.tell_run.ensures.ok
+    }) ran
 
 pub returns-clause-err : goal.returns-clause-err
 returns-clause-err g c =
@@ -23,4 +24,5 @@ returns-clause-err g c =
     let features = map chosen_value c.args.inputs.features.items in
     let old = device_of g.W.Write.contents c.args.out.now in
     let new = device_of g.W.Write.contents c.tell_run.new.out in
-    if_err c.tell_run.result (λ fault told. told_up_to run c.args.hooks.now (row_lists c.args.inputs.rows.items) c.args.sandbox.now.now features c.new-explainer.result old new fault silent told) c.tell_run.ensures.err
+    let ran = rw (c.new-table.ensures) at c.tell_run.ensures.err in
+    if_err c.tell_run.result (λ fault told. told_up_to run c.args.hooks.now (row_lists c.args.inputs.rows.items) c.args.sandbox.now.now features c.new-explainer.result old new fault silent told) ran

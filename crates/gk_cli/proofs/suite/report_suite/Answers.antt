@@ -1,4 +1,4 @@
-use Rattle.gk_cli.proofs.Common.{inputs_value, ReportedInPart, suite_value, request_of_files, device_of, if_ok, if_err, ok_known, arith, common_steps}
+use Rattle.gk_cli.proofs.Common.{inputs_value, ReportedInPart, files_value, request_of_files, device_of, if_ok, if_err, ok_known, arith, common_steps}
 use Rattle.gk_cli.proofs.SuiteLemmas.{cut_says, left_by_run, reported_in_part, unread_says, used_by_run, whole_is_judged, whole_is_only}
 use Rattle.gk_cli.proofs.GrowingReportLemmas.{untouched}
 use Rattle.gk_cli.proofs.suite.report_suite.Goals as goal
@@ -8,14 +8,14 @@ returns-in-Ok-clause-judged g c = grind (arith, common_steps, if_ok, whole_is_ju
 
 pub returns-in-Ok-clause-plain : goal.returns-in-Ok-clause-plain
 returns-in-Ok-clause-plain g c =
-    let request = request_of_files c.args.options.now (suite_value g.S.FeatureSource.value c.args.files.now) in
+    let request = request_of_files c.args.options.now (files_value g.S.FeatureSource.value c.args.files.now) in
     let old = device_of g.W.Write.contents c.args.out.now in
     let new = device_of g.W.Write.contents c.write_run.new.out in
     if_ok c.write_run.result (λ status whole. whole_is_only c.inputs_are_unique.ensures c.without_memory_there_is_one_list.ensures request c.args.sandbox.now.now old new (inputs_value c.in-Ok.inputs) status c.in-Ok.ensures.read whole) c.write_run.ensures.ok
 
 pub returns-in-Ok-clause-fault : goal.returns-in-Ok-clause-fault
 returns-in-Ok-clause-fault g c =
-    let request = request_of_files c.args.options.now (suite_value g.S.FeatureSource.value c.args.files.now) in
+    let request = request_of_files c.args.options.now (files_value g.S.FeatureSource.value c.args.files.now) in
     let old = device_of g.W.Write.contents c.args.out.now in
     let new = device_of g.W.Write.contents c.write_run.new.out in
     let contents = c.args.sandbox.now.now in

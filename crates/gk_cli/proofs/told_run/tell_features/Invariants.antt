@@ -4,7 +4,7 @@ use Rattle.gk_cli.proofs.told_run.tell_features.Given as goal
 
 abbrev pub invariant-loop-feature : goal.invariant-loop-feature
 invariant-loop-feature g l = record {
-  held : TellingRun (TellsFeature g.R.Observer.hears g.R.Observer.ends g.R.Reporter.begins g.R.Reporter.adds (run_of l.parts.library.now l.parts.hooks.now l.fn.suite.stop) (state_of l.fn.sandbox.now)) (run_of l.parts.library.now l.parts.hooks.now l.fn.suite.stop) (state_of l.fn.sandbox.now) (opens_features l.fn.suite)
+  held : TellingRun (TellsFeature g.R.Observer.hears g.R.Observer.ends g.R.Reporter.begins g.R.Reporter.adds (run_of l.parts.library.now l.parts.hooks.now.file.now l.fn.suite.stop) (state_of l.fn.sandbox.now)) (run_of l.parts.library.now l.parts.hooks.now.file.now l.fn.suite.stop) (state_of l.fn.sandbox.now) (opens_features l.fn.suite)
       (map chosen_value l.fn.features.items) (device_of g.W.Write.contents l.fn.out) l.fn.told (map chosen_value (into_iter_items l.feature-iterator)) (opens_features l.suite) (device_of g.W.Write.contents l.out) l.told;
   same : IsSame l.fn.sandbox l.sandbox;
   kept : IsKept l.fn.suite l.suite;

@@ -5,7 +5,7 @@ use Rattle.gk_cli.proofs.told_run.tell_run.Goals as goal
 pub returns-in-Ok : goal.returns-in-Ok
 returns-in-Ok g c =
     let library = c.args.parts.now.library.now in
-    let hooks = c.args.parts.now.hooks.now in
+    let hooks = c.args.parts.now.hooks.now.file.now in
     let run = run_of library hooks c.args.stop in
     let contents = c.args.sandbox.now.now in
     let features = map chosen_value c.args.features.items in
@@ -39,7 +39,7 @@ returns-in-Ok g c =
 pub returns-in-Err-clause-err : goal.returns-in-Err-clause-err
 returns-in-Err-clause-err g c =
     let library = c.args.parts.now.library.now in
-    let hooks = c.args.parts.now.hooks.now in
+    let hooks = c.args.parts.now.hooks.now.file.now in
     let run = run_of library hooks c.args.stop in
     let features = map chosen_value c.args.features.items in
     let hears = g.R.Observer.hears in

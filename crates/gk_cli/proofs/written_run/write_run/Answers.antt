@@ -58,10 +58,12 @@ returns g c =
     let headed = device_of g.W.Write.contents c.write_head.new.out in
     let new = device_of g.W.Write.contents c.tell_run.new.out in
     let report = c.new-report in
+    let ran = rw (c.new-hooks.ensures) at c.tell_run.ensures.ok in
+    let failed = rw (c.new-hooks.ensures) at c.tell_run.ensures.err in
     record {
       ok = if_ok c.tell_run.result (λ status told. subst (λ (dry : Bool). IsWhole (run_if dry) contents features style old new status) (sym c.if-options.false)
-          (run_reported (run_if false) contents features report.result style old headed new status report.ensures.style report.ensures.first c.in_ok-write_head.ensures.ok told)) c.tell_run.ensures.ok;
+          (run_reported (run_if false) contents features report.result style old headed new status report.ensures.style report.ensures.first c.in_ok-write_head.ensures.ok told)) ran;
       err = if_err c.tell_run.result (λ fault told. subst (λ (dry : Bool). IsPrefix (run_if dry) contents features style old new fault) (sym c.if-options.false)
-          (run_stopped c.reports_grow_by_parts.ensures (run_if false) contents features report.result style old headed new fault report.ensures.style report.ensures.first c.in_ok-write_head.ensures.ok told)) c.tell_run.ensures.err;
+          (run_stopped c.reports_grow_by_parts.ensures (run_if false) contents features report.result style old headed new fault report.ensures.style report.ensures.first c.in_ok-write_head.ensures.ok told)) failed;
       same = search rules;
     }

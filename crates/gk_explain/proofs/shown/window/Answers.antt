@@ -1,7 +1,5 @@
-use Rattle.gk_explain.proofs.Common.{◌∙◌, sym, ap, ℕ, take, drop, take_all}
+use Rattle.gk_explain.proofs.Common.{items_from_collect, YieldsList-from_chars, YieldsList-from_skip, YieldsList-from_take}
 use Rattle.gk_explain.proofs.shown.window.Goals as goal
 
-pub returns-else-rest-gt60 : goal.returns-else-rest-gt60
-returns-else-rest-gt60 c =
-    let rest = c.split_at.ensures.back ∙ ap (λ (n : ℕ). drop n c.args.line.now) c.cut_before.ensures in
-    sym (take_all 60 c.split_at.result.1.now c.if-rest-gt60.false) ∙ ap (take 60) rest
+pub returns : goal.returns
+returns c = items_from_collect c.collect.result c.collect.ensures.ran (YieldsList-from_take 60 (YieldsList-from_skip c.args.before (YieldsList-from_chars c.args.line.now c.utf8.line cc) cc) c.take.ensures.count)

@@ -1,10 +1,10 @@
-use Rattle.gk_findings.proofs.Common.{◌++◌, ◌∙◌, map, ap, ap₂, subst, string_bytes, feature_value, hooks_value, tag_rule_value, AreInOrder, nowhere, without_scenario, hooks_of_no_tag, of_hooks, found_in, bytes_of, hooks_name, suite_value, noted_library_value, noted_lines, tag_lines, idle_lines, looked_up, noted_hooks, library_lines}
+use Rattle.gk_findings.proofs.Common.{◌++◌, ◌∙◌, map, ap, ap₂, subst, string_bytes, feature_value, hooks_value, tag_rule_value, AreInOrder, nowhere, without_scenario, hooks_of_no_tag, of_hooks, found_in, bytes_of, hooks_name, files_value, noted_library_value, noted_lines, tag_lines, idle_lines, looked_up, noted_hooks, library_lines}
 use Rattle.gk_findings.proofs.LintedSuiteLemmas.{five_parts}
 use Rattle.gk_findings.proofs.linted_suite.whole_text.Goals as goal
 
 pub returns : goal.returns
 returns g c =
-    let files = suite_value g.S.FeatureSource.value c.args.files.now in
+    let files = files_value g.S.FeatureSource.value c.args.files.now in
     let noted = noted_library_value c.args.library.now in
     let hooks = hooks_value c.args.before.now.hooks in
     let found = c.in_ok-of_hooks.of_hooks.findings.items in

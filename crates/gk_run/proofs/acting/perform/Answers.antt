@@ -1,4 +1,4 @@
-use Rattle.gk_run.proofs.Common.{refl, sym, ◌∙◌, ap, subst, option_copied, to_z-of_z, arith, bytes_eq, see, state_of, stands_in, Action, Performs, arguments_value, agrees, exists, is_absent, common_steps}
+use Rattle.gk_run.proofs.Common.{refl, sym, ◌∙◌, ap, subst, option_copied, to_z-of_z, arith, bytes_eq, see, state_of, contains, Action, Performs, arguments_value, agrees, exists, is_absent, common_steps}
 use Rattle.std.specs.FinMap as finite
 use Rattle.gk_steps.specs.declared.action.Action.TheVariants as actions
 use Rattle.gk_run.proofs.ActingLemmas.{absent_free, agrees_free, checked, exists_free, number_free}
@@ -17,7 +17,7 @@ pub returns-in-FileIs : goal.returns-in-FileIs
 returns-in-FileIs c = checked c.args.action actions.FileIs c.args.arguments.now c.args.sandbox.now _ _ c.in-FileIs.is (c.is_text.ensures ∙ ap (λ held. agrees bytes_eq held (arguments_value c.args.arguments.now).text) c.file-in-FileIs.ensures) (agrees_free bytes_eq (finite.get c.args.sandbox.now.now.files c.args.arguments.now.name.now) (arguments_value c.args.arguments.now).text) refl
 
 pub returns-in-FileContains : goal.returns-in-FileContains
-returns-in-FileContains c = checked c.args.action actions.FileContains c.args.arguments.now c.args.sandbox.now _ _ c.in-FileContains.is (c.has_text.ensures ∙ ap (λ held. agrees stands_in held (arguments_value c.args.arguments.now).text) c.file-in-FileContains.ensures) (agrees_free stands_in (finite.get c.args.sandbox.now.now.files c.args.arguments.now.name.now) (arguments_value c.args.arguments.now).text) refl
+returns-in-FileContains c = checked c.args.action actions.FileContains c.args.arguments.now c.args.sandbox.now _ _ c.in-FileContains.is (c.has_text.ensures ∙ ap (λ held. agrees contains held (arguments_value c.args.arguments.now).text) c.file-in-FileContains.ensures) (agrees_free contains (finite.get c.args.sandbox.now.now.files c.args.arguments.now.name.now) (arguments_value c.args.arguments.now).text) refl
 
 pub returns-in-EnvIs : goal.returns-in-EnvIs
 returns-in-EnvIs c = checked c.args.action actions.EnvIs c.args.arguments.now c.args.sandbox.now _ _ c.in-EnvIs.is (c.is_text-in-EnvIs.ensures ∙ ap (λ held. agrees bytes_eq held (arguments_value c.args.arguments.now).text) c.env.ensures) (agrees_free bytes_eq (finite.get c.args.sandbox.now.now.env c.args.arguments.now.name.now) (arguments_value c.args.arguments.now).text) refl

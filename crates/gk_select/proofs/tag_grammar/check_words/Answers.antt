@@ -1,7 +1,7 @@
 use Rattle.gk_select.proofs.Common.{◌≡◌, ℕ, map, drop, refl, sym, ap, ◌∙◌, arith, inl, inr, err_from_is_err_and, word_value, measure_of, built_value}
 use Rattle.gk_select.proofs.TagDepths.{accepted, refused, before_errs}
 use Rattle.gk_select.proofs.tag_grammar.check_words.Goals as goal
-use Rattle.gk_select.proofs.tag_grammar.check_words.Goals.{else-len-eq0-via-then-len-eq0+else-larger-le-DEPTH_LIMIT, else-len-eq0-via-else-len-eq0}
+use Rattle.gk_select.proofs.tag_grammar.check_words.Goals.{else-len-eq0-via-then-len-eq0+else-max-le-DEPTH_LIMIT, else-len-eq0-via-else-len-eq0}
 
 pub returns-in_err-built-clause-fault : goal.returns-in_err-built-clause-fault
 returns-in_err-built-clause-fault c =
@@ -14,8 +14,8 @@ returns-in-None-clause-fault c =
     let whole = ap (λ (k : ℕ). measure_of (map word_value (drop k c.args.words.now))) (sym none) ∙ c.loop-at.invariant.built in
     inr (refl, refused (map word_value c.args.words.now) (built_value c.loop-at.built) whole (inl c.in-None.is))
 
-pub returns-then-larger-le-DEPTH_LIMIT-clause-found : goal.returns-then-larger-le-DEPTH_LIMIT-clause-found
-returns-then-larger-le-DEPTH_LIMIT-clause-found c =
+pub returns-then-max-le-DEPTH_LIMIT-clause-found : goal.returns-then-max-le-DEPTH_LIMIT-clause-found
+returns-then-max-le-DEPTH_LIMIT-clause-found c =
     let none : c.loop-at.at ≡ 0 = omega arith in
     let whole = ap (λ (k : ℕ). measure_of (map word_value (drop k c.args.words.now))) (sym none) ∙ c.loop-at.invariant.built in
     accepted (map word_value c.args.words.now) (built_value c.loop-at.built) c.in-Some.factor whole c.in-Some.is (omega arith) (omega arith)
@@ -30,6 +30,6 @@ returns-clause-fault c =
         c.in-Some.factor,
         c.in-Some.is,
         λ empty low.
-            elim c.else-len-eq0.branch [ else-len-eq0-via-then-len-eq0+else-larger-le-DEPTH_LIMIT w ↦ omega arith | else-len-eq0-via-else-len-eq0 w ↦ omega arith ],
+            elim c.else-len-eq0.branch [ else-len-eq0-via-then-len-eq0+else-max-le-DEPTH_LIMIT w ↦ omega arith | else-len-eq0-via-else-len-eq0 w ↦ omega arith ],
       )),
     )

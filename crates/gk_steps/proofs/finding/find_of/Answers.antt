@@ -1,4 +1,4 @@
-use Rattle.gk_steps.proofs.Common.{◌≤◌, ◌+◌, arith, sym, map, drop, subst, refl, Some, None, common_steps, Cells, cells_of_type, NoneBefore, entry_value, found_at, IsKeptResult, kept_if, piece_value}
+use Rattle.gk_steps.proofs.Common.{◌≤◌, ◌+◌, arith, sym, map, drop, subst, refl, Some, None, common_steps, CellCounter, cells_of_type, NoneBefore, entry_value, found_at, IsKeptResult, kept_if, piece_value}
 use Rattle.gk_steps.proofs.FilledCellsLemmas.{asked, passed_over}
 use Rattle.gk_steps.proofs.FindingLemmas.{entry_at, none_more, none_all, first_at, candidate, table_candidate, of_fault}
 use Rattle.gk_steps.proofs.CaptureLemmas.{kept_some, kept_none}
@@ -49,7 +49,7 @@ loop-position-preserved g c =
     let next = c.next-position-in-loop-position.result in
     let more = none_more entries c.args.step_type c.args.text.now c.loop-position.position c.index-entries-position.result c.loop-position-test.true c.index-entries-position.is in
     let cells = passed_over entries c.loop-position.position c.index-entries-position.result c.args.step_type c.args.text.now c.args.cells.now.filled c.loop-position.cells.filled c.loop-position-test.true c.index-entries-position.is c.loop-position.invariant.1 in
-    let Left : Cells → Type 0 = λ cells. cells.filled + cells_of_type (map entry_value (drop position entries)) c.args.step_type c.args.text.now ≤ c.args.cells.now.filled + cells_of_type (map entry_value entries) c.args.step_type c.args.text.now in
+    let Left : CellCounter → Type 0 = λ cells. cells.filled + cells_of_type (map entry_value (drop position entries)) c.args.step_type c.args.text.now ≤ c.args.cells.now.filled + cells_of_type (map entry_value entries) c.args.step_type c.args.text.now in
     let here : NoneBefore position (map entry_value entries) c.args.step_type c.args.text.now × Left c.else-is_same.cells × (c.args.cells.now.filled ≤ c.else-is_same.cells.filled) = elim c.else-is_same.branch [
       | else-is_same-via-then-is_same+then-can_match+in_ok-match_fitting+else-branch w ↦ (
         more (λ same. kept_none g.K.Captures.keeps (map piece_value c.index-entries-position.result.pattern.pieces.items) c.args.text.now
@@ -57,10 +57,10 @@ loop-position-preserved g c =
             (subst (λ ps. IsKeptResult g.K.Captures.keeps (map piece_value ps) c.args.text.now (kept_if w.in_ok-match_fitting.field-0 w.match_fitting.new.kept)) w.deref.ensures.value w.in_ok-match_fitting.ensures.found))) c.loop-position.invariant.0,
         subst Left (sym w.cells-is)
             (asked entries c.loop-position.position c.index-entries-position.result c.args.step_type c.args.text.now w.deref.result.now c.args.cells.now.filled c.loop-position.cells.filled w.match_fitting.new.cells.filled c.loop-position-test.true c.index-entries-position.is w.if-is_same.ensures w.deref.ensures.value w.match_fitting.ensures.most c.loop-position.invariant.1),
-        subst (λ (cells : Cells). c.args.cells.now.filled ≤ cells.filled) (sym w.cells-is) (omega (arith, c.loop-position.invariant.2, w.match_fitting.ensures.least)),
+        subst (λ (cells : CellCounter). c.args.cells.now.filled ≤ cells.filled) (sym w.cells-is) (omega (arith, c.loop-position.invariant.2, w.match_fitting.ensures.least)),
       )
-      | else-is_same-via-then-is_same+else-can_match w ↦ (more (λ same. w.if-can_match.ensures.refused refl) c.loop-position.invariant.0, subst Left (sym w.cells-is) cells, subst (λ (cells : Cells). c.args.cells.now.filled ≤ cells.filled) (sym w.cells-is) c.loop-position.invariant.2)
-      | else-is_same-via-else-is_same w ↦ (more (λ same. absurd (w.if-is_same.ensures same)) c.loop-position.invariant.0, subst Left (sym w.cells-is) cells, subst (λ (cells : Cells). c.args.cells.now.filled ≤ cells.filled) (sym w.cells-is) c.loop-position.invariant.2)
+      | else-is_same-via-then-is_same+else-can_match w ↦ (more (λ same. w.if-can_match.ensures.refused refl) c.loop-position.invariant.0, subst Left (sym w.cells-is) cells, subst (λ (cells : CellCounter). c.args.cells.now.filled ≤ cells.filled) (sym w.cells-is) c.loop-position.invariant.2)
+      | else-is_same-via-else-is_same w ↦ (more (λ same. absurd (w.if-is_same.ensures same)) c.loop-position.invariant.0, subst Left (sym w.cells-is) cells, subst (λ (cells : CellCounter). c.args.cells.now.filled ≤ cells.filled) (sym w.cells-is) c.loop-position.invariant.2)
     ] in
     let later : position ≤ next = c.next-position-in-loop-position.ensures.low (omega (arith, c.loop-position-test.true)) in (
       none_skipped entries c.args.step_type c.args.text.now position next here.0 c.next-position-in-loop-position.ensures,

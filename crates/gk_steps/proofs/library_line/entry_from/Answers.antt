@@ -8,9 +8,9 @@ returns-in-Some-clause-fault c =
     let found = c.in_ok-find_of.ensures.found in
     let hit = hit_some {K = NoCaptures} (λ _ _ _. Unit {0}) (map entry_value c.args.earlier.now.entries.now) (record { entry = c.in-Some.field-0; kept = c.find_of.new.kept }) found.0 (subst (λ (entry : Option ℕ). IsHit (λ _ _ _. Unit {0}) (map entry_value c.args.earlier.now.entries.now) (hit_of c.find_of.new.kept entry) found.0) c.in-Some.is found.1) in (
       refl,
-      ambiguous_with (map entry_value c.args.earlier.now.entries.now) (borrowed_value c.args.line.now) c.args.said.now.step_type c.args.said.now.pattern.now c.args.said.now.action.now (pattern_value c.in-Ok.pattern) c.in-Ok-action_at.action
-          found.0 hit.0 hit.1 c.requires.said c.in-Ok.ensures.pattern
-          (subst (λ (q : List Piece). FitsAction c.args.said.now.action.now (map piece_value q) c.in-Ok-action_at.action) c.deref.ensures.value c.in-Ok-action_at.ensures.action) found.2,
+      ambiguous_with (map entry_value c.args.earlier.now.entries.now) (borrowed_value c.args.line.now) c.args.said.now.step_type c.args.said.now.pattern.now c.args.said.now.action.now (pattern_value c.in_ok-pattern.pattern) c.in_ok-action.action
+          found.0 hit.0 hit.1 c.requires.said c.in_ok-pattern.ensures.pattern
+          (subst (λ (q : List Piece). FitsAction c.args.said.now.action.now (map piece_value q) c.in_ok-action.action) c.deref.ensures.value c.in_ok-action.ensures.action) found.2,
     )
 
 pub returns-in-None-clause-entry : goal.returns-in-None-clause-entry

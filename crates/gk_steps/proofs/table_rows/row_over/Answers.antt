@@ -1,15 +1,15 @@
 use Rattle.gk_steps.proofs.Common.{◌≡◌, ◌∷◌, subst, sym, string_bytes, length, arith, Plain, Decimal, IsRow, IsRowTo, IsRowOver, IsPlainRow, IsNumberRow, piece_value}
 use Rattle.gk_steps.proofs.AdvanceLemmas.{field_piece, text_piece}
-use Rattle.gk_steps.proofs.TableRowLemmas.{if_ok, plain_row, number_row, step_more}
+use Rattle.gk_steps.proofs.TableRowLemmas.{if_ok, plain_field_row, number_row, step_more}
 use Rattle.gk_steps.proofs.FilledCellsLemmas.{one_more}
 use Rattle.gk_steps.proofs.table_rows.row_over.Goals as goal
 
 pub returns-in-Plain-clause-row : goal.returns-in-Plain-clause-row
 returns-in-Plain-clause-row c =
-    if_ok c.plain_row.result (λ row. IsPlainRow (length c.args.below.now) c.args.below.now row.items) (λ row. IsRowOver (piece_value c.args.piece.now) c.args.text.now c.args.boundaries.now c.args.below.now row.items)
+    if_ok c.plain_field_row.result (λ row. IsPlainRow (length c.args.below.now) c.args.below.now row.items) (λ row. IsRowOver (piece_value c.args.piece.now) c.args.text.now c.args.boundaries.now c.args.below.now row.items)
     (λ row p ps r. subst (λ piece. IsRow (piece ∷ ps) c.args.text.now c.args.boundaries.now row.items) (sym (field_piece c.args.piece.now c.in-Field.name c.in-Field.kind Plain c.in-Field.is c.in-Plain.is))
-    (plain_row (string_bytes c.in-Field.name) ps c.args.text.now c.args.boundaries.now c.args.below.now row.items c.utf8.text c.requires.boundaries r p))
-    c.plain_row.ensures.row
+    (plain_field_row (string_bytes c.in-Field.name) ps c.args.text.now c.args.boundaries.now c.args.below.now row.items c.utf8.text c.requires.boundaries r p))
+    c.plain_field_row.ensures.row
 
 pub returns-in-Decimal-clause-row : goal.returns-in-Decimal-clause-row
 returns-in-Decimal-clause-row c =

@@ -7,5 +7,5 @@ returns c registered uncut =
     let old = said c.args.self.now in
     let step = step_value c.args.step.now in
     let s = state_of c.args.sandbox.now.now in
-    let known : is_cut c.cut_after.new.self ≡ false → (is_cut c.args.self.now ≡ false) × (said c.cut_after.new.self ≡ with_event (of_step c.args.place step c.args.mark [] s) old) = search rules in
-    ((known uncut).0, (known uncut).1 ∙ whatever_registered c.args.place step c.args.mark registered s old)
+    let known : is_cut c.cut_after.new.self ≡ false → (is_cut c.args.self.now ≡ false) × (said c.cut_after.new.self ≡ with_event (of_step c.args.stage step c.args.mark [] s) old) = search rules in
+    ((known uncut).0, (known uncut).1 ∙ whatever_registered c.args.stage step c.args.mark registered s old)

@@ -1,4 +1,4 @@
-use Rattle.gk_steps.proofs.Common.{◌∙◌, List, map, ap, sym, subst, refl, Entry, Piece, Head, piece_value, head_of, IsIndexOf}
+use Rattle.gk_steps.proofs.Common.{◌∙◌, List, map, ap, sym, subst, refl, Entry, Piece, HeadWord, piece_value, head_of, IsIndexOf}
 use Rattle.gk_steps.proofs.EntryIndexLemmas.{heads_push, heads_size, single_push, listed_push}
 use Rattle.gk_steps.proofs.library.LibraryBuilder.push.Goals as goal
 
@@ -13,7 +13,7 @@ returns-clause-indexed c =
     let new = c.push.new.self.items in
     let entries = c.args.self.now.entries.items in
     let items = c.push-2.new.self.items in
-    let head : Head = record { word = c.head_of-head.result; more = 0 } in
+    let head : HeadWord = record { word = c.head_of-head.result; more = 0 } in
     let same = c.in_ok-push.ensures.items in
     let single = single_push old new head same refl c.requires.single in
     record {

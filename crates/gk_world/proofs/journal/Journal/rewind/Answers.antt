@@ -1,5 +1,5 @@
-use Rattle.gk_world.proofs.Common.{arith, common_steps}
-use Rattle.gk_world.proofs.JournalLemmas.{popped, rewound_on, rewound-before, FitAll-before, settled}
+use Rattle.gk_world.proofs.Common.{arith}
+use Rattle.gk_world.proofs.JournalLemmas.{popped, rewound_on}
 use Rattle.gk_world.proofs.journal.Journal.rewind.Goals as goal
 
 pub undo-requires : goal.undo-requires
@@ -10,9 +10,3 @@ undo-requires g c =
 pub loop-self-preserved : goal.loop-self-preserved
 loop-self-preserved g c =
     rewound_on g.T.Reversible.undone g.T.Reversible.fits _ _ c.args.count c.loop-self.self-inside.entries.items c.pop.new.self.items c.pop.result c.unwrap-undo.result _ _ c.loop-self.invariant c.pop.ensures.items c.unwrap-undo.ensures (omega arith) c.undo.ensures.slots
-
-pub returns-clause-same : goal.returns-clause-same
-returns-clause-same g c = grind (arith, common_steps, settled, rewound-before)
-
-pub returns-clause-older : goal.returns-clause-older
-returns-clause-older g c = grind (arith, common_steps, settled, FitAll-before)

@@ -18,8 +18,15 @@ invariant_of-self c =
     (subst (IsHere c.args.change) (sym (depth_is i.world i.journal i.depth i.starts c.args.self.now c.self.view_is)) c.requires.here)
     c.self.invariant c.apply.ensures.done c.apply.ensures.err
 
+pub invariant_of-self-then-self-eq0 : goal.invariant_of-self-then-self-eq0
+invariant_of-self-then-self-eq0 c =
+    let i = c.self.inside in
+    unrecorded_sound c.args.change i.world c.apply.new.self i.journal i.depth i.starts c.if-self-eq0.true c.apply.result
+    (subst (IsHere c.args.change) (sym (depth_is i.world i.journal i.depth i.starts c.args.self.now c.self.view_is)) c.requires.here)
+    c.self.invariant c.apply.ensures.done c.apply.ensures.err
+
 pub invariant_of-self-2 : goal.invariant_of-self-2
 invariant_of-self-2 c =
     let i = c.self.inside in
     let r = c.change-answer.ensures in
-    recorded_sound c.args.change i.world i.journal (open_starts i.depth i.starts) c.args.self.now c.self.view_is c.requires.here c.self.invariant (omega (arith, length-open_starts i.depth i.starts)) c.change-answer.new.on c.change-answer.new.self c.change-answer.result r.done r.same r.recorded r.fit r.err
+    recorded_sound c.args.change i.world i.journal (open_starts i.depth i.starts) c.args.self.now c.self.view_is c.requires.here c.self.invariant (omega (arith, length-open_starts i.depth i.starts)) c.change-answer.new.on c.change-answer.new.self c.change-answer.result r.done r.recorded r.err

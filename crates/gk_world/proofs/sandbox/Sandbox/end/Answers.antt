@@ -12,13 +12,13 @@ pub invariant_of-self : goal.invariant_of-self
 invariant_of-self c =
     let i = c.self.inside in
     let r = c.rewind.ensures in
-    ended_sound i.world i.journal i.depth c.layer.inside.number i.starts c.args.self.now c.self.view_is (c.layer.view_is ∙ c.requires) c.layer.invariant c.self.invariant c.rewind.new.on c.rewind.new.self r.slots r.entries r.same r.older
+    ended_sound i.world i.journal i.depth c.layer.inside.number i.starts c.args.self.now c.self.view_is (c.layer.view_is ∙ c.requires) c.layer.invariant c.self.invariant c.rewind.new.on c.rewind.new.self r.slots r.entries
 
 pub returns-clause-ends : goal.returns-clause-ends
 returns-clause-ends c =
     let i = c.self.inside in
     let r = c.rewind.ensures in
-    ended i.world i.journal i.depth c.layer.inside.number i.starts c.args.self.now c.self.view_is (c.layer.view_is ∙ c.requires) c.layer.invariant c.self.invariant c.rewind.new.on c.rewind.new.self r.slots r.entries r.same r.older
+    ended i.world i.journal i.depth c.layer.inside.number i.starts c.args.self.now c.self.view_is (c.layer.view_is ∙ c.requires) c.layer.invariant c.self.invariant c.rewind.new.on c.rewind.new.self r.slots r.entries
 
 pub returns-clause-undone : goal.returns-clause-undone
 returns-clause-undone c = grind (arith, common_steps, ended_undone)

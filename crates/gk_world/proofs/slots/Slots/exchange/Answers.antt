@@ -1,5 +1,5 @@
 use Rattle.gk_world.proofs.Common.{ap, ◌∙◌, arith, common_steps, cell_at}
-use Rattle.gk_world.proofs.RowsLemmas.{written, differ-written, cells-at-position}
+use Rattle.gk_world.proofs.RowsLemmas.{row-write, differ-written, cells-at-position}
 use Rattle.gk_world.proofs.slots.Slots.exchange.Goals as goal
 
 pub invariant_of-self : goal.invariant_of-self
@@ -9,9 +9,7 @@ pub returns-clause-within : goal.returns-clause-within
 returns-clause-within g c = grind (arith, common_steps, cells-at-position)
 
 pub returns-clause-set : goal.returns-clause-set
-returns-clause-set g c =
-    let w = written g.C.Cells.cells g.C.Cells.width c.self.inside.rows.entries c.args.self.now c.args.position c.args.cell c.index_mut-cells.result.now c.replace.new.self _ _ c.self.view_is c.requires.position c.requires.cell c.index_mut-cells.ensures.value c.replace.ensures.within c.replace.ensures.set c.replace.ensures.old in
-    w.set_to
+returns-clause-set g c = row-write g.C.Cells.cells c.self.inside.rows.entries c.args.self.now c.args.position c.args.cell c.index_mut-cells.result.now c.replace.new.self _ c.self.view_is c.index_mut-cells.ensures.value c.replace.ensures.set
 
 pub returns-clause-old : goal.returns-clause-old
 returns-clause-old g c =

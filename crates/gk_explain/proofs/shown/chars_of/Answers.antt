@@ -1,5 +1,0 @@
-use Rattle.gk_explain.proofs.Common.{items_from_collect, YieldsList-from_chars}
-use Rattle.gk_explain.proofs.shown.chars_of.Goals as goal
-
-pub returns : goal.returns
-returns c = items_from_collect c.collect.result c.collect.ensures.ran (YieldsList-from_chars c.args.text.now c.utf8.text c.chars.ensures.rest)

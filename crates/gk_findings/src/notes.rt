@@ -1,0 +1,43 @@
+//! Notes below faults and findings, and the lines that they quote.
+ghost use Rattle.std.specs.Prelude.{◌≡◌, ◌-◌, map, IfOk};
+ghost use Rattle.std.specs.Str.Lines.{lines};
+ghost use Rattle.gk_report.specs.ReportTexts.{Pushes};
+ghost use Rattle.gk_explain.specs.Shown.{shown};
+ghost use Rattle.gk_findings.specs.Notes as spec;
+
+use gk_explain::push_shown;
+use std::alloc::{AllocError, Global};
+
+/// Appends a text below a fault or a finding, on a separate line.
+#[tactic(auto, unfolding(crate::specs::Notes::note))]
+pub fn push_note(out: &mut String, text: &str) -> Result<(), AllocError>
+    ensures { Pushes out.old (spec.note text.now) result out.new }
+{
+    out.push_str("    ")?;
+    out.push_str(text)?;
+    out.push_str("\n")
+}
+
+/// Appends a line of a file below a fault or a finding.
+#[tactic(auto, unfolding(crate::specs::Notes::note))]
+pub fn push_shown_note(out: &mut String, text: &str) -> Result<(), AllocError>
+    ensures { Pushes out.old (spec.note (shown text.now)) result out.new }
+{
+    out.push_str("    ")?;
+    push_shown(out, text)?;
+    out.push_str("\n")
+}
+
+/// Returns the lines of a text. An error comes only if a growth was refused.
+pub fn text_lines(alloc: Global, text: &str) -> Result<Vec<&str>, AllocError>
+    ensures { IfOk result (λ found. map (λ line. line.now) found.items ≡ lines text.now) }
+{
+    text.lines().collect(alloc)
+}
+
+/// Returns the position of a line, counted from 0.
+pub fn position_of(line: u32) -> usize
+    ensures { result ≡ line - 1 }
+{
+    line.saturating_sub(1) as usize
+}

@@ -1,5 +1,0 @@
-use Rattle.gk_select.proofs.IndexedColumns.{no_names}
-use Rattle.gk_select.proofs.columns.ColumnIndex.new.Goals as goal
-
-pub returns : goal.returns
-returns c = λ first. no_names first _ c.new-2.ensures.empty

@@ -1,5 +1,0 @@
-use Rattle.gk_select.proofs.TagReading.{one_rule}
-use Rattle.gk_select.proofs.laws.texts_have_one_rule.Goals as goal
-
-pub returns : goal.returns
-returns c = one_rule
