@@ -484,7 +484,8 @@ def definition_files(crate):
 
 
 def definition_rows():
-    """The table of files of definitions. A new file comes after the one before it in reading order."""
+    """The table of files of definitions. A new file comes after the one before it in reading order; one that is gone, or
+    that only the proofs need, is left out."""
     header, line, *rows = MARKED.search(read(DEFINITIONS))[3].splitlines()
     by_crate = {}
     for row in rows:
@@ -493,9 +494,12 @@ def definition_rows():
     yield from (header, line)
     for crate, own in by_crate.items():
         text = "\n".join(own)
-        for before, name in itertools.pairwise(["", *definition_files(crate)]):
+        files = definition_files(crate)
+        for before, name in itertools.pairwise(["", *files]):
             if f"`{name}`" not in text and before:
                 text = text.replace(f"`{before}`", f"`{before}`, `{name}`", 1)
+        for name in set(re.findall("`([A-Z]\\w+)`", text)).difference(files):
+            text = text.replace(f", `{name}`", "").replace(f"`{name}`, ", "")
         yield text
 
 

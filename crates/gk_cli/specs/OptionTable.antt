@@ -35,7 +35,7 @@ rule_of_option o = rule_by o.name o.takes
 abbrev anywhere : Text → OptionTakes → OptionValue
 anywhere name takes = record { name = name; takes = takes; beside_report = true; beside_explain = true; beside_lint = true; beside_no_steps = true }
 
--- An option that each output accepts that looks up steps.
+-- An option that all accept, except `--no-steps`, since it is about steps.
 abbrev with_steps : Text → OptionTakes → OptionValue
 with_steps name takes = record (anywhere name takes) { beside_no_steps = false }
 

@@ -110,7 +110,7 @@ abbrev pub cause_by_place : Option Class → Bool → Class → Cause
 cause_by_place None tagged class = NoFeature
 cause_by_place (Some heading) tagged class = below heading tagged class
 
--- Whether a text begins with a keyword in any case.
+-- Whether a text begins with this spelling in any case.
 abbrev pub begins_in_any_case : List ℕ → List ℕ → Bool
 begins_in_any_case text word = same_letters (take (length word) text) word
 

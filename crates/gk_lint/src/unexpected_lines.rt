@@ -37,9 +37,9 @@ pub enum Cause {
     SingleQuotes,
     /// It begins with the step keyword, without a plain space and a text after it.
     OpenKeyword(Keyword),
-    /// It begins with the keyword in another case.
+    /// It begins with the keyword, and a heading's colon, in another case.
     OtherCase(Keyword),
-    /// It begins like the keyword.
+    /// It begins like the keyword, or with a heading's keyword that no colon follows directly.
     Misspelt(Keyword),
     /// It is another text below a step.
     FreeText,
