@@ -12,9 +12,10 @@
 # and how many in tests/edits/.
 #
 # If all edits of a crate were refused, tests/edits/refused notes it, with a sum of all that this depends on: the edits and
-# their numbers, the sources and proofs of the crate and of the crates below it, this script, and the toolchain. --check
-# tries nothing. It fails for each crate whose note is missing or has another sum, and for each that hasn't its number of
-# edits.
+# their numbers, the sources and proofs of the crate and of the crates below it, this script, and the logic of the
+# toolchain. The logic decides what can be proved, so a note holds for each build of the toolchain that has this logic.
+# --check tries nothing. It fails for each crate whose note is missing or has another sum, and for each that hasn't its
+# number of edits.
 #
 # Closes with one line 'N passed, M failed'; an edit is one test, with --check a crate.
 set -eu
@@ -54,7 +55,7 @@ note() {
     (
         cd "$home"
         {
-            rt version
+            rt version | sed 's/.* logic /logic /'
             row "$1"
             with_lower "$1"
             {
