@@ -18,7 +18,7 @@ import pytest
 
 from gherkin_run.data import ReportData, ScenarioData
 from gherkin_run.printing import printable, printable_lines
-from gherkin_run.runs import LONGEST_FILE, Explanation, Failed, Fault, Source, World, explain, run
+from gherkin_run.runs import LONGEST_FILE, Explanation, Failed, Fault, Source, World, check_type, explain, run
 
 # The library file and the hooks file of a session.
 SETTINGS = pytest.StashKey[Tuple[Optional[Source], Optional[Source]]]()
@@ -52,6 +52,7 @@ def gherkin_world() -> World:
 
 def judge(request: pytest.FixtureRequest, gherkin_world: World) -> None:
     """Runs the scenario of a test in its world."""
+    check_type("gherkin_world", gherkin_world, World)
     request.node.judge(gherkin_world)
 
 

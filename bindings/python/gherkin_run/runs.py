@@ -20,6 +20,12 @@ LONGEST_FILE = 16_777_216
 PROGRAM = "gherkin_run: "
 
 
+def check_type(what: str, value: Any, *types: type) -> None:
+    """Raises `TypeError` unless a value has one of these types."""
+    if not isinstance(value, types):
+        raise TypeError(f"{what} is {value!r}, not a {' or '.join(it.__name__ for it in types)}")
+
+
 @dataclasses.dataclass(frozen=True)
 class Source:
     """A file in memory: the name that reports and faults have for it, and its text."""
@@ -28,8 +34,8 @@ class Source:
     text: Union[str, bytes]
 
     def __post_init__(self) -> None:
-        if not isinstance(self.name, str) or not isinstance(self.text, (str, bytes)):
-            raise TypeError("the name of a source is a str, and its text is a str or bytes")
+        check_type("the name of a source", self.name, str)
+        check_type("the text of a source", self.text, str, bytes)
 
 
 # The path of a file, or a file in memory.
@@ -131,14 +137,27 @@ def _words(options: Mapping[str, Any]) -> Iterator[str]:
             yield from (f"{option}={text}" for text in _texts(name, value))
 
 
+def _named_values(argument: str, given: Mapping[str, Any], *types: type) -> Iterator[Tuple[str, Any]]:
+    """Yields each name with its value, which has one of these types."""
+    for name, value in given.items():
+        check_type(f"{argument}: a name", name, str)
+        check_type(f"{argument}: {name}", value, *types)
+        if "=" in name:
+            raise ValueError(f"{argument}: a name has no equals sign")
+        yield name, value
+
+
+def _several(value: Any) -> Iterable[Any]:
+    """Returns the values of an argument that takes one or several."""
+    return value if isinstance(value, Iterable) and not isinstance(value, (str, bytes, os.PathLike)) else [value]
+
+
 def _texts(name: str, value: Any) -> Iterator[str]:
     """Yields the texts of an option: those of one value, of several, or of variables by their names."""
     if isinstance(value, Mapping):
-        if any("=" in it for it in value):
-            raise ValueError(f"{name}: a name has no equals sign")
-        yield from map("=".join, value.items())
+        yield from map("=".join, _named_values(name, value, str))
         return
-    for it in [value] if isinstance(value, (str, bytes, int)) else value:
+    for it in _several(value):
         if not isinstance(it, (str, int)) or isinstance(it, bool):
             raise TypeError(f"{name}: {it!r} is neither a text nor a number")
         yield str(it)
@@ -169,9 +188,7 @@ def _world(files: Mapping[str, WorldFile], held: Dict[str, bytes]) -> Iterator[s
     """Yields the arguments for files that steps find. Adds their texts to those that are held."""
     if not isinstance(files, Mapping):
         raise TypeError("files are given by their names, in a mapping")
-    for name, file in files.items():
-        if "=" in name:
-            raise ValueError("files: a name has no equals sign")
+    for name, file in _named_values("files", files, str, bytes, os.PathLike):
         path, = _named([file if isinstance(file, os.PathLike) else Source(name, file)], held)
         yield f"--file={name}={path}"
 
@@ -189,8 +206,7 @@ def _called(
     words = [*_words(options), *_world(files or {}, held)]
     for name, file in (("library", library), ("hooks", hooks)):
         words += _words({name: _named([file], held)}) if file is not None else ()
-    several = [features] if isinstance(features, (str, bytes, os.PathLike, Source)) else features
-    ended = calls.call([*words, "--", *_named(several, held)], held)
+    ended = calls.call([*words, "--", *_named(_several(features), held)], held)
     if ended.errors:
         raise _fault(ended)
     return ended.status, ended.output.decode("utf-8")
