@@ -11,11 +11,11 @@
 # tests/edits/numbers has a line for each crate of crates.txt, except those of tests: how many edits are in its must-fail/,
 # and how many in tests/edits/.
 #
-# If all edits of a crate were refused, tests/edits/refused notes it, with a sum of all that this depends on: the edits and
-# their numbers, the sources and proofs of the crate and of the crates below it, this script, and the logic of the
-# toolchain. The logic decides what can be proved, so a note holds for each build of the toolchain that has this logic.
-# --check tries nothing. It fails for each crate whose note is missing or has another sum, and for each that hasn't its
-# number of edits.
+# If all edits of a crate were refused, tests/edits/refused notes it, with the build of the toolchain that refused them, and
+# with a sum of what else this depends on: the edits and their numbers, the sources and proofs of the crate and of the
+# crates below it, this script, and the logic of the toolchain. --check tries nothing. It fails for each crate whose note is
+# missing or has another sum, and for each that hasn't its number of edits. If the build here is another one, it says so on
+# standard error: this build may find a proof that the other one didn't.
 #
 # Closes with one line 'N passed, M failed'; an edit is one test, with --check a crate.
 set -eu
@@ -50,7 +50,7 @@ row() {
     done | awk -v crate="$1" '$1 > 0 { all = all " " $1 } END { print crate all }'
 }
 
-# The line that notes that the edits of a crate were refused, as all that it depends on is now.
+# The line that notes that the edits of a crate were refused, as all that it depends on is now, by the build that is here.
 note() {
     (
         cd "$home"
@@ -64,7 +64,7 @@ note() {
                 find $(with_lower "$1" | sed 's/[ :].*//; s|^|crates/|') -name out -prune -o -name must-fail -prune -o \
                     -type f \( -name '*.rt' -o -name '*.antt' \) -print0
             } | LC_ALL=C sort -z | xargs -0 sha256sum
-        } | sha256sum | sed "s/ .*/ $1/"
+        } | sha256sum | sed "s/ .*/ $1 $(rt version | sed 's/ .*//')/"
     )
 }
 
@@ -82,14 +82,17 @@ check() {
     done
     for crate in $crates; do
         expected=$(grep "^$crate " "$numbers" || true)
+        now=$(note "$crate")
+        noted=$(grep "^${now% *} " "$notes" 2> /dev/null || true)
         if [ "$expected" != "$(row "$crate")" ] || [ "$(echo "$expected" | wc -w)" -ne 3 ]; then
             echo "edits: $crate has another number of edits than tests/edits/numbers says"
             failed=$((failed + 1))
-        elif ! grep -qxF "$(note "$crate")" "$notes" 2> /dev/null; then
+        elif [ -z "$noted" ]; then
             echo "edits: $crate, or what it depends on, was changed since its edits were tried: tests/edits.sh $crate tries them"
             failed=$((failed + 1))
         else
             passed=$((passed + 1))
+            [ "$noted" = "$now" ] || echo "edits: those of $crate were refused by ${noted##* }, and not tried with ${now##* }" >&2
         fi
     done
     echo "$passed passed, $failed failed"
@@ -132,7 +135,7 @@ for crate do
     passed=$((passed + refused))
     there=$((there + edits))
     [ "$refused" -eq "$edits" ] || continue
-    { grep -v " $crate\$" "$notes" || true; grep " $crate\$" "$room/notes"; } | LC_ALL=C sort -k 2 > "$room/noted"
+    { grep -v " $crate " "$notes" || true; grep " $crate " "$room/notes"; } | LC_ALL=C sort -k 2 > "$room/noted"
     cp "$room/noted" "$notes"
 done
 echo "$passed passed, $((there - passed)) failed"

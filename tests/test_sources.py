@@ -46,6 +46,7 @@ class Edits(Checks):
         """The edits that `rt ci` leaves out were tried on the crates as they are."""
         status, out, said = driver.start(os.path.join(driver.HOME, "tests", "edits.sh"), ["--check"], patience=300)
         *troubles, counts = out.decode().splitlines()
+        print(said.decode(), end="", flush=True)
         self.check_all([*troubles, *[""] * int(counts.split()[0])])
         self.unless(f"edits.sh ends with {status}", status == 0, said.decode())
 
