@@ -69,7 +69,7 @@ step_limit = 1000000
 abbrev pub HasTooManySteps : FeatureValue → Type 0
 HasTooManySteps f = step_limit < step_count f
 
--- A feature with a scenario or a rule. Expanding any other feature asks for no memory.
+-- A feature with a scenario or a rule. To expand any other feature, no memory is refused.
 abbrev pub HasPart : FeatureValue → Type 0
 HasPart f = 0 < length f.scenarios + length f.rules
 

@@ -19,7 +19,7 @@ pub mod TagRules
 pub mod TagStops
 pub mod Choice
 pub mod SelectFault
--- Proof machinery: what the words of an expression build, read from the last to the first, and how deep it is; and a choice so far.
+-- Proof machinery: what the words of an expression build, read from the last to the first, and how deep it is; the tags of a case, in the lists in which they are written; and a choice so far.
 pub mod TagTrees
 pub mod TagLists
 pub mod TagMeasures

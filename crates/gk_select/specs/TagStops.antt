@@ -39,7 +39,7 @@ after_operator groups word = None
 abbrev pub place_after : TagPlace → Option WordValue → Option TagPlace
 place_after place word = if place.operand then after_operand place.groups word else after_operator place.groups word
 
--- What has to stand at a place.
+-- What is expected at a place.
 abbrev pub wanted_at : TagPlace → Wanted
 wanted_at place = if place.operand then Operand else Operator
 

@@ -12,6 +12,9 @@ use crate::tag_lists::TagLists;
 use crate::tag_values::TagRule;
 use std::alloc::Global;
 
+// The number of words of tag rules from which an index of a case's tags is worth its cost.
+const MANY_WORDS: usize = 64;
+
 /// A condition by which cases are chosen: every tag rule holds for the case's tags, and its line is among the
 /// lines, if there are any. (behave's documentation: tag expressions)
 #[derive(Debug, Drop)]
@@ -49,14 +52,20 @@ impl Choice {
         self.takes(self.rules_hold(&tags), case.line)
     }
 
-    /// Returns tags for lookup, without an index if there are no rules.
+    // Returns whether the tag rules have many words. Each has one at least.
+    fn has_many_words(&self) -> bool {
+        self.rules.len() > MANY_WORDS
+            || self.rules.iter().any(|rule| rule.word_count() > MANY_WORDS)
+    }
+
+    /// Returns tags for lookup, without an index if few words look tags up.
     pub(crate) fn lookup<'a>(&self, alloc: Global, tags: &'a [String]) -> Names<'a>
         ensures { result ≡ texts tags.now }
     {
-        if self.rules.is_empty() {
-            Names::scanned(tags)
-        } else {
+        if self.has_many_words() {
             Names::new(alloc, tags)
+        } else {
+            Names::scanned(tags)
         }
     }
 

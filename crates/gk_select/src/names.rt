@@ -133,7 +133,7 @@ impl<'a> Names<'a> {
     pub(crate) fn has(&self, name: &str) -> bool
         ensures { result ≡ list_any (bytes_eq name.now) self.now }
     {
-        self.position(name).is_some()
+        !self.list.is_empty() && self.position(name).is_some()
     }
 
     /// Returns the cell of a row under the first of these headers that equals `name`, if any. It takes as long as

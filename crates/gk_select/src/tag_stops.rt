@@ -107,7 +107,7 @@ impl TagPlace {
         }
     }
 
-    // Returns what has to stand here.
+    // Returns what is expected here.
     fn wanted(self) -> Wanted
         ensures { result ≡ spec.wanted_at self }
     {

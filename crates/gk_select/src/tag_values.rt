@@ -1,5 +1,5 @@
 //! Tag rules, evaluated for a set of tags. The words of an expression are read from the last to the first.
-ghost use Rattle.std.specs.Prelude.{◌≡◌, ◌-◌, ◌<◌, ◌^◌, ◌++◌, map, OnOk, IfOk};
+ghost use Rattle.std.specs.Prelude.{◌≡◌, ◌-◌, ◌<◌, ◌^◌, ◌++◌, length, map, OnOk, IfOk};
 ghost use Rattle.std.specs.List.{list_any};
 ghost use Rattle.std.specs.Str.{bytes_eq};
 ghost use Rattle.gk_gherkin.specs.Feature.{texts};
@@ -112,6 +112,13 @@ impl TagRule {
             tag_rule_value result ≡ e }
     {
         TagRule { words }
+    }
+
+    /// Returns the number of its words.
+    pub(crate) fn word_count(&self) -> usize
+        ensures { result ≡ length self.now.words.items }
+    {
+        self.words.len()
     }
 
     /// Returns whether the tag rule holds for a set of tags, each with its `@`. Doesn't allocate. (behave's
