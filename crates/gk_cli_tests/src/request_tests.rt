@@ -199,7 +199,7 @@ fn bad_text_of_tags_has_notes(rt: HostRuntime) -> Result<(), Fail> {
     let mut notes = String::new(rt.alloc());
     push_notes(&mut notes, rt.alloc(), Some("@bell and"), &files, fault)?;
     let wanted =
-        "    @bell and\n    it breaks at its end, where \"not\", \"(\" or a tag such as @a has to stand\n";
+        "    @bell and\n    it breaks at its end, where \"not\", \"(\" or a tag such as @a is expected\n";
     assert_eq!(rt; notes.as_str(), wanted);
     Ok(())
 }

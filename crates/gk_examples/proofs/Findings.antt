@@ -11,7 +11,7 @@ use Rattle.gk_lint.specs.declared.findings.FindingKind.TheVariants.{CrAlone, Fil
 use Rattle.gk_gherkin.specs.declared.keyword.Keyword.TheVariants as keywords
 use Rattle.gk_lint.specs.declared.line_context.LineContext.TheVariants.{Elsewhere}
 use Rattle.gk_lint.specs.Findings.{at_line}
-use Rattle.gk_lint.specs.Likeness.{is_other_blank, letter, same_letters, common_len, differ_at_first, is_one_off, is_exchanged, spelt_heading, spelt_step, begun_like, like}
+use Rattle.gk_lint.specs.Likeness.{is_like_heading, is_other_blank, letter, same_letters, common_len, differ_at_first, is_one_off, is_exchanged, spelt_heading, spelt_step, begun_like, like}
 use Rattle.gk_lint.specs.LineContext.{after}
 use Rattle.gk_lint.specs.Misspelt.{misspelt, wording}
 use Rattle.gk_lint.specs.LineEnds.{cr_alone}
@@ -32,10 +32,10 @@ with_text =
     ∷ []
 
 misspelt_lines : misspelt Elsewhere with_text ≡ at_line 2 (LikeKeyword keywords.Scenario) ∷ at_line 4 (LikeKeyword keywords.When) ∷ []
-unfolding with_text wording after closes class class_of class_of_words is_utf8 chars lib.Utf8.encode is_other_blank letter like begun_like spelt_heading spelt_step is_one_off is_exchanged differ_at_first common_len same_letters
+unfolding with_text wording after closes class class_of class_of_words is_utf8 chars lib.Utf8.encode is_other_blank letter like begun_like spelt_heading spelt_step is_like_heading is_one_off is_exchanged differ_at_first common_len same_letters
 misspelt_lines = refl
 
--- In a description a fence opens nothing, and neither does one after a step that stands outside of a scenario. A fence is prose, so the step above it is, too. A step with `And` isn't found there.
+-- In a description a fence opens nothing, and neither does one after a step outside of a scenario. A fence is no prose, so the step above it is found. A step with `And` isn't found there.
 with_fences : Lines
 with_fences =
     line_at 1 (codes "Feature: The lamp")
@@ -45,8 +45,8 @@ with_fences =
     ∷ line_at 5 (codes "  And more")
     ∷ []
 
-misspelt_in_description : misspelt Elsewhere with_fences ≡ at_line 4 (LikeKeyword keywords.Rule) ∷ []
-unfolding with_fences wording after closes class class_of class_of_words is_utf8 chars lib.Utf8.encode is_other_blank letter like begun_like spelt_heading spelt_step is_one_off is_exchanged differ_at_first common_len same_letters
+misspelt_in_description : misspelt Elsewhere with_fences ≡ at_line 2 StepOutside ∷ at_line 4 (LikeKeyword keywords.Rule) ∷ []
+unfolding with_fences wording after closes class class_of class_of_words is_utf8 chars lib.Utf8.encode is_other_blank letter like begun_like spelt_heading spelt_step is_like_heading is_one_off is_exchanged differ_at_first common_len same_letters
 misspelt_in_description = refl
 
 -- A sentence in a description that begins like a step, at its end and in its middle; and steps below one.
@@ -63,8 +63,24 @@ with_prose =
     ∷ []
 
 steps_below_prose : misspelt Elsewhere with_prose ≡ at_line 7 StepOutside ∷ at_line 8 StepOutside ∷ []
-unfolding with_prose wording after closes class class_of class_of_words is_utf8 chars lib.Utf8.encode is_other_blank letter like begun_like spelt_heading spelt_step is_one_off is_exchanged differ_at_first common_len same_letters
+unfolding with_prose wording after closes class class_of class_of_words is_utf8 chars lib.Utf8.encode is_other_blank letter like begun_like spelt_heading spelt_step is_like_heading is_one_off is_exchanged differ_at_first common_len same_letters
 steps_below_prose = refl
+
+-- Misspelt headings in a description: with its colon, between lines of prose; and without it, above one.
+with_headings : Lines
+with_headings =
+    line_at 1 (codes "Feature: The lamp")
+    ∷ line_at 2 (codes "  It is lit.")
+    ∷ line_at 3 (codes "  scenario: by night")
+    ∷ line_at 4 (codes "  The moon is up.")
+    ∷ line_at 5 (codes "")
+    ∷ line_at 6 (codes "  Rule of thumb: oil first.")
+    ∷ line_at 7 (codes "  Wicks come second.")
+    ∷ []
+
+heading_in_prose : misspelt Elsewhere with_headings ≡ at_line 3 (LikeKeyword keywords.Scenario) ∷ []
+unfolding with_headings wording after closes class class_of class_of_words is_utf8 chars lib.Utf8.encode is_other_blank letter like begun_like spelt_heading spelt_step is_like_heading is_one_off is_exchanged differ_at_first common_len same_letters
+heading_in_prose = refl
 
 -- One line with a carriage return in it, and two lines.
 one_with_cr : cr_alone (line_at 1 (codes "Feature: F" ++ 13 ∷ codes "Scenario: S") ∷ []) ≡ at_line 1 CrAlone ∷ []

@@ -65,7 +65,7 @@ pub use Rattle.gk_explain.specs.NearestLines.{AreNearest}
 pub use Rattle.gk_explain.specs.Registrations.{CleanupsAreOfTheirSteps, PlacedCleanup, all_but_last, found_registers, is_passed, is_registering, last_of, placed_by, placed_cleanups, registered_by}
 pub use Rattle.gk_explain.specs.RowLines.{RowsAreFound, cell_text, cells_text, is_at, row_at, rows_from}
 pub use Rattle.gk_explain.specs.SectionLines.{SectionValue, after_event, after_events}
-pub use Rattle.gk_explain.specs.Shown.{cut_line, escaped_char, few_lines, is_control, is_left_out, is_suspect, left_out, lines_round, marked_lines, row, shown, shown_char, text_lines}
+pub use Rattle.gk_explain.specs.Shown.{cut_line, escaped_char, few_lines, is_control, is_left_out, is_suspect, left_out, lines_round, marked_lines, row, shown, shown_char, text_lines, unquoted, unquoted_char}
 unfoldable pub use Rattle.gk_explain.specs.Shown.{escaped, marked_text_with}
 pub use Rattle.gk_explain.specs.Tables.{first_refused, found_header, quoted_cells}
 unfoldable pub use Rattle.gk_explain.specs.Tables.{header_line}

@@ -61,7 +61,7 @@ compared expected there = let p = first_difference expected there in marked_text
 
 -- A text that was expected in another text, and that other text.
 unfoldable pub lacking : List ℕ → List ℕ → List ℕ
-lacking expected there = both expected there ++ codes "      the expected text stands nowhere in the found text\n"
+lacking expected there = both expected there ++ codes "      the found text doesn't contain the expected text\n"
 
 -- An expected number, and the text of the found value.
 unfoldable pub unequal : ℤ → List ℕ → List ℕ
@@ -93,7 +93,7 @@ sum_out_of_range there n = found_below there ++ added_number n
 
 -- The text of a value that is set only in an outer layer.
 unfoldable pub in_outer_layer : List ℕ → List ℕ
-in_outer_layer there = found_below there ++ codes "      it is set in an outer layer alone\n"
+in_outer_layer there = found_below there ++ codes "      only an outer layer has set it\n"
 
 -- The name that an action gives to what it changes: the new name of a file that is renamed, and for a table of files the name of the file at which it ends.
 abbrev pub given_name : Action → ArgumentsValue → List ℕ

@@ -48,9 +48,17 @@ escaped text = flat_map escaped_char (chars text)
 abbrev pub is_suspect : ℕ → Bool
 is_suspect b = nat_lt b 0x20 || ((b == 0x7F) || (b == 0xC2))
 
--- A character as it is shown between quotes: a backslash is doubled, a disguised character is shown by its number, and any other as above.
+-- A character as it is shown without quotes: a disguised character by its number, and any other as above.
+abbrev pub unquoted_char : ℕ → List ℕ
+unquoted_char c = cond (is_disguised c) (numbered c) (escaped_char c)
+
+-- A text as it is shown without quotes, character by character.
+abbrev pub unquoted : List ℕ → List ℕ
+unquoted text = flat_map unquoted_char (chars text)
+
+-- A character as it is shown between quotes: a backslash is doubled, and any other character is shown as above.
 abbrev pub shown_char : ℕ → List ℕ
-shown_char c = cond (c == 92) (codes "\\\\") (cond (is_disguised c) (numbered c) (escaped_char c))
+shown_char c = cond (c == 92) (codes "\\\\") (unquoted_char c)
 
 -- A text as it is shown between quotes, character by character.
 abbrev pub shown : List ℕ → List ℕ

@@ -96,7 +96,7 @@ fn push_lacking(
     ensures { Pushes out.old (spec.lacking expected.now found.now) result out.new }
 {
     push_both(alloc, out, expected, found)?;
-    out.push_str("      the expected text stands nowhere in the found text\n")
+    out.push_str("      the found text doesn't contain the expected text\n")
 }
 
 // Appends an expected number, and the text of the found value.
@@ -176,7 +176,7 @@ fn push_in_outer_layer(alloc: Global, out: &mut String, found: &str) -> Result<(
     ensures { Pushes out.old (spec.in_outer_layer found.now) result out.new }
 {
     push_text(alloc, out, "found   ", found)?;
-    out.push_str("      it is set in an outer layer alone\n")
+    out.push_str("      only an outer layer has set it\n")
 }
 
 // Returns the name that an action gives to what it changes.

@@ -135,6 +135,28 @@ pub fn push_escaped(out: &mut String, text: &str) -> Result<(), AllocError>
     }
 }
 
+// Appends a character as it is shown without quotes.
+fn push_unquoted_char(out: &mut String, c: char) -> Result<(), AllocError>
+    ensures { Pushes out.old (spec.unquoted_char c) result out.new }
+{
+    if is_disguised(c as u32) {
+        push_number(out, c as u32)
+    } else {
+        push_escaped_char(out, c)
+    }
+}
+
+/// Appends a text as it is shown without quotes, with an escape for what can't be seen. An error comes only if a
+/// growth was refused; a part of it may have been appended then.
+pub fn push_unquoted(out: &mut String, text: &str) -> Result<(), AllocError>
+    ensures { Pushes out.old (spec.unquoted text.now) result out.new }
+{
+    for c in text.chars() {
+        push_unquoted_char(out, c)?;
+    }
+    Ok(())
+}
+
 /// Appends a character as it is shown between quotes. An error comes only if a growth was refused; a part of it may
 /// have been appended then.
 pub fn push_char(out: &mut String, c: char) -> Result<(), AllocError>
@@ -142,14 +164,12 @@ pub fn push_char(out: &mut String, c: char) -> Result<(), AllocError>
 {
     if c == '\\' {
         out.push_str("\\\\")
-    } else if is_disguised(c as u32) {
-        push_number(out, c as u32)
     } else {
-        push_escaped_char(out, c)
+        push_unquoted_char(out, c)
     }
 }
 
-/// Appends a text as it is shown between quotes, with an escape for what can't be seen. An error comes only if a
+/// Appends a text as it is shown between quotes: as without them, but with backslashes doubled. An error comes only if a
 /// growth was refused; a part of it may have been appended then.
 pub fn push_shown(out: &mut String, text: &str) -> Result<(), AllocError>
     ensures { Pushes out.old (spec.shown text.now) result out.new }

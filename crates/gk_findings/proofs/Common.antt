@@ -8,7 +8,7 @@ pub use Rattle.std.proofs.lemmas.Result.{on_ok_weaker}
 pub use Rattle.std.specs.Prelude.{slice_get}
 pub use Rattle.std.specs.Result.{is_ok}
 pub use Rattle.std.specs.Str.Lines.{lines}
-pub use Rattle.gk_explain.specs.Shown.{shown}
+pub use Rattle.gk_explain.specs.Shown.{unquoted}
 pub use Rattle.gk_gherkin.specs.Feature.{FeatureValue, feature_value}
 pub use Rattle.gk_gherkin.specs.Grammar.{Reads}
 pub use Rattle.gk_gherkin.specs.Hooks.{hooks_value}

@@ -9,7 +9,7 @@ use Rattle.gk_lint.specs.LibraryCauses.{CauseValue, library_cause, library_cause
 use Rattle.gk_lint.specs.UnexpectedLines.{cause_at, cause_text}
 use Rattle.gk_select.specs.TagStops.{tag_stop}
 use Rattle.gk_steps.specs.declared.library_fault.LibraryFault.{LibraryFault}
-use Rattle.gk_explain.specs.Shown.{shown}
+use Rattle.gk_explain.specs.Shown.{unquoted}
 use Rattle.gk_request.specs.declared.run_fault.RunFault.{RunFault}
 use Rattle.gk_request.specs.declared.run_fault.RunFault.TheVariants.{Read, Library}
 use Rattle.gk_findings.specs.Notes.{note, quote}
@@ -55,7 +55,7 @@ file_notes files fault = quote_of (file_at_fault files fault) (line_at_fault fau
 
 -- The notes below a text of tags that spells no rule: the text, and where it breaks.
 abbrev pub tags_notes : List ℕ → List ℕ
-tags_notes text = note (shown text) ++ note (tags_hint (tag_stop text))
+tags_notes text = note (unquoted text) ++ note (tags_hint (tag_stop text))
 
 -- The notes below a fault. It is that of a text of tags, if one is given.
 abbrev pub notes : Option (List ℕ) → FilesValue → RunFault → List ℕ

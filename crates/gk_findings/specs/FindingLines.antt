@@ -4,7 +4,7 @@ use Rattle.std.specs.Prelude.{ℕ, Bool, ◌-◌, ◌==◌, List, [], ◌++◌, 
 use Rattle.std.specs.Fmt.{decimal}
 use Rattle.gk_explain.specs.EventLines.{place_text}
 use Rattle.gk_explain.specs.Nearest.{entry_shown, type_word}
-use Rattle.gk_explain.specs.Shown.{shown}
+use Rattle.gk_explain.specs.Shown.{unquoted}
 use Rattle.gk_gherkin.specs.declared.feature.Scenario.{Scenario}
 use Rattle.gk_gherkin.specs.Feature.{ScenarioValue, FeatureValue, scenario_value}
 use Rattle.gk_gherkin.specs.Text.{trim}
@@ -58,12 +58,12 @@ before_column = codes "the nearest column is: "
 -- The note that names a column, with invisible characters as escapes.
 abbrev pub column_note : Option (List ℕ) → List ℕ
 column_note None = []
-column_note (Some column) = note (before_column ++ shown column)
+column_note (Some column) = note (before_column ++ unquoted column)
 
 -- The note that quotes a line without the spaces and tabs around it.
 abbrev pub line_note : Option (List ℕ) → List ℕ
 line_note None = []
-line_note (Some text) = note (shown (trim text))
+line_note (Some text) = note (unquoted (trim text))
 
 -- The words before the nearest entry.
 unfoldable pub before_entry : List ℕ
@@ -80,7 +80,7 @@ matches_line line = codes "matches line " ++ (decimal line ++ codes " of ")
 
 -- A line of a file of this name, as a part of a sentence.
 abbrev pub line_in_file : List ℕ → ℕ → List ℕ
-line_in_file name line = matches_line line ++ shown name
+line_in_file name line = matches_line line ++ unquoted name
 
 -- The words before the type of an entry.
 unfoldable pub before_type : List ℕ
@@ -143,11 +143,11 @@ unused_of_all unused entries = codes ": no step finds " ++ (decimal unused ++ (c
 
 -- The line that counts the unused entries of a library file of this name, if there are any.
 abbrev pub count_line : List ℕ → ℕ → ℕ → List ℕ
-count_line name unused entries = if unused == 0 then [] else shown name ++ unused_of_all unused entries
+count_line name unused entries = if unused == 0 then [] else unquoted name ++ unused_of_all unused entries
 
 -- The line for a tag of `--tags` that occurs nowhere: the tag, with invisible characters as escapes.
 unfoldable pub tag_line : List ℕ → List ℕ
-tag_line tag = codes "--tags " ++ (shown tag ++ codes ": stands nowhere\n")
+tag_line tag = codes "--tags " ++ (unquoted tag ++ codes ": no such tag\n")
 
 -- The lines for such tags, one after the other.
 abbrev pub tag_lines : List (List ℕ) → List ℕ

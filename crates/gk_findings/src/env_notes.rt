@@ -4,7 +4,7 @@ ghost use Rattle.gk_report.specs.ReportTexts.{Pushes};
 ghost use Rattle.gk_findings.specs.EnvNotes as spec;
 
 use crate::notes::push_note;
-use gk_explain::push_shown;
+use gk_explain::push_unquoted;
 use std::alloc::{AllocError, Global};
 
 /// What is wrong with an argument of `--env`.
@@ -44,7 +44,7 @@ fn push_argument(out: &mut String, mistake: EnvMistake, name: &str) -> Result<()
     ensures { Pushes out.old (spec.argument_note mistake name.now) result out.new }
 {
     out.push_str("    ")?;
-    push_shown(out, name)?;
+    push_unquoted(out, name)?;
     out.push_str(after_name(mistake))?;
     out.push_str("\n")
 }

@@ -5,7 +5,7 @@ ghost use Rattle.gk_report.specs.ReportTexts.{Pushes};
 ghost use Rattle.gk_findings.specs.FindingLines as spec;
 
 use crate::notes::{position_of, push_note, push_shown_note};
-use gk_explain::{push_entry, push_place, push_shown, type_word};
+use gk_explain::{push_entry, push_place, push_unquoted, type_word};
 use gk_gherkin::Scenario;
 use gk_gherkin::text::trim;
 use gk_lint::{EntryHint, EntryHints, Finding, FindingKind, column_at};
@@ -91,7 +91,7 @@ fn push_column_note(out: &mut String, alloc: Global, column: Option<&str>) -> Re
     match column {
         Some(column) => {
             let mut text = String::from_str(alloc, before_column())?;
-            push_shown(&mut text, column)?;
+            push_unquoted(&mut text, column)?;
             push_note(out, text.as_str())
         }
         None => Ok(()),
@@ -141,7 +141,7 @@ fn push_line_in_file(out: &mut String, name: &str, line: u32) -> Result<(), Allo
     ensures { Pushes out.old (spec.line_in_file name.now line) result out.new }
 {
     push_matches_line(out, line)?;
-    push_shown(out, name)
+    push_unquoted(out, name)
 }
 
 // Appends the words for an entry for steps of another type, with these words after its type.
@@ -355,7 +355,7 @@ pub fn push_count_line(
     if unused == 0 {
         return Ok(());
     }
-    push_shown(out, name)?;
+    push_unquoted(out, name)?;
     push_unused_of_all(out, unused, entries)
 }
 
@@ -364,8 +364,8 @@ fn push_tag_line(out: &mut String, tag: &str) -> Result<(), AllocError>
     ensures { Pushes out.old (spec.tag_line tag.now) result out.new }
 {
     out.push_str("--tags ")?;
-    push_shown(out, tag)?;
-    out.push_str(": stands nowhere\n")
+    push_unquoted(out, tag)?;
+    out.push_str(": no such tag\n")
 }
 
 /// Appends a line for each of some tags of `--tags` that occur nowhere. An error comes only if a growth was refused; a

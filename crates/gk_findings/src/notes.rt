@@ -2,10 +2,10 @@
 ghost use Rattle.std.specs.Prelude.{◌≡◌, ◌-◌, map, IfOk};
 ghost use Rattle.std.specs.Str.Lines.{lines};
 ghost use Rattle.gk_report.specs.ReportTexts.{Pushes};
-ghost use Rattle.gk_explain.specs.Shown.{shown};
+ghost use Rattle.gk_explain.specs.Shown.{unquoted};
 ghost use Rattle.gk_findings.specs.Notes as spec;
 
-use gk_explain::push_shown;
+use gk_explain::push_unquoted;
 use std::alloc::{AllocError, Global};
 
 /// Appends a text below a fault or a finding, on a separate line.
@@ -21,10 +21,10 @@ pub fn push_note(out: &mut String, text: &str) -> Result<(), AllocError>
 /// Appends a line of a file below a fault or a finding.
 #[tactic(auto, unfolding(crate::specs::Notes::note))]
 pub fn push_shown_note(out: &mut String, text: &str) -> Result<(), AllocError>
-    ensures { Pushes out.old (spec.note (shown text.now)) result out.new }
+    ensures { Pushes out.old (spec.note (unquoted text.now)) result out.new }
 {
     out.push_str("    ")?;
-    push_shown(out, text)?;
+    push_unquoted(out, text)?;
     out.push_str("\n")
 }
 

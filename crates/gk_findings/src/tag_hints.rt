@@ -21,6 +21,18 @@ fn wanted_text(wanted: Wanted) -> &'static str
     }
 }
 
+// Appends a word in quotes, or what an empty alternative is called.
+fn push_word(out: &mut String, word: &str) -> Result<(), AllocError>
+    ensures { Pushes out.old (spec.word_text word.now) result out.new }
+{
+    if word.is_empty() {
+        return out.push_str("an empty part");
+    }
+    out.push_str("\"")?;
+    push_shown(out, word)?;
+    out.push_str("\"")
+}
+
 // Appends the place at which a text of tags stops.
 #[tactic(auto, unfolding(crate::specs::TagHints::stop_place_text))]
 fn push_stop_place(out: &mut String, at: Option<&str>) -> Result<(), AllocError>
@@ -28,11 +40,7 @@ fn push_stop_place(out: &mut String, at: Option<&str>) -> Result<(), AllocError>
         (spec.stop_place_text (option_map (λ text. text.now) at.entry)) result out.new }
 {
     match at {
-        Some(word) => {
-            out.push_str("\"")?;
-            push_shown(out, word)?;
-            out.push_str("\"")
-        }
+        Some(word) => push_word(out, word),
         None => out.push_str("its end"),
     }
 }
@@ -46,7 +54,7 @@ fn stop_hint(alloc: Global, stop: TagStop<'_>) -> Result<String, AllocError>
     push_stop_place(&mut out, stop.at)?;
     out.push_str(", where ")?;
     out.push_str(wanted_text(stop.wanted))?;
-    out.push_str(" has to stand")?;
+    out.push_str(" is expected")?;
     Ok(out)
 }
 

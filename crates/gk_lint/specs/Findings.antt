@@ -39,7 +39,7 @@ finding_text (NoColumn scenario column) = codes "placeholder that no column has"
 finding_text (UndefinedStep hint) = codes "undefined step"
 finding_text (CleanupWithoutStep hint) = codes "cleanup without step"
 finding_text (OfStep fault) = fault_text fault
-finding_text HookOfNoTag = codes "hook for a tag that stands nowhere"
+finding_text HookOfNoTag = codes "hook for a tag that isn't used"
 finding_text UnusedEntry = codes "entry that no step finds"
 finding_text (LikeKeyword keyword) = codes "description begins like the keyword " ++ spelling keyword
 

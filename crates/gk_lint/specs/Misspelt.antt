@@ -1,5 +1,5 @@
 -- Description lines that were probably not meant as descriptions: those that begin like a keyword, and steps outside of scenarios.
-use Rattle.std.specs.Prelude.{◌≡◌, ℕ, Bool, true, false, ◌&&◌, List, [], ◌∷◌, ◌++◌, length, slice_index, Option, Some, None}
+use Rattle.std.specs.Prelude.{◌≡◌, ℕ, Bool, true, false, ◌&&◌, not, List, [], ◌∷◌, ◌++◌, length, slice_index, Option, Some, None}
 use Rattle.std.specs.List.{list_any}
 use Rattle.gk_gherkin.specs.declared.class.Class.{Class}
 use Rattle.gk_gherkin.specs.declared.class.Class.TheVariants as classes
@@ -12,19 +12,24 @@ use Rattle.gk_gherkin.specs.declared.keyword.Keyword.TheVariants.{Given, When, T
 use Rattle.gk_lint.specs.declared.findings.Finding.{Finding}
 use Rattle.gk_lint.specs.declared.findings.FindingKind.TheVariants.{LikeKeyword, StepOutside}
 use Rattle.gk_lint.specs.declared.line_context.LineContext.{LineContext}
-use Rattle.gk_lint.specs.declared.line_context.LineContext.TheVariants.{Elsewhere, AfterStep, InText}
+use Rattle.gk_lint.specs.declared.line_context.LineContext.TheVariants.{Elsewhere, InText}
 use Rattle.gk_lint.specs.declared.misspelt.Wording.{Wording}
-use Rattle.gk_lint.specs.declared.misspelt.Wording.TheVariants.{Prose, Like, Outside, Step, Other}
+use Rattle.gk_lint.specs.declared.misspelt.Wording.TheVariants.{Prose, Heading, Like, Outside, Step, Other}
 use Rattle.gk_lint.specs.declared.misspelt.Above.{Above}
 use Rattle.gk_lint.specs.declared.misspelt.WordedLine.{WordedLine}
 use Rattle.gk_lint.specs.Findings.{at_line, found_if}
-use Rattle.gk_lint.specs.Likeness.{like}
+use Rattle.gk_lint.specs.Likeness.{like, is_like_heading}
 use Rattle.gk_lint.specs.LineContext.{after}
 
+-- The wording of a description line that begins like a keyword, by whether it is a heading with its colon.
+abbrev pub like_keyword : Bool → Keyword → Wording
+like_keyword true keyword = Heading keyword
+like_keyword false keyword = Like keyword
+
 -- The wording of a description line, by the keyword that it begins like, if any.
-abbrev pub likened : Option Keyword → Wording
-likened None = Prose
-likened (Some keyword) = Like keyword
+abbrev pub likened : List ℕ → Option Keyword → Wording
+likened text None = Prose
+likened text (Some keyword) = like_keyword (is_like_heading text) keyword
 
 -- The keywords that a group of steps begins with. `And`, `But` and `*` add further steps to it, but they also begin sentences and bullets.
 abbrev pub opening_words : List Keyword
@@ -39,16 +44,10 @@ abbrev pub of_step : LineContext → List ℕ → Wording
 of_step Elsewhere text = Outside (begins_with_one_of opening_words text)
 of_step context text = Step
 
--- The wording of a fence in this context. It opens a doc string only after a step; otherwise it is part of a description. (Cucumber's Gherkin reference: doc strings)
-abbrev pub of_fence : LineContext → Wording
-of_fence AfterStep = Other
-of_fence context = Prose
-
 -- The wording of a line of this class in this context.
 abbrev pub by_class : LineContext → List ℕ → Class → Wording
-by_class context text classes.Other = likened (like text)
+by_class context text classes.Other = likened text (like text)
 by_class context text classes.StepLine = of_step context text
-by_class context text (classes.FenceLine fence) = of_fence context
 by_class context text class = Other
 
 -- The wording of a line in this context. A doc string may hold anything.
@@ -65,6 +64,7 @@ worded context (line ∷ lines) = record { line = line.line; wording = wording c
 abbrev pub prose_by : Wording → Bool → Bool → Bool
 prose_by Prose above next = true
 prose_by Step above next = false
+prose_by (Heading keyword) above next = above
 prose_by Other above next = above
 prose_by (Like keyword) above next = next
 prose_by (Outside opens) above next = next
@@ -74,23 +74,19 @@ abbrev pub is_prose : Bool → List WordedLine → Bool
 is_prose above [] = above
 is_prose above (next ∷ lines) = prose_by next.wording above (is_prose false lines)
 
--- The findings of a line with this wording that isn't prose: a description that begins like a keyword, or a step outside of a scenario.
-abbrev pub meant : ℕ → Wording → List Finding
-meant line (Like keyword) = at_line line (LikeKeyword keyword) ∷ []
-meant line (Outside opens) = found_if opens line StepOutside
-meant line _ = []
-
--- The findings of a line, if it isn't prose.
-abbrev pub unless_prose : Bool → ℕ → Wording → List Finding
-unless_prose true line wording = []
-unless_prose false line wording = meant line wording
+-- The findings of a line with this wording, by whether it is prose if it begins like a keyword: a description that begins like a keyword, or a step outside of a scenario. A heading with its colon is found in prose, too.
+abbrev pub meant : Bool → ℕ → Wording → List Finding
+meant prose line (Heading keyword) = at_line line (LikeKeyword keyword) ∷ []
+meant prose line (Like keyword) = found_if (not prose) line (LikeKeyword keyword)
+meant prose line (Outside opens) = found_if (not prose && opens) line StepOutside
+meant prose line _ = []
 
 -- Whether a wording is prose.
 abbrev pub is_plain : Wording → Bool
 is_plain Prose = true
 is_plain wording = false
 
--- Proof machinery: whether a line begins like a keyword.
+-- Proof machinery: whether a line that begins like a keyword may be prose.
 abbrev pub begins_like : Wording → Bool
 begins_like (Like keyword) = true
 begins_like (Outside opens) = true
@@ -99,7 +95,7 @@ begins_like wording = false
 -- The findings of lines, by whether prose is directly above them.
 abbrev pub of_worded : Bool → List WordedLine → List Finding
 of_worded above [] = []
-of_worded above (line ∷ lines) = unless_prose (is_prose above lines) line.line line.wording ++ of_worded (is_plain line.wording) lines
+of_worded above (line ∷ lines) = meant (is_prose above lines) line.line line.wording ++ of_worded (is_plain line.wording) lines
 
 -- The findings of lines. The first of them is in this context.
 abbrev pub misspelt : LineContext → Lines → List Finding

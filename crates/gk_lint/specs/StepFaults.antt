@@ -9,7 +9,7 @@ abbrev pub fault_text : StepFault → List ℕ
 fault_text NotAllowed = codes "action that isn't allowed here"
 fault_text NoText = codes "step without the text that its action needs"
 fault_text NoTable = codes "step without the table that its action needs"
-fault_text BadTable = codes "table that isn't one of name and text"
+fault_text BadTable = codes "table without the header name, text"
 fault_text IgnoredText = codes "doc string that is ignored"
 fault_text IgnoredTable = codes "table that is ignored"
 

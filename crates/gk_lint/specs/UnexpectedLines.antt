@@ -9,7 +9,7 @@ use Rattle.gk_gherkin.specs.declared.keyword.Keyword.{Keyword}
 use Rattle.gk_lint.specs.declared.line_context.LineContext.{LineContext}
 use Rattle.gk_lint.specs.declared.line_context.LineContext.TheVariants.{Elsewhere, InText}
 use Rattle.gk_lint.specs.declared.unexpected_lines.Cause.{Cause}
-use Rattle.gk_lint.specs.declared.unexpected_lines.Cause.TheVariants.{NoFeature, SecondFeature, LateBackground, SecondBackground, TaggedBackground, ExamplesAlone, BelowTags, BelowRows, SecondBlock, SingleQuotes, OpenKeyword, OtherCase, Misspelt, FreeText}
+use Rattle.gk_lint.specs.declared.unexpected_lines.Cause.TheVariants.{NoFeature, SecondFeature, LateBackground, SecondBackground, TaggedBackground, ExamplesAlone, BelowTags, BelowRows, SecondBlock, BelowText, SingleQuotes, OpenKeyword, OtherCase, Misspelt, FreeText}
 use Rattle.gk_gherkin.specs.Keyword.{spelling}
 use Rattle.gk_lint.specs.Likeness.{like, same_letters}
 use Rattle.gk_lint.specs.LineContext.{after}
@@ -21,10 +21,11 @@ cause_words SecondFeature = codes "a file has one feature: move this one into an
 cause_words LateBackground = codes "move the Background above the first scenario"
 cause_words SecondBackground = codes "a feature or a rule has one Background: join the two"
 cause_words TaggedBackground = codes "a Background has no tags: take out those above it"
-cause_words ExamplesAlone = codes "move the Examples below the steps of a scenario"
+cause_words ExamplesAlone = codes "Examples: or Scenarios: belongs below the steps of a scenario"
 cause_words BelowTags = codes "tags belong above a heading: move those above this line"
 cause_words BelowRows = codes "write steps and texts above the Examples, not below their rows"
 cause_words SecondBlock = codes "a step has one doc string or one table: take out the other"
+cause_words BelowText = codes "a doc string ends above: begin this line with a keyword, or close an earlier one"
 cause_words SingleQuotes = codes "write three double quotes, or three backticks"
 cause_words (OpenKeyword keyword) = codes "write a plain space and a text directly after "
 cause_words (OtherCase keyword) = codes "upper and lower case count: write "
@@ -75,14 +76,9 @@ is_seen class = true
 abbrev pub heading_above : List Class → Option Class
 heading_above above = find is_heading (reverse above)
 
--- Whether these are tags.
-abbrev pub are_tags : Option Class → Bool
-are_tags (Some TagLine) = true
-are_tags class = false
-
--- Whether tags are directly above a line, apart from blank lines and comments, by the classes of the lines above it.
-abbrev pub has_tags_above : List Class → Bool
-has_tags_above above = are_tags (find is_seen (reverse above))
+-- The class of the line directly above a line, apart from blank lines and comments, by the classes of the lines above it. Of a doc string it is the fence that opens it, since its other lines count as blank.
+abbrev pub seen_above : List Class → Option Class
+seen_above above = find is_seen (reverse above)
 
 -- The cause of an unexpected Background below this heading. (Cucumber's Gherkin reference: background)
 abbrev pub background_below : Class → Cause
@@ -91,24 +87,34 @@ background_below ScenarioHeading = LateBackground
 background_below ExamplesHeading = LateBackground
 background_below heading = TaggedBackground
 
+-- The cause of an unexpected text, by the line directly above it. (Cucumber's Gherkin reference: doc strings)
+abbrev pub text_below : Option Class → Cause
+text_below (Some (FenceLine fence)) = BelowText
+text_below seen = FreeText
+
 -- The cause of an unexpected line below this heading that is no heading and isn't directly below tags. (Cucumber's Gherkin reference: steps, step arguments, examples)
-abbrev pub part_below : Class → Class → Cause
-part_below ExamplesHeading class = BelowRows
-part_below heading RowLine = SecondBlock
-part_below heading (FenceLine fence) = SecondBlock
-part_below heading class = FreeText
+abbrev pub part_below : Class → Option Class → Class → Cause
+part_below ExamplesHeading seen class = BelowRows
+part_below heading seen RowLine = SecondBlock
+part_below heading seen (FenceLine fence) = SecondBlock
+part_below heading seen class = text_below seen
 
--- The cause of an unexpected line below this heading. (Cucumber's Gherkin reference: feature, examples, tags)
-abbrev pub below : Class → Bool → Class → Cause
-below heading tagged FeatureHeading = SecondFeature
-below heading tagged BackgroundHeading = background_below heading
-below heading tagged ExamplesHeading = ExamplesAlone
-below heading tagged class = if tagged then BelowTags else part_below heading class
+-- The cause of an unexpected line below this heading that is no heading itself, by the line directly above it. (Cucumber's Gherkin reference: tags)
+abbrev pub line_below : Class → Option Class → Class → Cause
+line_below heading (Some TagLine) class = BelowTags
+line_below heading seen class = part_below heading seen class
 
--- The cause of an unexpected line, by the nearest heading above it and by whether tags are directly above it. (Cucumber's Gherkin reference: feature)
-abbrev pub cause_by_place : Option Class → Bool → Class → Cause
-cause_by_place None tagged class = NoFeature
-cause_by_place (Some heading) tagged class = below heading tagged class
+-- The cause of an unexpected line below this heading. (Cucumber's Gherkin reference: feature, examples)
+abbrev pub below : Class → Option Class → Class → Cause
+below heading seen FeatureHeading = SecondFeature
+below heading seen BackgroundHeading = background_below heading
+below heading seen ExamplesHeading = ExamplesAlone
+below heading seen class = line_below heading seen class
+
+-- The cause of an unexpected line, by the nearest heading above it and by the line directly above it. (Cucumber's Gherkin reference: feature)
+abbrev pub cause_by_place : Option Class → Option Class → Class → Cause
+cause_by_place None seen class = NoFeature
+cause_by_place (Some heading) seen class = below heading seen class
 
 -- Whether a text begins with this spelling in any case.
 abbrev pub begins_in_any_case : List ℕ → List ℕ → Bool
@@ -127,8 +133,8 @@ cause_by_text text None otherwise = if begins text (codes "'''") then SingleQuot
 
 -- The cause of an unexpected line below lines of these classes.
 abbrev pub cause_below : List Class → Class → List ℕ → Cause
-cause_below above Other text = cause_by_text text (like text) (cause_by_place (heading_above above) (has_tags_above above) Other)
-cause_below above class text = cause_by_place (heading_above above) (has_tags_above above) class
+cause_below above Other text = cause_by_text text (like text) (cause_by_place (heading_above above) (seen_above above) Other)
+cause_below above class text = cause_by_place (heading_above above) (seen_above above) class
 
 -- The cause of the line at a position, if the lines have these classes.
 abbrev pub cause_in : List Class → ℕ → Option (List ℕ) → Option Class → Option Cause

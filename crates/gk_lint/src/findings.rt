@@ -80,7 +80,7 @@ impl FindingKind {
             FindingKind::CleanupWithoutStep(_) => String::from_str(alloc, "cleanup without step"),
             FindingKind::OfStep(fault) => String::from_str(alloc, fault.text()),
             FindingKind::HookOfNoTag => {
-                String::from_str(alloc, "hook for a tag that stands nowhere")
+                String::from_str(alloc, "hook for a tag that isn't used")
             }
             FindingKind::UnusedEntry => String::from_str(alloc, "entry that no step finds"),
             FindingKind::LikeKeyword(keyword) => {

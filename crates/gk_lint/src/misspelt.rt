@@ -1,5 +1,5 @@
 //! Description lines that were probably not meant as descriptions: those that begin like a keyword, and steps outside
-//! of scenarios. Lines that prose surrounds are part of it.
+//! of scenarios. Lines that prose surrounds are part of it, except for headings with their colons.
 ghost use Rattle.std.specs.Prelude.{◌≡◌, ◌≤◌, ◌++◌, ◌∷◌, false, true, cond, None, Some, IfOk, OnOk, length};
 ghost use Rattle.std.specs.Str.Lines.{lines};
 ghost use Rattle.gk_gherkin.specs.Lines.{borrowed_value, numbered_from};
@@ -9,7 +9,7 @@ ghost use Rattle.gk_lint.specs.Misspelt.{IsAbove};
 ghost use Rattle.gk_lint.specs.declared.line_context.LineContext.TheVariants.{Elsewhere};
 
 use crate::findings::{Finding, FindingKind, add_if};
-use crate::likeness::like;
+use crate::likeness::{is_like_heading, like};
 use crate::line_context::{LineContext, after};
 use gk_gherkin::text::{begins_word, trim};
 use gk_gherkin::{BorrowedLine, Class, Keyword, LONGEST_FILE, borrowed_line, class_of_line};
@@ -20,7 +20,9 @@ use std::alloc::{AllocError, Global};
 pub enum Wording {
     /// A line of a description that begins like no keyword.
     Prose,
-    /// A line of a description that begins like this keyword.
+    /// A line of a description that is a heading of this keyword with its colon, but misspelt.
+    Heading(Keyword),
+    /// A line of a description that begins like this keyword otherwise.
     Like(Keyword),
     /// The words of a step where no step is possible.
     Outside {
@@ -45,10 +47,16 @@ const OPENING_WORDS: [Keyword; 3] = [Keyword::Given, Keyword::When, Keyword::The
 
 // Returns the wording of a description line with this trimmed text.
 fn of_description(alloc: Global, text: &str) -> Result<Wording, AllocError>
-    ensures { IfOk result (λ wording. wording ≡ spec.likened (like text.now)) }
+    ensures { IfOk result (λ wording. wording ≡ spec.likened text.now (like text.now)) }
 {
     match like(alloc, text)? {
-        Some(keyword) => Ok(Wording::Like(keyword)),
+        Some(keyword) => {
+            if is_like_heading(alloc, text)? {
+                Ok(Wording::Heading(keyword))
+            } else {
+                Ok(Wording::Like(keyword))
+            }
+        }
         None => Ok(Wording::Prose),
     }
 }
@@ -72,15 +80,6 @@ fn of_step(context: LineContext, text: &str) -> Wording
     }
 }
 
-fn of_fence(context: LineContext) -> Wording
-    ensures { result ≡ spec.of_fence context }
-{
-    match context {
-        LineContext::AfterStep => Wording::Other,
-        _ => Wording::Prose,
-    }
-}
-
 // Returns the wording of a line outside of doc strings, by its class.
 fn by_class(
     alloc: Global,
@@ -93,7 +92,6 @@ fn by_class(
     match class {
         Class::Other => of_description(alloc, text),
         Class::StepLine => Ok(of_step(context, text)),
-        Class::FenceLine(_) => Ok(of_fence(context)),
         _ => Ok(Wording::Other),
     }
 }
@@ -146,7 +144,7 @@ fn is_prose(above: bool, below: &[WordedLine]) -> bool
         match line.wording {
             Wording::Prose => return true,
             Wording::Step => return false,
-            Wording::Other => return above,
+            Wording::Heading(_) | Wording::Other => return above,
             Wording::Like(_) | Wording::Outside { .. } => above = false,
         }
     }
@@ -159,32 +157,40 @@ fn is_plain(wording: Wording) -> bool
     matches!(wording, Wording::Prose)
 }
 
-// Returns whether a line begins like a keyword.
+// Returns whether a line that begins like a keyword may be prose.
 fn begins_like(wording: Wording) -> bool
     ensures { result ≡ spec.begins_like wording }
 {
     matches!(wording, Wording::Like(_) | Wording::Outside { .. })
 }
 
-// Adds the finding of a line, unless it is prose.
+// Adds the finding of a line, if it has one. `prose`: whether it is prose if it begins like a keyword.
 fn add_meant(findings: &mut Vec<Finding>, line: &WordedLine, prose: bool) -> Result<(), AllocError>
     ensures { OnOk result (findings.new.items ≡ findings.old.items
-        ++ spec.unless_prose prose line.now.line line.now.wording) }
+        ++ spec.meant prose line.now.line line.now.wording) }
 {
-    if prose {
-        return Ok(());
-    }
     match line.wording {
-        Wording::Like(keyword) => findings.push(Finding {
-            line: line.line,
-            kind: FindingKind::LikeKeyword(keyword),
-        })?,
-        Wording::Outside { opens } => {
-            add_if(findings, opens, line.line, FindingKind::StepOutside)?
+        Wording::Heading(keyword) => {
+            add_if(findings, true, line.line, FindingKind::LikeKeyword(keyword))
         }
-        _ => {}
+        Wording::Like(keyword) => {
+            add_if(
+                findings,
+                !prose,
+                line.line,
+                FindingKind::LikeKeyword(keyword),
+            )
+        }
+        Wording::Outside { opens } => {
+            add_if(
+                findings,
+                !prose && opens,
+                line.line,
+                FindingKind::StepOutside,
+            )
+        }
+        _ => Ok(()),
     }
-    Ok(())
 }
 
 /// What is known of the line above.
@@ -218,10 +224,9 @@ fn add_at(
 ) -> Result<Above, AllocError>
     requires { IsAbove above (line.now ∷ below.now) }
     ensures found { OnOk result (findings.new.items ≡ findings.old.items
-        ++ spec.unless_prose (spec.is_prose above.plain below.now)
-        line.now.line line.now.wording) }
+        ++ spec.meant (spec.is_prose above.plain below.now) line.now.line line.now.wording) }
     ensures plain { IfOk result (λ next. next.plain ≡ spec.is_plain line.now.wording) }
-    // A line that begins like a keyword is in a group, and the next line is told whether the group is prose.
+    // A line that begins like a keyword and may be prose is in a group, and the next line is told whether the group is prose.
     ensures group { IfOk result (λ next. next.group ≡ cond (spec.begins_like line.now.wording)
         (Some (spec.is_prose above.plain below.now)) None) }
     ensures known { IfOk result (λ next. IsAbove next below.now) }
@@ -234,6 +239,7 @@ fn add_at(
             group: Some(prose),
         });
     }
+    add_meant(findings, line, false)?;
     Ok(Above {
         plain: is_plain(line.wording),
         group: None,

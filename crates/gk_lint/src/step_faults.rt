@@ -28,7 +28,7 @@ const NO_TEXT: &str = "step without the text that its action needs";
 
 const NO_TABLE: &str = "step without the table that its action needs";
 
-const BAD_TABLE: &str = "table that isn't one of name and text";
+const BAD_TABLE: &str = "table without the header name, text";
 
 const IGNORED_TEXT: &str = "doc string that is ignored";
 

@@ -33,6 +33,8 @@ pub enum Cause {
     BelowRows,
     /// It is a row or a fence below the block of a step.
     SecondBlock,
+    /// It is another text below a doc string.
+    BelowText,
     /// It begins with three single quotes.
     SingleQuotes,
     /// It begins with the step keyword, without a plain space and a text after it.
@@ -41,7 +43,7 @@ pub enum Cause {
     OtherCase(Keyword),
     /// It begins like the keyword, or with a heading's keyword that no colon follows directly.
     Misspelt(Keyword),
-    /// It is another text below a step.
+    /// It is another text below a step or a table.
     FreeText,
 }
 
@@ -57,10 +59,13 @@ impl Cause {
             Cause::LateBackground => "move the Background above the first scenario",
             Cause::SecondBackground => "a feature or a rule has one Background: join the two",
             Cause::TaggedBackground => "a Background has no tags: take out those above it",
-            Cause::ExamplesAlone => "move the Examples below the steps of a scenario",
+            Cause::ExamplesAlone => "Examples: or Scenarios: belongs below the steps of a scenario",
             Cause::BelowTags => "tags belong above a heading: move those above this line",
             Cause::BelowRows => "write steps and texts above the Examples, not below their rows",
             Cause::SecondBlock => "a step has one doc string or one table: take out the other",
+            Cause::BelowText => {
+                "a doc string ends above: begin this line with a keyword, or close an earlier one"
+            }
             Cause::SingleQuotes => "write three double quotes, or three backticks",
             Cause::OpenKeyword(_) => "write a plain space and a text directly after ",
             Cause::OtherCase(_) => "upper and lower case count: write ",
@@ -159,18 +164,9 @@ fn heading_above(above: &[Class]) -> Option<Class>
 
 // Returns the class of the nearest line above that is neither blank nor a comment.
 fn seen_above(above: &[Class]) -> Option<Class>
-    ensures { result ≡ find spec.is_seen (reverse above.now) }
+    ensures { result ≡ spec.seen_above above.now }
 {
     above.iter().rev().copied().find(|class| is_seen(*class))
-}
-
-fn has_tags_above(above: &[Class]) -> bool
-    ensures { result ≡ spec.has_tags_above above.now }
-{
-    match seen_above(above) {
-        Some(Class::TagLine) => true,
-        _ => false,
-    }
 }
 
 // Returns the cause of an unexpected Background below a heading.
@@ -184,45 +180,59 @@ fn background_below(heading: Class) -> Cause
     }
 }
 
+// Returns the cause of an unexpected text, by the line directly above it.
+fn text_below(seen: Option<Class>) -> Cause
+    ensures { result ≡ spec.text_below seen }
+{
+    match seen {
+        Some(Class::FenceLine(_)) => Cause::BelowText,
+        _ => Cause::FreeText,
+    }
+}
+
 // Returns the cause of another unexpected line below a heading, without tags directly above it.
-fn part_below(heading: Class, class: Class) -> Cause
-    ensures { result ≡ spec.part_below heading class }
+fn part_below(heading: Class, seen: Option<Class>, class: Class) -> Cause
+    ensures { result ≡ spec.part_below heading seen class }
 {
     match heading {
         Class::ExamplesHeading => Cause::BelowRows,
         _ => match class {
             Class::RowLine | Class::FenceLine(_) => Cause::SecondBlock,
-            _ => Cause::FreeText,
+            _ => text_below(seen),
         },
     }
 }
 
+// Returns the cause of an unexpected line below a heading that is no heading itself.
+fn line_below(heading: Class, seen: Option<Class>, class: Class) -> Cause
+    ensures { result ≡ spec.line_below heading seen class }
+{
+    match seen {
+        Some(Class::TagLine) => Cause::BelowTags,
+        _ => part_below(heading, seen, class),
+    }
+}
+
 // Returns the cause of an unexpected line below a heading.
-fn below(heading: Class, tagged: bool, class: Class) -> Cause
-    ensures { result ≡ spec.below heading tagged class }
+fn below(heading: Class, seen: Option<Class>, class: Class) -> Cause
+    ensures { result ≡ spec.below heading seen class }
 {
     match class {
         Class::FeatureHeading => Cause::SecondFeature,
         Class::BackgroundHeading => background_below(heading),
         Class::ExamplesHeading => Cause::ExamplesAlone,
-        _ => {
-            if tagged {
-                Cause::BelowTags
-            } else {
-                part_below(heading, class)
-            }
-        }
+        _ => line_below(heading, seen, class),
     }
 }
 
 // Returns the cause of an unexpected line of this class below lines of these classes.
 fn cause_by_place(above: &[Class], class: Class) -> Cause
     ensures { result ≡ spec.cause_by_place (spec.heading_above above.now)
-        (spec.has_tags_above above.now) class }
+        (spec.seen_above above.now) class }
 {
     match heading_above(above) {
         None => Cause::NoFeature,
-        Some(heading) => below(heading, has_tags_above(above), class),
+        Some(heading) => below(heading, seen_above(above), class),
     }
 }
 
