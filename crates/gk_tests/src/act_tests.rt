@@ -1,6 +1,7 @@
 ghost use Rattle.std.specs.Prelude.{◌≡◌, ◌<◌};
 ghost use Rattle.gk_world.specs.Sandbox.{depth, KeepsLayers};
 
+use crate::checks::{equal, same};
 use crate::run_tests::cases_of;
 use gk_gherkin::{Block, Step};
 use gk_run::{Cleanups, Outcome, Reason, Site, act, arguments_of};
@@ -386,7 +387,7 @@ fn actions_have_their_outcomes(rt: HostRuntime) -> Result<(), Fail> {
     for (site, lines, wanted) in ACTED {
         let steps = steps_of(rt.alloc(), lines)?;
         let outcome = in_layers(rt.alloc(), &library, site, steps)?;
-        assert_eq!(rt; outcome, wanted);
+        equal(&rt, &outcome, &wanted);
     }
     Ok(())
 }
@@ -411,7 +412,7 @@ fn texts_have_a_greatest_length(rt: HostRuntime) -> Result<(), Fail> {
     let lines = too_long(rt.alloc())?;
     let steps = steps_of(rt.alloc(), lines.as_str())?;
     let outcome = in_layers(rt.alloc(), &library, Site::Step, steps)?;
-    assert_eq!(rt; outcome, Outcome::Failed(Reason::TextTooLong));
+    equal(&rt, &outcome, &Outcome::Failed(Reason::TextTooLong));
     Ok(())
 }
 
@@ -423,9 +424,9 @@ fn arguments_are_those_of_a_step(rt: HostRuntime) -> Result<(), Fail> {
         match library.find(rt.alloc(), step.step_type, step.text.as_str())? {
             Some(found) => {
                 let given = arguments_of(&library, &found, &step.block);
-                assert_eq!(rt; given.name, "a");
-                assert_eq!(rt; given.text, Some("b"));
-                assert_eq!(rt; given.number, 0);
+                same(&rt, given.name, "a");
+                equal(&rt, &given.text, &Some("b"));
+                equal(&rt, &given.number, &0);
             }
             None => return Err("no such step".into()),
         }
@@ -446,14 +447,16 @@ fn files_under(alloc: Global, lines: &str) -> Result<Option<usize>, Fail> {
 #[test]
 fn tables_of_files_have_a_header(rt: HostRuntime) -> Result<(), Fail> {
     let files = files_under(rt.alloc(), "Given a\n| name | text |\n| a | 1 |\n| b | 2 |")?;
-    assert_eq!(rt; files, Some(2));
-    assert_eq!(rt;
-        files_under(rt.alloc(), "Given a\n| name | text |")?,
-        Some(0)
+    equal(&rt, &files, &Some(2));
+    equal(
+        &rt,
+        &files_under(rt.alloc(), "Given a\n| name | text |")?,
+        &Some(0),
     );
-    assert_eq!(rt;
-        files_under(rt.alloc(), "Given a\n| text | name |\n| a | 1 |")?,
-        None
+    equal(
+        &rt,
+        &files_under(rt.alloc(), "Given a\n| text | name |\n| a | 1 |")?,
+        &None,
     );
     Ok(())
 }

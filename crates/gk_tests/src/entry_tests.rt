@@ -1,3 +1,4 @@
+use crate::checks::{equal, holds, same};
 use gk_gherkin::{StepType, borrowed_line};
 use gk_steps::{
     Action, ActsOn, Does, Entry, FieldKind, Library, LibraryFault, PatternFault, Takes,
@@ -9,63 +10,77 @@ use std::test::Fail;
 
 #[test]
 fn lines_are_ignored(rt: HostRuntime) {
-    assert!(rt; is_ignored(&borrowed_line(1, "")) && is_ignored(&borrowed_line(2, " \t")));
-    assert!(rt; is_ignored(&borrowed_line(3, "# given")) && is_ignored(&borrowed_line(4, "\t#")));
-    assert!(rt; !is_ignored(&borrowed_line(5, "given a => pass # b")));
+    holds(
+        &rt,
+        is_ignored(&borrowed_line(1, "")) && is_ignored(&borrowed_line(2, " \t")),
+    );
+    holds(
+        &rt,
+        is_ignored(&borrowed_line(3, "# given")) && is_ignored(&borrowed_line(4, "\t#")),
+    );
+    holds(&rt, !is_ignored(&borrowed_line(5, "given a => pass # b")));
 }
 
 #[test]
 fn lines_are_divided(rt: HostRuntime) -> Result<(), LibraryFault> {
     let text = entry_text(&borrowed_line(1, " given\ta => b =>  Pass "))?;
-    assert_eq!(rt; text.step_type, Some(StepType::Given));
-    assert_eq!(rt; text.pattern, "a => b");
-    assert_eq!(rt; text.action, "Pass");
+    equal(&rt, &text.step_type, &Some(StepType::Given));
+    same(&rt, text.pattern, "a => b");
+    same(&rt, text.action, "Pass");
     let fault = entry_text(&borrowed_line(2, "step a")).err();
-    assert_eq!(rt; fault, Some(LibraryFault::BadPattern { line: 2 }));
+    equal(&rt, &fault, &Some(LibraryFault::BadPattern { line: 2 }));
     Ok(())
 }
 
 #[test]
 fn actions_have_rows(rt: HostRuntime) {
     for row in action_rows() {
-        assert!(rt; row_named(row.name).is_some());
+        holds(&rt, row_named(row.name).is_some());
     }
-    assert!(rt; row_named("Pass").is_none());
+    holds(&rt, row_named("Pass").is_none());
     let mut found = false;
     if let Some(row) = row_named("set_number") {
         found = row.action == Action::SetNumber && row.needs.len() == 2 && row.uses.len() == 2;
     }
-    assert!(rt; found);
+    holds(&rt, found);
     let row = Action::AppendFile.row();
-    assert!(rt; row.action == Action::AppendFile && row.does == Does::Changes);
-    assert!(rt; row.acts_on == ActsOn::File && row.takes == Takes::Text);
+    holds(
+        &rt,
+        row.action == Action::AppendFile && row.does == Does::Changes,
+    );
+    holds(&rt, row.acts_on == ActsOn::File && row.takes == Takes::Text);
 }
 
 #[test]
 fn fields_have_kinds(rt: HostRuntime) -> Result<(), PatternFault> {
     let pattern = read_pattern(rt.alloc(), "{name:d} is {n}")?;
-    assert_eq!(rt;
-        field_kind(&pattern.pieces, "name"),
-        Some(FieldKind::Decimal)
+    equal(
+        &rt,
+        &field_kind(&pattern.pieces, "name"),
+        &Some(FieldKind::Decimal),
     );
-    assert_eq!(rt; field_kind(&pattern.pieces, "n"), Some(FieldKind::Plain));
-    assert_eq!(rt; field_kind(&pattern.pieces, "to"), None);
-    assert!(rt; !has_right_kind(&pattern.pieces, "name"));
-    assert!(rt; !has_right_kind(&pattern.pieces, "n"));
-    assert!(rt; has_right_kind(&pattern.pieces, "to"));
+    equal(
+        &rt,
+        &field_kind(&pattern.pieces, "n"),
+        &Some(FieldKind::Plain),
+    );
+    equal(&rt, &field_kind(&pattern.pieces, "to"), &None);
+    holds(&rt, !has_right_kind(&pattern.pieces, "name"));
+    holds(&rt, !has_right_kind(&pattern.pieces, "n"));
+    holds(&rt, has_right_kind(&pattern.pieces, "to"));
     Ok(())
 }
 
 #[test]
 fn numbers_are_read(rt: HostRuntime) {
-    assert_eq!(rt; number_of("007"), Some(7));
-    assert_eq!(rt; number_of("+7"), Some(7));
-    assert_eq!(rt; number_of("-9223372036854775808"), Some(i64::MIN));
-    assert_eq!(rt; number_of("9223372036854775808"), None);
-    assert_eq!(rt; number_of(""), None);
-    assert_eq!(rt; number_of("-"), None);
-    assert_eq!(rt; number_of(" 7"), None);
-    assert_eq!(rt; number_of("٣"), None);
+    equal(&rt, &number_of("007"), &Some(7));
+    equal(&rt, &number_of("+7"), &Some(7));
+    equal(&rt, &number_of("-9223372036854775808"), &Some(i64::MIN));
+    equal(&rt, &number_of("9223372036854775808"), &None);
+    equal(&rt, &number_of(""), &None);
+    equal(&rt, &number_of("-"), &None);
+    equal(&rt, &number_of(" 7"), &None);
+    equal(&rt, &number_of("٣"), &None);
 }
 
 // An entry with the pattern that a text spells.
@@ -146,7 +161,7 @@ fn made_libraries_are_asked(rt: HostRuntime) -> Result<(), Fail> {
     let library = library(rt.alloc())?;
     for (step_type, text, wanted) in FOUND {
         let found = found(rt.alloc(), &library, step_type, text)?;
-        assert_eq!(rt; found.as_str(), wanted);
+        same(&rt, found.as_str(), wanted);
     }
     Ok(())
 }
@@ -183,7 +198,7 @@ const FAULTS: [(LibraryFault, Option<u32>, &str); 9] = [
 #[test]
 fn faults_of_libraries_have_lines_and_texts(rt: HostRuntime) {
     for (fault, line, text) in FAULTS {
-        assert_eq!(rt; LibraryFault::line(&fault), line);
-        assert_eq!(rt; LibraryFault::said(&fault).text, text);
+        equal(&rt, &LibraryFault::line(&fault), &line);
+        equal(&rt, &(LibraryFault::said(&fault).text), &text);
     }
 }

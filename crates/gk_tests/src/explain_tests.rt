@@ -1,8 +1,9 @@
 ghost use Rattle.gk_run.specs.Chosen.{IsFormed};
 
+use crate::checks::same;
 use crate::run_tests::feature_of;
 use crate::suite_tests::chosen;
-use gk_explain::{Explainer, push_entry, push_place, push_shown, type_word};
+use gk_explain::{Explainer, push_entry, push_place, push_shown, push_unquoted, type_word};
 use gk_gherkin::{HookFile, HookTable, StepType, read_hooks};
 use gk_run::{Chosen, FeatureResult, NoRoom, Suite};
 use gk_select::{ExampleRow, outline_rows};
@@ -11,18 +12,23 @@ use gk_world::Sandbox;
 use std::alloc::{AllocError, Global};
 use std::test::Fail;
 
-// Writes a place, and a text as it stands between quotes.
+// Writes a place, and a text as it is shown between quotes and without them.
 fn written(alloc: Global) -> Result<String, AllocError> {
     let mut out = String::new(alloc);
     push_place(&mut out, "a\tb\\.feature", 7)?;
     push_shown(&mut out, "a\tb\u{a0}c\\\"é")?;
+    push_unquoted(&mut out, " \t\u{a0}\\\"é")?;
     Ok(out)
 }
 
 #[test]
 fn places_and_texts_are_written(rt: HostRuntime) -> Result<(), AllocError> {
     let out = written(rt.alloc())?;
-    assert_eq!(rt; out.as_str(), "a\\tb\\.feature:7: a\\tb\\u{a0}c\\\\\"é");
+    same(
+        &rt,
+        out.as_str(),
+        "a\\tb\\.feature:7: a\\tb\\u{a0}c\\\\\"é \\t\\u{a0}\\\"é",
+    );
     Ok(())
 }
 
@@ -38,14 +44,18 @@ fn shown_entries(alloc: Global, library: &Library) -> Result<String, AllocError>
 
 #[test]
 fn entries_are_shown(rt: HostRuntime) -> Result<(), Fail> {
-    assert_eq!(rt; type_word(None), "step");
-    assert_eq!(rt; type_word(Some(StepType::Given)), "given");
-    assert_eq!(rt; type_word(Some(StepType::When)), "when");
-    assert_eq!(rt; type_word(Some(StepType::Then)), "then");
+    same(&rt, type_word(None), "step");
+    same(&rt, type_word(Some(StepType::Given)), "given");
+    same(&rt, type_word(Some(StepType::When)), "when");
+    same(&rt, type_word(Some(StepType::Then)), "then");
     let text = "step a {name} => remove_file\nthen b\u{a0}{n:d} {{}} => pass\n";
     let library = read_library(rt.alloc(), text.as_bytes())?;
     let shown = shown_entries(rt.alloc(), &library)?;
-    assert_eq!(rt; shown.as_str(), "step a {name}\nthen b\\u{a0}{n:d} {{}}\n");
+    same(
+        &rt,
+        shown.as_str(),
+        "step a {name}\nthen b\\u{a0}{n:d} {{}}\n",
+    );
     Ok(())
 }
 
@@ -141,7 +151,7 @@ fn runs_are_explained(rt: HostRuntime) -> Result<(), Fail> {
     let hooks = read_hooks(rt.alloc(), HOOKS.as_bytes())?;
     let chosen = chosen(rt.alloc(), BOXES)?;
     let explained = explained(rt.alloc(), &library, &hooks, &[], chosen)?;
-    assert_eq!(rt; explained.as_str(), EXPLAINED);
+    same(&rt, explained.as_str(), EXPLAINED);
     Ok(())
 }
 
@@ -169,6 +179,6 @@ fn rows_are_named(rt: HostRuntime) -> Result<(), Fail> {
     let rows = rows_of(rt.alloc(), ROWS)?;
     let chosen = chosen(rt.alloc(), ROWS)?;
     let explained = explained(rt.alloc(), &library, &hooks, &rows, chosen)?;
-    assert_eq!(rt; explained.as_str(), NAMED_ROWS);
+    same(&rt, explained.as_str(), NAMED_ROWS);
     Ok(())
 }

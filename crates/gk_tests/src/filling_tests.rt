@@ -1,3 +1,4 @@
+use crate::checks::{equal, holds, same};
 use gk_gherkin::{Block, Examples, Keyword, Scenario, Step, StepType};
 use gk_select::{Names, copied_texts, fill_step, is_outline};
 use std::alloc::{AllocError, Global};
@@ -17,7 +18,7 @@ fn texts_are_copied(rt: HostRuntime) -> Result<(), AllocError> {
     let texts = owned(rt.alloc(), &["@a", "", "é"])?;
     let copies = copied_texts(rt.alloc(), &texts)?;
     let shown = format!(in rt.alloc(); "{copies:?}")?;
-    assert_eq!(rt; shown.as_str(), "[\"@a\", \"\", \"é\"]");
+    same(&rt, shown.as_str(), "[\"@a\", \"\", \"é\"]");
     Ok(())
 }
 
@@ -47,16 +48,18 @@ fn filled(alloc: Global, step: &Step) -> Result<String, Fail> {
 fn steps_are_filled(rt: HostRuntime) -> Result<(), Fail> {
     let block = Block::Text(String::from_str(rt.alloc(), "<a> < <b>\n<c>")?);
     let step = step_with(rt.alloc(), "<b> of <a<a>>", block)?;
-    assert_eq!(rt;
+    same(
+        &rt,
         filled(rt.alloc(), &step)?.as_str(),
-        "Step { keyword: And, step_type: When, text: \"<a> of <a1>\", block: Text(\"1 < <a>\\n<c>\"), line: 7 }"
+        "Step { keyword: And, step_type: When, text: \"<a> of <a1>\", block: Text(\"1 < <a>\\n<c>\"), line: 7 }",
     );
     let mut rows = Vec::new(rt.alloc());
     rows.push(owned(rt.alloc(), &["<a>", "a"])?)?;
     let step = step_with(rt.alloc(), "<A>", Block::Table(rows))?;
-    assert_eq!(rt;
+    same(
+        &rt,
         filled(rt.alloc(), &step)?.as_str(),
-        "Step { keyword: And, step_type: When, text: \"<A>\", block: Table([[\"1\", \"a\"]]), line: 7 }"
+        "Step { keyword: And, step_type: When, text: \"<A>\", block: Table([[\"1\", \"a\"]]), line: 7 }",
     );
     Ok(())
 }
@@ -85,7 +88,7 @@ const KEYWORDS: [(Keyword, bool); 4] = [
 fn outlines_are_told_from_scenarios(rt: HostRuntime) -> Result<(), AllocError> {
     for (keyword, wanted) in KEYWORDS {
         let scenario = scenario_with(rt.alloc(), keyword, Vec::new(rt.alloc()));
-        assert_eq!(rt; is_outline(&scenario), wanted);
+        equal(&rt, &is_outline(&scenario), &wanted);
     }
     let mut examples = Vec::new(rt.alloc());
     examples.push(Examples {
@@ -96,6 +99,6 @@ fn outlines_are_told_from_scenarios(rt: HostRuntime) -> Result<(), AllocError> {
         rows: Vec::new(rt.alloc()),
     })?;
     let scenario = scenario_with(rt.alloc(), Keyword::Scenario, examples);
-    assert!(rt; is_outline(&scenario));
+    holds(&rt, is_outline(&scenario));
     Ok(())
 }

@@ -1,3 +1,4 @@
+use crate::checks::{equal, same};
 use gk_gherkin::text::trim_back;
 use gk_gherkin::{HookKind, HookTable, Keyword, ReadFault, read_feature, read_hooks, read_lines};
 use std::alloc::Global;
@@ -36,7 +37,7 @@ const LINES: [(&[u8], &str); 5] = [
 fn lines_end_at_lf_or_crlf(rt: HostRuntime) -> Result<(), ReadFault> {
     for (bytes, wanted) in LINES {
         let lines = lines_of(rt.alloc(), bytes)?;
-        assert_eq!(rt; lines.as_str(), wanted);
+        same(&rt, lines.as_str(), wanted);
     }
     Ok(())
 }
@@ -49,7 +50,7 @@ const SHOWN: &str =
 fn reads_each_construct(rt: HostRuntime) -> Result<(), Fail> {
     let feature = read_feature(rt.alloc(), WHOLE.as_bytes())?.ok_or("none")?;
     let shown = format!(in rt.alloc(); "{feature:?}")?;
-    assert_eq!(rt; shown.as_str(), SHOWN);
+    same(&rt, shown.as_str(), SHOWN);
     Ok(())
 }
 
@@ -57,7 +58,7 @@ fn reads_each_construct(rt: HostRuntime) -> Result<(), Fail> {
 fn trims_blanks_at_the_end(rt: HostRuntime) -> Result<(), Fail> {
     let cases: [(&str, &str); 4] = [("", ""), (" \t", ""), (" a \t", " a"), ("a\r", "a\r")];
     for (text, trimmed) in cases {
-        assert_eq!(rt; trim_back(text), trimmed);
+        same(&rt, trim_back(text), trimmed);
     }
     Ok(())
 }
@@ -74,8 +75,8 @@ const SHOWN_HOOKS: &str =
 fn reads_each_hook(rt: HostRuntime) -> Result<(), Fail> {
     let file = read_hooks(rt.alloc(), HOOKS.as_bytes())?;
     let shown = format!(in rt.alloc(); "{file:?}")?;
-    assert_eq!(rt; shown.as_str(), SHOWN_HOOKS);
-    assert_eq!(rt; read_hooks(rt.alloc(), b"")?.hooks.is_empty(), true);
+    same(&rt, shown.as_str(), SHOWN_HOOKS);
+    equal(&rt, &read_hooks(rt.alloc(), b"")?.hooks.is_empty(), &true);
     Ok(())
 }
 
@@ -102,7 +103,7 @@ fn looks_hooks_up(rt: HostRuntime) -> Result<(), Fail> {
     for table in &tables {
         for (kind, tag, line) in LOOKED_UP {
             let found = table.hook(kind, tag).map(|hook| hook.line);
-            assert_eq!(rt; found, line);
+            equal(&rt, &found, &line);
         }
     }
     Ok(())
@@ -138,7 +139,7 @@ const KEYWORDS: [(Keyword, &str, &str); 15] = [
 #[test]
 fn keywords_are_spelt(rt: HostRuntime) {
     for (keyword, text, spelling) in KEYWORDS {
-        assert_eq!(rt; keyword.as_str(), text);
-        assert_eq!(rt; keyword.spelling(), spelling);
+        same(&rt, keyword.as_str(), text);
+        equal(&rt, &keyword.spelling(), &spelling);
     }
 }

@@ -7,6 +7,8 @@
 #[cfg(test)]
 mod act_tests;
 #[cfg(test)]
+mod checks;
+#[cfg(test)]
 mod entry_tests;
 #[cfg(test)]
 mod explain_tests;

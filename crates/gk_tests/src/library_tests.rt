@@ -1,3 +1,4 @@
+use crate::checks::{equal, same};
 use gk_gherkin::StepType;
 use gk_steps::{Found, FoundUse, Library, default_library, read_library};
 use std::alloc::{AllocError, Global};
@@ -64,7 +65,7 @@ fn libraries_are_read_and_asked(rt: HostRuntime) -> Result<(), Fail> {
     let library = read_library(rt.alloc(), LIBRARY.as_bytes())?;
     for (step_type, text, wanted) in FOUND {
         let found = looked_up(rt.alloc(), &library, step_type, text)?;
-        assert_eq!(rt; found.as_str(), wanted);
+        same(&rt, found.as_str(), wanted);
     }
     Ok(())
 }
@@ -74,10 +75,10 @@ fn the_built_in_library_has_its_entries(rt: HostRuntime) -> Result<(), Fail> {
     let library = default_library(rt.alloc())?;
     let text = "a file named \"n\" with:";
     let found = looked_up(rt.alloc(), &library, StepType::Given, text)?;
-    assert_eq!(rt; found.as_str(), "0 [Text(\"n\")] 0 [Text(\"n\")] true");
+    same(&rt, found.as_str(), "0 [Text(\"n\")] 0 [Text(\"n\")] true");
     let text = "the number \"n\" grows by 5";
     let used = used(rt.alloc(), &library, StepType::Then, text)?;
-    assert_eq!(rt; used.as_str(), "AddNumber Some(\"n\") Some(5)");
+    same(&rt, used.as_str(), "AddNumber Some(\"n\") Some(5)");
     Ok(())
 }
 
@@ -86,7 +87,7 @@ fn known_steps_are_told_from_others(rt: HostRuntime) -> Result<(), Fail> {
     let library = read_library(rt.alloc(), LIBRARY.as_bytes())?;
     for (text, wanted) in [("a b", true), ("a c", false)] {
         let known = library.knows(rt.alloc(), StepType::When, text)?;
-        assert_eq!(rt; known, wanted);
+        equal(&rt, &known, &wanted);
     }
     Ok(())
 }

@@ -1,3 +1,4 @@
+use crate::checks::{equal, holds, same};
 use crate::run_tests::feature_of;
 use gk_gherkin::{Feature, Keyword, ReadFault, read_feature, read_hooks, text_of};
 use gk_lint::{
@@ -58,9 +59,9 @@ const FILES: [(&[u8], &str); 6] = [
 fn what_vanishes_is_found(rt: HostRuntime) -> Result<(), ReadFault> {
     for (bytes, wanted) in FILES {
         let found = found_in(rt.alloc(), bytes)?;
-        assert_eq!(rt; found.as_str(), wanted);
+        same(&rt, found.as_str(), wanted);
         let found = found_once_read(rt.alloc(), bytes)?;
-        assert_eq!(rt; found.as_str(), wanted);
+        same(&rt, found.as_str(), wanted);
     }
     Ok(())
 }
@@ -70,7 +71,7 @@ fn columns_are_named(rt: HostRuntime) -> Result<(), ReadFault> {
     if let Some(feature) = read_feature(rt.alloc(), OUTLINE)? {
         let scenarios = scenarios_of(rt.alloc(), &feature)?;
         let column = column_at(rt.alloc(), &scenarios, 0, 0)?;
-        assert_eq!(rt; column, Some("name"));
+        equal(&rt, &column, &Some("name"));
     }
     Ok(())
 }
@@ -79,9 +80,9 @@ fn columns_are_named(rt: HostRuntime) -> Result<(), ReadFault> {
 fn causes_are_named(rt: HostRuntime) -> Result<(), AllocError> {
     let lines = ["Feature: f", "Scenario: s", "Given a lamp", "THEN a lamp"];
     let cause = cause_at(rt.alloc(), &lines, 3)?;
-    assert_eq!(rt; cause, Some(Cause::OtherCase(Keyword::Then)));
+    equal(&rt, &cause, &Some(Cause::OtherCase(Keyword::Then)));
     let text = Cause::text(Cause::OtherCase(Keyword::Then), rt.alloc())?;
-    assert_eq!(rt; text.as_str(), "upper and lower case count: write Then");
+    same(&rt, text.as_str(), "upper and lower case count: write Then");
     Ok(())
 }
 
@@ -130,9 +131,9 @@ fn shown_cause(alloc: Global, text: &str, fault: LibraryFault) -> Result<String,
 fn causes_of_libraries_are_named(rt: HostRuntime) -> Result<(), AllocError> {
     for (text, wanted) in FAULTY {
         let fault = read_library(rt.alloc(), text.as_bytes()).err();
-        assert!(rt; fault.is_some());
+        holds(&rt, fault.is_some());
         if let Some(fault) = fault {
-            assert_eq!(rt; shown_cause(rt.alloc(), text, fault)?.as_str(), wanted);
+            same(&rt, shown_cause(rt.alloc(), text, fault)?.as_str(), wanted);
         }
     }
     Ok(())
@@ -153,13 +154,13 @@ fn entries_are_meant(rt: HostRuntime) -> Result<(), LibraryFault> {
     let library = read_library(rt.alloc(), LIBRARY.as_bytes())?;
     let hints = EntryHints::new(rt.alloc(), &library)?;
     for (text, wanted) in HINTS {
-        assert_eq!(rt; hints.hint(rt.alloc(), text)?, wanted);
+        equal(&rt, &hints.hint(rt.alloc(), text)?, &wanted);
     }
-    assert_eq!(rt; hints.library().entries.len(), 2);
+    equal(&rt, &hints.library().entries.len(), &2);
     let lines = entry_lines(rt.alloc(), LIBRARY)?;
-    assert_eq!(rt; lines.len(), 2);
-    assert_eq!(rt; lines.first().copied(), Some(2));
-    assert_eq!(rt; lines.get(1).copied(), Some(3));
+    equal(&rt, &lines.len(), &2);
+    equal(&rt, &lines.first().copied(), &Some(2));
+    equal(&rt, &lines.get(1).copied(), &Some(3));
     Ok(())
 }
 
@@ -174,7 +175,7 @@ const STEP_FAULTS: [(StepFault, &str); 6] = [
         StepFault::NoTable,
         "step without the table that its action needs",
     ),
-    (StepFault::BadTable, "table that isn't one of name and text"),
+    (StepFault::BadTable, "table without the header name, text"),
     (StepFault::IgnoredText, "doc string that is ignored"),
     (StepFault::IgnoredTable, "table that is ignored"),
 ];
@@ -182,7 +183,7 @@ const STEP_FAULTS: [(StepFault, &str); 6] = [
 #[test]
 fn faults_of_steps_have_texts(rt: HostRuntime) {
     for (fault, text) in STEP_FAULTS {
-        assert_eq!(rt; StepFault::text(fault), text);
+        equal(&rt, &StepFault::text(fault), &text);
     }
 }
 
@@ -212,9 +213,10 @@ fn findings_are_put_in_order(rt: HostRuntime) -> Result<(), AllocError> {
     findings.extend_from_slice(&UNORDERED)?;
     let ordered = in_order(findings)?;
     let shown = shown(rt.alloc(), &ordered)?;
-    assert_eq!(rt;
+    same(
+        &rt,
         shown.as_str(),
-        "1: file without feature\n3: entry that no step finds\n5: scenario with the name of one before it\n5: scenario without steps\n"
+        "1: file without feature\n3: entry that no step finds\n5: scenario with the name of one before it\n5: scenario without steps\n",
     );
     Ok(())
 }
@@ -241,15 +243,17 @@ fn steps_are_linted(rt: HostRuntime) -> Result<(), Fail> {
     let hints = EntryHints::new(rt.alloc(), &library)?;
     let feature = feature_of(rt.alloc(), WICK)?;
     let found = lint_steps(rt.alloc(), &hints, &feature)?;
-    assert_eq!(rt;
+    same(
+        &rt,
         shown_steps(rt.alloc(), &found)?.as_str(),
-        "3: step without the text that its action needs\n4: undefined step\n5: cleanup without step\n[0, 4]"
+        "3: step without the text that its action needs\n4: undefined step\n5: cleanup without step\n[0, 4]",
     );
     let hooks = read_hooks(rt.alloc(), WICK_HOOKS.as_bytes())?;
     let found = lint_hooks(rt.alloc(), &hints, &hooks)?;
-    assert_eq!(rt;
+    same(
+        &rt,
         shown_steps(rt.alloc(), &found)?.as_str(),
-        "5: action that isn't allowed here\n[1, 2]"
+        "5: action that isn't allowed here\n[1, 2]",
     );
     Ok(())
 }
@@ -259,9 +263,10 @@ fn unused_entries_are_found(rt: HostRuntime) -> Result<(), AllocError> {
     let text = "given a => pass\n\n# b\nstep c => pass\nstep d => pass\n";
     let findings = lint_library(rt.alloc(), text, &[1, 1])?;
     let shown = shown(rt.alloc(), &findings)?;
-    assert_eq!(rt;
+    same(
+        &rt,
         shown.as_str(),
-        "1: entry that no step finds\n5: entry that no step finds\n"
+        "1: entry that no step finds\n5: entry that no step finds\n",
     );
     Ok(())
 }
@@ -282,19 +287,20 @@ fn tags_and_lines_that_choose_nothing_are_found(rt: HostRuntime) -> Result<(), F
     let features = tagged(rt.alloc())?;
     let lines = lines_without_scenario(rt.alloc(), &[14, 9, 4, 3, 9], &features)?;
     let shown_lines = format!(in rt.alloc(); "{lines:?}")?;
-    assert_eq!(rt; shown_lines.as_str(), "[9, 3, 9]");
+    same(&rt, shown_lines.as_str(), "[9, 3, 9]");
     let mut rules = Vec::new(rt.alloc());
     rules.push(read_tags(rt.alloc(), "@f and not @y or @s")?)?;
     rules.push(read_tags(rt.alloc(), "~@r,@z,@o,@y,@e")?)?;
     let tags = tags_that_stand_nowhere(rt.alloc(), &rules, &features)?;
     let shown_tags = format!(in rt.alloc(); "{tags:?}")?;
-    assert_eq!(rt; shown_tags.as_str(), "[\"@y\", \"@z\", \"@y\"]");
+    same(&rt, shown_tags.as_str(), "[\"@y\", \"@z\", \"@y\"]");
     let text = b"before_tag @e:\nafter_tag @y:\nbefore_all:\nbefore_tag @r:\n";
     let hooks = read_hooks(rt.alloc(), text)?;
     let findings = lint_hook_tags(rt.alloc(), &hooks, &features)?;
-    assert_eq!(rt;
+    same(
+        &rt,
         shown(rt.alloc(), &findings)?.as_str(),
-        "2: hook for a tag that stands nowhere\n"
+        "2: hook for a tag that isn't used\n",
     );
     Ok(())
 }

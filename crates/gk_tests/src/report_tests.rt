@@ -1,3 +1,4 @@
+use crate::checks::{equal, holds, same};
 use crate::run_tests::result_of;
 use crate::steps_tests::repeated;
 use crate::suite_tests::ran;
@@ -22,9 +23,10 @@ fn written(alloc: Global) -> Result<String, AllocError> {
 #[test]
 fn lines_are_written(rt: HostRuntime) -> Result<(), AllocError> {
     let out = written(rt.alloc())?;
-    assert_eq!(rt;
+    same(
+        &rt,
         out.as_str(),
-        "a\\nb\\c\\n ... failed: differs\nd ... undefined\n"
+        "a\\nb\\c\\n ... failed: differs\nd ... undefined\n",
     );
     Ok(())
 }
@@ -58,17 +60,17 @@ const HEADS: [(Style, &str); 3] = [(PLAIN, ""), (PROGRESS, ""), (JSON, "{\"featu
 #[test]
 fn reports_begin(rt: HostRuntime) -> Result<(), AllocError> {
     for (style, wanted) in HEADS {
-        assert_eq!(rt; head(rt.alloc(), style)?.as_str(), wanted);
+        same(&rt, head(rt.alloc(), style)?.as_str(), wanted);
     }
     Ok(())
 }
 
 #[test]
 fn formats_have_names(rt: HostRuntime) {
-    assert_eq!(rt; FORMATS.len(), 3);
-    assert_eq!(rt; Format::Progress.name(), "progress");
-    assert_eq!(rt; format_named("json"), Some(Format::Json));
-    assert_eq!(rt; format_named("JSON"), None);
+    equal(&rt, &FORMATS.len(), &3);
+    same(&rt, Format::Progress.name(), "progress");
+    equal(&rt, &format_named("json"), &Some(Format::Json));
+    equal(&rt, &format_named("JSON"), &None);
 }
 
 // Returns the counts of the feature.
@@ -90,7 +92,11 @@ const TAILS: [(Style, Status, &str); 3] = [
 fn reports_end(rt: HostRuntime) -> Result<(), Fail> {
     let summary = counted(rt.alloc())?;
     for (style, around, wanted) in TAILS {
-        assert_eq!(rt; tail(rt.alloc(), style, &summary, around)?.as_str(), wanted);
+        same(
+            &rt,
+            tail(rt.alloc(), style, &summary, around)?.as_str(),
+            wanted,
+        );
     }
     Ok(())
 }
@@ -112,10 +118,10 @@ fn features_are_counted(rt: HostRuntime) -> Result<(), Fail> {
         scenarios: NONE,
         steps: NONE,
     };
-    assert_eq!(rt; summary, nothing);
-    assert_eq!(rt; Summary::status(&summary, Status::Passed), 0);
-    assert_eq!(rt; Summary::status(&summary, Status::Failed), 1);
-    assert_eq!(rt; Summary::status(&summary, Status::Memory), 4);
+    equal(&rt, &summary, &nothing);
+    equal(&rt, &Summary::status(&summary, Status::Passed), &0);
+    equal(&rt, &Summary::status(&summary, Status::Failed), &1);
+    equal(&rt, &Summary::status(&summary, Status::Memory), &4);
     let feature = result_of(rt.alloc(), "~@out", true)?;
     summary.add(&feature);
     summary.add(&feature);
@@ -136,8 +142,8 @@ fn features_are_counted(rt: HostRuntime) -> Result<(), Fail> {
             ..NONE
         },
     };
-    assert_eq!(rt; summary, counted);
-    assert_eq!(rt; Summary::status(&summary, Status::Passed), 1);
+    equal(&rt, &summary, &counted);
+    equal(&rt, &Summary::status(&summary, Status::Passed), &1);
     Ok(())
 }
 
@@ -187,7 +193,7 @@ const PIECES: [(&str, Style, &str); 2] = [
 #[test]
 fn small_parts_come_in_one_piece(rt: HostRuntime) -> Result<(), Fail> {
     for (text, style, wanted) in PIECES {
-        assert_eq!(rt; pieces_of(rt.alloc(), style, text)?.as_str(), wanted);
+        same(&rt, pieces_of(rt.alloc(), style, text)?.as_str(), wanted);
     }
     Ok(())
 }
@@ -214,7 +220,7 @@ fn large_parts_come_in_pieces(rt: HostRuntime) -> Result<(), Fail> {
         let name = repeated(rt.alloc(), 'a', letters, 'a')?;
         let shown = pieces_with(rt.alloc(), name.as_str())?;
         let wanted = wanted_with(rt.alloc(), name.as_str())?;
-        assert!(rt; shown == wanted);
+        holds(&rt, shown == wanted);
     }
     Ok(())
 }

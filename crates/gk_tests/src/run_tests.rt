@@ -3,6 +3,7 @@ ghost use Rattle.gk_gherkin.specs.Feature.{feature_value};
 ghost use Rattle.gk_select.specs.Expansion.{IsExpandable};
 ghost use Rattle.gk_run.specs.Chosen.{IsFormed};
 
+use crate::checks::{equal, same};
 use gk_gherkin::{Feature, HookFile, Rule, read_feature, read_hooks};
 use gk_report::{Format, Style, part};
 use gk_run::{CaseResult, Chosen, FeatureResult, RuleHead, run_case, run_feature};
@@ -148,9 +149,9 @@ fn cases_run_alone(rt: HostRuntime) -> Result<(), Fail> {
     let hooks = read_hooks(rt.alloc(), CASE_HOOKS.as_bytes())?;
     let cases = cases_of(rt.alloc(), CASES)?;
     let results = shown_results(rt.alloc(), &library, &hooks, cases)?;
-    assert_eq!(rt; results.len(), RUN.len());
+    equal(&rt, &results.len(), &RUN.len());
     for (result, wanted) in results.iter().zip(RUN) {
-        assert_eq!(rt; result.as_str(), wanted);
+        same(&rt, result.as_str(), wanted);
     }
     Ok(())
 }
@@ -246,7 +247,7 @@ fn features_are_run_and_reported(rt: HostRuntime) -> Result<(), Fail> {
         let feature = result_of(rt.alloc(), tags, stop)?;
         let style = Style { format, no_skipped };
         let part = part(rt.alloc(), style, first, &feature)?;
-        assert_eq!(rt; part.as_str(), wanted);
+        same(&rt, part.as_str(), wanted);
     }
     Ok(())
 }

@@ -1,3 +1,4 @@
+use crate::checks::{equal, same};
 use crate::run_tests::feature_of;
 use gk_gherkin::read_feature;
 use gk_select::{
@@ -36,8 +37,8 @@ fn shown_cases(alloc: Global, text: &str) -> Result<(String, String), Fail> {
 #[test]
 fn features_are_expanded(rt: HostRuntime) -> Result<(), Fail> {
     let (kept, moved) = shown_cases(rt.alloc(), FEATURE)?;
-    assert_eq!(rt; kept.as_str(), CASES);
-    assert_eq!(rt; moved.as_str(), CASES);
+    same(&rt, kept.as_str(), CASES);
+    same(&rt, moved.as_str(), CASES);
     Ok(())
 }
 
@@ -63,7 +64,11 @@ fn cases_are_chosen_by_all_of_their_tags(rt: HostRuntime) -> Result<(), Fail> {
         ("@o and @e", "[false, true, false]"),
         ("~@e", "[true, false, true]"),
     ] {
-        assert_eq!(rt; shown_choice(rt.alloc(), FEATURE, tags)?.as_str(), wanted);
+        same(
+            &rt,
+            shown_choice(rt.alloc(), FEATURE, tags)?.as_str(),
+            wanted,
+        );
     }
     Ok(())
 }
@@ -77,9 +82,10 @@ fn shown_rows(alloc: Global, text: &str) -> Result<String, Fail> {
 
 #[test]
 fn rows_are_listed(rt: HostRuntime) -> Result<(), Fail> {
-    assert_eq!(rt;
+    same(
+        &rt,
         shown_rows(rt.alloc(), FEATURE)?.as_str(),
-        "[ExampleRow { line: 14, number: 1, cells: [ExampleCell { header: \"a\", text: \"1\" }] }]"
+        "[ExampleRow { line: 14, number: 1, cells: [ExampleCell { header: \"a\", text: \"1\" }] }]",
     );
     Ok(())
 }
@@ -127,7 +133,7 @@ fn rules_of_tags_are_read(rt: HostRuntime) -> Result<(), AllocError> {
     for (text, wanted) in RULES {
         let rule = read_tags(rt.alloc(), text);
         let shown = format!(in rt.alloc(); "{rule:?}")?;
-        assert_eq!(rt; shown.as_str(), wanted);
+        same(&rt, shown.as_str(), wanted);
     }
     Ok(())
 }
@@ -153,7 +159,7 @@ fn texts_stop_at_their_first_bad_word(rt: HostRuntime) -> Result<(), AllocError>
     for (text, wanted) in STOPS {
         let stop = tag_stop(text);
         let shown = format!(in rt.alloc(); "{stop:?}")?;
-        assert_eq!(rt; shown.as_str(), wanted);
+        same(&rt, shown.as_str(), wanted);
     }
     Ok(())
 }
@@ -186,10 +192,10 @@ fn rules_select_sets_of_tags(rt: HostRuntime) -> Result<(), Fail> {
     let second = read_tags(rt.alloc(), "@ui")?;
     let tags = first.tags(rt.alloc())?;
     let shown = format!(in rt.alloc(); "{tags:?}")?;
-    assert_eq!(rt; shown.as_str(), "[\"@slow\", \"@db\"]");
+    same(&rt, shown.as_str(), "[\"@slow\", \"@db\"]");
     for (set, wanted) in SETS {
         let holds = both_hold(rt.alloc(), &first, &second, set)?;
-        assert_eq!(rt; holds, wanted);
+        equal(&rt, &holds, &wanted);
     }
     Ok(())
 }
@@ -270,7 +276,7 @@ fn expressions_select_sets_of_tags(rt: HostRuntime) -> Result<(), Fail> {
         let rule = read_tags(rt.alloc(), text)?;
         for (set, wanted) in TAG_SETS.iter().zip(values.iter()) {
             let holds = holds_of(rt.alloc(), &rule, set)?;
-            assert_eq!(rt; holds, *wanted);
+            equal(&rt, &holds, &(*wanted));
         }
     }
     Ok(())
@@ -301,7 +307,7 @@ fn long_expressions_are_read(rt: HostRuntime) -> Result<(), Fail> {
         let text = repeated(rt.alloc(), part, 25_000, end)?;
         let rule = read_tags(rt.alloc(), text.as_str())?;
         let holds = holds_of(rt.alloc(), &rule, &["@a", "@b"])?;
-        assert_eq!(rt; holds, wanted);
+        equal(&rt, &holds, &wanted);
     }
     Ok(())
 }
@@ -323,7 +329,7 @@ fn expressions_are_no_deeper_than_the_limit(rt: HostRuntime) -> Result<(), Alloc
         let inner = format!(in rt.alloc(); "@a{closing}")?;
         let text = repeated(rt.alloc(), front, times, inner.as_str())?;
         let is_read = read_tags(rt.alloc(), text.as_str()).is_ok();
-        assert_eq!(rt; is_read, wanted);
+        equal(&rt, &is_read, &wanted);
     }
     Ok(())
 }

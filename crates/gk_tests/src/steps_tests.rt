@@ -1,3 +1,4 @@
+use crate::checks::{equal, holds, same};
 use gk_gherkin::StepType;
 use gk_steps::*;
 use std::alloc::{AllocError, Global};
@@ -56,7 +57,7 @@ const COUNTED: [(&[Part], &str, &str); 2] = [
 #[test]
 fn shortest_first(rt: HostRuntime) -> Result<(), AllocError> {
     for (parts, text, wanted) in COUNTED {
-        assert_eq!(rt; counted(rt.alloc(), parts, text)?.as_str(), wanted);
+        same(&rt, counted(rt.alloc(), parts, text)?.as_str(), wanted);
     }
     Ok(())
 }
@@ -110,7 +111,7 @@ const REFUSED_CELLS: [(&[Part], char, usize, char, u64); 3] = [
 fn cells_of_refused_texts(rt: HostRuntime) -> Result<(), AllocError> {
     for (parts, letter, count, last, cells) in REFUSED_CELLS {
         let text = repeated(rt.alloc(), letter, count, last)?;
-        assert_eq!(rt; refused_cells(rt.alloc(), parts, &text)?, Some(cells));
+        equal(&rt, &refused_cells(rt.alloc(), parts, &text)?, &Some(cells));
     }
     Ok(())
 }
@@ -119,7 +120,7 @@ fn cells_of_refused_texts(rt: HostRuntime) -> Result<(), AllocError> {
 fn the_longest_of_many_numbers(rt: HostRuntime) -> Result<(), AllocError> {
     let text = repeated(rt.alloc(), '0', 100_000, 'x')?;
     let found = matched(rt.alloc(), &[Part::Decimal("n"), Part::Plain("b")], &text)?;
-    assert_eq!(rt; found.as_str(), "Some([Number(0), Text(\"x\")])");
+    same(&rt, found.as_str(), "Some([Number(0), Text(\"x\")])");
     Ok(())
 }
 
@@ -159,9 +160,10 @@ const SPELLED: [(&str, &str, &str); 7] = [
 #[test]
 fn patterns_are_read(rt: HostRuntime) -> Result<(), PatternFault> {
     for (spelled, text, wanted) in SPELLED {
-        assert_eq!(rt;
+        same(
+            &rt,
             read_and_matched(rt.alloc(), spelled, text)?.as_str(),
-            wanted
+            wanted,
         );
     }
     Ok(())
@@ -170,6 +172,9 @@ fn patterns_are_read(rt: HostRuntime) -> Result<(), PatternFault> {
 #[test]
 fn ends_of_texts_are_compared(rt: HostRuntime) -> Result<(), PatternFault> {
     let pattern = read_pattern(rt.alloc(), "a {n:d} b")?;
-    assert!(rt; pattern.can_match("a 1 b") && !pattern.can_match("a 1 c"));
+    holds(
+        &rt,
+        pattern.can_match("a 1 b") && !pattern.can_match("a 1 c"),
+    );
     Ok(())
 }

@@ -1,6 +1,7 @@
 ghost use Rattle.std.specs.Prelude.{IfOk};
 ghost use Rattle.gk_run.specs.Chosen.{IsFormed};
 
+use crate::checks::{equal, holds, same};
 use crate::run_tests::{cases_of, chosen_of, feature_of};
 use gk_gherkin::{Block, HookFile, HookTable, Step, read_hooks};
 use gk_report::{Format, Style, part};
@@ -16,9 +17,18 @@ use std::test::Fail;
 
 #[test]
 fn failures_are_told_from_the_rest(rt: HostRuntime) {
-    assert!(rt; is_failed_or_memory(Status::Failed) && is_failed_or_memory(Status::Memory));
-    assert!(rt; !is_failed_or_memory(Status::Passed) && !is_failed_or_memory(Status::Skipped));
-    assert!(rt; !is_failed_or_memory(Status::Undefined) && !is_failed_or_memory(Status::Untested));
+    holds(
+        &rt,
+        is_failed_or_memory(Status::Failed) && is_failed_or_memory(Status::Memory),
+    );
+    holds(
+        &rt,
+        !is_failed_or_memory(Status::Passed) && !is_failed_or_memory(Status::Skipped),
+    );
+    holds(
+        &rt,
+        !is_failed_or_memory(Status::Undefined) && !is_failed_or_memory(Status::Untested),
+    );
 }
 
 // What became of steps, the status of each, and why it failed.
@@ -39,8 +49,8 @@ const MARKS: [(Mark, Status, Option<Reason>); 7] = [
 #[test]
 fn steps_have_statuses_and_reasons(rt: HostRuntime) {
     for (mark, status, reason) in MARKS {
-        assert_eq!(rt; status_of(mark), status);
-        assert_eq!(rt; reason_of(mark), reason);
+        equal(&rt, &status_of(mark), &status);
+        equal(&rt, &reason_of(mark), &reason);
     }
 }
 
@@ -79,7 +89,7 @@ fn steps_are_looked_up(rt: HostRuntime) -> Result<(), Fail> {
         no_skipped: false,
     };
     let part = part(rt.alloc(), style, true, &result)?;
-    assert_eq!(rt; part.as_str(), LOOKED_UP);
+    same(&rt, part.as_str(), LOOKED_UP);
     Ok(())
 }
 
@@ -162,8 +172,8 @@ fn first_told(alloc: Global, library: &Library, text: &str) -> Result<(Status, S
 fn events_of_a_case_are_told(rt: HostRuntime) -> Result<(), Fail> {
     let library = default_library(rt.alloc())?;
     let (status, told) = first_told(rt.alloc(), &library, FEATURE)?;
-    assert_eq!(rt; status, Status::Passed);
-    assert_eq!(rt; told.as_str(), CASE_TOLD);
+    equal(&rt, &status, &Status::Passed);
+    same(&rt, told.as_str(), CASE_TOLD);
     Ok(())
 }
 
@@ -203,9 +213,9 @@ fn events_of_a_run_are_told(rt: HostRuntime) -> Result<(), Fail> {
     let hooks = read_hooks(rt.alloc(), HOOKS.as_bytes())?;
     let chosen = chosen(rt.alloc(), FEATURE)?;
     let (statuses, around, told) = run_told(rt.alloc(), &library, &hooks, chosen);
-    assert_eq!(rt; statuses, Some((Status::Failed, Status::Passed)));
-    assert_eq!(rt; around, Status::Passed);
-    assert_eq!(rt; told.as_str(), RUN_TOLD);
+    equal(&rt, &statuses, &Some((Status::Failed, Status::Passed)));
+    equal(&rt, &around, &Status::Passed);
+    same(&rt, told.as_str(), RUN_TOLD);
     Ok(())
 }
 
@@ -269,7 +279,7 @@ fn runs_stop_after_a_feature_that_failed(rt: HostRuntime) -> Result<(), Fail> {
             Some((after, Status::Passed)),
             Status::Failed,
         );
-        assert_eq!(rt; statuses, wanted);
+        equal(&rt, &statuses, &wanted);
     }
     Ok(())
 }

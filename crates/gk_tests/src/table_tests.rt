@@ -1,3 +1,4 @@
+use crate::checks::{equal, holds};
 use crate::steps_tests::repeated;
 use gk_world::{
     Journal, LONGEST_NAME, LONGEST_TEXT, Reversible, Table, TableChange, ValueChange, Values,
@@ -25,21 +26,21 @@ fn table_of(alloc: Global, text: &str) -> Result<Table, WorldFault> {
 fn appends_are_applied_and_undone(rt: HostRuntime) -> Result<(), WorldFault> {
     let mut table = table_of(rt.alloc(), "one")?;
     let undo = table.apply(append(rt.alloc(), "a", "two")?)?;
-    assert_eq!(rt; table.get("a"), Some("onetwo"));
+    equal(&rt, &table.get("a"), &Some("onetwo"));
     table.undo(undo);
-    assert_eq!(rt; table.get("a"), Some("one"));
+    equal(&rt, &table.get("a"), &Some("one"));
     let refused = table.apply(append(rt.alloc(), "b", "two")?);
-    assert!(rt; matches!(refused, Err(WorldFault::Absent)));
+    holds(&rt, matches!(refused, Err(WorldFault::Absent)));
     Ok(())
 }
 
 #[test]
 fn names_have_a_byte_at_least_and_a_greatest_length(rt: HostRuntime) -> Result<(), AllocError> {
-    assert!(rt; is_bad_name("") && !is_bad_name("n"));
+    holds(&rt, is_bad_name("") && !is_bad_name("n"));
     let longest = repeated(rt.alloc(), 'n', LONGEST_NAME - 1, 'n')?;
-    assert!(rt; !is_bad_name(longest.as_str()));
+    holds(&rt, !is_bad_name(longest.as_str()));
     let longer = repeated(rt.alloc(), 'n', LONGEST_NAME, 'n')?;
-    assert!(rt; is_bad_name(longer.as_str()));
+    holds(&rt, is_bad_name(longer.as_str()));
     Ok(())
 }
 
@@ -47,19 +48,25 @@ fn names_have_a_byte_at_least_and_a_greatest_length(rt: HostRuntime) -> Result<(
 fn tables_say_why_a_change_is_refused(rt: HostRuntime) -> Result<(), WorldFault> {
     let table = table_of(rt.alloc(), "x")?;
     let longest = repeated(rt.alloc(), 't', LONGEST_TEXT - 1, 't')?;
-    assert_eq!(rt; table.append_refusal("a", "y"), None);
-    assert_eq!(rt; table.append_refusal("", "y"), Some(WorldFault::BadName));
-    assert_eq!(rt;
-        table.append_refusal("b", longest.as_str()),
-        Some(WorldFault::Absent)
+    equal(&rt, &table.append_refusal("a", "y"), &None);
+    equal(
+        &rt,
+        &table.append_refusal("", "y"),
+        &Some(WorldFault::BadName),
     );
-    assert_eq!(rt;
-        table.append_refusal("a", longest.as_str()),
-        Some(WorldFault::TextTooLong)
+    equal(
+        &rt,
+        &table.append_refusal("b", longest.as_str()),
+        &Some(WorldFault::Absent),
     );
-    assert_eq!(rt; table.remove_refusal("a"), None);
-    assert_eq!(rt; table.remove_refusal(""), Some(WorldFault::BadName));
-    assert_eq!(rt; table.remove_refusal("b"), Some(WorldFault::Absent));
+    equal(
+        &rt,
+        &table.append_refusal("a", longest.as_str()),
+        &Some(WorldFault::TextTooLong),
+    );
+    equal(&rt, &table.remove_refusal("a"), &None);
+    equal(&rt, &table.remove_refusal(""), &Some(WorldFault::BadName));
+    equal(&rt, &table.remove_refusal("b"), &Some(WorldFault::Absent));
     Ok(())
 }
 
@@ -69,14 +76,26 @@ fn values_say_why_one_is_not_deleted(rt: HostRuntime) -> Result<(), WorldFault> 
     let name = String::from_str(rt.alloc(), "n")?;
     let text = String::from_str(rt.alloc(), "5")?;
     let undo = values.apply(ValueChange::Set(1, name, text))?;
-    assert_eq!(rt; Values::get(&values, 2, "n"), Some("5"));
-    assert_eq!(rt; Values::get(&values, 0, "n"), None);
-    assert_eq!(rt; values.delete_refusal(1, "n"), None);
-    assert_eq!(rt; values.delete_refusal(2, "n"), Some(WorldFault::OtherLayer));
-    assert_eq!(rt; values.delete_refusal(2, "m"), Some(WorldFault::Absent));
-    assert_eq!(rt; values.delete_refusal(1, ""), Some(WorldFault::BadName));
+    equal(&rt, &Values::get(&values, 2, "n"), &Some("5"));
+    equal(&rt, &Values::get(&values, 0, "n"), &None);
+    equal(&rt, &values.delete_refusal(1, "n"), &None);
+    equal(
+        &rt,
+        &values.delete_refusal(2, "n"),
+        &Some(WorldFault::OtherLayer),
+    );
+    equal(
+        &rt,
+        &values.delete_refusal(2, "m"),
+        &Some(WorldFault::Absent),
+    );
+    equal(
+        &rt,
+        &values.delete_refusal(1, ""),
+        &Some(WorldFault::BadName),
+    );
     values.undo(undo);
-    assert_eq!(rt; Values::get(&values, 2, "n"), None);
+    equal(&rt, &Values::get(&values, 2, "n"), &None);
     Ok(())
 }
 
@@ -86,10 +105,10 @@ fn journals_rewind(rt: HostRuntime) -> Result<(), WorldFault> {
     let mut journal = Journal::new(rt.alloc());
     let more = append(rt.alloc(), "a", "two")?;
     journal.change(&mut table, more)?;
-    assert_eq!(rt; Table::get(&table, "a"), Some("onetwo"));
-    assert_eq!(rt; Journal::len(&journal), 1);
+    equal(&rt, &Table::get(&table, "a"), &Some("onetwo"));
+    equal(&rt, &Journal::len(&journal), &1);
     journal.rewind(&mut table, 0);
-    assert_eq!(rt; Table::get(&table, "a"), Some("one"));
-    assert_eq!(rt; Journal::len(&journal), 0);
+    equal(&rt, &Table::get(&table, "a"), &Some("one"));
+    equal(&rt, &Journal::len(&journal), &0);
     Ok(())
 }

@@ -2,6 +2,7 @@ ghost use Rattle.std.specs.Prelude.{◌≡◌, ◌<◌, ◌+◌};
 ghost use Rattle.gk_world.specs.Sandbox.{depth};
 ghost use Rattle.gk_world.specs.State.{layers};
 
+use crate::checks::holds;
 use gk_world::{Listing, Sandbox, WorldFault};
 use std::alloc::{AllocError, Global};
 
@@ -128,8 +129,8 @@ fn both_layers_hold(world: &mut Sandbox) -> bool
 #[test]
 fn calls_answer_and_change_as_stated(rt: HostRuntime) {
     let mut world = Sandbox::new(rt.alloc());
-    assert!(rt; both_layers_hold(&mut world));
-    assert!(rt; world.file("f").is_none() && world.recorded() == 0);
+    holds(&rt, both_layers_hold(&mut world));
+    holds(&rt, world.file("f").is_none() && world.recorded() == 0);
 }
 
 /// Makes a call at each name, and counts those that are carried out.
@@ -245,5 +246,5 @@ fn three_layers_give_back(world: &mut Sandbox, alloc: Global) -> Result<bool, Wo
 fn three_layers_give_back_a_thousand_changes(rt: HostRuntime) {
     let mut world = Sandbox::new(rt.alloc());
     let answer = three_layers_give_back(&mut world, rt.alloc());
-    assert!(rt; matches!(answer, Ok(true)));
+    holds(&rt, matches!(answer, Ok(true)));
 }
