@@ -34,38 +34,52 @@ pub fn files_with(
     })
 }
 
-// What was written.
-fn text_of(out: &Counted<Writer>) -> Result<&str, Fail> {
+// Writes in a mode what there is to write of some files, from a new sandbox. Returns the status.
+fn written(
+    alloc: Global,
+    options: &Options,
+    mode: Mode,
+    files: &mut SuiteFiles<Source>,
+    out: &mut Counted<Writer>,
+) -> Result<u8, RunFault> {
+    let mut sandbox = Sandbox::new(alloc);
+    write_suite(alloc, &mut sandbox, options, mode, files, out)
+}
+
+// Formats the bytes of a writer as text, with a status after them.
+fn shown(alloc: Global, out: &Counted<Writer>, status: u8) -> Result<String, Fail> {
     match str::from_utf8(out.inner().bytes.as_slice()) {
-        Ok(text) => Ok(text),
+        Ok(text) => Ok(format!(in alloc; "{text}{status}")?),
         Err(_) => Err("not UTF-8".into()),
     }
 }
 
-// The feature of the guide's page on reports, and the report of its run.
+// Returns what is written of some files in a mode, and the status after it.
+fn found(
+    alloc: Global,
+    options: &Options,
+    mode: Mode,
+    files: &mut SuiteFiles<Source>,
+) -> Result<String, Fail> {
+    let mut out = counted(alloc, usize::MAX, 0);
+    let status = written(alloc, options, mode, files, &mut out)?;
+    shown(alloc, &out, status)
+}
+
+// The feature of the guide's page on reports, and the report of its run with the status.
 const COUNTER: &str =
     "Feature: A counter\n  Scenario: It counts up\n    Given the number \"visits\" is set to 1\n    When the number \"visits\" grows by 1\n    Then the number \"visits\" should be 2\n\n  Scenario: It counts down\n    Given the number \"visits\" is set to 1\n    When the number \"visits\" grows by -1\n    Then the number \"visits\" should be 1\n    And the value \"visits\" is deleted\n\n  Scenario: It forgets\n    When the counter forgets\n";
 
 const REPORT: &str =
-    "Feature: A counter ... failed\n  Scenario: It counts up ... passed\n    Given the number \"visits\" is set to 1 ... passed\n    When the number \"visits\" grows by 1 ... passed\n    Then the number \"visits\" should be 2 ... passed\n  Scenario: It counts down ... failed\n    Given the number \"visits\" is set to 1 ... passed\n    When the number \"visits\" grows by -1 ... passed\n    Then the number \"visits\" should be 1 ... failed: differs\n    And the value \"visits\" is deleted ... skipped\n  Scenario: It forgets ... failed\n    When the counter forgets ... undefined\n\n0 features passed, 1 failed, 0 skipped\n1 scenario passed, 2 failed, 0 skipped\n5 steps passed, 1 failed, 1 skipped, 1 undefined\n";
+    "Feature: A counter ... failed\n  Scenario: It counts up ... passed\n    Given the number \"visits\" is set to 1 ... passed\n    When the number \"visits\" grows by 1 ... passed\n    Then the number \"visits\" should be 2 ... passed\n  Scenario: It counts down ... failed\n    Given the number \"visits\" is set to 1 ... passed\n    When the number \"visits\" grows by -1 ... passed\n    Then the number \"visits\" should be 1 ... failed: differs\n    And the value \"visits\" is deleted ... skipped\n  Scenario: It forgets ... failed\n    When the counter forgets ... undefined\n\n0 features passed, 1 failed, 0 skipped\n1 scenario passed, 2 failed, 0 skipped\n5 steps passed, 1 failed, 1 skipped, 1 undefined\n1";
 
 #[test]
 fn suites_are_reported(rt: HostRuntime) -> Result<(), Fail> {
     let feature = source(rt.alloc(), "counter.feature", COUNTER)?;
     let mut files = files_with(rt.alloc(), None, None, feature)?;
-    let mut out = counted(rt.alloc(), usize::MAX, 0);
-    let mut sandbox = Sandbox::new(rt.alloc());
     let options = Options::plain(rt.alloc());
-    let status = write_suite(
-        rt.alloc(),
-        &mut sandbox,
-        &options,
-        Mode::Report,
-        &mut files,
-        &mut out,
-    )?;
-    assert_eq!(rt; status, 1);
-    assert_eq!(rt; text_of(&out)?, REPORT);
+    let report = found(rt.alloc(), &options, Mode::Report, &mut files)?;
+    assert_eq!(rt; report.as_str(), REPORT);
     let left = format!(in rt.alloc(); "{:?}", files.sources)?;
     assert_eq!(rt;
         left.as_str(),
@@ -74,11 +88,11 @@ fn suites_are_reported(rt: HostRuntime) -> Result<(), Fail> {
     Ok(())
 }
 
-// The hooks and the feature of the guide's page on explanations, and what is explained.
+// The hooks and the feature of the guide's page on explanations, and what is explained with the status.
 const HALL: [&str; 3] = [
     "before_scenario:\n  Given a file named \"lamp\" containing \"off\"\n  And at cleanup the file \"lamp\" should be \"off\"\n",
     "Feature: A hall\n  Scenario: The lamp is left on\n    When the file \"lamp\" is extended with \", then on\"\n",
-    "hall.feature:2: Scenario: The lamp is left on ... failed\n  hall.hooks:2: before: Given a file named \"lamp\" containing \"off\" ... passed\n  hall.hooks:3: before: And at cleanup the file \"lamp\" should be \"off\" ... passed\n  hall.feature:3: When the file \"lamp\" is extended with \", then on\" ... passed\n  hall.hooks:3: cleanup ... failed: differs\n      expected \"off\"\n      found    \"off, then on\"\n      first difference: line 1, column 4\n\nhall.feature:2: Scenario: The lamp is left on\n\n0 features passed, 1 failed, 0 skipped\n0 scenarios passed, 1 failed, 0 skipped\n1 step passed, 0 failed, 0 skipped, 0 undefined\n",
+    "hall.feature:2: Scenario: The lamp is left on ... failed\n  hall.hooks:2: before: Given a file named \"lamp\" containing \"off\" ... passed\n  hall.hooks:3: before: And at cleanup the file \"lamp\" should be \"off\" ... passed\n  hall.feature:3: When the file \"lamp\" is extended with \", then on\" ... passed\n  hall.hooks:3: cleanup ... failed: differs\n      expected \"off\"\n      found    \"off, then on\"\n      first difference: line 1, column 4\n\nhall.feature:2: Scenario: The lamp is left on\n\n0 features passed, 1 failed, 0 skipped\n0 scenarios passed, 1 failed, 0 skipped\n1 step passed, 0 failed, 0 skipped, 0 undefined\n1",
 ];
 
 #[test]
@@ -90,19 +104,9 @@ fn suites_are_explained(rt: HostRuntime) -> Result<(), Fail> {
         Some(source(rt.alloc(), "hall.hooks", hooks)?),
         source(rt.alloc(), "hall.feature", feature)?,
     )?;
-    let mut out = counted(rt.alloc(), usize::MAX, 0);
-    let mut sandbox = Sandbox::new(rt.alloc());
     let options = Options::plain(rt.alloc());
-    let status = write_suite(
-        rt.alloc(),
-        &mut sandbox,
-        &options,
-        Mode::Explanation,
-        &mut files,
-        &mut out,
-    )?;
-    assert_eq!(rt; status, 1);
-    assert_eq!(rt; text_of(&out)?, wanted);
+    let explanation = found(rt.alloc(), &options, Mode::Explanation, &mut files)?;
+    assert_eq!(rt; explanation.as_str(), wanted);
     Ok(())
 }
 
@@ -118,29 +122,14 @@ const WICK: [&str; 4] = [
 const WICK_ALONE: &str =
     "wick.hooks:1: hook for a tag that isn't used\nwick.feature:7: outline without rows\nwick.feature:7: placeholder that no column has\n    the nearest column is: often\n--tags @quik: no such tag\n--line 7: chooses no scenario\n1";
 
-// What is found in files, and the status.
-fn found(
-    alloc: Global,
-    options: &Options,
-    steps: bool,
-    files: &mut SuiteFiles<Source>,
-) -> Result<String, Fail> {
-    let mut out = counted(alloc, usize::MAX, 0);
-    let mut sandbox = Sandbox::new(alloc);
-    let status = write_suite(
-        alloc,
-        &mut sandbox,
-        options,
-        Mode::Findings { steps },
-        files,
-        &mut out,
-    )?;
-    Ok(format!(in alloc; "{}{status}", text_of(&out)?)?)
-}
+// The modes of linting, with and without a look-up of steps.
+const LINT: Mode = Mode::Findings { steps: true };
+
+const LINT_ALONE: Mode = Mode::Findings { steps: false };
 
 #[test]
 fn suites_are_linted(rt: HostRuntime) -> Result<(), Fail> {
-    assert!(rt; Mode::Findings { steps: true }.is_lint() && !Mode::Report.is_lint());
+    assert!(rt; LINT.is_lint() && !Mode::Report.is_lint());
     let [library, hooks, feature, wanted] = WICK;
     let mut files = files_with(
         rt.alloc(),
@@ -151,14 +140,10 @@ fn suites_are_linted(rt: HostRuntime) -> Result<(), Fail> {
     let mut options = Options::plain(rt.alloc());
     options.tags.push(String::from_str(rt.alloc(), "@quik")?)?;
     options.lines.push(7)?;
-    assert_eq!(rt;
-        found(rt.alloc(), &options, true, &mut files)?.as_str(),
-        wanted
-    );
-    assert_eq!(rt;
-        found(rt.alloc(), &options, false, &mut files)?.as_str(),
-        WICK_ALONE
-    );
+    let findings = found(rt.alloc(), &options, LINT, &mut files)?;
+    assert_eq!(rt; findings.as_str(), wanted);
+    let findings = found(rt.alloc(), &options, LINT_ALONE, &mut files)?;
+    assert_eq!(rt; findings.as_str(), WICK_ALONE);
     Ok(())
 }
 
@@ -167,10 +152,8 @@ fn nothing_is_found_in_a_suite(rt: HostRuntime) -> Result<(), Fail> {
     let [_, feature, _] = HALL;
     let hall = source(rt.alloc(), "hall.feature", feature)?;
     let mut files = files_with(rt.alloc(), None, None, hall)?;
-    assert_eq!(rt;
-        found(rt.alloc(), &Options::plain(rt.alloc()), true, &mut files)?.as_str(),
-        "0"
-    );
+    let findings = found(rt.alloc(), &Options::plain(rt.alloc()), LINT, &mut files)?;
+    assert_eq!(rt; findings.as_str(), "0");
     Ok(())
 }
 
@@ -188,16 +171,8 @@ pub fn oil(alloc: Global) -> Result<SuiteFiles<Source>, AllocError> {
 // The first fault of some files.
 fn first_fault(alloc: Global, files: &mut SuiteFiles<Source>) -> Result<RunFault, Fail> {
     let mut out = counted(alloc, usize::MAX, 0);
-    let mut sandbox = Sandbox::new(alloc);
     let options = Options::plain(alloc);
-    match write_suite(
-        alloc,
-        &mut sandbox,
-        &options,
-        Mode::Findings { steps: true },
-        files,
-        &mut out,
-    ) {
+    match written(alloc, &options, LINT, files, &mut out) {
         Ok(_) => Err("no fault".into()),
         Err(fault) => Ok(fault),
     }

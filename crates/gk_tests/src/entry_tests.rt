@@ -199,6 +199,6 @@ const FAULTS: [(LibraryFault, Option<u32>, &str); 9] = [
 fn faults_of_libraries_have_lines_and_texts(rt: HostRuntime) {
     for (fault, line, text) in FAULTS {
         equal(&rt, &LibraryFault::line(&fault), &line);
-        equal(&rt, &(LibraryFault::said(&fault).text), &text);
+        same(&rt, LibraryFault::said(&fault).text, text);
     }
 }

@@ -115,13 +115,22 @@ const FAULTY: [(&str, &str); 7] = [
     ),
 ];
 
-// Shows what to do about the fault of a library.
-fn shown_cause(alloc: Global, text: &str, fault: LibraryFault) -> Result<String, AllocError> {
+// Returns why a library has a fault.
+fn cause_of(
+    alloc: Global,
+    text: &str,
+    fault: LibraryFault,
+) -> Result<Option<LibraryCause>, AllocError> {
     let mut lines = Vec::new(alloc);
     for line in text.lines() {
         lines.push(line)?;
     }
-    match library_cause(alloc, &lines, fault)? {
+    library_cause(alloc, &lines, fault)
+}
+
+// Shows what to do about the fault of a library.
+fn shown_cause(alloc: Global, text: &str, fault: LibraryFault) -> Result<String, AllocError> {
+    match cause_of(alloc, text, fault)? {
         Some(cause) => LibraryCause::text(cause, alloc),
         None => String::from_str(alloc, "none"),
     }
@@ -183,7 +192,7 @@ const STEP_FAULTS: [(StepFault, &str); 6] = [
 #[test]
 fn faults_of_steps_have_texts(rt: HostRuntime) {
     for (fault, text) in STEP_FAULTS {
-        equal(&rt, &StepFault::text(fault), &text);
+        same(&rt, StepFault::text(fault), text);
     }
 }
 

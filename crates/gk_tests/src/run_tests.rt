@@ -6,7 +6,9 @@ ghost use Rattle.gk_run.specs.Chosen.{IsFormed};
 use crate::checks::{equal, same};
 use gk_gherkin::{Feature, HookFile, Rule, read_feature, read_hooks};
 use gk_report::{Format, Style, part};
-use gk_run::{CaseResult, Chosen, FeatureResult, RuleHead, run_case, run_feature};
+use gk_run::{
+    CaseResult, Chosen, FeatureResult, NoRoom, RuleHead, StepResult, run_case, run_feature,
+};
 use gk_select::{
     Case, Choice, cases_fall_into_rules, expand, read_features_are_expandable, read_tags,
 };
@@ -104,19 +106,27 @@ const RUN: [&str; 6] = [
     "Scenario Outline: of 2 -- @1.2 (22) Failed Passed []; 3 Passed None; 18 Failed Some(Differs)",
 ];
 
+// Shows which case a result is of.
+fn shown_heading(alloc: Global, case: &CaseResult) -> Result<String, AllocError> {
+    format!(in alloc; "{}: {} ({})", case.keyword.as_str(), case.name, case.line)
+}
+
+// Shows how a case, its hooks and its cleanups ended.
+fn shown_end(alloc: Global, case: &CaseResult) -> Result<String, AllocError> {
+    format!(in alloc; " {:?} {:?} {:?}", case.status, case.around, case.cleanups)
+}
+
+// Shows the result of a step.
+fn shown_step(alloc: Global, step: &StepResult) -> Result<String, AllocError> {
+    format!(in alloc; "; {} {:?} {:?}", step.line, step.status, step.reason)
+}
+
 // Shows the result of a case.
 fn shown(alloc: Global, case: &CaseResult) -> Result<String, AllocError> {
-    let mut shown = format!(in alloc;
-        "{}: {} ({}) {:?} {:?} {:?}",
-        case.keyword.as_str(),
-        case.name,
-        case.line,
-        case.status,
-        case.around,
-        case.cleanups
-    )?;
+    let mut shown = shown_heading(alloc, case)?;
+    shown.push_str(shown_end(alloc, case)?.as_str())?;
     for step in &case.steps {
-        write!(shown, "; {} {:?} {:?}", step.line, step.status, step.reason)?;
+        shown.push_str(shown_step(alloc, step)?.as_str())?;
     }
     Ok(shown)
 }
@@ -168,14 +178,26 @@ const FEATURE_HOOKS: &str =
 const LIBRARY: &str =
     "given it passes => pass\ngiven it fails => fail\ngiven the number \"{name}\" is set to {n:d} => set_number\ngiven the number \"{name}\" grows by {n:d} => add_number\nthen the number \"{name}\" should be {n:d} => number_is\n";
 
+// Runs a feature in a new sandbox.
+pub fn run_chosen(
+    alloc: Global,
+    library: &Library,
+    hooks: &HookFile,
+    stop: bool,
+    chosen: Chosen,
+) -> Result<FeatureResult, NoRoom>
+    requires { IsFormed chosen }
+{
+    let mut sandbox = Sandbox::new(alloc);
+    run_feature(alloc, &mut sandbox, library, hooks, stop, chosen)
+}
+
 // Returns the result of the feature. The cases whose tags fit are chosen.
 pub fn result_of(alloc: Global, tags: &str, stop: bool) -> Result<FeatureResult, Fail> {
     let library = read_library(alloc, LIBRARY.as_bytes())?;
     let hooks = read_hooks(alloc, FEATURE_HOOKS.as_bytes())?;
-    let feature = feature_of(alloc, FEATURE)?;
-    let chosen = chosen_of(alloc, feature, tags)?;
-    let mut sandbox = Sandbox::new(alloc);
-    Ok(run_feature(alloc, &mut sandbox, &library, &hooks, stop, chosen)?)
+    let chosen = chosen_of(alloc, feature_of(alloc, FEATURE)?, tags)?;
+    Ok(run_chosen(alloc, &library, &hooks, stop, chosen)?)
 }
 
 // The tags of the cases that are chosen, whether the run stops at a failure, and the format; whether

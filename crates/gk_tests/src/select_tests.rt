@@ -270,14 +270,21 @@ fn holds_of(alloc: Global, rule: &TagRule, set: &[&str]) -> Result<bool, AllocEr
     Ok(rule.selects(&tags))
 }
 
+// Returns whether a rule holds, for each set of tags.
+fn values_of(alloc: Global, rule: &TagRule) -> Result<Vec<bool>, AllocError> {
+    let mut values = Vec::new(alloc);
+    for set in TAG_SETS {
+        values.push(holds_of(alloc, rule, set)?)?;
+    }
+    Ok(values)
+}
+
 #[test]
 fn expressions_select_sets_of_tags(rt: HostRuntime) -> Result<(), Fail> {
-    for (text, values) in EXPRESSIONS {
+    for (text, wanted) in EXPRESSIONS {
         let rule = read_tags(rt.alloc(), text)?;
-        for (set, wanted) in TAG_SETS.iter().zip(values.iter()) {
-            let holds = holds_of(rt.alloc(), &rule, set)?;
-            equal(&rt, &holds, &(*wanted));
-        }
+        let values = values_of(rt.alloc(), &rule)?;
+        equal(&rt, &values.as_slice(), &wanted.as_slice());
     }
     Ok(())
 }

@@ -2,14 +2,14 @@ ghost use Rattle.std.specs.Prelude.{IfOk};
 ghost use Rattle.gk_run.specs.Chosen.{IsFormed};
 
 use crate::checks::{equal, holds, same};
-use crate::run_tests::{cases_of, chosen_of, feature_of};
+use crate::run_tests::{cases_of, chosen_of, feature_of, run_chosen};
 use gk_gherkin::{Block, HookFile, HookTable, Step, read_hooks};
 use gk_report::{Format, Style, part};
 use gk_run::{
     CaseResult, Chosen, FeatureResult, Level, Mark, NoRoom, Observer, Outcome, Reason, RuleResult,
-    Stage, Status, Suite, dry_feature, is_failed_or_memory, reason_of, run_case_watched,
-    run_feature, status_of,
+    Stage, Status, Suite, dry_feature, is_failed_or_memory, reason_of, run_case_watched, status_of,
 };
+use gk_select::Case;
 use gk_steps::{Found, Library, default_library};
 use gk_world::Sandbox;
 use std::alloc::Global;
@@ -67,8 +67,7 @@ pub fn ran(alloc: Global, text: &str) -> Result<FeatureResult, Fail> {
     let library = default_library(alloc)?;
     let hooks = read_hooks(alloc, b"")?;
     let chosen = chosen(alloc, text)?;
-    let mut sandbox = Sandbox::new(alloc);
-    Ok(run_feature(alloc, &mut sandbox, &library, &hooks, false, chosen)?)
+    Ok(run_chosen(alloc, &library, &hooks, false, chosen)?)
 }
 
 // A feature with a step that is undefined, and a scenario that isn't chosen.
@@ -154,17 +153,34 @@ const CASE_TOLD: &str =
 const RUN_TOLD: &str =
     "Run Before 2 Acted(Passed) None\nScenario Steps 3 Acted(Passed) Some(\"1\")\nScenario Steps 4 Acted(Passed) Some(\"1\")\nScenario cleanup [Text(\"n\"), Text(\"1\")] Passed Some(\"1\")\nscenario 2 Passed\nScenario Steps 7 Acted(Failed(Absent)) None\nscenario 6 Failed\nRule After 4 Acted(Failed(Asked)) None\nrule 5 Failed\nRun After 6 Acted(Passed) None\n";
 
-// Runs the first scenario of a feature alone. Returns its status, and what was told.
-fn first_told(alloc: Global, library: &Library, text: &str) -> Result<(Status, String), Fail> {
-    let Some(case) = cases_of(alloc, text)?.into_iter().next() else {
-        return Err("no scenario".into());
-    };
-    let hooks = read_hooks(alloc, b"")?;
+// Returns the first scenario of a feature.
+fn first_case(alloc: Global, text: &str) -> Result<Case, Fail> {
+    match cases_of(alloc, text)?.into_iter().next() {
+        Some(case) => Ok(case),
+        None => Err("no scenario".into()),
+    }
+}
+
+// Runs a scenario alone in a new sandbox, and tells of it.
+fn told_case(
+    alloc: Global,
+    library: &Library,
+    hooks: &HookFile,
+    case: Case,
+    teller: &mut Teller,
+) -> Result<CaseResult, NoRoom> {
     let mut sandbox = Sandbox::new(alloc);
+    run_case_watched(alloc, &mut sandbox, library, hooks, case, teller)
+}
+
+// Runs the first scenario of a feature alone without hooks. Returns its status, and what was told.
+fn first_told(alloc: Global, library: &Library, text: &str) -> Result<(Status, String), Fail> {
     let mut teller = Teller {
         told: String::new(alloc),
     };
-    let result = run_case_watched(alloc, &mut sandbox, library, &hooks, case, &mut teller)?;
+    let hooks = read_hooks(alloc, b"")?;
+    let case = first_case(alloc, text)?;
+    let result = told_case(alloc, library, &hooks, case, &mut teller)?;
     Ok((result.status, teller.told))
 }
 

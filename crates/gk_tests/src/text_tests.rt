@@ -45,17 +45,17 @@ fn texts_are_looked_for(rt: HostRuntime) {
 #[test]
 fn lines_have_their_places(rt: HostRuntime) {
     let line = borrowed_line(7, " \tb");
-    equal(&rt, &line.place, &(Place { line: 7, column: 3 }));
+    equal(&rt, &line.place, &Place { line: 7, column: 3 });
     same(&rt, line.text, " \tb");
     equal(
         &rt,
-        &(borrowed_line(1, "").place),
-        &(Place { line: 1, column: 1 }),
+        &borrowed_line(1, "").place,
+        &Place { line: 1, column: 1 },
     );
     equal(
         &rt,
-        &(borrowed_line(2, "  ").place),
-        &(Place { line: 2, column: 3 }),
+        &borrowed_line(2, "  ").place,
+        &Place { line: 2, column: 3 },
     );
 }
 
