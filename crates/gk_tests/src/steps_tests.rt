@@ -1,8 +1,6 @@
 use crate::checks::{equal, holds, same};
-use gk_gherkin::StepType;
-use gk_steps::*;
+use gk_steps::{FieldKind, Pattern, PatternFault, Piece, read_pattern};
 use std::alloc::{AllocError, Global};
-use std::test::Fail;
 
 // A piece: a literal's text, or a field's name.
 #[derive(Clone, Copy)]
