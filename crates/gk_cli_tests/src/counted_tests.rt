@@ -6,7 +6,7 @@ use std::test::Fail;
 
 /// A writer that counts its own calls. It takes at most `most` bytes in a call, and fails only in the call `fails_at`.
 #[derive(Debug, Drop)]
-pub struct Writer {
+pub(crate) struct Writer {
     most: usize,
     fails_at: usize,
     calls: usize,
@@ -36,7 +36,7 @@ impl io::Write for Writer {
 }
 
 // Makes a counted writer with nothing written to it.
-pub fn counted(alloc: Global, most: usize, fails_at: usize) -> Counted<Writer> {
+pub(crate) fn counted(alloc: Global, most: usize, fails_at: usize) -> Counted<Writer> {
     Counted::new(Writer {
         most,
         fails_at,

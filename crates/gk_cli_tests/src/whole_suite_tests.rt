@@ -9,7 +9,7 @@ use std::str;
 use std::test::Fail;
 
 // A file of this name.
-pub fn source(alloc: Global, name: &str, text: &str) -> Result<Source, AllocError> {
+pub(crate) fn source(alloc: Global, name: &str, text: &str) -> Result<Source, AllocError> {
     let mut bytes = Vec::new(alloc);
     bytes.extend_from_slice(text.as_bytes())?;
     Ok(Source {
@@ -19,7 +19,7 @@ pub fn source(alloc: Global, name: &str, text: &str) -> Result<Source, AllocErro
 }
 
 // The files of a run of one feature.
-pub fn files_with(
+pub(crate) fn files_with(
     alloc: Global,
     library: Option<Source>,
     hooks: Option<Source>,
@@ -35,7 +35,7 @@ pub fn files_with(
 }
 
 // Writes in a mode what there is to write of some files, from a new sandbox. Returns the status.
-fn written(
+fn write(
     alloc: Global,
     options: &Options,
     mode: Mode,
@@ -55,14 +55,14 @@ fn shown(alloc: Global, out: &Counted<Writer>, status: u8) -> Result<String, Fai
 }
 
 // Returns what is written of some files in a mode, and the status after it.
-fn found(
+fn written(
     alloc: Global,
     options: &Options,
     mode: Mode,
     files: &mut SuiteFiles<Source>,
 ) -> Result<String, Fail> {
     let mut out = counted(alloc, usize::MAX, 0);
-    let status = written(alloc, options, mode, files, &mut out)?;
+    let status = write(alloc, options, mode, files, &mut out)?;
     shown(alloc, &out, status)
 }
 
@@ -78,7 +78,7 @@ fn suites_are_reported(rt: HostRuntime) -> Result<(), Fail> {
     let feature = source(rt.alloc(), "counter.feature", COUNTER)?;
     let mut files = files_with(rt.alloc(), None, None, feature)?;
     let options = Options::plain(rt.alloc());
-    let report = found(rt.alloc(), &options, Mode::Report, &mut files)?;
+    let report = written(rt.alloc(), &options, Mode::Report, &mut files)?;
     assert_eq!(rt; report.as_str(), REPORT);
     let left = format!(in rt.alloc(); "{:?}", files.sources)?;
     assert_eq!(rt;
@@ -105,7 +105,7 @@ fn suites_are_explained(rt: HostRuntime) -> Result<(), Fail> {
         source(rt.alloc(), "hall.feature", feature)?,
     )?;
     let options = Options::plain(rt.alloc());
-    let explanation = found(rt.alloc(), &options, Mode::Explanation, &mut files)?;
+    let explanation = written(rt.alloc(), &options, Mode::Explanation, &mut files)?;
     assert_eq!(rt; explanation.as_str(), wanted);
     Ok(())
 }
@@ -140,9 +140,9 @@ fn suites_are_linted(rt: HostRuntime) -> Result<(), Fail> {
     let mut options = Options::plain(rt.alloc());
     options.tags.push(String::from_str(rt.alloc(), "@quik")?)?;
     options.lines.push(7)?;
-    let findings = found(rt.alloc(), &options, LINT, &mut files)?;
+    let findings = written(rt.alloc(), &options, LINT, &mut files)?;
     assert_eq!(rt; findings.as_str(), wanted);
-    let findings = found(rt.alloc(), &options, LINT_ALONE, &mut files)?;
+    let findings = written(rt.alloc(), &options, LINT_ALONE, &mut files)?;
     assert_eq!(rt; findings.as_str(), WICK_ALONE);
     Ok(())
 }
@@ -152,7 +152,7 @@ fn nothing_is_found_in_a_suite(rt: HostRuntime) -> Result<(), Fail> {
     let [_, feature, _] = HALL;
     let hall = source(rt.alloc(), "hall.feature", feature)?;
     let mut files = files_with(rt.alloc(), None, None, hall)?;
-    let findings = found(rt.alloc(), &Options::plain(rt.alloc()), LINT, &mut files)?;
+    let findings = written(rt.alloc(), &Options::plain(rt.alloc()), LINT, &mut files)?;
     assert_eq!(rt; findings.as_str(), "0");
     Ok(())
 }
@@ -162,7 +162,7 @@ const OIL_STEPS: &str = "step the oil is filled up => pass\nstep the oil burns =
 
 const OIL: &str = "@lamp oil\nFeature: Oil\n  Scenario: It burns\n    Given the oil burns\n";
 
-pub fn oil(alloc: Global) -> Result<SuiteFiles<Source>, AllocError> {
+pub(crate) fn oil(alloc: Global) -> Result<SuiteFiles<Source>, AllocError> {
     let library = source(alloc, "oil.steps", OIL_STEPS)?;
     let feature = source(alloc, "oil.feature", OIL)?;
     files_with(alloc, Some(library), None, feature)
@@ -172,7 +172,7 @@ pub fn oil(alloc: Global) -> Result<SuiteFiles<Source>, AllocError> {
 fn first_fault(alloc: Global, files: &mut SuiteFiles<Source>) -> Result<RunFault, Fail> {
     let mut out = counted(alloc, usize::MAX, 0);
     let options = Options::plain(alloc);
-    match written(alloc, &options, LINT, files, &mut out) {
+    match write(alloc, &options, LINT, files, &mut out) {
         Ok(_) => Err("no fault".into()),
         Err(fault) => Ok(fault),
     }

@@ -18,7 +18,7 @@ use std::alloc::{AllocError, Global};
 use std::test::Fail;
 
 // Reads the feature of a text.
-pub fn feature_of(alloc: Global, text: &str) -> Result<Feature, Fail>
+pub(crate) fn feature_of(alloc: Global, text: &str) -> Result<Feature, Fail>
     ensures { IfOk result (λ feature. IsExpandable (feature_value feature)) }
 {
     // No code runs here: the law says that what was read can be expanded.
@@ -60,7 +60,7 @@ fn choice_by(alloc: Global, tags: &str) -> Result<Choice, Fail> {
 }
 
 // Returns a feature with its cases. Those whose tags fit are chosen.
-pub fn chosen_of(alloc: Global, feature: Feature, tags: &str) -> Result<Chosen, Fail>
+pub(crate) fn chosen_of(alloc: Global, feature: Feature, tags: &str) -> Result<Chosen, Fail>
     requires { IsExpandable (feature_value feature) }
     ensures { IfOk result (λ chosen. IsFormed chosen) }
 {
@@ -132,7 +132,7 @@ fn shown(alloc: Global, case: &CaseResult) -> Result<String, AllocError> {
 }
 
 // Returns the cases of a text's feature.
-pub fn cases_of(alloc: Global, text: &str) -> Result<Vec<Case>, Fail> {
+pub(crate) fn cases_of(alloc: Global, text: &str) -> Result<Vec<Case>, Fail> {
     let feature = feature_of(alloc, text)?;
     Ok(expand(alloc, &feature)?)
 }
@@ -179,7 +179,7 @@ const LIBRARY: &str =
     "given it passes => pass\ngiven it fails => fail\ngiven the number \"{name}\" is set to {n:d} => set_number\ngiven the number \"{name}\" grows by {n:d} => add_number\nthen the number \"{name}\" should be {n:d} => number_is\n";
 
 // Runs a feature in a new sandbox.
-pub fn run_chosen(
+pub(crate) fn run_chosen(
     alloc: Global,
     library: &Library,
     hooks: &HookFile,
@@ -193,7 +193,7 @@ pub fn run_chosen(
 }
 
 // Returns the result of the feature. The cases whose tags fit are chosen.
-pub fn result_of(alloc: Global, tags: &str, stop: bool) -> Result<FeatureResult, Fail> {
+pub(crate) fn result_of(alloc: Global, tags: &str, stop: bool) -> Result<FeatureResult, Fail> {
     let library = read_library(alloc, LIBRARY.as_bytes())?;
     let hooks = read_hooks(alloc, FEATURE_HOOKS.as_bytes())?;
     let chosen = chosen_of(alloc, feature_of(alloc, FEATURE)?, tags)?;

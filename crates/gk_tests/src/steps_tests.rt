@@ -67,7 +67,7 @@ fn matched(alloc: Global, parts: &[Part], text: &str) -> Result<String, AllocErr
 }
 
 // Returns a letter repeated `count` times, with another letter after it.
-pub fn repeated(
+pub(crate) fn repeated(
     alloc: Global,
     letter: char,
     count: usize,

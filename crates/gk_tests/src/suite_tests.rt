@@ -55,7 +55,7 @@ fn steps_have_statuses_and_reasons(rt: HostRuntime) {
 }
 
 // Returns the feature of a text with its cases. All are chosen except those with the tag `@out`.
-pub fn chosen(alloc: Global, text: &str) -> Result<Chosen, Fail>
+pub(crate) fn chosen(alloc: Global, text: &str) -> Result<Chosen, Fail>
     ensures { IfOk result (λ chosen. IsFormed chosen) }
 {
     let feature = feature_of(alloc, text)?;
@@ -63,7 +63,7 @@ pub fn chosen(alloc: Global, text: &str) -> Result<Chosen, Fail>
 }
 
 // Runs a feature alone with the built-in library. Returns its result.
-pub fn ran(alloc: Global, text: &str) -> Result<FeatureResult, Fail> {
+pub(crate) fn ran(alloc: Global, text: &str) -> Result<FeatureResult, Fail> {
     let library = default_library(alloc)?;
     let hooks = read_hooks(alloc, b"")?;
     let chosen = chosen(alloc, text)?;
