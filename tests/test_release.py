@@ -19,7 +19,8 @@ RELEASED = ("dist", "bindings/web")
 VERSION = driver.text("packaging/version").strip()
 WHEEL = f"dist/gherkin_run-{VERSION}-py3-none-manylinux_2_34_x86_64.whl"
 # The commands that ./release and what it calls change files with, those that read, and others.
-STEPS = "chmod cp dpkg-deb ln mkdir mktemp mv rm cat cut find python3 readlink sha256sum sort".split()
+CHANGING = "chmod cp dpkg-deb ln mkdir mktemp mv python3 rm".split()
+READING = "cat cut find readlink sha256sum sort".split()
 OTHERS = "basename date env grep gzip head install ln md5sum nproc sed tar tr uname wc".split()
 
 
@@ -35,13 +36,14 @@ class Released(Checks):
         # Otherwise the page would be the same.
         page = "bindings/web/source/page.html"
         driver.write(cls.clone.folder, {page: driver.text(page) + "<!-- another page -->\n"})
-        cls.commands, cls.steps, kit = cls.clone.commands(False), os.path.join(cls.room, "steps"), os.path.join(cls.room, "kit")
+        cls.commands, kit = cls.clone.commands(False), os.path.join(cls.room, "kit")
         for name in OTHERS:
             os.symlink(shutil.which(name), os.path.join(cls.commands, name))
         # The stand-ins for the programs of the toolchain.
         driver.write(kit, {**blocks.shown("release.md"), "bin/rt": ready.STAND_IN}, 0o755)
         os.symlink(os.path.join(kit, "bin/rt"), os.path.join(cls.commands, "rt"))
-        stand_ins.make(cls.steps, STEPS)
+        stand_ins.make(os.path.join(cls.room, "all"), CHANGING + READING)
+        stand_ins.make(os.path.join(cls.room, "changing"), CHANGING)
         cls.kept = cls.copied("kept")
         cls.before = cls.state()
         cls.first = cls.release()
@@ -71,14 +73,14 @@ class Released(Checks):
             shutil.copytree(os.path.join(cls.kept, name), cls.clone.path(name))
 
     @classmethod
-    def release(cls, at=0, how="fails", umask=0o022, script="./release", **more):
+    def release(cls, at=0, how="fails", steps="all", umask=0o022, script="./release", **more):
         """Runs ./release: its status, what it says on both streams, and how many steps it took."""
         calls = os.path.join(cls.room, "steps taken")
         for it in stand_ins.notes(calls):
             os.remove(it)
         driver.write(cls.room, {"steps taken": "0\n"})
         # The stand-in for the toolchain notes its calls in the same variable.
-        settings = {"PATH": f"{cls.steps}:{cls.commands}", "CALLS": calls, "AT": str(at), "HOW": how, "TMPDIR": cls.clone.temporary, **more}
+        settings = {"PATH": f"{os.path.join(cls.room, steps)}:{cls.commands}", "CALLS": calls, "AT": str(at), "HOW": how, "TMPDIR": cls.clone.temporary, **more}
         command = ["sh", "-c", stand_ins.BEGIN, script]
         process = ready.begin(command, cls.clone.folder, settings, umask=umask, text=True, errors="replace")
         printed = process.communicate(timeout=2 * driver.PATIENCE)
@@ -105,11 +107,12 @@ class Released(Checks):
 
 
 class Stopped(Released):
-    def check_each_step(self, how):
-        """Checks that a release that is stopped at any of its steps leaves everything as before, or makes all of it new."""
-        count = self.first[3]
+    def check_each_step(self, how, steps):
+        """Checks that a release that is stopped at any of these steps leaves everything as before, or makes all of it new."""
+        count = self.release(steps=steps)[3]
+        self.put_back()
         for at in range(1, count + 1):
-            status, _, said, _ = self.release(at=at, how=how)
+            status, _, said, _ = self.release(at=at, how=how, steps=steps)
             last = (said.splitlines() or [""])[-1]
             # The last step removes what the script itself made.
             left = [it for it in self.clone.left() if at < count or not it.startswith("release.")]
@@ -119,10 +122,11 @@ class Stopped(Released):
             self.put_back()
 
     def test_failures(self):
-        self.check_each_step("fails")
+        self.check_each_step("fails", "all")
 
     def test_signals(self):
-        self.check_each_step("ends")
+        # A signal at a command that only reads leaves what one at the next command leaves.
+        self.check_each_step("ends", "changing")
 
 
 @pages.tests("release.md")
