@@ -1,10 +1,12 @@
 //! The files of the machine that the program runs on, and its arguments.
 ghost use Rattle.std.specs.Prelude.{◌≡◌};
+ghost use Rattle.std.specs.Io.{WritesAtMost};
 ghost use Rattle.gherkin_run.specs.Machine as spec;
 
 use gk_program::{ArgumentsFault, System};
 use gk_request::{Counted, SourceFault, read_source};
 use std::alloc::Global;
+use std::env::FillError;
 use std::rt::{Env, Files};
 use std::{env, fs, io};
 
@@ -49,14 +51,60 @@ impl<R: Files> System for Machine<'_, R> {
     }
 }
 
-/// Returns the arguments of the program. No clause says that these are the program's own arguments: `env::args` of std
-/// has none.
-pub fn program_arguments<R: Env + AllocGlobal>(rt: &R) -> Result<Vec<String>, ArgumentsFault> {
+/// The arguments of a machine, in which the program's own name is always `gherkin_run`.
+#[derive(Drop)]
+struct Renamed<'a, R> {
+    rt: &'a R,
+}
+
+// Copies a name to the start of a buffer, and returns its length.
+fn fill(buffer: &mut [u8], name: &str) -> Result<usize, FillError>
+    ensures { WritesAtMost result buffer.new }
+{
+    let bytes = name.as_bytes();
+    match buffer.get_mut(..bytes.len()) {
+        Some(start) => {
+            start.copy_from_slice(bytes);
+            Ok(bytes.len())
+        }
+        None => Err(FillError::TooLong),
+    }
+}
+
+impl<R: Env> Env for Renamed<'_, R> {
+    fn arg(&self, i: usize, buf: &mut [u8]) -> Result<usize, FillError> {
+        if i == 0 {
+            fill(buf, "gherkin_run")
+        } else {
+            self.rt.arg(i, buf)
+        }
+    }
+
+    fn var(&self, name: &str, buf: &mut [u8]) -> Result<usize, FillError> {
+        self.rt.var(name, buf)
+    }
+
+    fn var_at(&self, i: usize, buf: &mut [u8]) -> Result<usize, FillError> {
+        self.rt.var_at(i, buf)
+    }
+}
+
+// Returns all arguments, the program's own name first.
+fn arguments_of<R: Env + AllocGlobal>(rt: &R) -> Result<Vec<String>, ArgumentsFault> {
     match env::args(rt) {
         Ok(arguments) => match arguments.collect(rt.alloc()) {
             Ok(arguments) => Ok(arguments),
             Err(_) => Err(ArgumentsFault::Memory),
         },
         Err(error) => Err(fault_of_arguments(error.kind())),
+    }
+}
+
+/// Returns the arguments of the program. If its own name isn't UTF-8, as in a folder whose name isn't, that is
+/// `gherkin_run`. No clause says that these are the program's own arguments: `env::args` of std has none.
+pub fn program_arguments<R: Env + AllocGlobal>(rt: &R) -> Result<Vec<String>, ArgumentsFault> {
+    match arguments_of(rt) {
+        Err(ArgumentsFault::NotUtf8) => arguments_of(&(Renamed { rt }, rt.alloc())),
+        arguments => arguments,
     }
 }
