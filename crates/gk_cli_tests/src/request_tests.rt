@@ -199,7 +199,7 @@ fn bad_text_of_tags_has_notes(rt: HostRuntime) -> Result<(), Fail> {
     let mut notes = String::new(rt.alloc());
     push_notes(&mut notes, rt.alloc(), Some("@bell and"), &files, fault)?;
     let wanted =
-        "    @bell and\n    it breaks at its end, where \"not\", \"(\" or a tag such as @a is expected\n";
+        "    | @bell and\n    it breaks at its end, where \"not\", \"(\" or a tag such as @a is expected\n";
     assert_eq!(rt; notes.as_str(), wanted);
     Ok(())
 }
@@ -207,13 +207,13 @@ fn bad_text_of_tags_has_notes(rt: HostRuntime) -> Result<(), Fail> {
 #[test]
 fn bad_variables_have_notes(rt: HostRuntime) -> Result<(), Fail> {
     let notes = notes_on_env(rt.alloc(), EnvMistake::NoEquals, "COLOUR")?;
-    let wanted = "    COLOUR\n    write NAME=VALUE, with = after the name\n";
+    let wanted = "    | COLOUR\n    write NAME=VALUE, with = after the name\n";
     assert_eq!(rt; notes.as_str(), wanted);
     let notes = notes_on_env(rt.alloc(), EnvMistake::BadName, "")?;
-    let wanted = "    =\n    give the variable a name of 1 to 255 bytes before the =\n";
+    let wanted = "    | =\n    give the variable a name of 1 to 255 bytes before the =\n";
     assert_eq!(rt; notes.as_str(), wanted);
     let notes = notes_on_env(rt.alloc(), EnvMistake::LongValue, "A")?;
-    let wanted = "    A=\n    shorten its value: at most 1048576 bytes\n";
+    let wanted = "    | A=\n    shorten its value: at most 1048576 bytes\n";
     assert_eq!(rt; notes.as_str(), wanted);
     Ok(())
 }

@@ -115,7 +115,7 @@ const WICK: [&str; 4] = [
     "step the wick \"{name}\" is trimmed => write_file\nstep the wick \"{name}\" is put out => remove_file\nstep the night is over => skip_scenario\nthen the wick \"{name}\" should be gone => file_absent\nstep at last {step} => at_cleanup\n",
     "before_tag @quick:\n  Given the wick \"night\" is put out\n\nafter_scenario:\n  Then the night is over\n",
     "Feature: A wick\n  Scenario: It is trimmed\n    Given the wick \"hall\" is trimmed\n    When the wick \"hall\" is lit\n    And at last the wick \"hall\" should be gone\n\n  Scenario Outline: It smokes <offen>\n    Given the wick \"hall\" is put out\n    Examples:\n      | often |\n",
-    "wick.hooks:1: hook for a tag that isn't used\nwick.hooks:5: action that isn't allowed here\nwick.feature:3: step without the text that its action needs\nwick.feature:4: undefined step\n    When the wick \"hall\" is lit\n    the nearest entry is: step the wick \"{name}\" is trimmed\nwick.feature:5: cleanup without step\n    And at last the wick \"hall\" should be gone\n    matches line 4 of wick.steps, which is a then entry; a cleanup needs step\nwick.feature:7: outline without rows\nwick.feature:7: placeholder that no column has\n    the nearest column is: often\n--tags @quik: no such tag\n--line 7: chooses no scenario\nwick.steps:4: entry that no step finds\nwick.steps: no step finds 1 of 5 entries\n1",
+    "wick.hooks:1: hook for a tag that isn't used\nwick.hooks:5: action that isn't allowed here\nwick.feature:3: step without the text that its action needs\nwick.feature:4: undefined step\n    | When the wick \"hall\" is lit\n    the nearest entry is: step the wick \"{name}\" is trimmed\nwick.feature:5: cleanup without step\n    | And at last the wick \"hall\" should be gone\n    matches line 4 of wick.steps, which is a then entry; a cleanup needs step\nwick.feature:7: outline without rows\nwick.feature:7: placeholder that no column has\n    the nearest column is: often\n--tags @quik: no such tag\n--line 7: chooses no scenario\nwick.steps:4: entry that no step finds\nwick.steps: no step finds 1 of 5 entries\n1",
 ];
 
 // The same without a look-up of steps.
@@ -186,10 +186,10 @@ fn said(alloc: Global, files: &SuiteFiles<Source>, fault: RunFault) -> Result<St
 }
 
 const IN_LIBRARY: &str =
-    "Some(\"oil.steps\") Library(UnknownAction { line: 2 })\n    step the oil burns => shine\n    take a name of the table of actions, in lower case\n";
+    "Some(\"oil.steps\") Library(UnknownAction { line: 2 })\n    | step the oil burns => shine\n    take a name of the table of actions, in lower case\n";
 
 const IN_FEATURE: &str =
-    "Some(\"oil.feature\") Read { input: 0, fault: BadTag { line: 1 } }\n    @lamp oil\n    write an @ before each tag, and a # before remarks\n";
+    "Some(\"oil.feature\") Read { input: 0, fault: BadTag { line: 1 } }\n    | @lamp oil\n    write an @ before each tag, and a # before remarks\n";
 
 #[test]
 fn all_faults_are_named(rt: HostRuntime) -> Result<(), Fail> {

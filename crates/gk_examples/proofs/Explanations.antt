@@ -24,7 +24,7 @@ use Rattle.gk_steps.specs.declared.pattern.FieldKind.TheVariants as kinds
 use Rattle.gk_steps.specs.Pattern.{Literal, FieldPiece}
 use Rattle.gk_steps.specs.Matching.{match_of}
 use Rattle.gk_steps.specs.Finding.{EntryValue, LibraryValue, found}
-use Rattle.gk_explain.specs.Shown.{quoted_window, cut_line, marked_text_with, escaped}
+use Rattle.gk_explain.specs.Shown.{quoted_window, cut_line, marked_text_with, escaped, file_shown, shown, unquoted}
 use Rattle.gk_explain.specs.Details.{event_details}
 use Rattle.gk_lint.specs.declared.nearest_entry.EntryHint.TheVariants.{OtherType, Nearest}
 use Rattle.gk_lint.specs.Likeness.{same_letters, is_one_off, common_len, differ_at_first}
@@ -69,12 +69,12 @@ of_scenario s cleanup =
 -- Where it failed it is explained.
 failed_is_explained : (s : State) (cleanup : CleanupValue) → (with_case (scenario statuses.Failed) (of_scenario s cleanup)).ready
     ≡ codes "f:6: Scenario: s ... failed\n  h:2: before: Given a ... passed\n  f:7: When b\\nc ... passed\n  f:8: Then d ... failed: differs\n  f:10: And e ... skipped\n  h:4: after: When g ... undefined\n  cleanup ... memory\n\n"
-unfolding found chars lib.Utf8.encode event_details digits status_text reason_text escaped status_line line_of_step line_of_cleanup place_text case_heading explanation_text
+unfolding found chars lib.Utf8.encode event_details digits status_text reason_text escaped file_shown status_line line_of_step line_of_cleanup place_text case_heading explanation_text
 failed_is_explained s cleanup = refl
 
 -- Where it passed nothing is said of it.
 passed_is_not : (s : State) (cleanup : CleanupValue) → with_case (scenario statuses.Passed) (of_scenario s cleanup) ≡ begun
-unfolding found chars lib.Utf8.encode event_details digits status_text reason_text escaped status_line line_of_step line_of_cleanup place_text case_heading explanation_text
+unfolding found chars lib.Utf8.encode event_details digits status_text reason_text escaped file_shown status_line line_of_step line_of_cleanup place_text case_heading explanation_text
 passed_is_not s cleanup = refl
 
 -- The rows of a feature. The second is on the line of the scenario.
@@ -86,7 +86,7 @@ begun_with_rows = with_source (codes "f") (nothing_said [] (codes "h") (rows ∷
 
 -- A scenario that is the case of a row names it.
 row_is_named : (with_case (scenario statuses.Failed) begun_with_rows).ready ≡ codes "f:6: Scenario: s ... failed\n  row 2: a=x\\ny, b=\n\n"
-unfolding chars lib.Utf8.encode digits status_text escaped status_line place_text case_heading explanation_text row_line
+unfolding chars lib.Utf8.encode digits status_text escaped file_shown status_line place_text case_heading explanation_text row_line
 row_is_named = refl
 
 -- The next feature has no rows.
@@ -110,7 +110,7 @@ with_cleanups s cleanup =
 -- Its cleanups have the places of the steps that registered them, the last first.
 cleanups_have_places : (s : State) (cleanup : CleanupValue) → (with_case (scenario statuses.Failed) (with_cleanups s cleanup)).ready
     ≡ codes "f:6: Scenario: s ... failed\n  h:2: before: Given later ok ... passed\n  f:7: Given later ok ... passed\n  f:8: Given later no ... failed: no such step\n  f:9: Given ok ... skipped\n  f:7: cleanup ... passed\n  h:2: cleanup ... failed: fail step\n\n"
-unfolding found match_of is_utf8 same_letters is_one_off common_len differ_at_first chars lib.Utf8.encode event_details digits status_text reason_text escaped status_line line_of_step line_of_cleanup place_text case_heading explanation_text
+unfolding found match_of is_utf8 same_letters is_one_off common_len differ_at_first chars lib.Utf8.encode event_details digits status_text reason_text escaped file_shown status_line line_of_step line_of_cleanup place_text case_heading explanation_text
 cleanups_have_places s cleanup = refl
 
 -- Hooks and cleanups of a rule, a feature and a run, with one event in each, of which the rule's passed.
@@ -126,11 +126,11 @@ ended s rule = with_run statuses.Failed (with_feature (feature statuses.Memory) 
 
 sections_are_explained : (s : State) → (ended s statuses.Passed).ready
     ≡ codes "f:1: Feature: n (hooks and cleanups) ... memory\n  h:2: before: Given b ... passed\n\nRun: (hooks and cleanups) ... failed\n  h:1: before: Given a ... passed\n\n"
-unfolding found chars lib.Utf8.encode event_details digits status_text reason_text escaped status_line line_of_step line_of_cleanup place_text rule_heading feature_heading around_text run_heading explanation_text
+unfolding found chars lib.Utf8.encode event_details digits status_text reason_text escaped file_shown status_line line_of_step line_of_cleanup place_text rule_heading feature_heading around_text run_heading explanation_text
 sections_are_explained s = refl
 
 sections_are_listed : (s : State) → (ended s statuses.Failed).failures ≡ codes "f:5: Rule: (hooks and cleanups)\nf:1: Feature: n (hooks and cleanups)\nRun: (hooks and cleanups)\n"
-unfolding found chars lib.Utf8.encode event_details digits status_text reason_text escaped status_line line_of_step line_of_cleanup place_text rule_heading feature_heading around_text run_heading explanation_text
+unfolding found chars lib.Utf8.encode event_details digits status_text reason_text escaped file_shown status_line line_of_step line_of_cleanup place_text rule_heading feature_heading around_text run_heading explanation_text
 sections_are_listed s = refl
 
 -- An entry for steps of each type, with a field between two literals.
@@ -149,6 +149,28 @@ named_as_of_another_type = refl
 -- A row whose name has no byte is the first that can't be written, and the header isn't looked at.
 row_without_name : refused_file (Table ((codes "" ∷ codes "text" ∷ []) ∷ (codes "a" ∷ codes "b" ∷ []) ∷ (codes "" ∷ codes "c" ∷ []) ∷ [])) ≡ ([], codes "c")
 row_without_name = refl
+
+-- `##[` and `##vso[` begin a command in a CI's log wherever they are, and `::` in the name of a file, with which a line may begin. None is left whole.
+command_in_a_name : escaped (codes "a::b ###[error]c #[d] #a#[e] ##vso[f]") ≡ codes "a::b ###\\u{5b}error]c #[d] #a#[e] ##vso\\u{5b}f]"
+unfolding escaped chars digits lib.Utf8.encode
+command_in_a_name = refl
+
+command_in_a_file_name : file_shown (codes "::error::##[a]:b") ≡ codes ":\\u{3a}error:\\u{3a}##\\u{5b}a]:b"
+unfolding file_shown chars digits lib.Utf8.encode
+command_in_a_file_name = refl
+
+command_in_a_text : unquoted (codes "##[a\\") ≡ codes "##\\u{5b}a\\"
+unfolding chars digits lib.Utf8.encode
+command_in_a_text = refl
+
+command_in_quotes : shown (codes "##[a\\") ≡ codes "##\\u{5b}a\\\\"
+unfolding chars digits lib.Utf8.encode
+command_in_quotes = refl
+
+-- A character that turns the direction of the text is escaped everywhere.
+turned_name : escaped (97 ∷ 0xE2 ∷ 0x80 ∷ 0xAE ∷ 0xD8 ∷ 0x9C ∷ 0xE2 ∷ 0x81 ∷ 0xA9 ∷ []) ≡ codes "a\\u{202e}\\u{61c}\\u{2069}"
+unfolding escaped chars digits lib.Utf8.encode
+turned_name = refl
 
 -- Twenty-one lines with the twelfth among those that are shown, and with the thirteenth, which is shown without it.
 line_round_the_middle : marked_text_with (codes "found   ") (record { line = 12; column = 1 }) (codes "a\nb\nc\nd\ne\nf\ng\nh\ni\nj\nk\nl\nm\nn\no\np\nq\nr\ns\nt\nu")

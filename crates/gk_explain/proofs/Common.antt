@@ -1,5 +1,5 @@
 -- The names from elsewhere that the proofs of this crate cite, passed on from one place. Declares nothing.
-pub use Rattle.std.proofs.Common.{Bool, IfSome, IsUtf8, List, None, Option, Some, String, [], ap, append-nil, append_assoc, ap₂, arith, chars, codes, cond, drop, encode_utf8, encode_utf8_all, false, flat_map, inl, inr, is_some, length, length-take, map, nat_lt, refl, reverse, rules, string_bytes, subst, suc, sym, take, take_all, true, zero, ℕ, ℤ, ⊎_elim, ◌&&◌, ◌++◌, ◌+◌, ◌-◌, ◌<◌, ◌==◌, ◌||◌, ◌∙◌, ◌∷◌, ◌≡◌, ◌≢◌, ◌≤◌, ◌⊎◌}
+pub use Rattle.std.proofs.Common.{Bool, IfSome, IsUtf8, List, None, Option, Some, String, [], ap, append-nil, append_assoc, ap₂, arith, chars, codes, cond, drop, encode_utf8, encode_utf8_all, false, flat_map, inl, inr, is_some, length, length-take, map, nat_lt, refl, reverse, rules, string_bytes, subst, suc, sym, take, take_all, true, zero, ℕ, ℤ, ⊎_elim, ◌&&◌, ◌++◌, ◌+◌, ◌-◌, ◌/◌, ◌<◌, ◌==◌, ◌||◌, ◌∙◌, ◌∷◌, ◌≡◌, ◌≢◌, ◌≤◌, ◌⊎◌}
 pub use Rattle.std.proofs.Math.Facts.{to_z-of_z}
 pub use Rattle.std.proofs.lemmas.Bool.{and_cases, and_left, and_parts, and_right, cases_eq, cases_lt, cond-false, cond-true, eq-eqb, eqb-false, eqb-true, le-ltb, lt-ltb, ltb-false, ltb-true, ne_eqb, not_from_true, or_from, or_parts}
 pub use Rattle.std.proofs.lemmas.Grind.{common_steps}
@@ -60,15 +60,19 @@ pub use Rattle.gk_explain.specs.DifferingLines.{DifferingLinesAreShown, IsLine}
 pub use Rattle.gk_explain.specs.Event.{event_told, level_of}
 pub use Rattle.gk_explain.specs.Explainer.{CasesAreExplained, Hears, is_cut, said}
 pub use Rattle.gk_explain.specs.Explanation.{ExplanationValue, explanation_value, with_case, with_case_of, with_event, with_section}
-pub use Rattle.gk_explain.specs.Nearest.{literal_char, literal_shown, nearest_told, pattern_shown}
+pub use Rattle.gk_explain.specs.Nearest.{nearest_told, pattern_shown}
 pub use Rattle.gk_explain.specs.NearestLines.{AreNearest}
 pub use Rattle.gk_explain.specs.Registrations.{CleanupsAreOfTheirSteps, PlacedCleanup, all_but_last, found_registers, is_passed, is_registering, last_of, placed_by, placed_cleanups, registered_by}
 pub use Rattle.gk_explain.specs.RowLines.{RowsAreFound, cell_text, cells_text, is_at, row_at, rows_from}
 pub use Rattle.gk_explain.specs.SectionLines.{SectionValue, after_event, after_events}
-pub use Rattle.gk_explain.specs.Shown.{cut_line, escaped_char, few_lines, is_control, is_left_out, is_suspect, left_out, lines_round, marked_lines, row, shown, shown_char, text_lines, unquoted, unquoted_char}
-unfoldable pub use Rattle.gk_explain.specs.Shown.{escaped, marked_text_with}
+pub use Rattle.gk_explain.specs.Shown.{char_after, char_in, chars_after, cut_line, escaped_char, few_lines, is_commanding, is_control, is_left_out, is_suspect, is_within, left_out, lines_round, marked_lines, past_char, row, text_as, text_lines}
+unfoldable pub use Rattle.gk_explain.specs.Shown.{escaped, file_shown, marked_text_with}
 pub use Rattle.gk_explain.specs.Tables.{first_refused, found_header, quoted_cells}
 unfoldable pub use Rattle.gk_explain.specs.Tables.{header_line}
 pub use Rattle.gk_explain.specs.declared.differences.Position.{Position}
 pub use Rattle.gk_explain.specs.declared.explainer.Explainer.{Explainer}
 pub use Rattle.gk_explain.specs.declared.registrations.Registration.{Registration}
+pub use Rattle.gk_explain.specs.declared.shown.Before.{Before}
+pub use Rattle.gk_explain.specs.declared.shown.Before.TheVariants as befores
+pub use Rattle.gk_explain.specs.declared.shown.Form.{Form}
+pub use Rattle.gk_explain.specs.declared.shown.Form.TheVariants as forms

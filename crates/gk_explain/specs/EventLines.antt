@@ -16,7 +16,7 @@ use Rattle.gk_explain.specs.declared.event_lines.Names.{Names}
 use Rattle.gk_explain.specs.declared.registrations.Registration.{Registration}
 use Rattle.gk_explain.specs.Details.{event_details}
 use Rattle.gk_explain.specs.Registrations.{last_of}
-use Rattle.gk_explain.specs.Shown.{escaped}
+use Rattle.gk_explain.specs.Shown.{file_shown, escaped}
 
 -- The names of the hooks file and of the feature file that contain the steps.
 pub record NamesValue : Type 0 where
@@ -41,7 +41,7 @@ part_text parts.After = codes "after: "
 
 -- A place in a file: its name, and a line.
 unfoldable pub place_text : List ℕ → ℕ → List ℕ
-place_text file line = escaped file ++ codes ":" ++ decimal line ++ codes ": "
+place_text file line = file_shown file ++ codes ":" ++ decimal line ++ codes ": "
 
 -- The status of a step's mark, with the reason of a step that failed.
 abbrev pub mark_text : Mark → List ℕ

@@ -1,5 +1,5 @@
 -- The entry of a library that the author of an undefined step may have meant.
-use Rattle.std.specs.Prelude.{ℕ, cond, ◌==◌, List, [], ◌++◌, flat_map, codes, chars, slice_get, Option, Some, None}
+use Rattle.std.specs.Prelude.{ℕ, List, [], ◌++◌, flat_map, codes, slice_get, Option, Some, None}
 use Rattle.gk_gherkin.specs.declared.feature.StepType.{StepType}
 use Rattle.gk_gherkin.specs.declared.feature.StepType.TheVariants as types
 use Rattle.gk_lint.specs.declared.nearest_entry.EntryHint.{EntryHint}
@@ -10,7 +10,7 @@ use Rattle.gk_steps.specs.declared.pattern.FieldKind.TheVariants.{Plain, Decimal
 use Rattle.gk_steps.specs.Pattern.{PieceValue, Literal, FieldPiece}
 use Rattle.gk_steps.specs.Finding.{EntryValue, LibraryValue}
 use Rattle.gk_report.specs.ReportTexts.{line_feed}
-use Rattle.gk_explain.specs.Shown.{shown_char}
+use Rattle.gk_explain.specs.Shown.{literal_shown}
 
 -- The word for the steps that an entry is for. (behave's documentation: step implementations)
 abbrev pub type_word : Option StepType → List ℕ
@@ -18,14 +18,6 @@ type_word None = codes "step"
 type_word (Some types.Given) = codes "given"
 type_word (Some types.When) = codes "when"
 type_word (Some types.Then) = codes "then"
-
--- A character of a literal as it is written in a pattern: a brace is doubled. (Python's format strings)
-abbrev pub literal_char : ℕ → List ℕ
-literal_char c = cond (c == 123) (codes "{{") (cond (c == 125) (codes "}}") (shown_char c))
-
--- A literal as it is written in a pattern, character by character.
-abbrev pub literal_shown : List ℕ → List ℕ
-literal_shown text = flat_map literal_char (chars text)
 
 -- A field as it is written in a pattern.
 abbrev pub field_shown : List ℕ → FieldKind → List ℕ

@@ -1,16 +1,20 @@
 -- Texts as they are shown below an event.
-use Rattle.std.specs.Prelude.{ℕ, ◌+◌, ◌-◌, Bool, false, cond, not, ◌&&◌, ◌||◌, ◌==◌, nat_lt, List, [], Option, Some, None, ◌++◌, length, take, drop, flat_map, codes, chars, encode_utf8}
+use Rattle.std.specs.Prelude.{ℕ, ◌+◌, ◌-◌, Bool, true, false, cond, not, ◌&&◌, ◌||◌, ◌==◌, nat_lt, List, [], ◌∷◌, Option, Some, None, ◌++◌, length, take, drop, flat_map, codes, chars, encode_utf8}
 use Rattle.std.specs.Fmt.{decimal, digits}
 use Rattle.std.specs.List.{slice_split}
 use Rattle.gk_explain.specs.declared.differences.Position.{Position}
+use Rattle.gk_explain.specs.declared.shown.Form.{Form}
+use Rattle.gk_explain.specs.declared.shown.Form.TheVariants as forms
+use Rattle.gk_explain.specs.declared.shown.Before.{Before}
+use Rattle.gk_explain.specs.declared.shown.Before.TheVariants as befores
 
 -- Whether a number is at least `first` and less than `end`.
 abbrev pub is_within : ℕ → ℕ → ℕ → Bool
 is_within first end c = not (nat_lt c first) && nat_lt c end
 
--- Whether a character is a control character: one of Unicode's general category Cc.
+-- Whether a character is a control character: one of Unicode's general category Cc, one that ends a line, or one that turns the direction of the text, of Unicode's property Bidi_Control.
 abbrev pub is_control : ℕ → Bool
-is_control c = nat_lt c 0x20 || is_within 0x7F 0xA0 c
+is_control c = nat_lt c 0x20 || (is_within 0x7F 0xA0 c || ((c == 0x61C) || (is_within 0x200E 0x2010 c || (is_within 0x2028 0x202F c || is_within 0x2066 0x206A c))))
 
 -- Whether a character looks like ASCII's space but is another character: one of Unicode's property White_Space that is no control character, or the pattern of Braille without a dot.
 abbrev pub is_unicode_space : ℕ → Bool
@@ -40,29 +44,115 @@ escaped_char c =
     (cond (c == 13) (codes "\\r")
     (cond (is_control c) (numbered c) (encode_utf8 c))))
 
--- A name or a text on one line, with its control characters escaped. It can't end the line or command a terminal.
-unfoldable pub escaped : List ℕ → List ℕ
-escaped text = flat_map escaped_char (chars text)
-
--- Proof machinery: whether a byte belongs to a control character, or may do so: those from U+0080 on begin with 0xC2.
-abbrev pub is_suspect : ℕ → Bool
-is_suspect b = nat_lt b 0x20 || ((b == 0x7F) || (b == 0xC2))
-
 -- A character as it is shown without quotes: a disguised character by its number, and any other as above.
 abbrev pub unquoted_char : ℕ → List ℕ
 unquoted_char c = cond (is_disguised c) (numbered c) (escaped_char c)
 
--- A text as it is shown without quotes, character by character.
-abbrev pub unquoted : List ℕ → List ℕ
-unquoted text = flat_map unquoted_char (chars text)
-
 -- A character as it is shown between quotes: a backslash is doubled, and any other character is shown as above.
-abbrev pub shown_char : ℕ → List ℕ
-shown_char c = cond (c == 92) (codes "\\\\") (unquoted_char c)
+abbrev pub quoted_char : ℕ → List ℕ
+quoted_char c = cond (c == 92) (codes "\\\\") (unquoted_char c)
 
--- A text as it is shown between quotes, character by character.
+-- A character of a literal as it is written in a pattern: a brace is doubled, and any other character is shown as above. (Python's format strings)
+abbrev pub literal_char : ℕ → List ℕ
+literal_char c = cond (c == 123) (codes "{{") (cond (c == 125) (codes "}}") (quoted_char c))
+
+-- A character as a form shows it.
+abbrev pub char_in : Form → ℕ → List ℕ
+char_in forms.File c = escaped_char c
+char_in forms.Name c = escaped_char c
+char_in forms.Unquoted c = unquoted_char c
+char_in forms.Quoted c = quoted_char c
+char_in forms.Literal c = literal_char c
+
+-- Whether a text of a form may begin a line. All others follow some words.
+abbrev pub may_begin_line : Form → Bool
+may_begin_line forms.File = true
+may_begin_line forms.Name = false
+may_begin_line forms.Unquoted = false
+may_begin_line forms.Quoted = false
+may_begin_line forms.Literal = false
+
+-- Whether a character is a letter of ASCII.
+abbrev pub is_letter : ℕ → Bool
+is_letter c = is_within 65 91 c || is_within 97 123 c
+
+-- What is before the next character if `before` is before a `#`.
+abbrev pub past_hash : Before → Before
+past_hash befores.Other = befores.Hash
+past_hash befores.Colon = befores.Hash
+past_hash befores.Hash = befores.Hashes
+past_hash befores.Hashes = befores.Hashes
+
+-- What is before the next character if `before` is before a letter.
+abbrev pub past_letter : Before → Before
+past_letter befores.Other = befores.Other
+past_letter befores.Colon = befores.Other
+past_letter befores.Hash = befores.Other
+past_letter befores.Hashes = befores.Hashes
+
+-- What is before the next character if `before` is before `c`.
+abbrev pub past_char : Before → ℕ → Before
+past_char before c =
+    cond (c == 35) (past_hash before)
+    (cond (c == 58) befores.Colon
+    (cond (is_letter c) (past_letter before) befores.Other))
+
+-- Whether `##` is before a character, and perhaps letters between them.
+abbrev pub are_hashes : Before → Bool
+are_hashes befores.Other = false
+are_hashes befores.Colon = false
+are_hashes befores.Hash = false
+are_hashes befores.Hashes = true
+
+-- Whether a colon is before a character.
+abbrev pub is_colon : Before → Bool
+is_colon befores.Other = false
+is_colon befores.Colon = true
+is_colon befores.Hash = false
+is_colon befores.Hashes = false
+
+-- Whether a character completes what the log of a CI reads as the beginning of a command: `##[` or `##vso[` anywhere in a line, and `::` at its start. (Azure's logging commands, GitHub's workflow commands)
+abbrev pub is_commanding : Form → Before → ℕ → Bool
+is_commanding form before c =
+    cond (c == 91) (are_hashes before)
+    (cond (c == 58) (is_colon before && may_begin_line form) false)
+
+-- A character as a form shows it, but by its number if it completes the beginning of a command.
+abbrev pub char_after : Form → Before → ℕ → List ℕ
+char_after form before c = cond (is_commanding form before c) (numbered c) (char_in form c)
+
+-- Characters as a form shows them, one after the other.
+abbrev pub chars_after : Form → Before → List ℕ → List ℕ
+chars_after form before [] = []
+chars_after form before (c ∷ rest) = char_after form before c ++ chars_after form (past_char before c) rest
+
+-- A text as a form shows it. What is shown ends no line, and commands neither a terminal nor a CI.
+abbrev pub text_as : Form → List ℕ → List ℕ
+text_as form text = chars_after form befores.Other (chars text)
+
+-- The name of a file, which may begin a line.
+unfoldable pub file_shown : List ℕ → List ℕ
+file_shown name = text_as forms.File name
+
+-- A name or a text on one line.
+unfoldable pub escaped : List ℕ → List ℕ
+escaped text = text_as forms.Name text
+
+-- A text as it is shown without quotes.
+abbrev pub unquoted : List ℕ → List ℕ
+unquoted text = text_as forms.Unquoted text
+
+-- A text as it is shown between quotes.
 abbrev pub shown : List ℕ → List ℕ
-shown text = flat_map shown_char (chars text)
+shown text = text_as forms.Quoted text
+
+-- A literal as it is written in a pattern.
+abbrev pub literal_shown : List ℕ → List ℕ
+literal_shown text = text_as forms.Literal text
+
+-- Proof machinery: whether the character of a byte may not be shown as it is in a name. The control characters from U+0080 on begin with 0xC2, 0xD8 or 0xE2.
+abbrev pub is_suspect : ℕ → Bool
+is_suspect b = nat_lt b 0x20 || ((b == 0x3A) || ((b == 0x5B) || ((b == 0x7F) || ((b == 0xC2) || ((b == 0xD8) || (b == 0xE2))))))
 
 -- The lines of a text: the parts between its line feeds. A text that ends with a line feed has an empty last line.
 abbrev pub text_lines : List ℕ → List (List ℕ)
@@ -86,7 +176,7 @@ cut_mark cut = cond cut (codes "...") []
 
 -- The characters of a line around a column, between quotes. Outside the quotes is a mark on each side on which characters are cut.
 unfoldable pub quoted_window : ℕ → List ℕ → List ℕ
-quoted_window column line = let before = cut_before column (length line) in cut_mark (nat_lt 0 before) ++ (codes "\"" ++ (flat_map shown_char (window column line) ++ (codes "\"" ++ cut_mark (nat_lt before (length line - 60)))))
+quoted_window column line = let before = cut_before column (length line) in cut_mark (nat_lt 0 before) ++ (codes "\"" ++ (chars_after forms.Quoted befores.Other (window column line) ++ (codes "\"" ++ cut_mark (nat_lt before (length line - 60)))))
 
 -- A line after a mark, cut to the characters around a column.
 unfoldable pub cut_line : List ℕ → ℕ → List ℕ → List ℕ

@@ -9,7 +9,7 @@ ghost use Rattle.gk_explain.specs.Shown.{escaped};
 
 use crate::event::Event;
 use crate::registrations::Registration;
-use crate::shown::push_escaped;
+use crate::shown::{push_escaped, push_file};
 use gk_gherkin::Step;
 use gk_report::push_ending;
 use gk_run::{Mark, Outcome, Part, Stage, reason_of, status_of};
@@ -28,7 +28,7 @@ pub struct Names<'a> {
 pub fn push_place(out: &mut String, file: &str, line: u32) -> Result<(), AllocError>
     ensures { Pushes out.old (spec.place_text file.now line) result out.new }
 {
-    push_escaped(out, file)?;
+    push_file(out, file)?;
     write!(out, ":{line}: ")?;
     Ok(())
 }

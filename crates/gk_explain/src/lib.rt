@@ -24,4 +24,4 @@ pub use event_lines::push_place;
 pub use explainer::{Explainer, cases_are_explained, cleanups_are_of_their_steps};
 pub use nearest::{push_entry, type_word};
 pub use row_lines::rows_are_found;
-pub use shown::{push_shown, push_unquoted};
+pub use shown::{push_file, push_shown, push_unquoted};

@@ -5,7 +5,7 @@ ghost use Rattle.gk_steps.specs.Finding.{entry_value, library_value};
 ghost use Rattle.gk_report.specs.ReportTexts.{Pushes};
 ghost use Rattle.gk_explain.specs.Nearest as spec;
 
-use crate::shown::push_char;
+use crate::shown::push_literal;
 use gk_gherkin::StepType;
 use gk_lint::EntryHint;
 use gk_steps::{Entry, FieldKind, Library, Piece};
@@ -21,27 +21,6 @@ pub fn type_word(step_type: Option<StepType>) -> &'static str
         Some(StepType::When) => "when",
         Some(StepType::Then) => "then",
     }
-}
-
-// Appends a character of a literal.
-fn push_literal_char(out: &mut String, c: char) -> Result<(), AllocError>
-    ensures { Pushes out.old (spec.literal_char c) result out.new }
-{
-    match c {
-        '{' => out.push_str("{{"),
-        '}' => out.push_str("}}"),
-        _ => push_char(out, c),
-    }
-}
-
-// Appends a literal as it is written in a pattern.
-fn push_literal(out: &mut String, text: &str) -> Result<(), AllocError>
-    ensures { Pushes out.old (spec.literal_shown text.now) result out.new }
-{
-    for c in text.chars() {
-        push_literal_char(out, c)?;
-    }
-    Ok(())
 }
 
 // Appends a field as it is written in a pattern.

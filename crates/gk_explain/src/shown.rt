@@ -13,11 +13,17 @@ fn is_within(first: u32, end: u32, code: u32) -> bool
     code >= first && code < end
 }
 
-// Returns whether a character is a control character, by Unicode's general category Cc.
+// Returns whether a character is a control character, by Unicode's general category Cc, ends a line, or turns the
+// direction of the text, by Unicode's property Bidi_Control.
 fn is_control(code: u32) -> bool
     ensures { result ≡ spec.is_control code }
 {
-    code < 0x20 || is_within(0x7F, 0xA0, code)
+    code < 0x20
+        || is_within(0x7F, 0xA0, code)
+        || code == 0x61C
+        || is_within(0x200E, 0x2010, code)
+        || is_within(0x2028, 0x202F, code)
+        || is_within(0x2066, 0x206A, code)
 }
 
 // Returns whether a character looks like ASCII's space but is another character.
@@ -99,43 +105,7 @@ fn push_escaped_char(out: &mut String, c: char) -> Result<(), AllocError>
     }
 }
 
-// Returns whether a byte belongs to a control character, or may do so: those from U+0080 on begin with 0xC2.
-fn is_suspect(byte: u8) -> bool
-    ensures { result ≡ spec.is_suspect byte }
-{
-    byte < 0x20 || byte == 0x7F || byte == 0xC2
-}
-
-fn has_suspect(text: &str) -> bool
-    ensures { result ≡ list_any spec.is_suspect text.now }
-{
-    text.as_bytes().iter().any(|byte| is_suspect(*byte))
-}
-
-// Appends the characters of a text, each as it is or escaped.
-fn push_escaped_chars(out: &mut String, text: &str) -> Result<(), AllocError>
-    ensures { Pushes out.old (spec.escaped text.now) result out.new }
-{
-    for c in text.chars() {
-        push_escaped_char(out, c)?;
-    }
-    Ok(())
-}
-
-/// Appends a name or a text on one line, with its control characters escaped. An error comes only if a growth was
-/// refused; a part of it may have been appended then.
-#[tactic(auto, using(crate::proofs::ShownLemmas::plain_text))]
-pub fn push_escaped(out: &mut String, text: &str) -> Result<(), AllocError>
-    ensures { Pushes out.old (spec.escaped text.now) result out.new }
-{
-    if has_suspect(text) {
-        push_escaped_chars(out, text)
-    } else {
-        out.push_str(text)
-    }
-}
-
-// Appends a character as it is shown without quotes.
+// Appends a character, or its escape if it can't be seen.
 fn push_unquoted_char(out: &mut String, c: char) -> Result<(), AllocError>
     ensures { Pushes out.old (spec.unquoted_char c) result out.new }
 {
@@ -146,27 +116,225 @@ fn push_unquoted_char(out: &mut String, c: char) -> Result<(), AllocError>
     }
 }
 
+// Appends a character as it is shown between quotes.
+fn push_quoted_char(out: &mut String, c: char) -> Result<(), AllocError>
+    ensures { Pushes out.old (spec.quoted_char c) result out.new }
+{
+    match c {
+        '\\' => out.push_str("\\\\"),
+        _ => push_unquoted_char(out, c),
+    }
+}
+
+// Appends a character of a literal as it is written in a pattern.
+fn push_literal_char(out: &mut String, c: char) -> Result<(), AllocError>
+    ensures { Pushes out.old (spec.literal_char c) result out.new }
+{
+    match c {
+        '{' => out.push_str("{{"),
+        '}' => out.push_str("}}"),
+        _ => push_quoted_char(out, c),
+    }
+}
+
+/// The forms in which texts are shown.
+#[derive(Clone, Copy, Debug)]
+pub enum Form {
+    /// The name of a file, which may begin a line. Control characters are escaped.
+    File,
+    /// Another name, or the text of a step. Control characters are escaped.
+    Name,
+    /// A text without quotes. All that can't be seen is escaped.
+    Unquoted,
+    /// A text between quotes. Backslashes are doubled, too.
+    Quoted,
+    /// A literal of a pattern. Braces are doubled, too.
+    Literal,
+}
+
+// Appends a character as a form shows it.
+fn push_char(out: &mut String, form: Form, c: char) -> Result<(), AllocError>
+    ensures { Pushes out.old (spec.char_in form c) result out.new }
+{
+    match form {
+        Form::File | Form::Name => push_escaped_char(out, c),
+        Form::Unquoted => push_unquoted_char(out, c),
+        Form::Quoted => push_quoted_char(out, c),
+        Form::Literal => push_literal_char(out, c),
+    }
+}
+
+// Returns whether a text of a form may begin a line.
+fn may_begin_line(form: Form) -> bool
+    ensures { result ≡ spec.may_begin_line form }
+{
+    match form {
+        Form::File => true,
+        Form::Name | Form::Unquoted | Form::Quoted | Form::Literal => false,
+    }
+}
+
+/// What is before a character, as far as the log of a CI looks for commands in it.
+#[derive(Clone, Copy, Debug)]
+pub enum Before {
+    /// Nothing with which a command may begin.
+    Other,
+    /// A colon.
+    Colon,
+    /// One `#`.
+    Hash,
+    /// Two, and perhaps letters: `##` or `##vso`.
+    Hashes,
+}
+
+// Returns what is before the next character if `before` is before a `#`.
+fn past_hash(before: Before) -> Before
+    ensures { result ≡ spec.past_hash before }
+{
+    match before {
+        Before::Other | Before::Colon => Before::Hash,
+        Before::Hash | Before::Hashes => Before::Hashes,
+    }
+}
+
+// Returns what is before the next character if `before` is before a letter.
+fn past_letter(before: Before) -> Before
+    ensures { result ≡ spec.past_letter before }
+{
+    match before {
+        Before::Other | Before::Colon | Before::Hash => Before::Other,
+        Before::Hashes => Before::Hashes,
+    }
+}
+
+// Returns whether a character is a letter of ASCII.
+fn is_letter(code: u32) -> bool
+    ensures { result ≡ spec.is_letter code }
+{
+    is_within(65, 91, code) || is_within(97, 123, code)
+}
+
+// Returns what is before the next character if `before` is before `c`.
+fn past_char(before: Before, c: char) -> Before
+    ensures { result ≡ spec.past_char before c }
+{
+    match c {
+        '#' => past_hash(before),
+        ':' => Before::Colon,
+        _ => {
+            if is_letter(c as u32) {
+                past_letter(before)
+            } else {
+                Before::Other
+            }
+        }
+    }
+}
+
+fn are_hashes(before: Before) -> bool
+    ensures { result ≡ spec.are_hashes before }
+{
+    match before {
+        Before::Other | Before::Colon | Before::Hash => false,
+        Before::Hashes => true,
+    }
+}
+
+fn is_colon(before: Before) -> bool
+    ensures { result ≡ spec.is_colon before }
+{
+    match before {
+        Before::Colon => true,
+        Before::Other | Before::Hash | Before::Hashes => false,
+    }
+}
+
+// Returns whether a character completes what the log of a CI reads as the beginning of a command: `##[` or `##vso[`,
+// and `::` in a text that may begin a line.
+fn is_commanding(form: Form, before: Before, c: char) -> bool
+    ensures { result ≡ spec.is_commanding form before c }
+{
+    match c {
+        '[' => are_hashes(before),
+        ':' => is_colon(before) && may_begin_line(form),
+        _ => false,
+    }
+}
+
+// Appends a character as a form shows it, but by its number if it completes the beginning of a command.
+fn push_char_after(out: &mut String, form: Form, before: Before, c: char) -> Result<(), AllocError>
+    ensures { Pushes out.old (spec.char_after form before c) result out.new }
+{
+    if is_commanding(form, before, c) {
+        push_number(out, c as u32)
+    } else {
+        push_char(out, form, c)
+    }
+}
+
+// Appends the characters of a text as a form shows them.
+fn push_text_as(out: &mut String, form: Form, text: &str) -> Result<(), AllocError>
+    ensures { Pushes out.old (spec.text_as form text.now) result out.new }
+{
+    let mut before = Before::Other;
+    for c in text.chars() {
+        push_char_after(out, form, before, c)?;
+        before = past_char(before, c);
+    }
+    Ok(())
+}
+
+// Returns whether the character of a byte may not be shown as it is in a name.
+fn is_suspect(byte: u8) -> bool
+    ensures { result ≡ spec.is_suspect byte }
+{
+    byte < 0x20
+        || byte == 0x3A
+        || byte == 0x5B
+        || byte == 0x7F
+        || byte == 0xC2
+        || byte == 0xD8
+        || byte == 0xE2
+}
+
+fn has_suspect(text: &str) -> bool
+    ensures { result ≡ list_any spec.is_suspect text.now }
+{
+    text.as_bytes().iter().any(|byte| is_suspect(*byte))
+}
+
+/// Appends the name of a file, which may begin a line, with its control characters escaped. An error comes only if a
+/// growth was refused; a part of it may have been appended then.
+#[tactic(auto, using(crate::proofs::ShownLemmas::plain_file), unfolding(crate::specs::Shown::file_shown))]
+pub fn push_file(out: &mut String, name: &str) -> Result<(), AllocError>
+    ensures { Pushes out.old (spec.file_shown name.now) result out.new }
+{
+    if has_suspect(name) {
+        push_text_as(out, Form::File, name)
+    } else {
+        out.push_str(name)
+    }
+}
+
+/// Appends a name or a text on one line, with its control characters escaped. An error comes only if a growth was
+/// refused; a part of it may have been appended then.
+#[tactic(auto, using(crate::proofs::ShownLemmas::plain_name), unfolding(crate::specs::Shown::escaped))]
+pub fn push_escaped(out: &mut String, text: &str) -> Result<(), AllocError>
+    ensures { Pushes out.old (spec.escaped text.now) result out.new }
+{
+    if has_suspect(text) {
+        push_text_as(out, Form::Name, text)
+    } else {
+        out.push_str(text)
+    }
+}
+
 /// Appends a text as it is shown without quotes, with an escape for what can't be seen. An error comes only if a
 /// growth was refused; a part of it may have been appended then.
 pub fn push_unquoted(out: &mut String, text: &str) -> Result<(), AllocError>
     ensures { Pushes out.old (spec.unquoted text.now) result out.new }
 {
-    for c in text.chars() {
-        push_unquoted_char(out, c)?;
-    }
-    Ok(())
-}
-
-/// Appends a character as it is shown between quotes. An error comes only if a growth was refused; a part of it may
-/// have been appended then.
-pub fn push_char(out: &mut String, c: char) -> Result<(), AllocError>
-    ensures { Pushes out.old (spec.shown_char c) result out.new }
-{
-    if c == '\\' {
-        out.push_str("\\\\")
-    } else {
-        push_unquoted_char(out, c)
-    }
+    push_text_as(out, Form::Unquoted, text)
 }
 
 /// Appends a text as it is shown between quotes: as without them, but with backslashes doubled. An error comes only if a
@@ -174,10 +342,15 @@ pub fn push_char(out: &mut String, c: char) -> Result<(), AllocError>
 pub fn push_shown(out: &mut String, text: &str) -> Result<(), AllocError>
     ensures { Pushes out.old (spec.shown text.now) result out.new }
 {
-    for c in text.chars() {
-        push_char(out, c)?;
-    }
-    Ok(())
+    push_text_as(out, Form::Quoted, text)
+}
+
+/// Appends a literal as it is written in a pattern: as between quotes, but with braces doubled. An error comes only if a
+/// growth was refused; a part of it may have been appended then.
+pub fn push_literal(out: &mut String, text: &str) -> Result<(), AllocError>
+    ensures { Pushes out.old (spec.literal_shown text.now) result out.new }
+{
+    push_text_as(out, Form::Literal, text)
 }
 
 // Returns the lines of a text.
@@ -210,10 +383,12 @@ fn cut_before(column: usize, count: usize) -> usize
 
 // Appends characters as they are shown between quotes.
 fn push_chars(out: &mut String, line: &[char]) -> Result<(), AllocError>
-    ensures { Pushes out.old (flat_map spec.shown_char line.now) result out.new }
+    ensures { Pushes out.old (spec.chars_after Form.Quoted Before.Other line.now) result out.new }
 {
+    let mut before = Before::Other;
     for c in line {
-        push_char(out, *c)?;
+        push_char_after(out, Form::Quoted, before, *c)?;
+        before = past_char(before, *c);
     }
     Ok(())
 }

@@ -1,7 +1,7 @@
 -- The notes below the fault of an argument of `--env`.
 use Rattle.std.specs.Prelude.{ℕ, List, [], ◌++◌, codes}
 use Rattle.gk_explain.specs.Shown.{unquoted}
-use Rattle.gk_findings.specs.Notes.{note}
+use Rattle.gk_findings.specs.Notes.{note, quoted}
 use Rattle.gk_findings.specs.declared.env_notes.EnvMistake.{EnvMistake}
 use Rattle.gk_findings.specs.declared.env_notes.EnvMistake.TheVariants.{NoEquals, BadName, LongValue}
 
@@ -18,7 +18,7 @@ after_name mistake = codes "="
 
 -- The note with an argument of `--env` up to its `=`.
 abbrev pub argument_note : EnvMistake → List ℕ → List ℕ
-argument_note mistake name = note (unquoted name ++ after_name mistake)
+argument_note mistake name = quoted (unquoted name ++ after_name mistake)
 
 -- The notes on an argument of `--env`: its text up to the `=`, and how to fix it.
 abbrev pub notes_on_env : EnvMistake → List ℕ → List ℕ

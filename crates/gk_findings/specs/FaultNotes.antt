@@ -12,7 +12,7 @@ use Rattle.gk_steps.specs.declared.library_fault.LibraryFault.{LibraryFault}
 use Rattle.gk_explain.specs.Shown.{unquoted}
 use Rattle.gk_request.specs.declared.run_fault.RunFault.{RunFault}
 use Rattle.gk_request.specs.declared.run_fault.RunFault.TheVariants.{Read, Library}
-use Rattle.gk_findings.specs.Notes.{note, quote}
+use Rattle.gk_findings.specs.Notes.{note, quoted, quote}
 use Rattle.gk_findings.specs.Hints.{hint}
 use Rattle.gk_findings.specs.TagHints.{tags_hint}
 use Rattle.gk_request.specs.Source.{SourceValue}
@@ -55,7 +55,7 @@ file_notes files fault = quote_of (file_at_fault files fault) (line_at_fault fau
 
 -- The notes below a text of tags that spells no rule: the text, and where it breaks.
 abbrev pub tags_notes : List ℕ → List ℕ
-tags_notes text = note (unquoted text) ++ note (tags_hint (tag_stop text))
+tags_notes text = quoted (unquoted text) ++ note (tags_hint (tag_stop text))
 
 -- The notes below a fault. It is that of a text of tags, if one is given.
 abbrev pub notes : Option (List ℕ) → FilesValue → RunFault → List ℕ

@@ -4,7 +4,7 @@ use Rattle.std.specs.Prelude.{ℕ, Bool, ◌-◌, ◌==◌, List, [], ◌++◌, 
 use Rattle.std.specs.Fmt.{decimal}
 use Rattle.gk_explain.specs.EventLines.{place_text}
 use Rattle.gk_explain.specs.Nearest.{entry_shown, type_word}
-use Rattle.gk_explain.specs.Shown.{unquoted}
+use Rattle.gk_explain.specs.Shown.{file_shown, unquoted}
 use Rattle.gk_gherkin.specs.declared.feature.Scenario.{Scenario}
 use Rattle.gk_gherkin.specs.Feature.{ScenarioValue, FeatureValue, scenario_value}
 use Rattle.gk_gherkin.specs.Text.{trim}
@@ -19,7 +19,7 @@ use Rattle.gk_lint.specs.Placeholders.{column_at}
 use Rattle.gk_lint.specs.ScenarioNames.{scenarios_of}
 use Rattle.gk_findings.specs.declared.finding_lines.NotedLibrary.{NotedLibrary}
 use Rattle.gk_findings.specs.declared.finding_lines.NotedFile.{NotedFile}
-use Rattle.gk_findings.specs.Notes.{note}
+use Rattle.gk_findings.specs.Notes.{note, quoted}
 
 -- The line of a finding in a file of this name.
 abbrev pub finding_line : List ℕ → Finding → List ℕ
@@ -63,7 +63,7 @@ column_note (Some column) = note (before_column ++ unquoted column)
 -- The note that quotes a line without the spaces and tabs around it.
 abbrev pub line_note : Option (List ℕ) → List ℕ
 line_note None = []
-line_note (Some text) = note (unquoted (trim text))
+line_note (Some text) = quoted (unquoted (trim text))
 
 -- The words before the nearest entry.
 unfoldable pub before_entry : List ℕ
@@ -143,7 +143,7 @@ unused_of_all unused entries = codes ": no step finds " ++ (decimal unused ++ (c
 
 -- The line that counts the unused entries of a library file of this name, if there are any.
 abbrev pub count_line : List ℕ → ℕ → ℕ → List ℕ
-count_line name unused entries = if unused == 0 then [] else unquoted name ++ unused_of_all unused entries
+count_line name unused entries = if unused == 0 then [] else file_shown name ++ unused_of_all unused entries
 
 -- The line for a tag of `--tags` that occurs nowhere: the tag, with invisible characters as escapes.
 unfoldable pub tag_line : List ℕ → List ℕ

@@ -39,11 +39,11 @@ fn after_name(mistake: EnvMistake) -> &'static str
 }
 
 // Appends an argument up to its `=`, on a separate line.
-#[tactic(auto, unfolding(crate::specs::Notes::note))]
+#[tactic(auto, unfolding(crate::specs::Notes::quoted))]
 fn push_argument(out: &mut String, mistake: EnvMistake, name: &str) -> Result<(), AllocError>
     ensures { Pushes out.old (spec.argument_note mistake name.now) result out.new }
 {
-    out.push_str("    ")?;
+    out.push_str("    | ")?;
     push_unquoted(out, name)?;
     out.push_str(after_name(mistake))?;
     out.push_str("\n")

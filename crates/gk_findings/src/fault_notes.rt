@@ -11,7 +11,7 @@ ghost use Rattle.gk_findings.specs.Notes.{quote};
 ghost use Rattle.gk_findings.specs.FaultNotes as spec;
 
 use crate::hints::hint;
-use crate::notes::{position_of, push_note, push_shown_note, text_lines};
+use crate::notes::{position_of, push_note, push_quoted, text_lines};
 use crate::tag_hints::tags_hint;
 use gk_gherkin::ReadFault;
 use gk_lint::{Cause, LibraryCause, cause_at, library_cause};
@@ -32,7 +32,7 @@ fn push_line(out: &mut String, alloc: Global, bytes: &[u8], line: u32) -> Result
 {
     let text = String::from_utf8_lossy(alloc, bytes)?;
     match line_of(text.as_str(), line) {
-        Some(text) => push_shown_note(out, text),
+        Some(text) => push_quoted(out, text),
         None => Ok(()),
     }
 }
@@ -180,7 +180,7 @@ fn push_file_notes(
 fn push_tags_notes(out: &mut String, alloc: Global, text: &str) -> Result<(), AllocError>
     ensures { Pushes out.old (spec.tags_notes text.now) result out.new }
 {
-    push_shown_note(out, text)?;
+    push_quoted(out, text)?;
     let hint = tags_hint(alloc, text)?;
     push_note(out, hint.as_str())
 }

@@ -4,8 +4,8 @@ ghost use Rattle.gk_steps.specs.Finding.{entry_value};
 ghost use Rattle.gk_report.specs.ReportTexts.{Pushes};
 ghost use Rattle.gk_findings.specs.FindingLines as spec;
 
-use crate::notes::{position_of, push_note, push_shown_note};
-use gk_explain::{push_entry, push_place, push_unquoted, type_word};
+use crate::notes::{position_of, push_note, push_quoted};
+use gk_explain::{push_entry, push_file, push_place, push_unquoted, type_word};
 use gk_gherkin::Scenario;
 use gk_gherkin::text::trim;
 use gk_lint::{EntryHint, EntryHints, Finding, FindingKind, column_at};
@@ -104,7 +104,7 @@ fn push_line_note(out: &mut String, line: Option<&str>) -> Result<(), AllocError
         result out.new }
 {
     match line {
-        Some(text) => push_shown_note(out, trim(text)),
+        Some(text) => push_quoted(out, trim(text)),
         None => Ok(()),
     }
 }
@@ -355,7 +355,7 @@ pub fn push_count_line(
     if unused == 0 {
         return Ok(());
     }
-    push_unquoted(out, name)?;
+    push_file(out, name)?;
     push_unused_of_all(out, unused, entries)
 }
 

@@ -18,12 +18,12 @@ pub fn push_note(out: &mut String, text: &str) -> Result<(), AllocError>
     out.push_str("\n")
 }
 
-/// Appends a line of a file below a fault or a finding.
-#[tactic(auto, unfolding(crate::specs::Notes::note))]
-pub fn push_shown_note(out: &mut String, text: &str) -> Result<(), AllocError>
-    ensures { Pushes out.old (spec.note (unquoted text.now)) result out.new }
+/// Appends a line of a file, or another text of the user's, below a fault or a finding.
+#[tactic(auto, unfolding(crate::specs::Notes::quoted))]
+pub fn push_quoted(out: &mut String, text: &str) -> Result<(), AllocError>
+    ensures { Pushes out.old (spec.quoted (unquoted text.now)) result out.new }
 {
-    out.push_str("    ")?;
+    out.push_str("    | ")?;
     push_unquoted(out, text)?;
     out.push_str("\n")
 }

@@ -3,7 +3,9 @@ ghost use Rattle.gk_run.specs.Chosen.{IsFormed};
 use crate::checks::same;
 use crate::run_tests::feature_of;
 use crate::suite_tests::chosen;
-use gk_explain::{Explainer, push_entry, push_place, push_shown, push_unquoted, type_word};
+use gk_explain::{
+    Explainer, push_entry, push_file, push_place, push_shown, push_unquoted, type_word,
+};
 use gk_gherkin::{HookFile, HookTable, StepType, read_hooks};
 use gk_run::{Chosen, FeatureResult, NoRoom, Suite};
 use gk_select::{ExampleRow, outline_rows};
@@ -12,12 +14,13 @@ use gk_world::Sandbox;
 use std::alloc::{AllocError, Global};
 use std::test::Fail;
 
-// Writes a place, and a text as it is shown between quotes and without them.
+// Writes a place, the name of a file, and a text as it is shown between quotes and without them.
 fn written(alloc: Global) -> Result<String, AllocError> {
     let mut out = String::new(alloc);
     push_place(&mut out, "a\tb\\.feature", 7)?;
-    push_shown(&mut out, "a\tb\u{a0}c\\\"é")?;
-    push_unquoted(&mut out, " \t\u{a0}\\\"é")?;
+    push_file(&mut out, "::a:b\u{a0}##[c] ")?;
+    push_shown(&mut out, "a\tb\u{a0}c\\\"é##[")?;
+    push_unquoted(&mut out, " \t\u{a0}\\\"é##[::")?;
     Ok(out)
 }
 
@@ -27,7 +30,7 @@ fn places_and_texts_are_written(rt: HostRuntime) -> Result<(), AllocError> {
     same(
         &rt,
         out.as_str(),
-        "a\\tb\\.feature:7: a\\tb\\u{a0}c\\\\\"é \\t\\u{a0}\\\"é",
+        "a\\tb\\.feature:7: :\\u{3a}a:b\u{a0}##\\u{5b}c] a\\tb\\u{a0}c\\\\\"é##\\u{5b} \\t\\u{a0}\\\"é##\\u{5b}::",
     );
     Ok(())
 }
