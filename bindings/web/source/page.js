@@ -49,13 +49,13 @@ let tab = "report"; // the one that is selected
 
 // ---- fields
 
+// Adds a feature file, which labelFiles labels.
 function addFile(name, text) {
     const file = $("file").content.firstElementChild.cloneNode(true);
     file.querySelector(".name").value = name;
     file.querySelector(".text").value = text;
     file.querySelector(".remove").onclick = () => removeFile(file);
     $("files").append(file);
-    labelFiles();
     return file;
 }
 
@@ -100,6 +100,7 @@ function inputs() {
 function show(given) {
     $("files").replaceChildren();
     for (const [name, text] of given.files) addFile(name, text);
+    labelFiles();
     for (const [name, first] of Object.entries(TEXTS)) $(name).value = given[name] ?? first;
     for (const name of FLAGS) $(name).checked = given[name] ?? false;
     for (const part of document.querySelectorAll("#options details")) {
@@ -243,7 +244,8 @@ function ended({ number, answer, error, time }) {
 
 // Marks the fields with a name that two files have, and returns that name, if there is one.
 function repeatedName(files) {
-    const repeated = files.map(([name]) => name).find((name, n, names) => names.indexOf(name) !== n);
+    const earlier = new Set();
+    const repeated = files.map(([name]) => name).find((name) => earlier.size === earlier.add(name).size);
     for (const field of document.querySelectorAll(".name")) field.setAttribute("aria-invalid", String(field.value === repeated));
     return repeated;
 }
@@ -340,7 +342,9 @@ for (const name of Object.keys(EXAMPLES)) $("example").append(new Option(name, n
 $("open").onclick = () => replaceBy({ tab, ...inputsOf(EXAMPLES[$("example").value]) });
 $("undo").onclick = () => replaceBy(replaced);
 $("add").onclick = () => {
-    addFile(freshName(), "").querySelector(".text").focus();
+    const file = addFile(freshName(), "");
+    labelFiles();
+    file.querySelector(".text").focus();
     later();
 };
 $("halt").onclick = () => {
