@@ -348,7 +348,6 @@ $("add").onclick = () => {
     later();
 };
 $("halt").onclick = () => {
-    if (answered === asked) return;
     halt();
     print("", "");
     say("stopped", "Stopped");
