@@ -1,6 +1,5 @@
 """The tables of the sources, and whether what tools/tables.py writes from them is up to date."""
 
-import glob
 import importlib.util
 import os
 import re
@@ -9,19 +8,20 @@ import tempfile
 
 import driver
 
+# It imports tools/read.py.
+sys.path.append(os.path.join(driver.HOME, "tools"))
 _spec = importlib.util.spec_from_file_location("tables_of_sources", os.path.join(driver.HOME, "tools", "tables.py"))
 written = importlib.util.module_from_spec(_spec)
 _spec.loader.exec_module(written)
 
-OPTIONS = written.options()
-FORMATS = tuple(written.formats())
-STEPS = written.steps()
-ACTIONS = written.actions()
-# The options by what is given with them; of the flags, those of a run with its report.
+OPTIONS, STEPS, ACTIONS = written.OPTIONS, written.STEPS, written.ACTIONS
+FORMATS = tuple(written.FORMATS)
+# The options by what is given with them; of the flags, those of the page, which a run with its report takes.
 FLAGS = [f"--{it.name}" for it in OPTIONS if it.takes == "Nothing"]
-RUN_FLAGS = [f"--{it.name}" for it in written.flags()]
+PAGE_FLAGS = [it for it in written.ON_PAGE if it.takes == "Nothing"]
+RUN_FLAGS = [f"--{it.name}" for it in PAGE_FLAGS]
 VALUED = [f"--{it.name}" for it in OPTIONS if it.takes != "Nothing"]
-REFUSED_BY_LINT = [f"--{it.name}" for it in OPTIONS if not it.beside_lint]
+REFUSED_BY_LINT = [f"--{it.name}" for it in written.EXCLUDED["lint"]]
 
 # A value that an option takes, by the name of its value. The file is a library and hooks, too: it is empty.
 VALUES = {"T": "@a", "N": "3", "FILE": "/dev/null", "NAME=VALUE": "A=b", "NAME=PATH": "a=/dev/null", "F": FORMATS[-1]}
@@ -61,10 +61,8 @@ def not_up_to_date():
 def copied(folder):
     """Copies tools/tables.py with all that it reads and writes. Returns how to call the copy."""
     sources = {written.OPTION_TABLE, written.FORMAT_TABLE, written.ACTION_TABLE, written.DEFAULT_FILE, written.VERSION_FILE}
-    sources |= {f"{written.RUNS}/{it}" for it in os.listdir(os.path.join(driver.HOME, written.RUNS))}
-    sources |= {f"docs/guide/{it}" for it in written.SECTIONS}
-    sources |= {os.path.relpath(it, driver.HOME) for it in glob.glob(os.path.join(driver.HOME, "crates", "*", "specs", "*.antt"))}
-    for path in ("tools/tables.py", *sources, *written.texts()):
+    sources |= {*written.files("tools/*.py", "docs/guide/*.md", "tests/runs/*.md", "crates/*/specs/*.antt")}
+    for path in (*sources, *written.texts()):
         driver.write(folder, {path: driver.text(path)})
     return lambda option: driver.start(sys.executable, [os.path.join(folder, "tools", "tables.py"), option])
 
@@ -76,9 +74,9 @@ def unseen(path, old, new, text, files):
         if call("--check") != (0, b"", b""):
             return "tools/tables.py --check finds something in a copy without a change"
         driver.write(folder, {path: driver.text(path).replace(old, new)})
-        statuses = [call(it)[0] for it in ("--check", "--write", "--check", "--json")]
+        statuses = [call(it)[0] for it in ("--check", "--write", "--check")]
         found = [it for it in written.texts() if text in driver.text(it, folder)]
-    return "" if (statuses, len(found)) == ([1, 0, 0, 0], files) else f"{new!r}: statuses {statuses}, seen in {found}"
+    return "" if (statuses, len(found)) == ([1, 0, 0], files) else f"{new!r}: statuses {statuses}, seen in {found}"
 
 
 def miscounted():

@@ -181,7 +181,7 @@ class Calls(Checks):
             (ending, begin, option), maker = KINDS[number % len(KINDS)], Maker(number)
             made = random_file(maker, ending, begin)
             words = [*option, "other" if option else "made", f"--format={maker.chance.choice(tables.FORMATS)}"]
-            words += [f"--{it.name}" for it in tables.written.flags() if maker.chance.random() < 0.125]
+            words += [it for it in tables.RUN_FLAGS if maker.chance.random() < 0.125]
             files = [("made", made), ("other", OTHER)]
             self.library.own.refuse(0)
             found = self.library.run(words, files, SMALL)

@@ -25,7 +25,7 @@ MARKUP = "</textarea></pre><script>document.title = 'taken'</script> " \
          "<img src=x onerror=\"document.title = 'taken'\"> &amp; {page} ${1} \\u003c"
 SMALL = driver.feature("Given it passes")
 # Something in each field of the page.
-FULL = {**{tables.written.field(it): True for it in tables.written.flags()},
+FULL = {**{it.field: True for it in tables.PAGE_FLAGS},
         "files": [["ä \"1\".feature", "Feature: ü <&> ~~~~~ ????? \U0001f600\n  Scenario: s\n\tGiven the lamp\n"],
                   ["b.feature", "Feature: b\n"]],
         "library": "step the lamp => pass\n", "libraryName": "my.steps",
@@ -34,7 +34,7 @@ FULL = {**{tables.written.field(it): True for it in tables.written.flags()},
         "tags": "~@a\n@b,~@c", "lines": "1 2, 3", "variables": "A=1\nB==\n",
         "format": "json", "tab": "report"}
 # Other texts, with a value of the option.
-FULL |= {tables.written.field(it): tables.VALUES[it.value] for it in tables.written.on_page() if tables.written.field(it) not in FULL}
+FULL |= {it.field: tables.VALUES[it.value] for it in tables.written.ON_PAGE if it.field not in FULL}
 TABS = {"report": [], "explanation": ["--explain"], "findings": ["--lint"]}
 CONTROLS = {"textbox", "combobox", "button", "checkbox", "DisclosureTriangle", "region", "form", "tab", "tablist", "tabpanel"}
 # The state, the status, and the texts of the pieces of the output and of the errors.
@@ -127,7 +127,7 @@ def link_to(given):
 
 def taken(tab, arguments):
     """The arguments that the program takes on a tab."""
-    refused = [f"--{it.name}" for it in tables.OPTIONS if tab not in tables.written.accepting(it)]
+    refused = [f"--{it.name}" for it in tables.OPTIONS if tab not in it.tabs]
     words = iter(arguments)
     for word in words:
         value = [next(words)] if word.startswith("--") and word not in tables.FLAGS else []

@@ -26,9 +26,13 @@ FUNCTION = re.compile(r'(\s*)(pub )?(?:extern "C" )?fn (\w+)')
 CLAUSE = re.compile(r"((?:^ *//[^\n]*\n)*)^ *(ensures|requires) (\w+)? ?\{(.*?)\}(?=;?\s*?(?:^ *(?://|ensures|requires|\{)|\Z))", re.M | re.S)
 
 
-def lines_of(path):
+def text_of(path):
     with open(os.path.join(HOME, path), encoding="utf-8") as file:
-        return file.read().split("\n")
+        return file.read()
+
+
+def lines_of(path):
+    return text_of(path).split("\n")
 
 
 def files(*patterns):
@@ -136,7 +140,7 @@ def functions(path):
 def exported(crate):
     """The modules and the names that a crate exports. `*` means all documented functions of a module."""
     for path in files(f"crates/{crate}/src/lib.rt", f"crates/{crate}/src/main.rt"):
-        text = "\n".join(lines_of(path))
+        text = text_of(path)
         mods = re.findall(r"^pub mod (\w+);" if path.endswith("lib.rt") else r"^mod (\w+);", text, re.M)
         yield from ((it, "*") for it in [os.path.basename(path)[:-3], *mods])
         for module, names in re.findall(r"^pub use (\w+)::(\w+|\{[^}]*\});", text, re.M):
