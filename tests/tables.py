@@ -26,7 +26,7 @@ REFUSED_BY_LINT = [f"--{it.name}" for it in written.EXCLUDED["lint"]]
 # A value that an option takes, by the name of its value. The file is a library and hooks, too: it is empty.
 VALUES = {"T": "@a", "N": "3", "FILE": "/dev/null", "NAME=VALUE": "A=b", "NAME=PATH": "a=/dev/null", "F": FORMATS[-1]}
 
-# Changes of the tables, and in how many written files each has to be seen.
+# Changes of the tables and of pages, and in how many written files each has to be seen.
 CHANGES = (
     (written.OPTION_TABLE, 'name: "stop"', 'name: "halt"', "halt", 9),
     (written.OPTION_TABLE, "leave later scenarios untested", "leave others", "leave others", 5),
@@ -34,6 +34,8 @@ CHANGES = (
     (written.DEFAULT_FILE, "step it fails =>", "step it cracks =>", "it cracks", 4),
     (written.ACTION_TABLE, '["name", "n"]', '["name", "n", "amount"]', "{amount}", 1),
     (written.DEFINITIONS, ", `Summary`", "", "`Summary`", 1),
+    ("docs/guide/choosing.md", "## Dry runs", "## Looking up", "(choosing.md#looking-up)", 1),
+    ("tests/runs/stop.md", "# Stopping", "# Halting", "[Halting]", 1),
     (written.VERSION_FILE, "\n", "-changed\n", "-changed", 8),
 )
 
@@ -54,8 +56,11 @@ def unread():
 
 
 def not_up_to_date():
-    for path, text in written.texts().items():
+    texts = written.texts()
+    for path, text in texts.items():
         yield f"{path} isn't what tools/tables.py --write writes" if text != driver.text(path) else ""
+    marks, parts = "".join(texts.values()).count("tools/tables.py: end"), len(written.parts())
+    yield driver.unless(f"{marks} parts are marked for tools/tables.py, which writes {parts}", marks == parts)
 
 
 def copied(folder):
