@@ -18,7 +18,7 @@ import pytest
 
 from gherkin_run.data import ReportData, ScenarioData
 from gherkin_run.printing import printable, printable_lines
-from gherkin_run.runs import LONGEST_FILE, Explanation, Failed, Fault, Source, World, check_type, explain, run
+from gherkin_run.runs import Explanation, Failed, Fault, Source, World, check_type, explain, read_path, run
 
 # The library file and the hooks file of a session.
 SETTINGS = pytest.StashKey[Tuple[Optional[Source], Optional[Source]]]()
@@ -63,10 +63,7 @@ def as_id(text: str) -> str:
 
 def read(config: pytest.Config, path: pathlib.Path) -> Source:
     """Reads a file. Its name is its path from the folder in which pytest was started."""
-    with path.open("rb") as file:
-        # The run refuses a file that is longer.
-        text = file.read(LONGEST_FILE + 1)
-    return Source(as_id(os.path.relpath(path, config.invocation_params.dir)), text)
+    return Source(as_id(os.path.relpath(path, config.invocation_params.dir)), read_path(str(path)))
 
 
 def files_of_settings(config: pytest.Config) -> Tuple[Optional[Source], Optional[Source]]:

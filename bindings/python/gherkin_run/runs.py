@@ -163,15 +163,23 @@ def _texts(name: str, value: Any) -> Iterator[str]:
         yield str(it)
 
 
+def read_path(path: Union[str, bytes]) -> bytes:
+    """Opens and reads a file. An `OSError` names it."""
+    with open(path, "rb") as opened:
+        try:
+            # The program refuses a file that is longer.
+            return opened.read(LONGEST_FILE + 1)
+        except OSError as error:
+            error.filename = path
+            raise
+
+
 def _read(file: File) -> Tuple[str, bytes]:
     """Returns the name and the text of a file. A path is opened."""
     if isinstance(file, Source):
         return file.name, file.text.encode("utf-8", "surrogateescape") if isinstance(file.text, str) else file.text
     name = os.fspath(file)
-    with open(file, "rb") as opened:
-        # The program refuses a file that is longer.
-        text = opened.read(LONGEST_FILE + 1)
-    return name if isinstance(name, str) else name.decode("utf-8", "surrogateescape"), text
+    return name if isinstance(name, str) else name.decode("utf-8", "surrogateescape"), read_path(name)
 
 
 def _named(files: Iterable[File], held: Dict[str, bytes]) -> List[str]:
