@@ -8,11 +8,13 @@ chosen scenarios of a file run together, before the first of them, unless each h
 from __future__ import annotations
 
 import collections
+import contextlib
 import dataclasses
+import functools
 import os
 import pathlib
 import re
-from typing import Any, Dict, FrozenSet, Iterable, Iterator, List, Optional, Set, Tuple
+from typing import Any, Callable, Dict, FrozenSet, Iterable, Iterator, List, Optional, Set, Tuple
 
 import pytest
 
@@ -57,8 +59,17 @@ def judge(request: pytest.FixtureRequest, gherkin_world: World) -> None:
 
 
 def as_id(text: str) -> str:
-    """Returns a text as a part of an id. It has no `::`, at which pytest cuts ids and with which GitHub's commands begin."""
-    return re.sub(":(?=:)", ": ", printable(text))
+    """Returns a text as a part of an id. It has no `::`, at which pytest cuts ids."""
+    return printable(re.sub(":(?=:)", ": ", text))
+
+
+@contextlib.contextmanager
+def told(failure: Callable[[str], BaseException]) -> Iterator[None]:
+    """Raises another exception for a wrong or missing file, of which pytest shows the text alone."""
+    try:
+        yield
+    except (Fault, ImportError, OSError) as error:
+        raise failure(printable(str(error))) from None
 
 
 def read(config: pytest.Config, path: pathlib.Path) -> Source:
@@ -117,8 +128,8 @@ def pytest_addoption(parser: pytest.Parser) -> None:
 def pytest_collect_file(file_path: pathlib.Path, parent: pytest.Collector) -> Optional[FeatureFile]:
     if not any(map(file_path.match, parent.config.getini("gherkin_files"))):
         return None
-    path = os.path.relpath(file_path, parent.config.rootpath)
-    options: Dict[str, Any] = {} if as_id(path) == path else {"nodeid": as_id(path)}
+    paths = {"nodeid": os.path.relpath(file_path, parent.config.rootpath), "name": os.path.relpath(file_path, parent.path)}
+    options: Dict[str, Any] = {option: as_id(path) for option, path in paths.items() if as_id(path) != path}
     made: FeatureFile = FeatureFile.from_parent(parent, path=file_path, **options)
     return made
 
@@ -172,11 +183,9 @@ class FeatureFile(pytest.File):
         return {tag: {it["line"] for it in scenarios} for tag, scenarios in chosen.items() if scenarios}
 
     def collect(self) -> Iterator[Scenario]:
-        try:
+        with told(self.CollectError):
             self.source = read(self.config, self.path)
             scenarios, tags = scenarios_of(self.run(dry_run=True)), self.tags()
-        except (Fault, ImportError, OSError) as error:
-            raise self.CollectError(str(error)) from None
         for tag in tags:
             self.config.addinivalue_line("markers", f"{tag}: a tag of {self.source.name}")
         names = [as_id(it["name"] or it["keyword"]) for it in scenarios]
@@ -199,10 +208,11 @@ class Scenario(pytest.Function):
             self.add_marker(tag)
 
     def judge(self, world: World) -> None:
-        status = self.file.status(self.line, world)
-        if status == "passed":
-            return
-        self.file.explain(self.line, world).check()
+        with told(functools.partial(pytest.fail.Exception, pytrace=False)):
+            status = self.file.status(self.line, world)
+            if status == "passed":
+                return
+            self.file.explain(self.line, world).check()
         if status == "skipped":
             pytest.skip("the scenario skipped itself")
 
