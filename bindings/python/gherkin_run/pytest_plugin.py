@@ -21,6 +21,7 @@ import pytest
 from gherkin_run.data import ReportData, ScenarioData
 from gherkin_run.printing import printable, printable_lines
 from gherkin_run.runs import Explanation, Failed, Fault, Source, World, check_type, explain, read_path, run
+from gherkin_run.tags import tags_of_scenarios
 
 # The library file and the hooks file of a session.
 SETTINGS = pytest.StashKey[Tuple[Optional[Source], Optional[Source]]]()
@@ -97,11 +98,11 @@ def distinct(names: List[str]) -> Iterator[str]:
         yield unlike
 
 
-def words_with_at(source: Source) -> Set[str]:
-    """Returns what can be a tag and a mark, without its @: words of lines that begin with an @."""
-    text = source.text.decode("utf-8-sig", "replace") if isinstance(source.text, bytes) else source.text
-    words = {word for line in text.split("\n") if line.lstrip().startswith("@") for word in line.split()}
-    return {word[1:] for word in words if word.startswith("@") and MARK.fullmatch(word, 1)}
+def marks(source: Source, scenarios: List[ScenarioData]) -> Dict[int, Set[str]]:
+    """Returns the tags of each scenario that can be marks, without their @, by its line."""
+    text = source.text.decode("utf-8-sig") if isinstance(source.text, bytes) else source.text
+    tags = tags_of_scenarios(text, {it["line"] for it in scenarios})
+    return {line: {it[1:] for it in own if MARK.fullmatch(it, 1)} for line, own in tags.items()}
 
 
 def scenarios_of(report: ReportData) -> List[ScenarioData]:
@@ -177,23 +178,19 @@ class FeatureFile(pytest.File):
             self.statuses.update(statuses(self.run(line=lines, files=world.files, env=world.env), lines))
         return self.statuses[line]
 
-    def tags(self) -> Dict[str, Set[int]]:
-        """Returns the tags that some scenarios have, each with the lines of these scenarios."""
-        chosen = {it: scenarios_of(self.run(dry_run=True, tags=f"@{it}")) for it in sorted(words_with_at(self.source))}
-        return {tag: {it["line"] for it in scenarios} for tag, scenarios in chosen.items() if scenarios}
-
     def collect(self) -> Iterator[Scenario]:
         with told(self.CollectError):
             self.source = read(self.config, self.path)
-            scenarios, tags = scenarios_of(self.run(dry_run=True)), self.tags()
-        for tag in tags:
+            scenarios = scenarios_of(self.run(dry_run=True))
+        tags = marks(self.source, scenarios)
+        for tag in sorted(set().union(*tags.values())):
             self.config.addinivalue_line("markers", f"{tag}: a tag of {self.source.name}")
         names = [as_id(it["name"] or it["keyword"]) for it in scenarios]
         # Some versions of pytest give this function no types.
         make: Any = Scenario.from_parent
         for name, scenario in zip(distinct(names), scenarios):
-            own = {tag for tag in tags if scenario["line"] in tags[tag]}
-            yield make(self, name=name, callobj=judge, file=self, line=scenario["line"], tags=own)
+            line = scenario["line"]
+            yield make(self, name=name, callobj=judge, file=self, line=line, tags=tags[line])
 
 
 class Scenario(pytest.Function):
