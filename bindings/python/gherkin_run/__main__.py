@@ -15,7 +15,12 @@ def main() -> NoReturn:
     # Python ignores these signals, and a process keeps what it ignores.
     for number in (signal.SIGPIPE, signal.SIGXFSZ):
         signal.signal(number, signal.SIG_DFL)
-    os.execv(built("gherkin_run"), ["gherkin_run", *sys.argv[1:]])
+    program = built("gherkin_run")
+    try:
+        os.execv(program, ["gherkin_run", *sys.argv[1:]])
+    except OSError as error:
+        error.filename = program
+        raise
 
 
 if __name__ == "__main__":
