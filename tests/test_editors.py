@@ -66,8 +66,8 @@ class Matchers(Places):
     def test_tasks(self):
         self.compare("tasks.json", lambda text, arguments: matched("tasks.json", text, arguments))
         words = [it["args"] for it in json.loads(driver.read(os.path.join(EDITORS, "tasks.json")))["tasks"]]
-        self.unless(f"tasks.json runs {words}: a matcher finds only names from the workspace on",
-                    words == [["--explain", "${relativeFile}"], ["--lint", "${relativeFile}"]])
+        self.unless(f"tasks.json runs {words}: a matcher finds only names from the workspace on, and none may be an option",
+                    words == [["--explain", "--", "${relativeFile}"], ["--lint", "--", "${relativeFile}"]])
 
     def test_problem_matcher(self):
         self.compare("problem_matcher.json", lambda text, arguments: matched("problem_matcher.json", text, arguments))
@@ -84,13 +84,17 @@ class Vim(Places):
         self.compare("vim", places)
 
     def test_page(self):
-        """The blocks for Vim of docs/guide/editors.md."""
+        """The blocks for Vim of docs/guide/editors.md, which the compilers repeat, in a file whose name could be an option or a command."""
+        name, pages = "-h $(touch made) b's.feature", blocks.texts("editors.md", "vim")
+        os.link(os.path.join(self.room, "a.feature"), os.path.join(self.room, name))
         home = os.path.join(self.room, "home")
         os.makedirs(os.path.join(home, "bin"))
         os.symlink(self.program, os.path.join(home, "bin", "gherkin_run"))
         settings = {**os.environ, "HOME": home, "PATH": f"{home}/bin:{os.environ['PATH']}"}
         subprocess.run(["sh", "-eu", "-c", *blocks.texts("editors.md", "sh")], cwd=driver.HOME, env=settings, check=True)
-        found = [in_vim(it.replace("login.feature", "a.feature"), self.room, settings)
-                 for it in blocks.texts("editors.md", "vim")]
-        wanted = [[("a.feature", line) for line in (4, 6, 7, 9, 10)], [("a.feature", 7)]]
+        found = [in_vim(f"execute 'edit' fnameescape({json.dumps(name)})\n{it}", self.room, settings) for it in pages]
+        wanted = [[(name, line) for line in (4, 6, 7, 9, 10)], [(name, 7)]]
         self.unless(f"vim finds {found} as docs/guide/editors.md says, and not {wanted}", found == wanted)
+        self.unless("vim runs a file's name", not os.path.exists(os.path.join(self.room, "made")))
+        repeated = [re.findall('(?m)^"     (:.*\n)', driver.read(os.path.join(EDITORS, it)).decode()) for it in ("gherkin_run.vim", "gherkin_lint.vim")]
+        self.same("what the compilers say to type", ["".join(it) for it in repeated], pages)

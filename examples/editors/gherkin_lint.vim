@@ -1,7 +1,8 @@
 " The program's findings as Vim's compiler: put this file into ~/.vim/compiler/, and say
 "     :compiler! gherkin_lint
-"     :make login.feature
-" Each fault and each line that is found is then a line of the quickfix list.
+"     :make -- %:S
+" Each fault and each line that is found is then a line of the quickfix list. %:S quotes the name of
+" the edited file, and after -- no name is an option.
 if exists('current_compiler')
   finish
 endif

@@ -1,7 +1,8 @@
 " The program as Vim's compiler: put this file into ~/.vim/compiler/, and say
 "     :compiler! gherkin_run
-"     :make --explain login.feature
-" Each fault, each explained scenario and each event that failed is then a line of the quickfix list.
+"     :make --explain -- %:S
+" Each fault, each explained scenario and each event that failed is then a line of the quickfix list. %:S quotes the name of
+" the edited file, and after -- no name is an option.
 if exists('current_compiler')
   finish
 endif
