@@ -36,7 +36,7 @@ class Released(Checks):
         # Otherwise the page would be the same.
         page = "bindings/web/source/page.html"
         driver.write(cls.clone.folder, {page: driver.text(page) + "<!-- another page -->\n"})
-        cls.commands, kit = cls.clone.commands(False), os.path.join(cls.room, "kit")
+        cls.commands, kit = cls.clone.commands(False), os.path.join(cls.room, "a `touch made` \"kit's\" $(touch made)")
         for name in OTHERS:
             os.symlink(shutil.which(name), os.path.join(cls.commands, name))
         # The stand-ins for the programs of the toolchain.

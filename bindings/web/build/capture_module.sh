@@ -8,6 +8,11 @@
 # `rt lib` builds them first.
 set -eu
 
+# Prints a path as a word of a script.
+quoted() {
+    printf '%s\n' "$1" | sed "s/'/'\\\\''/g; 1s/^/'/; \$s/\$/'/"
+}
+
 out=$(readlink -f -- "$1")
 cd "$(dirname -- "$(readlink -f -- "$0")")/../../.."
 kit=$(dirname -- "$(dirname -- "$(readlink -f -- "$(command -v rt)")")")
@@ -23,9 +28,9 @@ done
 cat > "$room/toolchain/bin/clang" <<END
 #!/bin/sh
 for word in "\$@"; do
-    case \$word in *.bc) cp "\$word" "$out" ;; esac
+    case \$word in *.bc) cp "\$word" $(quoted "$out") ;; esac
 done
-exec "$kit/toolchain/bin/clang" "\$@"
+exec $(quoted "$kit/toolchain/bin/clang") "\$@"
 END
 chmod +x "$room/toolchain/bin/clang"
 
