@@ -5,6 +5,7 @@ import subprocess
 
 import driver
 import pages
+import ready
 from checks import Checks
 
 DIST = os.path.join(driver.HOME, "dist")
