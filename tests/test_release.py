@@ -73,15 +73,15 @@ class Released(Checks):
             shutil.copytree(os.path.join(cls.kept, name), cls.clone.path(name))
 
     @classmethod
-    def release(cls, at=0, how="fails", steps="all", umask=0o022, script="./release", **more):
-        """Runs ./release: its status, what it says on both streams, and how many steps it took."""
+    def release(cls, *words, at=0, how="fails", steps="all", umask=0o022, script="./release", **more):
+        """Runs ./release, or another script: its status, what it says on both streams, and how many steps it took."""
         calls = os.path.join(cls.room, "steps taken")
         for it in stand_ins.notes(calls):
             os.remove(it)
         driver.write(cls.room, {"steps taken": "0\n"})
         # The stand-in for the toolchain notes its calls in the same variable.
         settings = {"PATH": f"{os.path.join(cls.room, steps)}:{cls.commands}", "CALLS": calls, "AT": str(at), "HOW": how, "TMPDIR": cls.clone.temporary, **more}
-        command = ["sh", "-c", stand_ins.BEGIN, script]
+        command = ["sh", "-c", stand_ins.BEGIN, script, *words]
         process = ready.begin(command, cls.clone.folder, settings, umask=umask, text=True, errors="replace")
         printed = process.communicate(timeout=2 * driver.PATIENCE)
         return process.returncode, *printed, len(stand_ins.notes(calls))

@@ -16,8 +16,10 @@ quoted() {
 out=$(readlink -f -- "$1")
 cd "$(dirname -- "$(readlink -f -- "$0")")/../../.."
 kit=$(dirname -- "$(dirname -- "$(readlink -f -- "$(command -v rt)")")")
-room=$(mktemp -d)
+room=
 trap 'rm -rf "$room"' EXIT
+trap 'exit 1' HUP INT TERM
+room=$(mktemp -d)
 mkdir -p "$room/toolchain/bin" crates/gk_c/out
 for it in "$kit"/toolchain/*; do
     case $it in */bin) ;; *) ln -s "$it" "$room/toolchain/" ;; esac
