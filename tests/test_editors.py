@@ -65,9 +65,13 @@ class Places(Checks):
 class Matchers(Places):
     def test_tasks(self):
         self.compare("tasks.json", lambda text, arguments: matched("tasks.json", text, arguments))
-        words = [it["args"] for it in json.loads(driver.read(os.path.join(EDITORS, "tasks.json")))["tasks"]]
+        tasks = json.loads(driver.read(os.path.join(EDITORS, "tasks.json")))["tasks"]
+        words = [it["args"] for it in tasks]
         self.unless(f"tasks.json runs {words}: a matcher finds only names from the workspace on, and none may be an option",
                     words == [["--explain", "--", "${relativeFile}"], ["--lint", "--", "${relativeFile}"]])
+        self.same("how the tasks are started, no shell", [it["type"] for it in tasks], ["process"] * 2)
+        folders = [it["fileLocation"] for task in tasks for it in task["problemMatcher"]]
+        self.same("the folders of the names", folders, [["relative", "${workspaceFolder}"]] * 4)
 
     def test_problem_matcher(self):
         self.compare("problem_matcher.json", lambda text, arguments: matched("problem_matcher.json", text, arguments))
