@@ -18,12 +18,9 @@ from ready import as_nobody, begin  # pylint: disable=unused-import
 
 LIST = "share/gherkin_run/installed"
 DOC = "share/doc/gherkin_run"
-COPIES = (".gherkin_run-new", ".gherkin_run-old")
-# The commands that change files, and those that only read.
-CHANGING = ["chmod", "cp", "ln", "mkdir", "mv", "rm", "rmdir"]
-READING = ["awk", "cat", "dirname", "find", "flock", "grep", "readlink", "sed", "sort", "tac"]
-# Those at which ./install is stopped. A kill at one that only reads leaves what a kill at the next one leaves.
-STEPS = {"fails": "all", "ends": "changing", "dies": "changing"}
+COPY = ".gherkin_run-new"
+# The commands that change files.
+CHANGING = ["install", "ln", "mkdir", "mv", "rm", "rmdir"]
 # The files that are installed, and where the repository has them.
 INSTALLED = {
     "include/gherkin_run.h": "bindings/c/gherkin_run.h", "lib/libgherkin_run.so": "dist/libgherkin_run.so",
@@ -48,10 +45,10 @@ def make_repository(folder, version):
 
 
 def files_of(tree):
-    """The files of a tree. Of the list, in which the order of the other lines differs, the lines of files."""
+    """The files of a tree. Of the list, whose other lines differ for each folder, the lines of files."""
     found = {it: own for it, own in tree.items() if own[1] is not None}
     if LIST in found:
-        found[LIST] = [it for it in found[LIST][1].splitlines() if it.startswith(b"file ")]
+        found[LIST] = sorted(it for it in found[LIST][1].splitlines() if it.startswith(b"file "))
     return found
 
 
@@ -60,26 +57,30 @@ def files_in(folder):
 
 
 class Copies(Checks):
-    """Tests with both copies, and with what each installs: the first one alone, the second over it, and the second alone."""
+    """Tests with both copies, and with what each installs."""
 
     @classmethod
     def setUpClass(cls):
         super().setUpClass()
         cls.first, cls.second = (make_repository(os.path.join(cls.room, it), it) for it in ("first", "second"))
-        stand_ins.make(os.path.join(cls.room, "all"), CHANGING + READING)
         stand_ins.make(os.path.join(cls.room, "changing"), CHANGING)
-        cls.earlier, later, alone = cls.place(), cls.place(), cls.place()
-        for repository, folder in ((cls.first, cls.earlier), (cls.first, later), (cls.second, later), (cls.second, alone)):
+        stand_ins.make(os.path.join(cls.room, "folders"), ["mkdir"])
+        cls.earlier, alone = cls.place(), cls.place()
+        for repository, folder in ((cls.first, cls.earlier), (cls.second, alone)):
             cls.run_install(repository, folder)
-        cls.old, cls.new, cls.alone = map(driver.tree, (cls.earlier, later, alone))
+        cls.old, cls.alone = driver.tree(cls.earlier), driver.tree(alone)
 
     @classmethod
     def place(cls, earlier=None):
-        """A folder to install into, in a folder where nothing else is, with a copy of what is installed in another one."""
-        above = cls.new_folder()
+        """A folder to install into, in a folder where nothing else is, with a copy of what is installed in another one, as if
+        ./install had made its folders."""
+        folder = os.path.join(cls.new_folder(), "prefix")
         if earlier:
-            shutil.copytree(earlier, os.path.join(above, "prefix"), symlinks=True)
-        return os.path.join(above, "prefix")
+            shutil.copytree(earlier, folder, symlinks=True)
+            files = [it for it in driver.read(os.path.join(folder, LIST)).splitlines(keepends=True) if it.startswith(b"file ")]
+            made = driver.start("stat", ["-c", "made %i-%.W", *(at for at, _, _ in os.walk(folder))])[1]
+            driver.write(folder, {LIST: b"".join(files) + made})
+        return folder
 
     @classmethod
     def start(cls, repository, *words, at=0, how="fails", steps=None, umask=0o022, user=None, folder=None, first="", **more):
@@ -105,19 +106,31 @@ class Copies(Checks):
         shutil.rmtree(process.room)
         return Ended(process.returncode, out, said, calls, left)
 
-    def is_new(self, folder, earlier):
+    def is_new(self, folder):
         """Whether the second version is installed whole, and nothing else."""
-        return files_in(folder) == files_of(self.new if earlier else self.alone)
+        return files_in(folder) == files_of(self.alone)
 
     def has_all(self, folder):
         """Whether the second version is installed, perhaps beside other files."""
         found = driver.tree(folder)
         return all(found.get(it) == own for it, own in self.alone.items() if it != LIST)
 
-    def ends_well(self, folder, earlier):
-        """Whether another ./install completes the work, and --remove removes all of it."""
-        return self.run_install(self.second, folder).status == 0 and self.is_new(folder, earlier) and (
+    def ends_well(self, folder):
+        """Whether another ./install completes the work, and --remove removes all files."""
+        return self.run_install(self.second, folder).status == 0 and self.is_new(folder) and (
             self.run_install(self.second, "--remove", folder).status == 0 and not files_in(folder))
+
+    def waits(self, process, folder):
+        """Whether a call that hasn't ended waits for the lock of a folder, once it does."""
+        def is_waiting():
+            try:
+                with open(f"/proc/{process.pid}/task/{process.pid}/children", encoding="utf-8") as children:
+                    return any(os.readlink(f"/proc/{it}/exe").endswith("/flock") and os.path.samefile(f"/proc/{it}/fd/9", folder)
+                               for it in children.read().split())
+            except OSError:  # one of them has just ended
+                return False
+        driver.wait_until(lambda: process.poll() is not None or is_waiting())
+        return process.poll() is None
 
     def make_victim(self, folder):
         """Makes a folder of which nothing may be removed, beside PREFIX."""
@@ -149,64 +162,55 @@ class PutIn(Copies):
 
 
 class Stopped(Copies):
-    """An installation, a second one and a removal that are stopped at each of their steps."""
+    """Calls that are stopped by a failure or a kill at each command that changes files, or by a signal at each that makes a folder."""
 
-    def check_each_step(self, how, leaves):
-        """Stops each of them at each step, by one of STEPS, and checks what that leaves."""
-        for name, earlier, words, holds_of in (("a second installation", self.earlier, [], leaves), ("an installation", None, [], leaves),
-                                               ("a removal", self.earlier, ["--remove"], self.removes_later)):
-            count = self.run_install(self.second, *words, self.place(earlier), steps=STEPS[how]).calls
+    def check_each_step(self, how, steps, earlier, *words):
+        count = self.run_install(self.second, *words, self.place(earlier), steps=steps).calls
 
-            def tried(at):
-                folder = self.place(earlier)
-                ended = self.run_install(self.second, *words, folder, at=at, how=how, steps=STEPS[how])
-                # The last step removes the folder for temporary files.
-                return (at == count or how == "dies" or words or not ended.left) and holds_of(how, folder, ended, earlier)
+        def tried(at):
+            folder = self.place(earlier)
+            before = driver.tree(folder)
+            ended = self.run_install(self.second, *words, folder, at=at, how=how, steps=steps)
+            return self.leaves_old_or_new(folder, ended, earlier, words) and {
+                "fails": self.can_be_removed, "ends": self.changes_nothing, "dies": self.can_be_completed}[how](folder, ended, before)
 
-            for at, holds in enumerate(driver.on_all_processors(tried, range(1, count + 1)), 1):
-                self.unless(f"{name} that {how} at step {at} of {count}", holds)
+        for at, holds in enumerate(driver.on_all_processors(tried, range(1, count + 1)), 1):
+            self.unless(f"./install {' '.join(words)} over {earlier} that {how} at step {at} of {count}", holds)
 
-    def leaves_it(self, how, folder, ended, earlier):
-        """Whether everything is as it was, or the installation is complete."""
-        if ended.status == 0:
-            return self.is_new(folder, earlier) and self.ends_well(folder, earlier)
-        if "not all earlier files" in ended.said:
-            return self.has_old_or_new(folder) and self.ends_well(folder, earlier)
-        is_as_before = driver.tree(folder) == self.old if earlier else not os.path.exists(folder)
-        return is_as_before and ended.said.count("install: ") <= 1 and (ended.said != "" or how == "ends")
+    def leaves_old_or_new(self, folder, ended, earlier, words):
+        """Whether each path has its old or its new file, and the list names all of them."""
+        found, old, new = files_in(folder), files_of(self.old) if earlier else {}, {} if words else files_of(self.alone)
+        is_complete = all(found.get(it) == own for it, own in new.items() if it != LIST)
+        is_known = all(it == LIST or it.endswith(COPY) or own in (old.get(it), new.get(it)) for it, own in found.items())
+        listed = {os.fsdecode(it.removeprefix(b"file ")) for it in found.get(LIST, [f"file {LIST}".encode()])}
+        return is_known and (is_complete or set(old) <= set(found)) and {it.removesuffix(COPY) for it in found} <= listed and (
+            ended.status != 0 or is_complete)
 
-    def survives(self, _how, folder, _ended, earlier):
-        """Whether each path has the old or the new file, and nothing is there that can't be cleared up."""
-        copy = self.place(folder if os.path.exists(folder) else None)
-        removed = self.run_install(self.second, "--remove", copy)
-        is_removed = removed.status == 0 or not os.path.exists(os.path.join(copy, LIST))
-        is_clear = not [it for it in files_in(copy) if not it.startswith(LIST)]
-        return is_removed and is_clear and (not earlier or self.has_old_or_new(folder)) and self.ends_well(folder, earlier)
+    def can_be_removed(self, folder, ended, before):
+        """Whether one line says why it failed, and --remove removes all that there is, but for a folder that couldn't be removed."""
+        is_unchanged, is_listed = driver.tree(folder) == before, os.path.exists(os.path.join(folder, LIST))
+        is_said = ended.said.startswith("install: ") and ended.said.count("\n") == 1 and (is_unchanged or "; call ./install again" in ended.said)
+        is_removed = (self.run_install(self.second, "--remove", folder).status == 0) == is_listed and not files_in(folder)
+        return is_removed and (ended[:3:2] == (0, "") or ended.status == 1 and is_said and not os.path.exists(folder))
 
-    def removes_later(self, how, folder, ended, _earlier):
-        """Whether another removal can complete this one."""
-        if not os.path.exists(os.path.join(folder, LIST)):
-            return not files_in(folder)
-        # Until files are gone, another message may say why.
-        is_said = how != "fails" or driver.tree(folder) == self.old or "call ./install --remove again" in ended.said
-        return ended.status != 0 and is_said and self.run_install(self.second, "--remove", folder).status == 0 and not os.path.exists(folder)
+    def can_be_completed(self, folder, _ended, _before):
+        return self.ends_well(folder)
 
-    def has_old_or_new(self, folder):
-        """Whether each path has its old or its new file, and none that only the old version has is gone too early."""
-        found, old, new = files_in(folder), files_of(self.old), files_of(self.new)
-        is_new = all(found.get(it) == new[it] for it in set(new) - {LIST})
-        others = [it for it in found if it not in old and it not in new and not it.endswith(COPIES)]
-        return LIST in found and not others and (
-            is_new or all(found.get(it) in (old[it], new.get(it, old[it])) for it in set(old) - {LIST}))
+    def changes_nothing(self, folder, ended, before):
+        return ended.status == 1 and ended.said == "" and driver.tree(folder) == before and os.path.exists(folder) == bool(before)
 
     def test_failures(self):
-        self.check_each_step("fails", self.leaves_it)
-
-    def test_signals(self):
-        self.check_each_step("ends", self.leaves_it)
+        self.check_each_step("fails", "changing", None)
+        self.check_each_step("fails", "changing", self.earlier)
+        self.check_each_step("fails", "changing", self.earlier, "--remove")
 
     def test_kills(self):
-        self.check_each_step("dies", self.survives)
+        self.check_each_step("dies", "changing", None)
+        self.check_each_step("dies", "changing", self.earlier)
+
+    def test_signals(self):
+        self.check_each_step("ends", "folders", None)
+        self.check_each_step("ends", "folders", self.earlier)
 
 
 @pages.tests("installing.md")
