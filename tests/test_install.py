@@ -56,6 +56,11 @@ def files_in(folder):
     return files_of(driver.tree(folder))
 
 
+def made_lines(folder):
+    """The lines of a list that say which folders are a folder and those in it."""
+    return driver.start("stat", ["-c", "made %i-%.W", *(at for at, _, _ in os.walk(folder))])[1]
+
+
 class Copies(Checks):
     """Tests with both copies, and with what each installs."""
 
@@ -78,8 +83,7 @@ class Copies(Checks):
         if earlier:
             shutil.copytree(earlier, folder, symlinks=True)
             files = [it for it in driver.read(os.path.join(folder, LIST)).splitlines(keepends=True) if it.startswith(b"file ")]
-            made = driver.start("stat", ["-c", "made %i-%.W", *(at for at, _, _ in os.walk(folder))])[1]
-            driver.write(folder, {LIST: b"".join(files) + made})
+            driver.write(folder, {LIST: b"".join(files) + made_lines(folder)})
         return folder
 
     @classmethod
@@ -166,13 +170,14 @@ class Stopped(Copies):
 
     def check_each_step(self, how, steps, earlier, *words):
         count = self.run_install(self.second, *words, self.place(earlier), steps=steps).calls
+        holds_of = {"fails": self.can_be_removed, "ends": self.changes_nothing,
+                    "dies": self.can_be_removed_again if words else self.can_be_completed}[how]
 
         def tried(at):
             folder = self.place(earlier)
             before = driver.tree(folder)
             ended = self.run_install(self.second, *words, folder, at=at, how=how, steps=steps)
-            return self.leaves_old_or_new(folder, ended, earlier, words) and {
-                "fails": self.can_be_removed, "ends": self.changes_nothing, "dies": self.can_be_completed}[how](folder, ended, before)
+            return self.leaves_old_or_new(folder, ended, earlier, words) and holds_of(folder, ended, before)
 
         for at, holds in enumerate(driver.on_all_processors(tried, range(1, count + 1)), 1):
             self.unless(f"./install {' '.join(words)} over {earlier} that {how} at step {at} of {count}", holds)
@@ -196,6 +201,12 @@ class Stopped(Copies):
     def can_be_completed(self, folder, _ended, _before):
         return self.ends_well(folder)
 
+    def can_be_removed_again(self, folder, _ended, _before):
+        """Whether another --remove completes this one. Without a list, only the folders on its path may be left."""
+        if not os.path.exists(os.path.join(folder, LIST)):
+            return set(driver.tree(folder)) <= {"share", "share/gherkin_run"}
+        return self.run_install(self.second, "--remove", folder).status == 0 and not os.path.exists(folder)
+
     def changes_nothing(self, folder, ended, before):
         return ended.status == 1 and ended.said == "" and driver.tree(folder) == before and os.path.exists(folder) == bool(before)
 
@@ -207,6 +218,9 @@ class Stopped(Copies):
     def test_kills(self):
         self.check_each_step("dies", "changing", None)
         self.check_each_step("dies", "changing", self.earlier)
+
+    def test_kills_of_removals(self):
+        self.check_each_step("dies", "changing", self.earlier, "--remove")
 
     def test_signals(self):
         self.check_each_step("ends", "folders", None)
