@@ -19,10 +19,12 @@ from checks import Checks
 
 PATIENCE = 300  # seconds: a script starts many programs, also while proofs have the processors
 BAD = ("failed", "undefined", "memory")
-# A name with every control character but line feed, and with what Markdown, XML and GitHub read as their own.
-ODD = "".join(map(chr, [*range(10), *range(11, 32), *range(127, 160), 0xFFFE, 0xFFFF,
-                        0x1F600])) + "%0A ::error::##[error]<b>&amp;\"'|*_`]]>"
-CONTROL = re.compile("[\\x00-\\x09\\x0b-\\x1f\\x7f-\\x9f]")
+# A name with every control character but line feed, those that turn the direction of writing, and with what Markdown, XML and
+# a CI read as their own.
+ODD = "".join(map(chr, [*range(10), *range(11, 32), *range(127, 160), 0x61C, 0x200E, 0x200F, *range(0x2028, 0x202F), *range(0x2066, 0x206A),
+                        0xFFFE, 0xFFFF, 0x1F600])) + "%0A ::error::##[error]##vso[a]<b>&amp;\"'|*_`]]>"
+CONTROL = re.compile("[\\x00-\\x09\\x0b-\\x1f\\x7f-\\x9f\u061c\u200e\u200f\u2028-\u202e\u2066-\u2069]")
+COMMAND = re.compile(r"(##[A-Za-z]*)\[")
 
 
 def environment_of(folder, **more):
@@ -58,11 +60,11 @@ def bad_places(report):
 def annotations_troubles(report, printed):
     lines = printed.split("\n")[:-1]
     texts = [line.split("::", 2)[2].replace("%0A", "\n").replace("%25", "%") for line in lines if line.count("::") > 1]
-    steps = [escaped(f"{it['keyword']} {it['text']} ... {it['status']}") for one in scenarios_of(report)
+    steps = [COMMAND.sub(r"\1\\x5b", escaped(f"{it['keyword']} {it['text']} ... {it['status']}")) for one in scenarios_of(report)
              for it in one["steps"] if it["status"] in BAD]
     return {"lines that are none": [
                 it for it in lines if not re.fullmatch(r"::error (file=[^,:]*,line=\d+,)?title=[^,:]*::[^\r]*", it)],
-            "unescaped": re.findall("%(?!25|0A|3A|2C).{0,2}", printed), "control characters": CONTROL.findall(printed),
+            "unescaped": re.findall("%(?!25|0A|3A|2C).{0,2}", printed), "control characters": CONTROL.findall(printed), "commands of a CI": COMMAND.findall(printed),
             "steps that no line has": [it for it in steps if not any(text.startswith(it) for text in texts)],
             "another number of lines": [lines] * (len(lines) != bad_places(report))}
 
@@ -72,7 +74,7 @@ def summary_troubles(report, printed):
     names, *rows = [[cell.strip() for cell in it.split("|")[1:-1]] for it in lines if it.startswith("| ")]
     wanted = [[it[0], *(str(report["summary"][it[0]].get(name, "")) for name in names[1:])] for it in rows]
     listed = [it for it in lines if it.startswith(("- ", "  - "))]
-    return {"control characters": CONTROL.findall(printed), "other counts": [rows] * (rows != wanted or len(rows) != 3),
+    return {"control characters": CONTROL.findall(printed), "commands of a CI": COMMAND.findall(printed), "other counts": [rows] * (rows != wanted or len(rows) != 3),
             "characters that are Markdown": [
                 it for it in listed if not re.fullmatch(r" *- (?:[\w ().:,*/]|[^\x00-\xa0]|&#?\w+;)*", it)],
             "nothing failed, or something did": [listed] * (bool(listed) != bool(bad_places(report)))}
@@ -95,19 +97,20 @@ def junit_troubles(report, printed):
                 one for one in root.findall("testsuite") for count, kind in kinds.items()
                 if int(one.get(count)) != len(one.findall(f"testcase[{kind}]"))],
             f"and not {wanted}": [found] * (found != wanted),
-            "other names": [names] * (names != readable)}
+            "other names": [names] * (names != readable),
+            "control characters": CONTROL.findall(printed), "commands of a CI": COMMAND.findall(printed)}
 
 
 def failed_troubles(report, printed):
     wanted = sum(it in BAD for it in [*(it["status"] for it in scenarios_of(report)), *around(report)])
     lines = printed.split("\n")[:-1]
     return {"another number of lines": [lines] * (len(lines) != wanted), "control characters": CONTROL.findall(printed),
-            "commands of GitHub's": [it for it in lines if it.lstrip().startswith("::") or "##[" in it]}
+            "commands of a CI": [it for it in lines if it.lstrip().startswith("::") or COMMAND.search(it)]}
 
 
 def escaped(text, kept=""):
     """A text with its control characters escaped, apart from line feeds and those that are kept."""
-    return CONTROL.sub(lambda it: it[0] if it[0] in kept else f"\\x{ord(it[0]):02x}", text)
+    return CONTROL.sub(lambda it: it[0] if it[0] in kept else f"\\x{ord(it[0]):02x}" if it[0] < "\xa0" else f"\\u{{{ord(it[0]):x}}}", text)
 
 
 def out_of_memory(report):

@@ -1,14 +1,16 @@
 # A JUnit file, by a JSON report: a suite for each feature, a case for each scenario. Hooks and cleanups of a rule, of a
-# feature or of the run that didn't pass are a case of their own. Control characters are escaped: a tab, a line feed and a carriage
-# return as in XML, the others such as \x1b. Other characters that XML can't have become the replacement character.
-def digit: if . < 10 then . + 48 else . + 87 end;
-def character:
-    if . == 38 then "&amp;" elif . == 60 then "&lt;" elif . == 62 then "&gt;" elif . == 34 then "&quot;"
-    elif . == 9 or . == 10 or . == 13 then "&#\(.);"
-    elif . < 32 or (. > 126 and . < 160) then [92, 120, (. / 16 | floor | digit), (. % 16 | digit)] | implode
-    elif . == 65534 or . == 65535 then "\ufffd"
-    else [.] | implode end;
-def xml: explode | map(character) | join("");
+# feature or of the run that didn't pass are a case of their own. What steers a terminal is escaped: a tab, a line feed and a
+# carriage return as in XML, the others such as \x1b or \u{202e}. So is `[`, so that no line has a command of a CI in it, such as
+# `##[` or `##vso[`. Other characters that XML can't have become the replacement character.
+# Control characters, those that end a line, and those that turn the direction of writing.
+def controls: "[\\p{Cc}\\x{61c}\\x{200e}\\x{200f}\\x{2028}-\\x{202e}\\x{2066}-\\x{2069}]";
+def hex: if . < 16 then "" else (. / 16 | floor | hex) end + "0123456789abcdef"[. % 16:. % 16 + 1];
+def escape: explode[0] | if . == 10 then "\\n" elif . < 16 then "\\x0" + hex elif . < 160 then "\\x" + hex else "\\u{" + hex + "}" end;
+def escaped($which): if test($which) then explode | map([.] | implode | if test($which) then escape else . end) | join("") else . end;
+def xml:
+    escaped("(?![\t\n\r])" + controls) | @html
+    | reduce ("\t", "\n", "\r", "[") as $it (.; split($it) | join("&#\($it | explode[0]);"))
+    | reduce ("\ufffe", "\uffff") as $it (.; split($it) | join("\ufffd"));
 def line: "\(.keyword) \(.text) ... \(.status)" + (if .reason then ": \(.reason)" else "" end);
 # What is in a case: why it isn't passed.
 def ended($status; $message; $text):
