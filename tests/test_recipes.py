@@ -16,6 +16,7 @@ import blocks
 import driver
 import pages
 from checks import Checks
+from ready import begin, is_running  # pylint: disable=unused-import
 
 PATIENCE = 300  # seconds: a script starts many programs, also while proofs have the processors
 BAD = ("failed", "undefined", "memory")

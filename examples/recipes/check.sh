@@ -2,8 +2,9 @@
 # Runs a suite if all its steps are defined: examples/recipes/check.sh PROGRAM [OPTION].. FILE..
 #
 # Looks for undefined steps first, prints them, and exits with 1 if there are any. Otherwise it runs the suite, prints what failed and the
-# counts, and exits with the suite's status. Control characters are escaped, such as \x1b. --dry-run, --no-skipped, --format,
-# --explain, --lint, --help and --version are refused: the script gives the first two itself, and reads the plain report.
+# counts, and exits with the suite's status. It prints through visible.sh. It reads each file twice, so none may be a pipe.
+# --dry-run, --no-skipped, --format, --explain, --lint, --help and --version are refused: the script gives the
+# first two itself, and reads the plain report.
 set -eu
 
 here=$(dirname -- "$(readlink -f -- "$0")")
@@ -22,12 +23,28 @@ for word do
 done
 room=$(mktemp -d) && room=$(CDPATH='' cd -- "$room" && pwd) || exit 3
 trap 'rm -rf -- "$room"' EXIT
-trap 'exit 129' HUP
-trap 'exit 130' INT
-trap 'exit 143' TERM
+trap 'stop 129' HUP
+trap 'stop 130' INT
+trap 'stop 143' TERM
+# A command in the background would read an empty standard input.
+{ command exec 3<&0; } 2> /dev/null || exec 3< /dev/null
+
+# Runs a command in a session of its own, so that a signal to this script ends it, and what it has started.
+run() {
+    setsid -- "$@" <&3 3<&- &
+    wait "$!"
+}
+
+stop() {
+    trap '' HUP INT TERM
+    { kill "${!-}" && kill -- "-$!"; } 2> /dev/null || true
+    wait
+    exit "$1"
+}
+
 program=$1
 shift
-"$program" --dry-run "$@" > "$room/undefined" || {
+run "$program" --dry-run "$@" > "$room/undefined" || {
     status=$?
     {
         grep -a '\.\.\. undefined$' "$room/undefined" || true
@@ -36,7 +53,7 @@ shift
     exit "$status"
 }
 status=0
-"$program" --no-skipped "$@" > "$room/report" || status=$?
+run "$program" --no-skipped "$@" > "$room/report" || status=$?
 {
     grep -aE '^(Feature|  [A-Z][A-Za-z ]*): .* \.\.\. (failed|memory)$|\.\.\. (failed: [a-z ]+|memory)$|^ *\((rule, line [0-9]+: )?hooks and cleanups\) ' "$room/report" || true
     tail -n 3 "$room/report"
