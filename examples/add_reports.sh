@@ -3,14 +3,15 @@
 #
 # Prints the report that one run over all these files gives, in the order of the reports, and exits with its status. Each run
 # judges its features alone, so it says of them what one run would say. Only a run with --stop knows nothing of the others.
-# If a file isn't one report as the program printed it, on one line, the script prints no report and exits with 3. It needs jq.
+# If a file isn't one report as the program printed it, on one line, the script prints no report and exits with 3, and so if
+# it can't write. It needs jq.
 set -eu
 
 here=$(dirname -- "$(readlink -f -- "$0")")
 start='{"features":['
 
 refuse() {
-    "$here/recipes/visible.sh" "add_reports: $1" >&2
+    "$here/recipes/visible.sh" "add_reports: $1" >&2 || true
     exit "$2"
 }
 
@@ -64,11 +65,11 @@ features_of() {
 }
 
 [ $# -ge 1 ] || {
-    echo "usage: examples/add_reports.sh REPORT.." >&2
+    echo "usage: examples/add_reports.sh REPORT.." >&2 || true
     exit 2
 }
 command -v jq > /dev/null || refuse "jq is needed, and isn't installed" 2
 rests=$(rests_of "$@") || exit 3
-sum=$(printf '%s\n' "$rests" | sum_of) || exit 3
+sum=$(printf '%s\n' "$rests" | sum_of) && status=$(printf '%s\n' "$sum" | jq .status) || exit 3
 { printf '%s' "$start" && printf '%s\n' "$rests" | features_of "$@" && printf '],%s\n' "${sum#?}"; } || refuse "cannot write" 3
-exit "$(printf '%s\n' "$sum" | jq .status)"
+exit "$status"

@@ -10,8 +10,8 @@
 # A scenario's verdict is the same alone and in a suite. So the reports of the parts, added up in their order, are the one report,
 # byte for byte, and the script exits with its status. A job that is lost is run again, three times in all. A part's report
 # counts once: it is that of the last try, which has to say how it ended. If a part stays lost, the script prints no report and exits
-# with 3. If a part has a fault, one run over all files finds the first fault. A run with --stop isn't the sum of its parts, so it is
-# refused, and so are other reports. The script needs GNU parallel and jq.
+# with 3, and so if it can't write. If a part has a fault, one run over all files finds the first fault. A run with --stop isn't the sum
+# of its parts, so it is refused, and so are other reports. The script needs GNU parallel and jq.
 set -euo pipefail
 
 here=$(dirname -- "$(readlink -f -- "$0")")
@@ -41,7 +41,7 @@ job='
 most=30000
 
 refuse() {
-    "$here/recipes/visible.sh" "spread: $1" >&2
+    "$here/recipes/visible.sh" "spread: $1" >&2 || true
     exit "$2"
 }
 
@@ -56,9 +56,9 @@ stop() {
     trap '' HUP INT TERM
     local child
     for child in $(jobs -p); do
-        kill -HUP "$child" 2> "$room/missing" || true
+        kill -HUP "$child" 2> /dev/null || true
         sleep 0.5
-        kill -TERM "$child" 2> "$room/missing" || true
+        kill -TERM "$child" 2> /dev/null || true
     done
     wait
     exit "$1"
@@ -139,9 +139,8 @@ write_part() {
     [ "${#part[@]}" -gt 0 ] || return 0
     local words=("$PWD" "${program[@]}" --format json -- "${part[@]}")
     {
-        printf '%s\0' "${#words[@]}" "${words[@]}" | base64 | tr -d '\n'
-        echo
-    } >> "$room/words"
+        printf '%s\0' "${#words[@]}" "${words[@]}" | base64 | tr -d '\n' && echo
+    } >> "$room/words" || refuse "cannot write" 3
     firsts+=("${part[0]}")
     part=()
 }
@@ -155,12 +154,12 @@ run_engine() {
 
 # Prints the last line of a part's faults, or the engine's if there is none, without zero bytes, of which bash would warn.
 said_last() {
-    { grep -a . "$room/parts/$number.err" 2> "$room/missing" || grep -a . "$room/engine"; } | tail -n 1 | tr -d '\0'
+    { grep -a . "$room/parts/$number.err" 2> /dev/null || grep -a . "$room/engine"; } | tail -n 1 | tr -d '\0'
 }
 
 # Ends the script, since a part is lost. It may be lost because another program is called parallel.
 end_lost() {
-    [[ $(parallel --version 2> "$room/missing") == "GNU parallel"* ]] || refuse "GNU parallel is needed, and isn't installed" 2
+    [[ $(parallel --version 2> /dev/null) == "GNU parallel"* ]] || refuse "GNU parallel is needed, and isn't installed" 2
     refuse "part $number is lost, which begins with ${firsts[number - 1]}: $(said_last)" 3
 }
 
@@ -169,10 +168,10 @@ take_reports() {
     local last
     reports=()
     for ((number = 1; number <= ${#firsts[@]}; number++)); do
-        last=$(tail -n 1 "$room/parts/$number" 2> "$room/missing") || true
+        last=$(tail -n 1 "$room/parts/$number" 2> /dev/null) || true
         [[ $last =~ ^status\ ([0-4])$ ]] || end_lost
         [ "$(wc -l < "$room/parts/$number")" -eq 3 ] || end_with_fault "${BASH_REMATCH[1]}"
-        head -n 1 "$room/parts/$number" > "$room/report.$number"
+        head -n 1 "$room/parts/$number" > "$room/report.$number" || refuse "cannot write" 3
         reports+=("$room/report.$number")
     done
 }
@@ -185,12 +184,12 @@ end_with_fault() {
         run "${program[@]}" --format json -- "${files[@]}" || status=$?
         [ "$status" -eq 126 ] || exit "$status"
     fi
-    cat "$room/parts/$number.err" >&2
+    cat "$room/parts/$number.err" >&2 || true
     exit "$1"
 }
 
-command -v parallel > "$room/missing" || refuse "GNU parallel is needed, and isn't installed" 2
-command -v jq > "$room/missing" || refuse "jq is needed, and isn't installed" 2
+command -v parallel > /dev/null || refuse "GNU parallel is needed, and isn't installed" 2
+command -v jq > /dev/null || refuse "jq is needed, and isn't installed" 2
 take_own_options "$@"
 take_run "${rest[@]}"
 write_parts

@@ -20,6 +20,8 @@ class Examples(Checks):
             self.compare(arguments[-1], driver.start(self.program, arguments), wanted)
 
     def test_checks(self):
-        """The script of examples/checks/, whose programs write what they should, or don't."""
+        """The script of examples/checks/, whose programs write what they should, or don't. It leaves no temporary file."""
         for name, words, status in (("passing", [], 0), ("failing", ["-r"], 1)):
-            self.compare(name, driver.start("examples/checks/check.sh", [self.program, *words]), (status, stored(f"checks/{name}", "report"), b""))
+            ended = driver.start("examples/checks/check.sh", [self.program, *words], environment={**os.environ, "TMPDIR": self.room})
+            self.compare(name, ended, (status, stored(f"checks/{name}", "report"), b""))
+            self.same(f"what {name} leaves", os.listdir(self.room), [])

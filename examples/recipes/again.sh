@@ -9,11 +9,11 @@
 set -eu
 
 [ $# -ge 2 ] || {
-    echo "usage: examples/recipes/again.sh REPORT PROGRAM [OPTION].." >&2
+    echo "usage: examples/recipes/again.sh REPORT PROGRAM [OPTION].." >&2 || true
     exit 2
 }
 command -v jq > /dev/null || {
-    echo "again: jq is needed, and isn't installed" >&2
+    echo "again: jq is needed, and isn't installed" >&2 || true
     exit 2
 }
 report=$1
@@ -31,7 +31,7 @@ runs=$(jq --raw-output --slurp '
       elif $lines == [] then empty
       else [$lines[] | "--line", tostring] + ["--", .source] end
     | "again \"$@\" " + @sh' < "$report") || exit 3
-[ -n "$runs" ] || exit "$(jq .status < "$report")"
+[ -n "$runs" ] || exit "$(jq .status < "$report" || echo 3)"
 worst=0
 
 again() {

@@ -2,21 +2,21 @@
 # Runs a suite if all its steps are defined: examples/recipes/check.sh PROGRAM [OPTION].. FILE..
 #
 # Looks for undefined steps first, prints them, and exits with 1 if there are any. Otherwise it runs the suite, prints what failed and the
-# counts, and exits with the suite's status. It prints through visible.sh. It reads each file twice, so none may be a pipe.
-# --dry-run, --no-skipped, --format, --explain, --lint, --help and --version are refused: the script gives the
+# counts, and exits with the suite's status. It prints through visible.sh. It reads each file twice, so none may be a pipe. If it can't
+# write, it exits with 3. --dry-run, --no-skipped, --format, --explain, --lint, --help and --version are refused: the script gives the
 # first two itself, and reads the plain report.
 set -eu
 
 here=$(dirname -- "$(readlink -f -- "$0")")
 [ $# -ge 2 ] || {
-    echo "usage: examples/recipes/check.sh PROGRAM [OPTION].. FILE.." >&2
+    echo "usage: examples/recipes/check.sh PROGRAM [OPTION].. FILE.." >&2 || true
     exit 2
 }
 for word do
     case $word in
     --) break ;;
     --dry-run | --no-skipped | --format | --format=* | --explain | --lint | --help | --version | -[hV]*)
-        "$here/visible.sh" "check: $word isn't for this script" >&2
+        "$here/visible.sh" "check: $word isn't for this script" >&2 || true
         exit 2
         ;;
     esac
@@ -49,7 +49,7 @@ run "$program" --dry-run "$@" > "$room/undefined" || {
     {
         grep -a '\.\.\. undefined$' "$room/undefined" || true
         tail -n 3 "$room/undefined"
-    } | "$here/visible.sh"
+    } | "$here/visible.sh" || exit 3
     exit "$status"
 }
 status=0
@@ -57,5 +57,5 @@ run "$program" --no-skipped "$@" > "$room/report" || status=$?
 {
     grep -aE '^(Feature|  [A-Z][A-Za-z ]*): .* \.\.\. (failed|memory)$|\.\.\. (failed: [a-z ]+|memory)$|^ *\((rule, line [0-9]+: )?hooks and cleanups\) ' "$room/report" || true
     tail -n 3 "$room/report"
-} | "$here/visible.sh"
+} | "$here/visible.sh" || exit 3
 exit "$status"

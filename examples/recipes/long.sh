@@ -3,7 +3,7 @@
 #
 # NAMES are the files, one a line. They are run in parts of at most N files, or of 1,000, each with the options, and the reports
 # are added up. What the script prints, and its status, are those of one run over all files. If a part has a fault, the script
-# prints no report and exits as that part did; if a part is killed it exits with 3, and without a name with 2.
+# prints no report and exits as that part did; if a part is killed or it can't write, it exits with 3, and without a name with 2.
 # --stop, --format, --explain, --lint, --help and --version are refused: a run with --stop isn't the sum of parts. It needs jq.
 set -eu
 
@@ -11,7 +11,7 @@ here=$(dirname -- "$(readlink -f -- "$0")")
 files=1000
 
 refuse() {
-    "$here/visible.sh" "long: $1" >&2
+    "$here/visible.sh" "long: $1" >&2 || true
     exit "$2"
 }
 
@@ -23,7 +23,7 @@ if [ "${1-}" = --files ]; then
     shift 2
 fi
 [ $# -ge 1 ] || {
-    echo "usage: examples/recipes/long.sh [--files N] PROGRAM [OPTION].. < NAMES" >&2
+    echo "usage: examples/recipes/long.sh [--files N] PROGRAM [OPTION].. < NAMES" >&2 || true
     exit 2
 }
 for word do
@@ -66,7 +66,7 @@ part='
 ended=0
 run xargs -d '\n' -r -n "$files" sh -c "$part" "$room" "$@" --format json -- 2> /dev/null || ended=$?
 if [ -e "$room/status" ]; then
-    exit "$(cat "$room/status")"
+    exit "$(grep . "$room/status" || echo 3)"
 fi
 [ "$ended" -eq 0 ] || refuse "a part was killed" 3
 [ -n "$(ls "$room")" ] || refuse "no file is given" 2

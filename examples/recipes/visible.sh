@@ -5,6 +5,7 @@
 # UTF-8. The others that end a line, and those that turn the direction of writing, become such as `\u{202e}`. No line is a command
 # of a CI: `::` at its beginning, also after spaces of Unicode, becomes `:\x3a`, and the bracket of `##[`, `##vso[` or another word
 # `\x5b`. Lines stay lines. `visible.sh TEXT` prints the text as one line, with `\n` for each line feed.
+# If it can't write, it exits with 3.
 set -eu
 
 escapes=$(awk 'BEGIN {
@@ -20,8 +21,8 @@ s/##\([A-Za-z]*\)\[/##\1\\x5b/g
 s/^\([^!-~]*\)::/\1:\\x3a/'
 export LC_ALL=C
 if [ $# -eq 0 ]; then
-    exec sed "$escapes"
+    sed "$escapes" || exit 3
+else
+    { printf '%s' "$*" | sed -z 's/\n/\\n/g
+'"$escapes" && echo; } || exit 3
 fi
-printf '%s' "$*" | sed -z 's/\n/\\n/g
-'"$escapes"
-echo
