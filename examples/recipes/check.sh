@@ -49,7 +49,7 @@ run "$program" --dry-run "$@" > "$room/undefined" || {
     {
         grep -a '\.\.\. undefined$' "$room/undefined" || true
         tail -n 3 "$room/undefined"
-    } | "$here/visible.sh" || exit 3
+    } | "$here/visible.sh"
     exit "$status"
 }
 status=0
@@ -57,5 +57,5 @@ run "$program" --no-skipped "$@" > "$room/report" || status=$?
 {
     grep -aE '^(Feature|  [A-Z][A-Za-z ]*): .* \.\.\. (failed|memory)$|\.\.\. (failed: [a-z ]+|memory)$|^ *\((rule, line [0-9]+: )?hooks and cleanups\) ' "$room/report" || true
     tail -n 3 "$room/report"
-} | "$here/visible.sh" || exit 3
+} | "$here/visible.sh"
 exit "$status"
