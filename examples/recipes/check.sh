@@ -2,9 +2,9 @@
 # Runs a suite if all its steps are defined: examples/recipes/check.sh PROGRAM [OPTION].. FILE..
 #
 # Looks for undefined steps first, prints them, and exits with 1 if there are any. Otherwise it runs the suite, prints what failed and the
-# counts, and exits with the suite's status. It prints through visible.sh. It reads each file twice, so none may be a pipe. If it can't
-# write, it exits with 3. --dry-run, --no-skipped, --format, --explain, --lint, --help and --version are refused: the script gives the
-# first two itself, and reads the plain report.
+# counts, and exits with the suite's status. It prints through visible.sh, faults too. It reads each file twice, so none may be a pipe. If
+# it can't write, it exits with 3. --dry-run, --no-skipped, --format, --explain, --lint, --help and --version are refused: the script
+# gives the first two itself, and reads the plain report.
 set -eu
 
 here=$(dirname -- "$(readlink -f -- "$0")")
@@ -29,10 +29,14 @@ trap 'stop 143' TERM
 # A command in the background would read an empty standard input.
 { command exec 3<&0; } 2> /dev/null || exec 3< /dev/null
 
-# Runs a command in a session of its own, so that a signal to this script ends it, and what it has started.
+# Runs a command in a session of its own, so that a signal to this script ends it, and what it has started. What it says on standard
+# error is shown when it has ended.
 run() {
-    setsid -- "$@" <&3 3<&- &
-    wait "$!"
+    ended=0
+    setsid -- "$@" 2> "$room/errors" <&3 3<&- &
+    wait "$!" || ended=$?
+    "$here/visible.sh" < "$room/errors" >&2 || true
+    return "$ended"
 }
 
 stop() {
