@@ -20,6 +20,8 @@ KINDS = {"n": ":d"}
 # Faults of which --lint says more than the fix in docs/FAULTS.md.
 WITH_CAUSES = ("unexpected line", "unknown action", "missing field", "wrong kind of field", "ambiguous with an earlier line")
 FAULT = re.compile(r"gherkin_run: .*:\d+: (.*)\n")
+# What --lint escapes in the name of a file.
+COMMAND = re.compile(r"##([A-Za-z]*)\[")
 
 
 def named(option):
@@ -119,7 +121,7 @@ class Hints(Checks):
         for number, (case, fault) in enumerate(self.faults()):
             lines = self.linted(number, case)
             name = f"--lint of {case.page}.md, {case.name}"
-            begin = fault[0].removesuffix("\n")
+            begin = COMMAND.sub(r"##\1\\u{5b}", fault[0].removesuffix("\n"))
             self.unless(f"{name} lacks {begin}: {lines}", begin in lines)
             if fault[1] not in WITH_CAUSES and begin in lines:
                 self.same(name, lines[lines.index(begin) + 2:][:1], [f"    {HINTS[fault[1]]}"])

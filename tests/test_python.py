@@ -113,9 +113,10 @@ class Functions(Package):
         return driver.trouble(function, ended(function, features=[PAINT, PAINT], **given), wanted) or "as the program"
 
     def fault(self, **given):
-        """The fault of a run, and of an explanation."""
+        """The fault of a run, and of an explanation, where the name of a file is escaped."""
         found = fault_of("run", **given)
-        return found if found == fault_of("explain", **given) else "another fault if it is explained"
+        shown = [it.replace("\0", "\\u{0}") if isinstance(it, str) else it for it in found]
+        return found if shown == fault_of("explain", **given) else "another fault if it is explained"
 
     def raises(self, call=None, **given):
         """The name of the exception of a call, or of a run."""

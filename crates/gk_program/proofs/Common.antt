@@ -5,10 +5,9 @@ pub use Rattle.std.proofs.lemmas.Grind.{common_steps}
 pub use Rattle.std.proofs.lemmas.List.{drop_all, map-append, map_push, take-append-drop, take_all}
 pub use Rattle.std.proofs.lemmas.List.Elements.{All-nil, All-push}
 pub use Rattle.std.proofs.lemmas.Option.{slice_get-map, slice_get_read}
-pub use Rattle.std.proofs.lemmas.Result.{on_ok_weaker}
 pub use Rattle.std.specs.Io.KnownBytes.{Appends, Keeps}
 pub use Rattle.std.specs.List.{All, Any}
-pub use Rattle.std.specs.Prelude.{IfErr, IfOk, IfSome, IsErrAnd, IsSomeAnd, OnOk, String, option_map, slice_get, string_bytes}
+pub use Rattle.std.specs.Prelude.{◌≢◌, IfErr, IfOk, IfSome, IsErrAnd, IsSomeAnd, OnOk, String, option_map, slice_get, string_bytes}
 pub use Rattle.std.specs.Vec.Iter.{into_iter_items, into_iter_len}
 pub use Rattle.std.specs.declared.alloc.Global.{Global}
 pub use Rattle.clap.specs.Words.{IsAmong, Text, kind_of}
@@ -37,10 +36,10 @@ pub use Rattle.gk_world.specs.declared.refusals.WorldFault.{WorldFault}
 pub use Rattle.gk_program.specs.Asked.{SaysAsked, SaysError, SaysGiven, files_to_put, names_given}
 pub use Rattle.gk_program.specs.Ended.{SaysDone}
 pub use Rattle.gk_program.specs.EnvFault.{IsEnvFault, IsFaultOfVariable, mistake_of}
-pub use Rattle.gk_program.specs.Fault.{said_line}
 pub use Rattle.gk_program.specs.FaultListing.{blocks}
 pub use Rattle.gk_program.specs.Files.{AreRead, IsFaultOfFiles, IsFileFault, IsNotRead, Reading, StopsReading, files_in_order, name_of, names_in_order, one_of}
-pub use Rattle.gk_program.specs.Program.{AreGiven, AreTaken, IsDoneFor, IsFaultAs, IsFaultFor, IsFaultOfGiven, IsFaultOfRun, IsFirstRefused, IsFlushedRun, IsMemoryAfter, IsRefused, IsRun, IsRunFrom, IsShown, IsTextFault, SaysCalls, SaysCallsOfRun, SaysProgram, SaysRunFrom, SaysSuite, SaysVariables, contents_given, hinted, variables_given, with_variables}
+pub use Rattle.gk_program.specs.Program.{AreGiven, AreTaken, IsDoneFor, IsFaultAs, IsFaultFor, IsFaultOfGiven, IsFaultOfRun, IsFirstRefused, IsFlushedRun, IsMemoryAfter, IsRefused, IsRun, IsRunFrom, IsShown, IsTextFault, SaysCalls, SaysCallsOfRun, SaysPrinted, SaysProgram, SaysRunFrom, SaysSuite, SaysVariables, contents_given, hinted, variables_given, with_variables}
+pub use Rattle.gk_program.specs.ShownFault.{IsFaultIn, IsFaultShown, IsSameButName, name_in}
 pub use Rattle.gk_program.specs.WorldFiles.{ArePut, IsNotPut, IsPut, IsText, PutFile, StopsPutting, given_of, read_of, with_files}
 pub use Rattle.gk_program.specs.declared.asked.ArgumentsFault.{ArgumentsFault}
 pub use Rattle.gk_program.specs.declared.asked.Asked.{Asked}

@@ -1,5 +1,5 @@
 -- How the program ends.
-use Rattle.gk_program.proofs.Common.{◌≡◌, inr, refl, ℕ, List, Result, Ok, Err, IfErr, IfOk, OnOk, String, string_bytes, Global, Text, one_more, Device, Words, SaysGiven, SaysDone, Reading, IsDoneFor, IsFaultFor, IsRun, IsShown, IsTextFault, SaysCalls, SaysCallsOfRun, SaysProgram, ArgumentsFault, Help, Run, Fault}
+use Rattle.gk_program.proofs.Common.{◌≡◌, inr, refl, ℕ, List, Result, Ok, Err, IfErr, IfOk, OnOk, String, string_bytes, Global, Text, one_more, Device, Words, SaysGiven, SaysDone, Reading, IsDoneFor, IsFaultFor, IsRun, IsShown, IsTextFault, SaysCalls, SaysCallsOfRun, SaysPrinted, ArgumentsFault, Help, Run, Fault}
 
 -- help was shown, or why it was not
 pub help_shown : {S : Type 0} (reads : Reading S) (arguments : Result (List Text) ArgumentsFault) (text : String Global) (s : S) (old new : Device) (result : Result ℕ Fault) → SaysGiven arguments (Ok (Help text))
@@ -19,7 +19,7 @@ run_done reads arguments w before after old new (Ok status) given run = (Run w, 
 run_done reads arguments w before after old new (Err fault) given run = tt
 
 pub run_fails : {S : Type 0} (reads : Reading S) (arguments : Result (List Text) ArgumentsFault) (w : Words) (before after : S) (old new : Device) (result : Result ℕ Fault) → SaysGiven arguments (Ok (Run w))
-    → IfErr result (SaysProgram reads w before after old new) → IfErr result (IsFaultFor reads arguments before after old new)
+    → IfErr result (SaysPrinted reads w before after old new) → IfErr result (IsFaultFor reads arguments before after old new)
 run_fails reads arguments w before after old new (Ok status) given says = tt
 run_fails reads arguments w before after old new (Err fault) given says = inr (Run w, given, says)
 

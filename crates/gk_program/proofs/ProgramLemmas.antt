@@ -1,7 +1,6 @@
 -- A run whose output is flushed, the program's faults for those of the run, help, and variables one after another.
-use Rattle.gk_program.proofs.Common.{◌≡◌, ◌⊎◌, ◌∙◌, ◌+◌, ◌-◌, ◌^◌, ◌<◌, ◌≤◌, ◌++◌, ap, sym, subst, refl, inl, inr, arith, suc, zero, ℕ, true, List, [], ◌∷◌, length, map, take, drop, get_or, Option, Some, None, Result, Ok, Err, add-one, IfErr, IfOk, IsSomeAnd, String, option_map, slice_get, string_bytes, Global, All, Any, Appends, Keeps, slice_get-map, slice_get_read, map-append, map_push, take-append-drop, take_all, All-push, drop-cons, take-suc, Contents, IsFault, put_refusal, SandboxValue, new_sandbox, with_env, WorldFault, PairValue, pair_value, one_more, Request, FilesValue, HaveSameNames, request_of_files, files_value, SourceValue, source_value, names_of, Source, Device, IsUntouched, AreLeft, SaysFaultAs, name_at_fault, SuiteFiles, Mode, Report, Explanation, Findings, Words, RunFault, AreRead, IsFaultOfFiles, IsFileFault, Reading, StopsReading, files_in_order, name_of, AreGiven, AreTaken, IsFaultAs, IsFaultOfGiven, IsFaultOfRun, IsFirstRefused, IsFlushedRun, IsMemoryAfter, IsRefused, IsRun, SaysCallsOfRun, IsRunFrom, SaysProgram, SaysRunFrom, SaysSuite, SaysVariables, contents_given, variables_given, with_variables, hinted, files_to_put, names_given, ArePut, StopsPutting, IsEnvFault, IsFaultOfVariable, is_lint, mistake_of, Fault, NotUtf8, Usage, Env, File, NotText, TextTooLong, CannotRead, TooLong, OfRun, Unread, Write, Memory, common_steps}
+use Rattle.gk_program.proofs.Common.{◌≡◌, ◌≢◌, ◌⊎◌, ◌∙◌, ◌+◌, ◌-◌, ◌^◌, ◌<◌, ◌≤◌, ◌++◌, ap, sym, subst, refl, inl, inr, arith, suc, zero, ℕ, true, List, [], ◌∷◌, length, map, take, drop, get_or, Option, Some, None, Result, Ok, Err, add-one, IfErr, IfOk, IsSomeAnd, String, option_map, slice_get, string_bytes, Global, All, Any, Appends, Keeps, slice_get-map, slice_get_read, map-append, map_push, take-append-drop, take_all, All-push, drop-cons, take-suc, Contents, IsFault, put_refusal, SandboxValue, new_sandbox, with_env, WorldFault, PairValue, pair_value, one_more, Request, FilesValue, HaveSameNames, request_of_files, files_value, SourceValue, source_value, names_of, Source, Device, IsUntouched, AreLeft, SaysFaultAs, name_at_fault, SuiteFiles, Mode, Report, Explanation, Findings, Words, RunFault, AreRead, IsFaultOfFiles, IsFileFault, Reading, StopsReading, files_in_order, name_of, AreGiven, AreTaken, IsFaultAs, IsFaultOfGiven, IsFaultOfRun, IsFirstRefused, IsFlushedRun, IsMemoryAfter, IsRefused, IsRun, SaysCallsOfRun, IsFaultIn, IsFaultShown, IsSameButName, name_in, IsRunFrom, SaysProgram, SaysRunFrom, SaysSuite, SaysVariables, contents_given, variables_given, with_variables, hinted, files_to_put, names_given, ArePut, StopsPutting, IsEnvFault, IsFaultOfVariable, is_lint, mistake_of, Fault, NotUtf8, Usage, Env, File, NotText, TextTooLong, CannotRead, TooLong, OfRun, Unread, Write, Memory, common_steps}
 use Rattle.gk_world.specs.declared.refusals.WorldFault.TheVariants as world
-use Rattle.gk_request.specs.declared.source.SourceFault.TheVariants as reading
 use Rattle.gk_request.specs.declared.run_fault.RunFault.TheVariants as run
 
 -- a device that isn't called
@@ -80,6 +79,52 @@ calls_as (Findings steps) r c old new files (run.Read input f) fault room is say
 calls_as (Findings steps) r c old new files (run.Library f) fault room is says = grind (arith, common_steps)
 calls_as (Findings steps) r c old new files (run.Hooks f) fault room is says = grind (arith, common_steps)
 calls_as (Findings steps) r c old new files (run.Select input f) fault room is says = grind (arith, common_steps)
+
+-- ---- a fault as it is printed
+
+-- the same fault, of a file with another name
+calls_but_name : (old new : Device) (fault other : Fault) → IsSameButName fault other → SaysCallsOfRun old new fault → SaysCallsOfRun old new other
+calls_but_name old new (NotText name) (NotText other) same calls = calls
+calls_but_name old new (NotText name) _ same calls = absurd same
+calls_but_name old new (TextTooLong name) (TextTooLong other) same calls = calls
+calls_but_name old new (TextTooLong name) _ same calls = absurd same
+calls_but_name old new (CannotRead name hint) (CannotRead other same_hint) same calls = calls
+calls_but_name old new (CannotRead name hint) _ same calls = absurd same
+calls_but_name old new (TooLong name) (TooLong other) same calls = calls
+calls_but_name old new (TooLong name) _ same calls = absurd same
+calls_but_name old new (OfRun name f) (OfRun other g) same calls = calls
+calls_but_name old new (OfRun name f) _ same calls = absurd same
+calls_but_name old new NotUtf8 other same calls = subst (SaysCallsOfRun old new) (sym same) calls
+calls_but_name old new (Usage text) other same calls = subst (SaysCallsOfRun old new) (sym same) calls
+calls_but_name old new (Env notes) other same calls = subst (SaysCallsOfRun old new) (sym same) calls
+calls_but_name old new File other same calls = subst (SaysCallsOfRun old new) (sym same) calls
+calls_but_name old new (Unread status place lines) other same calls = subst (SaysCallsOfRun old new) (sym same) calls
+calls_but_name old new Write other same calls = subst (SaysCallsOfRun old new) (sym same) calls
+calls_but_name old new Memory other same calls = subst (SaysCallsOfRun old new) (sym same) calls
+
+-- memory was refused for the name of a file
+calls_without_name : (old new : Device) (fault : Fault) → name_in fault ≢ None → SaysCallsOfRun old new fault → SaysCallsOfRun old new Memory
+calls_without_name old new (NotText name) named calls = inl calls
+calls_without_name old new (TextTooLong name) named calls = inl calls
+calls_without_name old new (CannotRead name hint) named calls = inl calls
+calls_without_name old new (TooLong name) named calls = inl calls
+calls_without_name old new (OfRun name f) named calls = inl calls
+calls_without_name old new NotUtf8 named calls = absurd (named refl)
+calls_without_name old new (Usage text) named calls = absurd (named refl)
+calls_without_name old new (Env notes) named calls = absurd (named refl)
+calls_without_name old new File named calls = absurd (named refl)
+calls_without_name old new (Unread status place lines) named calls = absurd (named refl)
+calls_without_name old new Write named calls = absurd (named refl)
+calls_without_name old new Memory named calls = absurd (named refl)
+
+calls_shown : (old new : Device) (fault printed : Fault) → IsFaultShown fault printed ⊎ (printed ≡ Memory) × (name_in fault ≢ None) → SaysCallsOfRun old new fault → SaysCallsOfRun old new printed
+calls_shown old new fault printed (inl shown) calls = calls_but_name old new fault printed shown.0 calls
+calls_shown old new fault printed (inr refused) calls = subst (SaysCallsOfRun old new) (sym refused.0) (calls_without_name old new fault refused.1 calls)
+
+pub calls_printed : (old new : Device) (mode : Mode) (fault printed : Fault) → IsFaultIn mode fault printed → SaysCallsOfRun old new fault → SaysCallsOfRun old new printed
+calls_printed old new Report fault printed is calls = subst (SaysCallsOfRun old new) (sym is) calls
+calls_printed old new Explanation fault printed is calls = calls_shown old new fault printed is calls
+calls_printed old new (Findings steps) fault printed is calls = calls_shown old new fault printed is calls
 
 -- ---- what is shown
 

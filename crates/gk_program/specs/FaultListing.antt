@@ -11,12 +11,13 @@ use Rattle.gk_request.specs.declared.run_fault.RunFault.{RunFault}
 use Rattle.gk_request.specs.declared.run_fault.RunFault.TheVariants.{Select}
 use Rattle.gk_program.specs.Fault.{said_line}
 use Rattle.gk_program.specs.FaultPlace.{place_at}
+use Rattle.gk_program.specs.ShownFault.{shown_name}
 use Rattle.gk_program.specs.declared.fault.Fault.{Fault}
 use Rattle.gk_program.specs.declared.fault.Fault.TheVariants.{Unread, Memory}
 
--- The output for a fault, which is that of a text of tags, if one is given: the line that a run prints for it, and the notes below that line.
+-- The output for a fault, which is that of a text of tags, if one is given: the line that a run prints for it, with the name of its file as it is shown, and the notes below that line.
 abbrev pub block : Option (List ℕ) → FilesValue → RunFault → List ℕ
-block tags files fault = said_line (name_at_fault files fault) fault ++ notes tags files fault
+block tags files fault = said_line (shown_name (name_at_fault files fault)) fault ++ notes tags files fault
 
 -- The output for faults of files, one after the other.
 abbrev pub blocks : FilesValue → List RunFault → List ℕ
@@ -35,6 +36,6 @@ IsListing tags files first text =
 
 -- The program's fault if a run has this fault. Its output has all faults from this one on, and its status and its place are those of this one. Or memory was refused for the output.
 abbrev pub IsListedAs : List (List ℕ) → FilesValue → RunFault → Fault → Type 0
-IsListedAs tags files first (Unread status place lines) = (status ≡ status_of_fault first) × (place ≡ place_at (name_at_fault files first) (line_at_fault first)) × IsListing tags files first (string_bytes lines)
+IsListedAs tags files first (Unread status place lines) = (status ≡ status_of_fault first) × (place ≡ place_at (shown_name (name_at_fault files first)) (line_at_fault first)) × IsListing tags files first (string_bytes lines)
 IsListedAs tags files first Memory = Unit {0}
 IsListedAs tags files first fault = ⊥

@@ -1,5 +1,5 @@
 -- What the program returns and writes.
-use Rattle.std.specs.Prelude.{◌≡◌, ◌⊎◌, ◌<◌, ◌≤◌, ◌+◌, ◌++◌, ℕ, Bool, true, false, List, [], ◌∷◌, map, None, Result, Ok, Err, IsSomeAnd, option_map, string_bytes}
+use Rattle.std.specs.Prelude.{◌≡◌, ◌⊎◌, ◌<◌, ◌≤◌, ◌+◌, ◌++◌, ℕ, true, List, [], ◌∷◌, map, None, Result, Ok, Err, IsSomeAnd, option_map, string_bytes}
 use Rattle.std.specs.Io.KnownBytes.{Keeps}
 use Rattle.std.specs.List.{All, Any}
 use Rattle.clap.specs.Words.{Text}
@@ -21,6 +21,7 @@ use Rattle.gk_program.specs.Asked.{SaysGiven, files_to_put, names_given}
 use Rattle.gk_program.specs.EnvFault.{IsFaultOfVariable}
 use Rattle.gk_program.specs.FaultListing.{IsListedAs}
 use Rattle.gk_program.specs.Files.{AreRead, Reading, StopsReading, files_in_order}
+use Rattle.gk_program.specs.ShownFault.{IsFaultIn}
 use Rattle.gk_program.specs.declared.fault.Fault.{Fault}
 use Rattle.gk_program.specs.WorldFiles.{ArePut, StopsPutting}
 use Rattle.gk_program.specs.declared.fault.Fault.TheVariants.{NotUtf8, Usage, Env, File, NotText, TextTooLong, CannotRead, TooLong, OfRun, Write, Memory}
@@ -231,6 +232,10 @@ SaysProgram reads w before after old new fault =
     IsFaultOfVariables w before after old new fault
     ⊎ (IsFaultOfPutting reads w before after old new fault ⊎ IsFaultOfRunning reads w before after old new fault)
 
+-- What each fault says of what was asked for, as it is printed in the mode that was asked for.
+abbrev pub SaysPrinted : {S : Type 0} → Reading S → Words → S → S → Device → Device → Fault → Type 0
+SaysPrinted reads w before after old new printed = (fault : Fault) × SaysProgram reads w before after old new fault × IsFaultIn w.mode fault printed
+
 -- What was asked for was done. For help, its text was written and flushed, with status 0, and the system is unchanged. Otherwise there was a run.
 abbrev pub IsDone : {S : Type 0} → Reading S → Asked → S → S → Device → Device → ℕ → Type 0
 IsDone reads (Help text) before after old new status = IsShown (string_bytes text) old new status × (before ≡ after)
@@ -239,7 +244,7 @@ IsDone reads (Run w) before after old new status = IsRun reads w before after ol
 -- Why what was asked for was not done, and which part of its output was written.
 abbrev pub IsFaultOfAsked : {S : Type 0} → Reading S → Asked → S → S → Device → Device → Fault → Type 0
 IsFaultOfAsked reads (Help text) before after old new fault = IsTextFault (string_bytes text) old new fault × SaysCalls old new fault × (before ≡ after)
-IsFaultOfAsked reads (Run w) before after old new fault = SaysProgram reads w before after old new fault
+IsFaultOfAsked reads (Run w) before after old new fault = SaysPrinted reads w before after old new fault
 
 -- What these arguments ask for was done.
 abbrev pub IsDoneFor : {S : Type 0} → Reading S → Result (List Text) ArgumentsFault → S → S → Device → Device → ℕ → Type 0

@@ -118,8 +118,8 @@ impl<T: Drop> From<AllocFailed<T>> for Fault {
     }
 }
 
-// Borrows a name, if there is one.
-fn borrowed_name(name: &Option<String>) -> Option<&str>
+/// Borrows a name, if there is one.
+pub fn borrowed_name(name: &Option<String>) -> Option<&str>
     ensures { option_map (λ name. name.now) result ≡ option_map string_bytes name.now }
 {
     match name {

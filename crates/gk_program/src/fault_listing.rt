@@ -6,8 +6,9 @@ ghost use Rattle.gk_program.specs.FaultListing as spec;
 ghost use Rattle.gk_program.specs.FaultListing.{IsListedAs, IsListing, IsTextAt};
 ghost use Rattle.gk_gherkin.specs.Feature.{texts};
 
-use crate::fault::Fault;
+use crate::fault::{Fault, borrowed_name};
 use crate::fault_place::place_of_run;
+use crate::shown_fault::shown_if_named;
 use gk_findings::push_notes;
 use gk_request::{
     NamedFault, RunFault, Source, SuiteFiles, faults_after, first_bad_tags, name_at_fault,
@@ -15,8 +16,8 @@ use gk_request::{
 use gk_select::SelectFault;
 use std::alloc::{AllocError, Global};
 
-// Appends the output for a fault, which is that of a text of tags, if one is given: the line that a run prints for it, and
-// the notes below that line.
+// Appends the output for a fault, which is that of a text of tags, if one is given: the line that a run prints for it, with
+// the file's name as it is shown, and the notes below that line.
 fn push_block(
     out: &mut String,
     alloc: Global,
@@ -28,8 +29,9 @@ fn push_block(
         ++ spec.block (option_map (λ text. text.now) tags.entry)
         (files_value source_value files.now) fault) }
 {
+    let name = shown_if_named(alloc, name_at_fault(files, fault))?;
     let named = NamedFault {
-        name: name_at_fault(files, fault),
+        name: borrowed_name(&name),
         fault,
     };
     write!(out, "gherkin_run: {named}\n")?;
@@ -84,6 +86,25 @@ fn listing(
     Ok(text)
 }
 
+// Returns the program's fault, or that memory was refused for its output.
+fn listed(
+    alloc: Global,
+    tags: &[String],
+    files: &SuiteFiles<Source>,
+    first: RunFault,
+) -> Result<Fault, AllocError>
+    ensures { IfOk result
+        (IsListedAs (texts tags.now) (files_value source_value files.now) first) }
+{
+    let lines = listing(alloc, tags, files, first)?;
+    let name = shown_if_named(alloc, name_at_fault(files, first))?;
+    Ok(Fault::Unread {
+        status: first.status(),
+        place: place_of_run(borrowed_name(&name), first),
+        lines,
+    })
+}
+
 /// Returns the program's fault if a run of these files, with these texts of tags, has this fault and `--lint` is given. Its
 /// output has all faults of the files, from this one on. `Memory` comes only if a growth was refused.
 pub fn fault_listed(
@@ -94,12 +115,8 @@ pub fn fault_listed(
 ) -> Fault
     ensures { IsListedAs (texts tags.now) (files_value source_value files.now) first result }
 {
-    match listing(alloc, tags, files, first) {
-        Ok(lines) => Fault::Unread {
-            status: first.status(),
-            place: place_of_run(name_at_fault(files, first), first),
-            lines,
-        },
+    match listed(alloc, tags, files, first) {
+        Ok(fault) => fault,
         Err(_) => Fault::Memory,
     }
 }

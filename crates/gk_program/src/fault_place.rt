@@ -5,10 +5,10 @@ ghost use Rattle.gk_program.specs.FaultPlace.{line_number, place_at};
 
 use gk_request::{RunFault, line_at_fault};
 
-/// The place of a fault. In the fault's text, the name of its file is after `gherkin_run: `.
+/// The place of a fault. In the fault's text, the name of its file is after `gherkin_run: `, as it is printed there.
 #[derive(Clone, Copy, Debug, PartialEq, Eq)]
 pub struct FaultPlace {
-    /// The length of the file's name in bytes, or 0 if the fault is in no file.
+    /// The length of that name in bytes, or 0 if the fault is in no file.
     pub name_length: usize,
     /// The line in the file, or 0 for none.
     pub line: u32,

@@ -11,6 +11,7 @@ mod fault_listing;
 mod fault_place;
 mod files;
 mod program;
+mod shown_fault;
 mod world_files;
 
 pub use asked::{ArgumentsFault, files_asked};

@@ -12,7 +12,7 @@ ghost use Rattle.gk_program.specs.Asked.{given_value};
 ghost use Rattle.gk_program.specs.Ended.{IsEnded};
 ghost use Rattle.gk_program.specs.Fault.{said_line, text_of};
 ghost use Rattle.gk_program.specs.Program as spec;
-ghost use Rattle.gk_program.specs.Program.{IsTextFault, SaysVariables, IsFaultOfRun, IsFaultAs, IsFlushedRun, SaysSuite, SaysCalls, SaysCallsOfRun, SaysProgram, SaysRunFrom, IsRun, IsRunFrom, IsShown, IsDoneFor, IsFaultFor};
+ghost use Rattle.gk_program.specs.Program.{IsTextFault, SaysVariables, IsFaultOfRun, IsFaultAs, IsFlushedRun, SaysSuite, SaysCalls, SaysCallsOfRun, SaysPrinted, SaysProgram, SaysRunFrom, IsRun, IsRunFrom, IsShown, IsDoneFor, IsFaultFor};
 
 use crate::asked::{ArgumentsFault, Asked, asked_with};
 use crate::ended::{ProgramEnd, ending};
@@ -20,6 +20,7 @@ use crate::env_fault::fault_of_variable;
 use crate::fault::Fault;
 use crate::fault_listing::fault_listed;
 use crate::files::{System, read_run_files};
+use crate::shown_fault::fault_in;
 use crate::world_files::put_files;
 use gk_cli::{Mode, Words, write_suite};
 use gk_request::{Counted, Options, RunFault, Source, SuiteFiles, write_whole};
@@ -253,7 +254,7 @@ fn run_in<S: System, W: Write>(
 
 // Runs what is asked for: puts the variables and then the files of `--file` into an empty sandbox, reads the library
 // file, the hooks file and the feature files, and runs the suite, or lists what is found in it. The first fault in
-// this order ends it.
+// this order ends it. It is returned as it is printed in the mode that is asked for.
 fn run_words<S: System, W: Write>(
     alloc: Global,
     system: &mut S,
@@ -269,13 +270,17 @@ fn run_words<S: System, W: Write>(
     ensures flushed { OnOk result (flushes_of out.new ≡ one_more (flushes_of out.old)) }
     // The fault is that of the first variable or file that can't be taken, and no file was read after it; or memory was
     // refused; or it is the run's.
-    ensures fault { IfErr result (SaysProgram S.reads words system.old system.new
+    ensures fault { IfErr result (SaysPrinted S.reads words system.old system.new
         (device_of W.contents out.old) (device_of W.contents out.new)) }
     ensures calls { IfErr result
         (SaysCallsOfRun (device_of W.contents out.old) (device_of W.contents out.new)) }
 {
+    let mode = words.mode;
     let mut sandbox = Sandbox::new(alloc);
-    run_in(alloc, system, &mut sandbox, words, out)
+    match run_in(alloc, system, &mut sandbox, words, out) {
+        Ok(status) => Ok(status),
+        Err(fault) => Err(fault_in(alloc, mode, fault)),
+    }
 }
 
 // Does what the arguments ask for, with the files of this system, and returns the status to end with. A fault is that
