@@ -42,6 +42,8 @@ class Released(Checks):
         # The stand-ins for the programs of the toolchain.
         driver.write(kit, {**blocks.shown("release.md"), "bin/rt": ready.STAND_IN}, 0o755)
         os.symlink(os.path.join(kit, "bin/rt"), os.path.join(cls.commands, "rt"))
+        # In place of the check of edits: it says that one wasn't tried if a variable does.
+        driver.write_program(cls.clone.path("tests/edits.py"), '#!/bin/sh\n[ -z "${UNTRIED:-}" ]\n')
         stand_ins.make(os.path.join(cls.room, "all"), CHANGING + READING)
         stand_ins.make(os.path.join(cls.room, "changing"), CHANGING)
         cls.kept = cls.copied("kept")

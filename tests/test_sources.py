@@ -1,6 +1,5 @@
-"""The shape of the crates' sources, calls of public functions, what tables are written into, and notes on edits."""
+"""The shape of the crates' sources, calls of public functions, what tables are written into, and edits that must be refused."""
 
-import os
 import re
 
 import calls
@@ -39,20 +38,8 @@ class Tables(Checks):
         self.check_all(tables.miscounted())
 
 
-class Edits(Checks):
-    NEEDS = ("rt",)
-
-    def test_notes(self):
-        """The edits that `rt ci` leaves out were tried on the crates as they are."""
-        status, out, said = driver.start(os.path.join(driver.HOME, "tests", "edits.sh"), ["--check"], patience=300)
-        *troubles, counts = out.decode().splitlines()
-        print(said.decode(), end="", flush=True)
-        self.check_all([*troubles, *[""] * int(counts.split()[0])])
-        self.unless(f"edits.sh ends with {status}", status == 0, said.decode())
-
-
 @pages.tests("edits.md")
-class EditNotes(Checks):
+class Edits(Checks):
     def test_edits_apply(self):
         """Each edit of the repository, also of those that `rt ci` passes over, changes the code as it is."""
         for path in driver.repository_files():

@@ -66,7 +66,7 @@ def first_sentence(text):
 
 def edits(crate, _):
     for folder, tried in ((f"crates/{crate}/must-fail", "Tried by `./test`:"),
-                          (f"tests/edits/{crate}", "Tried by `tests/edits.sh`, whose note `./test` checks:")):
+                          (f"tests/edits/{crate}", "Tried by `tests/edits.py`:")):
         yield tried
         for path in files(f"{folder}/*.edit"):
             why, by = (line.split(": ", 1)[1] for line in lines_of(path)[:2])
