@@ -143,19 +143,7 @@ def clauses_by_function():
     return found
 
 
-# ---- must-fail edits, and the pages that tools/read.py prints
-
-def edit_differences():
-    """Edits that don't say what they break and what refuses them, and names in them that nothing has."""
-    for path in EDITS:
-        why, by = driver.text(path).split("\n")[:2]
-        if not (re.match(r"why: \S", why) and re.match(r"by: \S", by)):
-            yield f"{path} doesn't begin with its lines why: and by:"
-        for name in re.findall(r"`([A-Za-z0-9_:]+)`", by):
-            if not set(name.split("::")) <= code_names() or [*wrong_member(name)]:
-                yield f"{path} names {name}, which isn't there"
-        yield from (f"{path}: {it}" for it in named_clauses(by))
-
+# ---- the pages that tools/read.py prints
 
 def public_functions(crate):
     """The names of the functions that lib.rt of a crate has or exports, and of those of the types that it exports."""
@@ -366,7 +354,7 @@ OF_EACH = {
     "comments": (broken_comments, shape.files("crates/[^/]+/specs/.*[.]antt")),
 }
 OF_ALL = {
-    "must-fail edits": edit_differences, "files of the guide": shown_twice, "words": foreign_words,
+    "files of the guide": shown_twice, "words": foreign_words,
     "words of pages": lambda: prose.too_many_words(map(prose_of, MAIN), map(prose_of, READMES)),
     "lists of pages": unlisted_pages, "pages of tools/read.py": reading_differences,
     "modules of the same name": shared_modules, "entries of docs/FAULTS.md": fault_differences,

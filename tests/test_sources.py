@@ -1,9 +1,8 @@
 """The shape of the crates' sources, calls of public functions, what tables are written into, and edits that must be refused."""
 
-import re
-
 import calls
 import driver
+import edited
 import pages
 import shape
 import tables
@@ -40,29 +39,6 @@ class Tables(Checks):
 
 @pages.tests("edits.md")
 class Edits(Checks):
-    def test_edits_apply(self):
-        """Each edit of the repository, also of those that `rt ci` passes over, changes the code as it is."""
-        for path in driver.repository_files():
-            if path.startswith(("crates/", "tests/edits/")) and path.endswith(".edit"):
-                folder = "crates/" + re.match(r"(?:crates|tests/edits)/(\w+)/", path)[1]
-                found = application_trouble(folder, driver.text(path))
-                self.check(found and f"{path}: {found}")
-
-
-def application_trouble(crate, edit):
-    """Why an edit can't be applied to a crate, or nothing. Each text has to be in its file once, after earlier changes."""
-    texts, path, old = {}, "", ""
-    for word, text in re.findall(r"^(file|old|new):(?: (.*))?$", edit, re.MULTILINE):
-        if word == "file":
-            path = f"{crate}/{text}"
-            if not text.startswith("src/") or path not in driver.repository_files():
-                return f"there is no file of code {text}"
-            texts.setdefault(path, driver.text(path))
-        elif word == "old":
-            old = text
-        elif texts.get(path, "").count(old) != 1 or not old:
-            return f"this text is in {path} {texts.get(path, '').count(old)} times: {old}"
-        else:
-            texts[path] = texts[path].replace(old, text)
-    unchanged = all(text == driver.text(it) for it, text in texts.items())
-    return "it changes nothing" if unchanged else ""
+    def test_edits_fit(self):
+        """Each edit has its lines, changes the code as it is, and names a clause that depends on what it changes."""
+        self.check_all(it for crate in edited.crates() for it in edited.troubles(crate))
