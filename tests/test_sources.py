@@ -3,6 +3,7 @@
 import calls
 import driver
 import edited
+import edits
 import pages
 import shape
 import tables
@@ -39,6 +40,10 @@ class Tables(Checks):
 
 @pages.tests("edits.md")
 class Edits(Checks):
+    def test_numbers(self):
+        """No edit is lost."""
+        self.same(f"{edits.NUMBERS} (to drop an edit, lower its number)", edits.lines_of(edits.NUMBERS), [edits.count(it) for it in edited.crates()])
+
     def test_edits_fit(self):
         """Each edit has its lines, changes the code as it is, and names a clause that depends on what it changes."""
         self.check_all(it for crate in edited.crates() for it in edited.troubles(crate))

@@ -284,7 +284,7 @@ def stored_pages():
 
 
 def numbers_of_edits():
-    """The lines of NUMBERS, higher for crates with new edits. No number falls, so that `tests/edits.py --check` finds a lost edit."""
+    """The lines of NUMBERS, higher for crates with new edits. No number falls, so that a lost edit is found."""
     for line in text_of(NUMBERS).splitlines():
         crate, *before = line.split()
         now = [len(files(f"{it}/*.edit")) for it in (f"crates/{crate}/must-fail", f"tests/edits/{crate}")]
