@@ -22,7 +22,8 @@ import read
 FUNCTION = re.compile(r'( *)(?:pub(?:\(\w+\))? )?(?:const )?(?:extern "C" )?fn (\w+)')
 OWNER = re.compile(r"(?:pub )?(?:impl|trait)(?:<.*?>)? (?:(\w+)(?:<.*?>)? for )?\W*(\w+)")
 CONSTANT = re.compile(r"^(?:pub )?(?:const|static) (\w+)", re.M)
-CALL = re.compile(r"\b(\w+)(?:::<[^()]*>)?\(")
+# A call: after its type or module, after what comes before a dot, or by its name alone.
+CALL = re.compile(r"(?:(\w+)::|([\w)\]?]+)\s*\.\s*)?\b(\w+)(?:::<[^()]*>)?\(")
 # What an implementation puts into the contracts of its trait, by a name.
 TRAIT_ITEM = re.compile(r"^    ghost \w+ = \{ (\w+) \};", re.M)
 
@@ -89,6 +90,15 @@ def called(function):
     return f"{function.owner[1]}::{function.name}" if function.owner else function.name
 
 
+def meant(functions_of_name, caller, of_type, before):
+    """Those functions of a name that a call may mean, by its type or module, or by what is before its dot."""
+    of_type = caller.owner[1] if caller.owner and "self" in (of_type.lower(), before) else of_type or before
+    methods = [it for it in functions_of_name if it.owner]
+    of_this = [it for it in methods if of_type.replace("_", "").lower() in [part and part.lower() for part in it.owner]]
+    is_method = before or of_type[:1].isupper()
+    return (of_this or methods) if is_method else [it for it in functions_of_name if not it.owner]
+
+
 def clauses(function):
     """The names of what a function ensures and requires. One without a name is empty."""
     return [name or "" for _, _, name, _ in read.CLAUSE.findall(contract(function))]
@@ -109,11 +119,13 @@ class Crate:
         self.name, self.folder = name, build.crate(name, home)
         self.texts = {it: driver.text(it, self.folder) for it in sorted(glob.glob("src/**/*.rt", root_dir=self.folder, recursive=True))}
         self.functions = [it for path, text in self.texts.items() for it in functions(path, text)]
-        callers = collections.defaultdict(list)
+        self.callers, named = {it: [] for it in self.functions}, collections.defaultdict(list)
         for it in self.functions:
-            for name in dict.fromkeys(CALL.findall(it.text)):
-                callers[name].append(it)
-        self.callers = {it: [other for other in callers[it.name] if other != it] for it in self.functions}
+            named[it.name].append(it)
+        for caller in self.functions:
+            calls = (meant(named[name], caller, of_type, before) for of_type, before, name in CALL.findall(caller.text) if name in named)
+            for it in dict.fromkeys(it for found in calls for it in found if it != caller):
+                self.callers[it].append(caller)
 
     def changed(self, edit):
         """The functions that an edit changes; if it changes a constant, those that name it."""
