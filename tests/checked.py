@@ -127,18 +127,25 @@ class Checks:
 
     def run(self, crate, folder, what):
         """What a check says of the crate in a folder."""
+        began = time.monotonic()
+        status, said = self.start(folder)
+        if status < 0:
+            # Most likely it was killed for memory.
+            status, said = self.start(folder)
+        print(f"edits: {crate}: {what}, {time.monotonic() - began:.0f} s", file=sys.stderr, flush=True)
+        if status not in (0, 1, 3):
+            raise SystemExit(f"edits: rt check of {crate} stopped with status {status}: {said[-300:].strip()}")
+        return Said(crate, status, said)
+
+    def start(self, folder):
         if self.is_ended:
             raise SystemExit(1)
-        began = time.monotonic()
         with subprocess.Popen(["rt", *self.words], cwd=folder, stdin=subprocess.DEVNULL, stdout=subprocess.PIPE,
                               stderr=subprocess.STDOUT, text=True, errors="replace", start_new_session=True) as process:
             self.running.add(process)
             said = process.communicate()[0]
             self.running.discard(process)
-        print(f"edits: {crate}: {what}, {time.monotonic() - began:.0f} s", file=sys.stderr, flush=True)
-        if process.returncode not in (0, 1, 3):
-            raise SystemExit(f"edits: rt check of {crate} stopped with status {process.returncode}: {said[-300:].strip()}")
-        return Said(crate, process.returncode, said)
+        return process.returncode, said
 
 
 def interrupted(number, _):

@@ -48,13 +48,19 @@ def read_edit(path):
     """An edit. A file of another form is an error."""
     words = [line.partition(": ")[::2] for line in driver.text(path).splitlines()]
     words = [(word.removesuffix(":"), it) for word, it in words]
-    if not re.fullmatch("why by(?: file(?: old new)+)+", " ".join(word for word, _ in words)) or not all(it or word == "new" for word, it in words):
+    order = " ".join(word for word, it in words if it or word == "new")
+    if not re.fullmatch("why by(?: file(?: old new)+)+", order) or len(order.split()) < len(words):
         raise ValueError("its lines aren't why:, by:, file:, old: and new:")
     pairs, file, old = [], "", ""
     for word, it in words[2:]:
         file, old = (it if word == "file" else file), (it if word == "old" else old)
         pairs += [(file, old, it)] * (word == "new")
     return Edit(os.path.basename(path)[:-5], words[1][1], pairs)
+
+
+def names_in(by):
+    """The names in a line `by:`."""
+    return re.findall(r"`([\w:]+)`", by)
 
 
 def with_edits(texts, edits):
@@ -117,14 +123,16 @@ class Crate:
 
     def __init__(self, name, home=HOME):
         self.name, self.folder = name, build.crate(name, home)
-        self.texts = {it: driver.text(it, self.folder) for it in sorted(glob.glob("src/**/*.rt", root_dir=self.folder, recursive=True))}
+        paths = sorted(glob.glob("src/**/*.rt", root_dir=self.folder, recursive=True))
+        self.texts = {it: driver.text(it, self.folder) for it in paths}
         self.functions = [it for path, text in self.texts.items() for it in functions(path, text)]
         self.callers, named = {it: [] for it in self.functions}, collections.defaultdict(list)
         for it in self.functions:
             named[it.name].append(it)
         for caller in self.functions:
-            calls = (meant(named[name], caller, of_type, before) for of_type, before, name in CALL.findall(caller.text) if name in named)
-            for it in dict.fromkeys(it for found in calls for it in found if it != caller):
+            calls = (it for it in CALL.findall(caller.text) if it[2] in named)
+            found = (it for of_type, before, name in calls for it in meant(named[name], caller, of_type, before))
+            for it in dict.fromkeys(it for it in found if it != caller):
                 self.callers[it].append(caller)
 
     def changed(self, edit):
@@ -145,7 +153,7 @@ class Crate:
 
     def named(self, by):
         """The functions that a line `by:` names, or whose contracts have a definition that it names."""
-        words = {*re.findall(r"`([\w:]+)`", by)}
+        words = {*names_in(by)}
         return self.called(words) or [
             it for it in self.functions
             if {*re.findall(r"\w+", it.text), *(TRAIT_ITEM.findall(self.texts[it.path]) if it.owner and it.owner[0] else [])} & words]
@@ -160,19 +168,19 @@ class Crate:
             seen.update(self.callers[way[-1]])
         return None
 
-    def groups(self, edits, fits=lambda one, other: True):
+    def groups(self, edits):
         """The edits in groups, by first fit: no two of a group change one function, and all their texts are there."""
         found = []
         for it in edits:
             for group in found:
-                if all(not {*self.changed(it)} & {*self.changed(other)} and fits(it, other) for other in group) and self.take(group, it):
+                if all(not {*self.changed(it)} & {*self.changed(other)} for other in group) and self.fits(group, it):
                     group.append(it)
                     break
             else:
                 found.append([it])
         return found
 
-    def take(self, group, edit):
+    def fits(self, group, edit):
         """Whether an edit can be made after those of a group."""
         try:
             return bool(with_edits(self.texts, [*group, edit]))

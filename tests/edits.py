@@ -1,15 +1,15 @@
 #!/usr/bin/env python3
-"""Tries edits that the checker must refuse: tests/edits.py [--jobs N] [--weakened] [--check] [CRATE..]
+"""Tries edits that the checker must refuse: tests/edits.py [--jobs N] [--weakened | --check] [CRATE..]
 
 tests/edited.py says what an edit is, and where those of a crate are. Without CRATE all are tried. It needs the Rattle toolchain.
 
 First the crate is checked as it is; it has to be proved. Then edits of different functions are made together in a copy, and one
-check judges them, as it says of each function which goals aren't proved. If the proofs of an edited function no longer fit, they
-are taken out, and one more check tries their goals without them. An edit is refused if a goal of a contract is open then, in a
+check judges them, as it says of each function which goals aren't proved. If proofs of an edited function no longer fit, they are
+taken out, and one more check tries their goals without them. An edit is refused if a goal of a contract is open then, in a
 function that it changes or that names the constant that it changes. A goal isn't open if the prover met one of its limits at it,
-or if its proof only names what the edit takes away. It doesn't count if it is one of safety or of a call's `requires`, unless `by:`
-names that, or if it is of another clause of this function than those in `by:`. From the function, callers have to lead up to a call
-that `by:` names.
+or if its proof only names what the edit takes away; nor, if its proof no longer fits, while the prover meets a limit at another
+proof of the function. It doesn't count if it is one of safety or of a call's `requires`, unless `by:` names that, or of another
+clause of this function than those in `by:`. From the function, callers have to lead up to a call that `by:` names.
 
 tests/edits/log has a line for each edit: the function, the clauses and their goals, and the callers up to that call. If all edits of
 a crate were refused, tests/edits/refused has a sum of these lines and of all that they depend on: the edits, all files of the
@@ -39,18 +39,20 @@ import driver
 import edited
 import weakened
 from checked import OPEN
-from edited import HOME, build, called, clauses
+from edited import HOME, build, called, clauses, names_in
 
 NUMBERS, LOG, WEAKENED, REFUSED = (f"tests/edits/{it}" for it in ("numbers", "log", "weakened", "refused"))
 SCRIPTS = [f"tests/{it}.py" for it in ("edits", "edited", "checked", "weakened")]
+# The goals of safety and of an end, and those of what a call requires.
 SAFETY = re.compile(r"(?:overflow|offset|slice|nonzero)_|bounds-|prove-|.*-smaller$")
+REQUIRES = re.compile(r"(\w+)-(?:.*-)?requires")
 
 
 # ---- verdicts
 
 def clause_of(goal):
     """What a goal is of, in words: its clause, if that has a name."""
-    requires = re.match(r"(\w+)-(?:.*-)?requires", goal)
+    requires = REQUIRES.match(goal)
     if requires:
         return f"what {requires[1]} requires"
     if "-clause-" in goal:
@@ -60,11 +62,10 @@ def clause_of(goal):
 
 def counts(goal, function, edit):
     """Whether an edit may be refused by a goal of a function."""
-    words = {*re.findall(r"\w+", edit.by)}
-    requires = re.match(r"(\w+)-(?:.*-)?requires", goal)
+    requires = REQUIRES.match(goal)
     if SAFETY.match(goal) or requires:
-        return edit.by.startswith("safety") or bool(requires and requires[1] in words)
-    own = words & {*clauses(function)}
+        return edit.by.startswith("safety") or requires and requires[1] in (it.split("::")[-1] for it in names_in(edit.by))
+    own = {*names_in(edit.by)} & {*clauses(function)}
     return "-clause-" not in goal or not own or clause_of(goal) in own
 
 
@@ -73,9 +74,11 @@ def line_of(function, goals, way, edit):
     found = collections.defaultdict(list)
     for goal in sorted(goals):
         found[clause_of(goal)].append(goal)
-    above = f", for {' <- '.join(map(called, way))}" if way else ""
-    named = [it for it in clauses(way[-1]) if it in re.findall(r"\w+", edit.by)] if way else []
-    return f"{called(function)}: " + "; ".join(f"{it} ({', '.join(found[it])})" for it in found) + above + ": " * bool(named) + ", ".join(named)
+    line = f"{called(function)}: " + "; ".join(f"{it} ({', '.join(found[it])})" for it in found)
+    if way:
+        named = [it for it in clauses(way[-1]) if it in names_in(edit.by)]
+        line += f", for {' <- '.join(map(called, way))}" + f": {', '.join(named)}" * bool(named)
+    return line
 
 
 def verdict(code, edit, said):
@@ -115,7 +118,7 @@ def tried(proved, pool):
     """The lines of the log for a crate, each with whether its edit is refused."""
     edits = [edited.read_edit(it) for it in sum(edited.files_of(proved.name), [])]
     groups = pool.map(lambda group: judged(proved, group), proved.code.groups(edits))
-    return [(is_refused, f"{proved.name} {edit.name}: {why}") for group in groups for edit, is_refused, why in group]
+    return [(holds, f"{proved.name} {edit.name}: {why}") for group in groups for edit, holds, why in group]
 
 
 # ---- the log and the notes
@@ -152,8 +155,9 @@ def note(crate, log):
     lower = sorted(build.below(build.listed_crates(), crate))
     uses = [it for it in build.lines_of_crates() if build.name_in(it) in lower]
     total = hashlib.sha256(repr((toolchain()[1], count(crate), uses, about(crate, log))).encode())
-    folders = [f"crates/{it}/{part}" for it in lower for part in ("src", "specs", "proofs")]
-    files = [os.path.relpath(os.path.join(at, it), HOME) for folder in folders for at, _, names in os.walk(os.path.join(HOME, folder)) for it in names]
+    folders = (os.path.join(build.crate(it), part) for it in lower for part in ("src", "specs", "proofs"))
+    walked = [(at, names) for folder in folders for at, _, names in os.walk(folder)]
+    files = [os.path.relpath(os.path.join(at, it), HOME) for at, names in walked for it in names]
     for path in sorted(["HANDLES", *SCRIPTS, *sum(edited.files_of(crate), []), *files]):
         total.update(repr((path, driver.read(os.path.join(HOME, path)))).encode())
     return f"{crate} {os.path.basename(log)} {total.hexdigest()} {toolchain()[0]}"
@@ -166,8 +170,8 @@ def trouble(crate):
     for log in [LOG, *[WEAKENED] * (crate in weakened.CALLS)]:
         noted = [it for it in about(crate, REFUSED) if it.split()[1] == os.path.basename(log)]
         if not noted or noted[0].split()[:3] != note(crate, log).split()[:3]:
-            option = " --weakened" * (log == WEAKENED)
-            return f"edits: {crate}, or what it depends on, was changed since its edits were tried: tests/edits.py{option} {crate} tries them"
+            command = f"tests/edits.py {'--weakened ' * (log == WEAKENED)}{crate}"
+            return f"edits: {crate}, or what it depends on, was changed since its edits were tried: {command} tries them"
         if noted[0].split()[3] != toolchain()[0]:
             print(f"edits: those of {crate} were refused by {noted[0].split()[3]}, and not tried with {toolchain()[0]}", file=sys.stderr)
     return ""
@@ -222,7 +226,8 @@ def main():
     parser.add_argument("--weakened", action="store_true")
     parser.add_argument("--jobs", type=int, default=max(driver.processors() // 2, 1), metavar="N")
     given = parser.parse_args()
-    known = [it for it in dict.fromkeys([*edited.crates(), *(it.split()[0] for it in lines_of(NUMBERS))]) if not given.weakened or it in weakened.CALLS]
+    there = dict.fromkeys([*edited.crates(), *(it.split()[0] for it in lines_of(NUMBERS))])
+    known = [it for it in there if not given.weakened or it in weakened.CALLS]
     unknown = [it for it in given.crates if it not in known]
     if unknown:
         parser.error(f"{unknown[0]} has no {'clauses to weaken' if given.weakened else 'edits'}")

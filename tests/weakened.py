@@ -99,7 +99,8 @@ def tried(proved, pool):
     while left:
         found += [(False, line_of(proved, it, "no edit that is refused names it alone")) for it in left if not it.edits]
         again = []
-        for clause, why in (it for each in pool.map(lambda group: [*judged(proved, group)], groups(proved.code, [it for it in left if it.edits])) for it in each):
+        tries = pool.map(lambda group: [*judged(proved, group)], groups(proved.code, [it for it in left if it.edits]))
+        for clause, why in (it for each in tries for it in each):
             name = clause.edits[0].name
             if why and clause.edits[1:]:
                 again.append(clause._replace(edits=clause.edits[1:]))
