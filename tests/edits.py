@@ -23,7 +23,6 @@ The last line is 'N passed, M failed', which counts edits, with --weakened claus
 """
 
 import argparse
-import collections
 import concurrent.futures
 import contextlib
 import functools
@@ -69,12 +68,15 @@ def counts(goal, function, edit):
     return "-clause-" not in goal or not own or clause_of(goal) in own
 
 
+def listed(kinds):
+    """Goals by their kinds."""
+    goals = sorted(kinds)
+    return "; ".join(f"{kind} ({', '.join(it for it in goals if kinds[it] == kind)})" for kind in dict.fromkeys(kinds[it] for it in goals))
+
+
 def line_of(function, goals, way, edit):
     """What the log says of a refused edit."""
-    found = collections.defaultdict(list)
-    for goal in sorted(goals):
-        found[clause_of(goal)].append(goal)
-    line = f"{called(function)}: " + "; ".join(f"{it} ({', '.join(found[it])})" for it in found)
+    line = f"{called(function)}: " + listed({it: clause_of(it) for it in goals})
     if way:
         named = [it for it in clauses(way[-1]) if it in names_in(edit.by)]
         line += f", for {' <- '.join(map(called, way))}" + f": {', '.join(named)}" * bool(named)
@@ -87,13 +89,12 @@ def verdict(code, edit, said):
     why = "the crate is proved with it" if said.is_proved else "no goal is open" if said.lines else "the code doesn't compile"
     for function in sorted(code.changed(edit), key=lambda it: it not in tops):
         goals, way = said.goals_of(code, function), code.way(function, tops)
-        opened = [it for it, kind in goals.items() if kind == OPEN]
-        told = [it for it in opened if counts(it, function, edit)]
+        told = [it for it, kind in goals.items() if kind == OPEN and counts(it, function, edit)]
         if told and way is not None:
             return True, line_of(function, told, way, edit)
         if goals:
-            kind = "goals that `by:` doesn't name" if opened else " and ".join(sorted({*goals.values()}))
-            why = f"{called(function)}: only {kind}: {', '.join(opened or sorted(goals))}"
+            kinds = {it: "another than `by:` names" if kind == OPEN else kind for it, kind in goals.items()}
+            why = f"{called(function)}: " + listed(kinds)
     return False, f"NOT REFUSED: {why}"
 
 
