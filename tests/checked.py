@@ -20,7 +20,7 @@ LINE = re.compile(r"fn (\S+): (.*)")
 NOTE = re.compile(r"note: src/\S+ it is not proved that .*?\(`([^`]+)`\)(.*)")
 PROOF = re.compile(r"(?:\./)?proofs/(\S+)/Answers\.antt:\d+:\d+: error: `([^`]*)`: (.*)")
 # How the prover says that it met one of its limits, and that a proof names what isn't there.
-LIMIT = re.compile(r"\blimits?\b|may hold|gave up|broke off|builds no proof|could not tell|ran out of")
+LIMIT = re.compile(r"\blimits?\b|may hold|gave up|broke off|could not tell|ran out of")
 GONE = re.compile(r"has no field|is not in scope|has no `|was not admitted")
 # What is known of a goal. It is open if the prover's search ends without a proof of it. Or the prover only met a limit, a proof
 # only names what went, or it no longer fits.
