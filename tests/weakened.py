@@ -2,7 +2,8 @@
 
 In a copy, a trivial clause takes the place of one of a call, under the same name. The proofs of its goals are taken out. An edit
 whose line `by:` names exactly this call and this clause is made there, if it changes the call itself. A check then has to leave
-no goal of the call open. Calls that don't call each other share a check. It doesn't matter what becomes of their callers.
+no goal of the call open. Calls that don't call each other share a check. It doesn't matter what becomes of their callers. If other
+clauses of the call refuse each of these edits, too, they are made trivial as well, and the log names them.
 """
 
 import collections
@@ -22,8 +23,8 @@ IMPORT = "ghost use Rattle.std.specs.Prelude.{"
 TRIVIAL = "⊤"
 LOG = "tests/edits/log"
 
-# A clause of a function, and the edits by which it is tried.
-Clause = collections.namedtuple("Clause", "function name edits")
+# A clause of a function, and its tries: an edit, and the names of other clauses that are made trivial with it.
+Clause = collections.namedtuple("Clause", "function name tries")
 
 
 def ensured(function):
@@ -31,11 +32,12 @@ def ensured(function):
     return [name or "" for _, kind, name, _ in read.CLAUSE.findall(contract(function)) if kind == "ensures"]
 
 
-def without(text, function, name):
-    """The text of a file with a trivial clause of this name of a function."""
-    old = contract(function)
-    found = next(it for it in read.CLAUSE.finditer(old) if it[2] == "ensures" and (it[3] or "") == name)
-    new = f"{old[:found.start(4)]} {TRIVIAL} {old[found.end(4):]}"
+def without(text, function, names):
+    """The text of a file with trivial clauses of these names of a function."""
+    old = new = contract(function)
+    for name in names:
+        found = next(it for it in read.CLAUSE.finditer(new) if it[2] == "ensures" and (it[3] or "") == name)
+        new = f"{new[:found.start(4)]} {TRIVIAL} {new[found.end(4):]}"
     text = text.replace(function.text, function.text.replace(old, new, 1), 1)
     return text if TRIVIAL in text.partition(IMPORT)[2].partition("}")[0] else text.replace(IMPORT, f"{IMPORT}{TRIVIAL}, ", 1)
 
@@ -48,7 +50,7 @@ def clauses_of(code, log):
         for name in ensured(function):
             by = f"`{called(function)}`" + f": `{name}`" * bool(name)
             own = [it for it in edits if it.by == by and code.changed(it) == [function] and f"{it.name}:" in refused]
-            yield Clause(function, name, own)
+            yield Clause(function, name, [(it, []) for it in own])
 
 
 def groups(code, left):
@@ -65,25 +67,25 @@ def groups(code, left):
     return found
 
 
-def is_of(clause, goal):
-    """Whether a goal is of a clause."""
-    return bool(re.fullmatch(rf".*-clause-{clause.name}(?:-\d+)?" if clause.name else "returns.*", goal))
+def is_of(name, goal):
+    """Whether a goal is of a clause of this name."""
+    return bool(re.fullmatch(rf".*-clause-{name}(?:-\d+)?" if name else "returns.*", goal))
 
 
 def judged(proved, group):
-    """Each of these clauses, with why its first edit is still refused without it, or nothing."""
-    code, texts = proved.code, dict(proved.code.texts)
-    for function, name, _ in group:
-        texts[function.path] = without(texts[function.path], function, name)
-    texts.update(edited.with_edits(texts, [it.edits[0] for it in group]))
-    names = {symbol(code, it.function): it for it in group}
+    """Each of these clauses, with the goals of its call that are open without it, or with another reason why they may be."""
+    code, texts, trivial = proved.code, dict(proved.code.texts), {}
+    for function, name, ((_, others), *_) in group:
+        trivial[symbol(code, function)] = [name, *others]
+        texts[function.path] = without(texts[function.path], function, [name, *others])
+    texts.update(edited.with_edits(texts, [it.tries[0][0] for it in group]))
     with proved.changed({it: text for it, text in texts.items() if text != code.texts[it]}) as copy:
-        copy.drop(names, lambda name, goal: is_of(names[name], goal))
+        copy.drop(trivial, lambda name, goal: any(is_of(it, goal) for it in trivial[name]))
         said = copy.check(f"{len(group)} clause{'s' * (len(group) > 1)} weakened")
-    for name, clause in names.items():
-        goals = sorted(said.goals_of(code, clause.function))
-        is_judged = re.match(r"proved|.*\b(?:calls|passes|waits)\b", said.lines.get(name, ""))
-        yield clause, ", ".join(goals) or ("" if is_judged else said.lines.get(name, "the code doesn't compile"))
+    for clause in group:
+        goals, line = sorted(said.goals_of(code, clause.function)), said.lines.get(symbol(code, clause.function), "the code doesn't compile")
+        is_judged = re.match(r"proved|.*\b(?:calls|passes|waits)\b", line)
+        yield clause, goals or ([] if is_judged else [line])
 
 
 def symbol(code, function):
@@ -92,23 +94,29 @@ def symbol(code, function):
     return "::".join([code.name, *module, called(function)])
 
 
+def next_tries(clause, goals):
+    """How a clause is tried next, if its edit is still refused by these goals."""
+    (edit, others), *rest = clause.tries
+    also = [it for it in ensured(clause.function) if it != clause.name and any(is_of(it, goal) for goal in goals)]
+    is_last = rest or others or not all(any(is_of(it, goal) for it in also) for goal in goals)
+    return rest if is_last else [(edit, also)]
+
+
 def tried(proved, pool):
     """The lines of the log for a crate, each with whether an edit is no longer refused without the clause."""
-    log, found = driver.text(LOG).splitlines(), []
-    left = [*clauses_of(proved.code, log)]
+    found, left = [], [*clauses_of(proved.code, driver.text(LOG).splitlines())]
     while left:
-        found += [(False, line_of(proved, it, "no edit that is refused names it alone")) for it in left if not it.edits]
-        again = []
-        tries = pool.map(lambda group: [*judged(proved, group)], groups(proved.code, [it for it in left if it.edits]))
-        for clause, why in (it for each in tries for it in each):
-            name = clause.edits[0].name
-            if why and clause.edits[1:]:
-                again.append(clause._replace(edits=clause.edits[1:]))
-            elif why:
-                found.append((False, line_of(proved, clause, f"{name} is still refused: {why}")))
+        found += [(False, line_of(proved, it, "no edit that is refused names it alone")) for it in left if not it.tries]
+        tries = pool.map(lambda group: [*judged(proved, group)], groups(proved.code, [it for it in left if it.tries]))
+        left = []
+        for clause, goals in (it for each in tries for it in each):
+            (edit, others), again = clause.tries[0], next_tries(clause, goals) if goals else []
+            if again:
+                left.append(clause._replace(tries=again))
+            elif goals:
+                found.append((False, line_of(proved, clause, f"{edit.name} is still refused: {', '.join(goals)}")))
             else:
-                found.append((True, line_of(proved, clause, f"without it {name} isn't refused")))
-        left = again
+                found.append((True, line_of(proved, clause, f"without {' and '.join(['it', *others])} {edit.name} isn't refused")))
     return found
 
 
