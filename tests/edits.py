@@ -1,7 +1,8 @@
 #!/usr/bin/env python3
 """Tries edits that the checker must refuse: tests/edits.py [--jobs N] [--weakened | --check] [CRATE..]
 
-tests/edited.py says what an edit is, and where those of a crate are. Without CRATE all are tried. It needs the Rattle toolchain.
+tests/edited.py says what an edit is, and where those of a crate are. Without CRATE it tries those of all crates whose notes, below,
+no longer hold. It needs the Rattle toolchain.
 
 First the crate is checked as it is; it has to be proved. Then edits of different functions are made together in a copy, and one
 check judges them, as it says of each function which goals aren't proved. If proofs of an edited function no longer fit, they are
@@ -164,17 +165,23 @@ def note(crate, log):
     return f"{crate} {os.path.basename(log)} {total.hexdigest()} {toolchain()[0]}"
 
 
+def noted(crate, log):
+    """The build that tried a crate as it is now, with what comes of it in a log, or nothing."""
+    *now, _ = note(crate, log).split()
+    return next((it.split()[3] for it in about(crate, REFUSED) if it.split()[:3] == now), "")
+
+
 def trouble(crate):
     """What is wrong with the number of edits of a crate, or with its notes."""
     if count(crate) not in lines_of(NUMBERS):
         return f"edits: {crate} has another number of edits than {NUMBERS} says"
     for log in [LOG, *[WEAKENED] * (crate in weakened.CALLS)]:
-        noted = [it for it in about(crate, REFUSED) if it.split()[1] == os.path.basename(log)]
-        if not noted or noted[0].split()[:3] != note(crate, log).split()[:3]:
+        build_then = noted(crate, log)
+        if not build_then:
             command = f"tests/edits.py {'--weakened ' * (log == WEAKENED)}{crate}"
             return f"edits: {crate}, or what it depends on, was changed since its edits were tried: {command} tries them"
-        if noted[0].split()[3] != toolchain()[0]:
-            print(f"edits: those of {crate} were refused by {noted[0].split()[3]}, and not tried with {toolchain()[0]}", file=sys.stderr)
+        if build_then != toolchain()[0]:
+            print(f"edits: those of {crate} were refused by {build_then}, and not tried with {toolchain()[0]}", file=sys.stderr)
     return ""
 
 
@@ -232,15 +239,15 @@ def main():
     unknown = [it for it in given.crates if it not in known]
     if unknown:
         parser.error(f"{unknown[0]} has no {'clauses to weaken' if given.weakened else 'edits'}")
-    asked = given.crates or known
     if given.check:
-        passed, failed = checked_notes(asked)
+        passed, failed = checked_notes(given.crates or known)
     else:
         log, trial = (WEAKENED, weakened.tried) if given.weakened else (LOG, tried)
+        asked = given.crates or [it for it in known if not noted(it, log)]
         for found in filter(None, (it for crate in asked for it in edited.troubles(crate))):
             raise SystemExit(f"edits: {found}")
-        counts_of_crates = [keep(crate, log, found) for crate, found in try_crates(asked, log, trial, checked.Checks(given.jobs))]
-        passed, failed = map(sum, zip(*counts_of_crates))
+        ends = [keep(crate, log, found) for crate, found in try_crates(asked, log, trial, checked.Checks(given.jobs))]
+        passed, failed = (sum(it[part] for it in ends) for part in (0, 1))
     print(f"{passed} passed, {failed} failed")
     return 1 if failed else 0
 
