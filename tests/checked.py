@@ -54,11 +54,11 @@ class Said:
         goals[goal] = kind if goals.get(goal, UNFIT) == UNFIT else goals[goal]
 
     def names(self, code, function):
-        """The names of a function in the lines of a check."""
+        """The names of a function in the lines of a check. A method is in the module of its type."""
         trait, owner = function.owner or ("", "")
         module = [it for it in function.path[4:-3].split("/") if it not in ("lib", "main")]
-        within = rf"\w*{owner}\w*{trait or ''}::" if function.owner else ""
-        name = re.compile("::".join([code.name, *module, ""]) + within + function.name)
+        within = rf"(?:\w+::)*\w*{owner}\w*{trait or ''}" if function.owner else "::".join(module)
+        name = re.compile("::".join(filter(None, [code.name, within, function.name])))
         return [it for it in self.goals if name.fullmatch(it)]
 
     def goals_of(self, code, function):
@@ -159,7 +159,8 @@ class Proved:
         self.name, self.checks, self.room = name, checks, room
         # In place, so that what this proves of the crate and of those below it is kept for the next trial.
         with checks.slots:
-            if not checks.run(name, build.crate(name), "as it is").is_proved:
+            self.said = checks.run(name, build.crate(name), "as it is")
+            if not self.said.is_proved:
                 raise SystemExit(f"edits: {name} isn't proved as it is; rt check says more")
         copy(name, HOME, room)
         self.code = edited.Crate(name, room)

@@ -76,22 +76,17 @@ def judged(proved, group):
     """Each of these clauses, with the goals of its call that are open without it, or with another reason why they may be."""
     code, texts, trivial = proved.code, dict(proved.code.texts), {}
     for function, name, ((_, others), *_) in group:
-        trivial[symbol(code, function)] = [name, *others]
+        trivial.update(dict.fromkeys(proved.said.names(code, function), [name, *others]))
         texts[function.path] = without(texts[function.path], function, [name, *others])
     texts.update(edited.with_edits(texts, [it.tries[0][0] for it in group]))
     with proved.changed({it: text for it, text in texts.items() if text != code.texts[it]}) as copy:
         copy.drop(trivial, lambda name, goal: any(is_of(it, goal) for it in trivial[name]))
         said = copy.check(f"{len(group)} clause{'s' * (len(group) > 1)} weakened")
     for clause in group:
-        goals, line = sorted(said.goals_of(code, clause.function)), said.lines.get(symbol(code, clause.function), "the code doesn't compile")
+        names = [it for it in said.names(code, clause.function) if it in said.lines]
+        goals, line = sorted(said.goals_of(code, clause.function)), said.lines[names[0]] if names else "the code doesn't compile"
         is_judged = re.match(r"proved|.*\b(?:calls|passes|waits)\b", line)
         yield clause, goals or ([] if is_judged else [line])
-
-
-def symbol(code, function):
-    """The name of a function in the lines of a check."""
-    module = [it for it in function.path[4:-3].split("/") if it not in ("lib", "main")]
-    return "::".join([code.name, *module, called(function)])
 
 
 def next_tries(clause, goals):
