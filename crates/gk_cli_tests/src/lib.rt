@@ -9,6 +9,8 @@ mod counted_tests;
 #[cfg(test)]
 mod request_tests;
 #[cfg(test)]
+mod run_suite_tests;
+#[cfg(test)]
 mod source_tests;
 #[cfg(test)]
 mod whole_suite_tests;
