@@ -54,10 +54,11 @@ class Said:
         goals[goal] = kind if goals.get(goal, UNFIT) == UNFIT else goals[goal]
 
     def names(self, code, function):
-        """The names of a function in the lines of a check. A method is in the module of its type."""
+        """The names of a function in the lines of a check. A method is in the module of its type, and that of a trait is after the
+        names of both: the trait's comes after the type and what that is of."""
         trait, owner = function.owner or ("", "")
         module = [it for it in function.path[4:-3].split("/") if it not in ("lib", "main")]
-        within = rf"(?:\w+::)*\w*{owner}\w*{trait or ''}" if function.owner else "::".join(module)
+        within = rf"(?:\w+::)*{owner}" + rf"\w*{trait}" * bool(trait) if owner else "::".join(module)
         name = re.compile("::".join(filter(None, [code.name, within, function.name])))
         return [it for it in self.goals if name.fullmatch(it)]
 
@@ -72,11 +73,11 @@ class Said:
                 for goal, kind in self.goals[name].items() if kind == UNFIT]
 
     def renew(self, goals, later):
-        """Puts what a later check said of some goals, without their proofs, in place of what is known of them."""
+        """Puts what a later check said of some goals or of parts of them, without their proofs, in place of what is known of them."""
         for name, goal in goals:
             if name in later.lines:
                 del self.goals[name][goal]
-                self.goals[name].update({it: kind for it, kind in later.goals[name].items() if it == goal})
+                self.goals[name].update({it: kind for it, kind in later.goals[name].items() if f"{it}-".startswith(f"{goal}-")})
 
 
 def symbol(crate, folder):
