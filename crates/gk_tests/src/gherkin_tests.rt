@@ -1,7 +1,9 @@
 use crate::checks::{equal, same};
 use gk_gherkin::text::trim_back;
-use gk_gherkin::{HookKind, HookTable, Keyword, ReadFault, read_feature, read_hooks, read_lines};
-use std::alloc::Global;
+use gk_gherkin::{
+    HookKind, HookTable, Keyword, LONGEST_FILE, ReadFault, read_feature, read_hooks, read_lines,
+};
+use std::alloc::{AllocError, Global};
 use std::test::Fail;
 
 // A feature that has every construct.
@@ -39,6 +41,18 @@ fn lines_end_at_lf_or_crlf(rt: HostRuntime) -> Result<(), ReadFault> {
         let lines = lines_of(rt.alloc(), bytes)?;
         same(&rt, lines.as_str(), wanted);
     }
+    Ok(())
+}
+
+#[test]
+fn bytes_without_lines_are_faults(rt: HostRuntime) -> Result<(), AllocError> {
+    equal(
+        &rt,
+        &lines_of(rt.alloc(), b"a\n\xFF"),
+        &Err(ReadFault::NotUtf8 { line: 2 }),
+    );
+    let bytes = vec![in rt.alloc(); b'a'; LONGEST_FILE + 1]?;
+    equal(&rt, &lines_of(rt.alloc(), &bytes), &Err(ReadFault::TooLong));
     Ok(())
 }
 

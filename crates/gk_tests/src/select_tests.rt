@@ -1,9 +1,9 @@
-use crate::checks::{equal, same};
+use crate::checks::{equal, holds, same};
 use crate::run_tests::feature_of;
 use gk_gherkin::read_feature;
 use gk_select::{
-    Choice, TagRule, expand, has_room, into_cases, outline_rows, read_features_are_expandable,
-    read_tags, selected_cases, tag_stop,
+    Case, Choice, SelectFault, TagRule, expand, has_room, into_cases, outline_rows,
+    read_features_are_expandable, read_tags, selected_cases, tag_stop,
 };
 use std::alloc::{AllocError, Global};
 use std::test::Fail;
@@ -39,6 +39,35 @@ fn features_are_expanded(rt: HostRuntime) -> Result<(), Fail> {
     let (kept, moved) = shown_cases(rt.alloc(), FEATURE)?;
     same(&rt, kept.as_str(), CASES);
     same(&rt, moved.as_str(), CASES);
+    Ok(())
+}
+
+// A feature with an outline of so many steps and rows.
+fn outline_of(alloc: Global, steps: usize, rows: usize) -> Result<String, AllocError> {
+    let mut text = String::from_str(alloc, "Feature: f\nScenario Outline: o\n")?;
+    for _ in 0..steps {
+        text.push_str("Given a\n")?;
+    }
+    text.push_str("Examples:\n| a |\n")?;
+    for _ in 0..rows {
+        text.push_str("| 1 |\n")?;
+    }
+    Ok(text)
+}
+
+// The number of cases.
+fn counted(cases: Result<Vec<Case>, SelectFault>) -> Result<usize, SelectFault> {
+    Ok(cases?.len())
+}
+
+#[test]
+fn more_steps_than_the_limit_are_refused(rt: HostRuntime) -> Result<(), Fail> {
+    let text = outline_of(rt.alloc(), 1_001, 1_000)?;
+    let feature = feature_of(rt.alloc(), text.as_str())?;
+    holds(&rt, !has_room(&feature));
+    let refused = Err(SelectFault::TooMany);
+    equal(&rt, &counted(expand(rt.alloc(), &feature)), &refused);
+    equal(&rt, &counted(into_cases(rt.alloc(), feature)), &refused);
     Ok(())
 }
 
