@@ -29,6 +29,7 @@ use Rattle.gk_run.specs.Running.{reached_row}
 use Rattle.gk_run.specs.Chosen.{MemberValue, ChosenValue}
 use Rattle.gk_run.specs.Features.{FeatureCuts, uncut_feature}
 use Rattle.gk_run.specs.Judged.{uncut, results_from, results_of}
+use Rattle.gk_run.specs.OwnResult.{above, only, own_row}
 
 -- a step with a block
 abbrev step_with : List ℕ → BlockValue → StepValue
@@ -362,6 +363,43 @@ stops : two_cut true uncut_feature ∷ two_cut true (record uncut_feature { case
     (Failed, (Failed, Failed, one_passed ∷ one_failed ∷ one_passed ∷ one_passed ∷ []) ∷ (Failed, Failed, one_passed ∷ []) ∷ []) ∷ []
 unfolding found found_any match_of act
 stops = refl
+
+-- a scenario that spoils what others could find, and fails
+abbrev spoils : MemberValue
+spoils = scenario (codes "write a 2" ∷ codes "write b 3" ∷ codes "fail" ∷ [])
+
+-- one that finds its feature's file and no other, and fails
+abbrev finds : MemberValue
+finds = scenario (codes "is a 1" ∷ codes "absent b" ∷ codes "fail" ∷ [])
+
+-- what a scenario with three steps comes to whose third fails, and one that isn't selected
+abbrev third_failed : CaseSeen
+third_failed = simple Failed (ok ∷ ok ∷ failed reasons.Asked ∷ [])
+
+abbrev three_skipped : CaseSeen
+three_skipped = simple Skipped (with_status Skipped ∷ with_status Skipped ∷ with_status Skipped ∷ [])
+
+abbrev three_untested : CaseSeen
+three_untested = simple Untested (with_status Untested ∷ with_status Untested ∷ with_status Untested ∷ [])
+
+-- a suite in which the second comes last, and its features' hook
+abbrev last_of_four : List ChosenValue
+last_of_four = feature (spoils ∷ spoils ∷ []) ∷ feature (spoils ∷ finds ∷ []) ∷ []
+
+abbrev with_a_file : Bool → Run
+with_a_file stop = record (run (hook kinds.BeforeFeature (codes "write a 1" ∷ []) ∷ []) (of_name (codes "absent ") actions.FileAbsent ∷ write ∷ is ∷ fail ∷ [])) { stop = stop }
+
+-- The last scenario of a suite comes to the same in the suite, and alone in a run that is to stop: its own result. In such a run of the whole suite, it is untested.
+own_result : case_seen (own_row (with_a_file false) start (above (feature (spoils ∷ finds ∷ [])) finds.scenario) finds.scenario) ≡ third_failed
+unfolding found found_any match_of is_utf8 chars lib.Utf8.encode act
+own_result = refl
+
+alone_and_in_a_suite : run_seen (results_from (with_a_file false) start uncut last_of_four) ∷ run_seen (results_from (with_a_file true) start uncut (only 1 1 last_of_four)) ∷ run_seen (results_from (with_a_file true) start uncut last_of_four) ∷ [] ≡
+    (Passed, (Failed, Passed, third_failed ∷ third_failed ∷ []) ∷ (Failed, Passed, third_failed ∷ third_failed ∷ []) ∷ []) ∷
+    (Passed, (Skipped, Passed, three_skipped ∷ three_skipped ∷ []) ∷ (Failed, Passed, three_skipped ∷ third_failed ∷ []) ∷ []) ∷
+    (Passed, (Failed, Passed, third_failed ∷ three_untested ∷ []) ∷ (Untested, Passed, three_untested ∷ three_untested ∷ []) ∷ []) ∷ []
+unfolding found found_any match_of is_utf8 chars lib.Utf8.encode act
+alone_and_in_a_suite = refl
 
 -- A dry run of them: no hook runs, and it doesn't matter that the run is to stop.
 dry_and_stopping : (contents : Contents) → run_seen (results_of (record (stopping true) { dry_run = true }) contents uncut two_features) ≡

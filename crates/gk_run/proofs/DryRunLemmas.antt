@@ -1,6 +1,5 @@
 -- What the loops of a dry run come to.
 use Rattle.gk_run.proofs.Common.{Bool, List, [], ap, append_assoc, cond, false, inl, inr, is_some, map, refl, subst, suc, sym, true, ◌++◌, ◌||◌, ◌∙◌, ◌∷◌, ◌≡◌, append-nil, arith, common_steps, list_any, StepValue, CaseValue, LibraryValue, Mark, Skipped, Undefined, Untested, Status, nothing_yet, state_of, cut_at, event_marks, row_of_case, unrun_row, unselected_row, same_marks, case_statuses, IsLookedUp, row_of_step, looked_up, ChosenValue, MemberValue, AreDrySteps, IsDryStep, dry_case_of, dry_cases_of, dry_events, dry_feature_of, dry_row, dry_rules_of, dry_step, dry_verdict, is_memory_mark, FeatureCuts, feature_verdict, rule_statuses, CaseRow, FeatureRow, RuleRow, StepRow, Cut, Events, happened, in_steps, nowhere}
-use Rattle.gk_run.specs.declared.results.Outcome.TheVariants as outcomes
 use Rattle.gk_run.specs.declared.results.Status.TheVariants as statuses
 use Rattle.gk_run.proofs.EventLemmas.{cut_is_memory}
 

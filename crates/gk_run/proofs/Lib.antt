@@ -20,3 +20,4 @@ pub mod JudgedLemmas
 pub mod OpenRunLemmas
 pub mod OneList
 pub mod JudgedPartsLemmas
+pub mod OwnResultLemmas

@@ -5,11 +5,11 @@ use Rattle.gk_run.specs.declared.results.Status.TheVariants as statuses
 use Rattle.gk_run.specs.declared.section.Level.TheVariants as levels
 use Rattle.gk_run.proofs.EventLemmas.{cut_ends, cut_is_memory, first_refused, later_refused}
 
-or_left : (a b : Bool) → (a || b) ≡ false → a ≡ false
+pub or_left : (a b : Bool) → (a || b) ≡ false → a ≡ false
 or_left false b h = refl
 or_left true b h = h
 
-or_right : (a b : Bool) → (a || b) ≡ false → b ≡ false
+pub or_right : (a b : Bool) → (a || b) ≡ false → b ≡ false
 or_right false b h = h
 or_right true b h = absurd (true≢false h)
 
@@ -41,7 +41,7 @@ not_around e h m = true≢false (sym (ap (λ x. is_memory (around_status x)) m) 
 
 -- ---- cases
 
-reached_kept : (run : Run) (section : State) (cut : Cut) (c : CaseValue) → (let row = reached_row run section cut c in is_memory row.status ≡ false) → reached_row run section cut c ≡ reached_row run section nowhere c
+pub reached_kept : (run : Run) (section : State) (cut : Cut) (c : CaseValue) → (let row = reached_row run section cut c in is_memory row.status ≡ false) → reached_row run section cut c ≡ reached_row run section nowhere c
 reached_kept run section cut c h = search (rules, case_uncut, not_verdict)
 
 choice_kept : (b : Bool) (x x' y y' : CaseRow) → (is_memory x.status ≡ false → x ≡ x') → (is_memory y.status ≡ false → y ≡ y') → (let row : CaseRow = cond b x y in is_memory row.status ≡ false) → cond b x y ≡ cond b x' y'

@@ -16,6 +16,7 @@ pub mod Running
 pub mod Features
 pub mod DryRun
 pub mod Judged
+pub mod OwnResult
 pub mod OpenRun
 -- Proof machinery: definitions that the contracts of private functions use.
 pub mod PrivateContracts

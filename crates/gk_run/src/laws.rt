@@ -2,6 +2,7 @@
 ghost use Rattle.gk_run.specs.Features.{FeaturesWithoutRulesHaveTheirCases, ResultsStandInFileOrder};
 ghost use Rattle.gk_run.specs.Chosen.{FormedCasesFallIntoRules, GroupsAreAll};
 ghost use Rattle.gk_run.specs.Judged.{OneList, DryRunsAreJudged, UnfinishedDryRunsAreJudged, JudgedHoldPartByPart, StepsHaveTheirResults};
+ghost use Rattle.gk_run.specs.OwnResult.{ScenariosHaveTheirOwnResults, ResultsAreTheSameInEachRun, MovedScenariosComeToTheSame, ScenariosComeToTheSameAlone};
 ghost use Rattle.gk_run.specs.OpenRun.{FinishedRunsAreJudged, UnfinishedRunsAreJudged};
 ghost use Rattle.gk_run.specs.Walk.{StepsEndAtTheLeastStop, StoppedCasesRunNoStep, WalksEndAtTheLeastStop};
 
@@ -46,6 +47,35 @@ pub fn steps_have_their_results()
 #[tactic(auto, using(crate::proofs::OneList::one_list))]
 pub fn without_memory_there_is_one_list()
     ensures { OneList }
+{}
+
+/// States that in judged results each scenario whose result is settled has its own result. That depends
+/// on the library, the hooks file, the contents before the run, the tags of its feature and its rule,
+/// and the scenario: on no other scenario, and neither on `--stop` nor on memory refused elsewhere. A
+/// result is settled if it is neither untested nor memory, or if the run isn't dry, isn't to stop, and
+/// nothing in it is memory. (behave's documentation: context layers, environment file functions)
+pub fn scenarios_have_their_own_results()
+    ensures { ScenariosHaveTheirOwnResults }
+{}
+
+/// States that a scenario whose result is settled in two runs has the same result in both. The runs have
+/// the same library and hooks file, start from the same files, variables and values, and run the same
+/// before hooks above the scenario. All else may differ: their features, the scenario's place, what else
+/// is selected, and `--stop`.
+pub fn results_are_the_same_in_each_run()
+    ensures { ResultsAreTheSameInEachRun }
+{}
+
+/// States that the result of a scenario that is moved to other lines, or to another file, stays the same
+/// apart from the lines, if the same before hooks run above it.
+pub fn moved_scenarios_come_to_the_same()
+    ensures { MovedScenariosComeToTheSame }
+{}
+
+/// States that a scenario whose result is settled in a suite has the same result if the suite is run
+/// with only this scenario selected, as by `--line`, and nothing in that run is memory.
+pub fn scenarios_come_to_the_same_alone()
+    ensures { ScenariosComeToTheSameAlone }
 {}
 
 /// States that the results of the features of a dry run are judged, with hooks and cleanups that passed.

@@ -50,7 +50,9 @@ pub use features::run_feature;
 pub use laws::{
     dry_runs_are_judged, features_without_rules_have_their_cases, finished_runs_are_judged,
     formed_cases_fall_into_rules, groups_are_all, judged_results_hold_part_by_part,
-    results_stand_in_file_order, steps_end_at_the_least_stop, steps_have_their_results,
+    moved_scenarios_come_to_the_same, results_are_the_same_in_each_run,
+    results_stand_in_file_order, scenarios_come_to_the_same_alone,
+    scenarios_have_their_own_results, steps_end_at_the_least_stop, steps_have_their_results,
     stopped_cases_run_no_step, unfinished_dry_runs_are_judged, unfinished_runs_are_judged,
     walks_end_at_the_least_stop, without_memory_there_is_one_list,
 };
