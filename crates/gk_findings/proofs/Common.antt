@@ -26,7 +26,6 @@ pub use Rattle.gk_run.specs.Chosen.{ChosenValue}
 pub use Rattle.gk_select.specs.Case.{CaseValue}
 pub use Rattle.gk_select.specs.Choice.{is_chosen}
 pub use Rattle.gk_select.specs.Expansion.{IsExpandable}
-pub use Rattle.gk_select.specs.TagRules.{tag_rule_value}
 pub use Rattle.gk_steps.specs.Finding.{library_value}
 pub use Rattle.gk_findings.specs.FindingLines.{NotedLibraryValue, finding_lines, idle_lines, noted_file_value, noted_library_value, noted_lines, tag_lines}
 unfoldable pub use Rattle.gk_findings.specs.FindingLines.{tag_line}

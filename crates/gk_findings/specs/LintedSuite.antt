@@ -5,7 +5,6 @@ use Rattle.gk_gherkin.specs.Feature.{FeatureValue, feature_value}
 use Rattle.gk_gherkin.specs.Hooks.{HookValue, hooks_value}
 use Rattle.gk_gherkin.specs.Lines.{lines_of, without_mark, IsText}
 use Rattle.gk_select.specs.TagGrammar.{Expression}
-use Rattle.gk_select.specs.TagRules.{tag_rule_value}
 use Rattle.gk_steps.specs.Finding.{LibraryValue}
 use Rattle.gk_lint.specs.declared.findings.Finding.{Finding}
 use Rattle.gk_lint.specs.Findings.{AreInOrder}
@@ -91,4 +90,4 @@ AreTexts (Some bytes) = IsText bytes
 
 -- Proof machinery: the inputs read before the sources, and the results for the sources.
 abbrev pub read_of : NotedLibraryValue → ReadBefore → LintSoFar → LintRead
-read_of library before so_far = record { rules = map tag_rule_value before.rules.items; library = library; hooks = hooks_value before.hooks; features = map feature_value so_far.features.items; of_sources = string_bytes so_far.text }
+read_of library before so_far = record { rules = before.rules.items; library = library; hooks = hooks_value before.hooks; features = map feature_value so_far.features.items; of_sources = string_bytes so_far.text }

@@ -36,7 +36,6 @@ unfoldable pub use Rattle.gk_select.specs.Expansion.{cases}
 pub use Rattle.gk_select.specs.Filling.{filled, filled_step}
 pub use Rattle.gk_select.specs.Inherited.{InheritedValue, background_steps, inherited_in_feature, inherited_in_rule}
 pub use Rattle.gk_select.specs.Outline.{AllFit, FitsHeader, is_outline}
-pub use Rattle.gk_select.specs.TagRules.{tag_rule_value}
 pub use Rattle.gk_steps.specs.Action.{action_row_value}
 pub use Rattle.gk_steps.specs.Finding.{entry_values, entry_value}
 pub use Rattle.gk_steps.specs.Pattern.{PieceValue, piece_values}

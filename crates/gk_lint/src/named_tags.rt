@@ -1,7 +1,6 @@
 //! Tags that tag rules name and that no feature has.
 ghost use Rattle.std.specs.Prelude.{◌≡◌, map, IfOk};
 ghost use Rattle.gk_gherkin.specs.Feature.{feature_value};
-ghost use Rattle.gk_select.specs.TagRules.{tag_rule_value};
 ghost use Rattle.gk_lint.specs.NamedTags as spec;
 ghost use Rattle.gk_lint.specs.TextSets.{in_set};
 
@@ -14,7 +13,7 @@ use std::alloc::{AllocError, Global};
 // Returns the tags that tag rules name, one rule after the other.
 fn named_by<'a>(alloc: Global, rules: &'a [TagRule]) -> Result<Vec<&'a str>, AllocError>
     ensures { IfOk result (λ named. map (λ t. t.now) named.items
-        ≡ spec.named_by (map tag_rule_value rules.now)) }
+        ≡ spec.named_by rules.now) }
 {
     let mut named = Vec::new(alloc);
     for rule in rules {
@@ -52,7 +51,7 @@ pub fn tags_that_stand_nowhere<'a>(
 ) -> Result<Vec<&'a str>, AllocError>
     // Returns all of these tags, and no others.
     ensures { IfOk result (λ left. map (λ t. t.now) left.items
-        ≡ spec.nowhere (map feature_value features.now) (map tag_rule_value rules.now)) }
+        ≡ spec.nowhere (map feature_value features.now) rules.now) }
 {
     let named = named_by(alloc, rules)?;
     let tags = set_of_tags(alloc, features)?;

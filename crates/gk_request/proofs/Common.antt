@@ -28,7 +28,7 @@ pub use Rattle.gk_select.specs.Expansion.{cases}
 pub use Rattle.gk_select.specs.OwnTags.{untagged, untagged_rule, with_own_tags}
 pub use Rattle.gk_select.specs.RuleOrder.{FallIntoRules}
 pub use Rattle.gk_select.specs.TagGrammar.{Expression}
-pub use Rattle.gk_select.specs.TagRules.{ReadsTags, tag_rule_value}
+pub use Rattle.gk_select.specs.TagRules.{ReadsTags}
 pub use Rattle.gk_select.specs.declared.case.Case.{Case}
 pub use Rattle.gk_select.specs.declared.select_fault.SelectFault.{SelectFault}
 pub use Rattle.gk_select.specs.declared.select_fault.SelectFault.TheVariants.{BadTagText}

@@ -13,7 +13,7 @@ use Rattle.gk_select.specs.ExampleRows.{ExampleRowValue, outline_rows}
 use Rattle.gk_select.specs.Expansion.{cases, step_count, step_limit, HasTooManySteps, IsExpandable}
 use Rattle.gk_select.specs.OwnTags.{with_own_tags}
 use Rattle.gk_select.specs.TagGrammar.{Expression}
-use Rattle.gk_select.specs.TagRules.{ReadsTags, tag_rule_value}
+use Rattle.gk_select.specs.TagRules.{ReadsTags}
 use Rattle.gk_select.specs.Choice.{is_chosen}
 use Rattle.gk_steps.specs.LibraryFile.{ReadsLibrary}
 use Rattle.gk_steps.specs.DefaultFile.{default_text}
@@ -99,7 +99,7 @@ AreRowsIf false sources rows = rows ≡ []
 
 -- The request, apart from its sources, reads as these tag rules, this library and these hooks.
 pub record IsReadBefore (r : Request) (before : ReadBefore) : Type 0 where
-  pub tags : AreRules r.tags (map tag_rule_value before.rules.items)
+  pub tags : AreRules r.tags before.rules.items
   pub library : IsLibrary r.library (library_value before.library)
   pub hooks : AreHooks r.hooks (hooks_value before.hooks)
 

@@ -8,7 +8,6 @@ ghost use Rattle.gk_select.specs.Choice.{chosen_by, is_chosen};
 ghost use Rattle.gk_select.specs.ExampleRows.{row_lists};
 ghost use Rattle.gk_select.specs.Expansion.{IsExpandable};
 ghost use Rattle.gk_select.specs.OwnTags.{untagged, untagged_rule};
-ghost use Rattle.gk_select.specs.TagRules.{tag_rule_value};
 ghost use Rattle.gk_steps.specs.Finding.{library_value};
 ghost use Rattle.gk_run.specs.Chosen.{chosen_value, head_value, IsFormed};
 ghost use Rattle.gk_request.specs.Source.{names_of, without_bytes};
@@ -48,7 +47,7 @@ pub struct ReadInputs {
 
 fn read_rules(alloc: Global, tags: &[String]) -> Result<Vec<TagRule>, SelectFault>
     ensures rules { IfOk result (λ rules.
-        AreRules (texts tags.now) (map tag_rule_value rules.items)) }
+        AreRules (texts tags.now) rules.items) }
     ensures fault { IfErr result (λ e. SaysTags (texts tags.now) e) }
 {
     let mut rules = Vec::new(alloc);
@@ -137,7 +136,7 @@ pub fn hooks_fault(fault: ReadFault) -> RunFault
 // Makes the choice by these rules and lines.
 fn choice_by(alloc: Global, rules: Vec<TagRule>, lines: &[u32]) -> Result<Choice, AllocError>
     ensures { IfOk result (λ choice. chosen_by choice
-        ≡ is_chosen (map tag_rule_value rules.items) lines.now) }
+        ≡ is_chosen rules.items lines.now) }
 {
     let lines = Vec::from_slice(alloc, lines)?;
     Ok(Choice::new(rules, lines))

@@ -1,5 +1,5 @@
 -- Whether a line is among lines in rising order.
-use Rattle.gk_select.proofs.Common.{common_steps, get_or_default_zero, ◌≡◌, ◌<◌, ◌≤◌, ℕ, Bool, false, ◌==◌, ◌&&◌, List, [], ◌∷◌, length, map, get_or, Result, Ok, Err, is_ok, refl, ap, arith, cases_lt, nat_tests, list_any_at, list_any_none, searched, list_any-IsPermutation, length_permutation, list_all, list_any, IsBinarySearchResult, IsNonDecreasing, IsPermutation, nat_cmp, MatchResult, is_chosen, Expression}
+use Rattle.gk_select.proofs.Common.{common_steps, get_or_default_zero, ◌≡◌, ◌<◌, ◌≤◌, ℕ, false, ◌==◌, List, length, get_or, Result, Ok, Err, is_ok, arith, cases_lt, nat_tests, list_any_at, list_any_none, searched, list_any-IsPermutation, length_permutation, list_any, IsBinarySearchResult, IsNonDecreasing, IsPermutation, nat_cmp, MatchResult, is_chosen, Expression}
 
 below : (a b : ℕ) → a < b → (a == b) ≡ false
 below a b l = grind (arith, nat_tests)
@@ -16,10 +16,6 @@ from_searched xs x (Err i) f = grind (arith, common_steps, list_any_none, get_or
 
 pub is_among : (xs : List ℕ) (x : ℕ) (r : Result ℕ ℕ) → IsBinarySearchResult (λ y. nat_cmp y x) xs r → IsNonDecreasing xs → is_ok r ≡ list_any (λ y. y == x) xs
 is_among xs x r s up = from_searched xs x r (searched xs x r s (λ i j. up i j 0))
-
-pub list_all-map : {X Y : Type 0} (test : Y → Bool) (f : X → Y) (xs : List X) → list_all (λ (x : X). test (f x)) xs ≡ list_all test (map f xs)
-list_all-map test f [] = refl
-list_all-map test f (x ∷ xs) = ap (λ (b : Bool). test (f x) && b) (list_all-map test f xs)
 
 -- In any order, lines choose the same cases.
 pub same_choice : (rules : List Expression) (xs ys : List ℕ) → IsPermutation xs ys → is_chosen rules ys ≡ is_chosen rules xs

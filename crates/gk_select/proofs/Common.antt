@@ -42,7 +42,7 @@ pub use denote.Shadow.{shadow}
 pub use denote.Text.{Utf8}
 pub use Rattle.gk_select.specs.Alternatives.{AlternativeValue, ReadsAlternatives, alternative, alternative_holds, alternative_value, alternative_words, or_of, pieces, tag_named, words_with}
 pub use Rattle.gk_select.specs.Case.{CaseValue, case_value}
-pub use Rattle.gk_select.specs.Choice.{chosen_by, is_at_lines}
+pub use Rattle.gk_select.specs.Choice.{ChoiceValue, all_hold, chosen_by, is_at_lines}
 unfoldable pub use Rattle.gk_select.specs.Choice.{is_chosen}
 pub use Rattle.gk_select.specs.Names.{IsIndexFrom, has_length, position_in}
 unfoldable pub use Rattle.gk_select.specs.Names.{position_of}
@@ -63,13 +63,12 @@ pub use Rattle.gk_select.specs.Selecting.{examples_selected, rows_selected, rule
 pub use Rattle.gk_select.specs.TagGrammar.{Expression, Factor, SpeltBy, Term, and_factors, depth, depth_limit, factor_depth, factor_spelling, factor_tags, grouped, negated, one_factor, one_term, or_terms, spelling, tagged, tags_in, term_depth, term_spelling, term_tags}
 pub use Rattle.gk_select.specs.TagLists.{tags_of}
 pub use Rattle.gk_select.specs.TagMeasures.{Measure, built_value, measure_before, measure_of}
-pub use Rattle.gk_select.specs.TagRules.{ReadsNewForm, ReadsTags, SpellsNone, tag_rule_value}
+pub use Rattle.gk_select.specs.TagRules.{ReadsNewForm, ReadsTags, SpellsNone}
 pub use Rattle.gk_select.specs.TagStops.{StopValue, first_place, place_after, stop_at_end, stop_in, stop_in_pieces, tag_stop, unless_after, wanted_at}
 pub use Rattle.gk_select.specs.TagTrees.{GroupRest, State, built_from, closed, empty, expression_again, first, head, one_expression, part_of, ready, run, run_whole, step, term_from, waiting}
 pub use Rattle.gk_select.specs.TagValues.{factor_holds, holds, seen_before, seen_depth, seen_of, seen_value, term_holds}
 pub use Rattle.gk_select.specs.TagWords.{AreWords, FirstWord, WordValue, and_word, close_word, is_of_new_form, is_parenthesis, not_word, open_word, or_word, tag_word, tags_among, word_said, word_value, words_of_text, words_with_first}
 unfoldable pub use Rattle.gk_select.specs.TagWords.{first_word}
-pub use Rattle.gk_select.specs.declared.choice.Choice.{Choice}
 pub use Rattle.gk_select.specs.declared.names.NameIndex.{NameIndex}
 pub use Rattle.gk_select.specs.declared.select_fault.SelectFault.{SelectFault}
 pub use Rattle.gk_select.specs.declared.select_fault.SelectFault.TheVariants.{BadTagText, Memory, TooMany}
@@ -77,5 +76,4 @@ pub use Rattle.gk_select.specs.declared.tag_stops.TagPlace.{TagPlace}
 pub use Rattle.gk_select.specs.declared.tag_stops.Wanted.TheVariants.{Alternative}
 pub use Rattle.gk_select.specs.declared.tag_values.Seen.{Seen}
 pub use Rattle.gk_select.specs.declared.tag_values.Seen.TheVariants.{Failed, Held, Value}
-pub use Rattle.gk_select.specs.declared.tag_values.TagRule.{TagRule}
 pub use Rattle.gk_select.specs.declared.tag_words.Word.{Word}

@@ -1,32 +1,32 @@
 -- The choice among the cases of a feature, made without the cases.
-use Rattle.gk_select.proofs.Common.{◌≡◌, ◌<◌, ℕ, ◌+◌, Bool, List, [], ◌∷◌, ◌++◌, ◌&&◌, length, drop, get_or, map, flat_map, Result, Ok, Err, IfErr, refl, sym, ap, subst, ◌∙◌, arith, append_assoc, common_steps, cases_Bool, get_or-map, length-append, length-map, map-append, length-flat_map-take, enumerate_from, RowValue, ExamplesValue, ScenarioValue, RuleValue, FeatureValue, Choice, is_chosen, is_at_lines, chosen_by, InheritedValue, inherited_in_feature, inherited_in_rule, row_case, examples_cases, scenario_cases, rule_cases, cases, rules_hold, rows_selected, examples_selected, scenario_selected, rules_selected}
+use Rattle.gk_select.proofs.Common.{◌≡◌, ◌<◌, ℕ, ◌+◌, Bool, List, [], ◌∷◌, ◌++◌, ◌&&◌, length, drop, get_or, map, flat_map, Result, Ok, Err, IfErr, refl, sym, ap, subst, ◌∙◌, arith, append_assoc, common_steps, cases_Bool, get_or-map, length-append, length-map, map-append, length-flat_map-take, enumerate_from, RowValue, ExamplesValue, ScenarioValue, RuleValue, FeatureValue, ChoiceValue, is_chosen, is_at_lines, chosen_by, InheritedValue, inherited_in_feature, inherited_in_rule, row_case, examples_cases, scenario_cases, rule_cases, cases, rules_hold, rows_selected, examples_selected, scenario_selected, rules_selected}
 
-rows_are : (choice : Choice) (i : InheritedValue) (s : ScenarioValue) (k : ℕ) (e : ExamplesValue) (n : ℕ) (rows : List RowValue) →
+rows_are : (choice : ChoiceValue) (i : InheritedValue) (s : ScenarioValue) (k : ℕ) (e : ExamplesValue) (n : ℕ) (rows : List RowValue) →
     rows_selected choice (rules_hold choice (i.tags ++ s.tags ++ e.tags)) rows ≡ map (chosen_by choice) (map (λ (r : ℕ × RowValue). row_case i s k e r.0 r.1) (enumerate_from n rows))
 unfolding is_chosen
 rows_are choice i s k e n [] = refl
-rows_are choice i s k e n (row ∷ rows) = ap (λ (bs : List Bool). (rules_hold choice (i.tags ++ s.tags ++ e.tags) && is_at_lines choice.lines.items row.line) ∷ bs) (rows_are choice i s k e (n + 1) rows)
+rows_are choice i s k e n (row ∷ rows) = ap (λ (bs : List Bool). (rules_hold choice (i.tags ++ s.tags ++ e.tags) && is_at_lines choice.lines row.line) ∷ bs) (rows_are choice i s k e (n + 1) rows)
 
-examples_are : (choice : Choice) (i : InheritedValue) (s : ScenarioValue) (k : ℕ) (es : List ExamplesValue) →
+examples_are : (choice : ChoiceValue) (i : InheritedValue) (s : ScenarioValue) (k : ℕ) (es : List ExamplesValue) →
     flat_map (examples_selected choice i.tags s.tags) es ≡ map (chosen_by choice) (flat_map (examples_cases i s) (enumerate_from k es))
 examples_are choice i s k [] = refl
 examples_are choice i s k (e ∷ es) =
     rw (rows_are choice i s k e 1 e.rows, examples_are choice i s (k + 1) es) refl
     ∙ sym (map-append (chosen_by choice) (examples_cases i s (k, e)) (flat_map (examples_cases i s) (enumerate_from (k + 1) es)))
 
-scenario_is : (choice : Choice) (i : InheritedValue) (s : ScenarioValue) → scenario_selected choice i.tags s ≡ map (chosen_by choice) (scenario_cases i s)
+scenario_is : (choice : ChoiceValue) (i : InheritedValue) (s : ScenarioValue) → scenario_selected choice i.tags s ≡ map (chosen_by choice) (scenario_cases i s)
 unfolding is_chosen
 scenario_is choice i s = grind (arith, common_steps, cases_Bool, examples_are)
 
-scenarios_are : (choice : Choice) (i : InheritedValue) (ss : List ScenarioValue) → flat_map (scenario_selected choice i.tags) ss ≡ map (chosen_by choice) (flat_map (scenario_cases i) ss)
+scenarios_are : (choice : ChoiceValue) (i : InheritedValue) (ss : List ScenarioValue) → flat_map (scenario_selected choice i.tags) ss ≡ map (chosen_by choice) (flat_map (scenario_cases i) ss)
 scenarios_are choice i [] = refl
 scenarios_are choice i (s ∷ ss) = rw (scenario_is choice i s, scenarios_are choice i ss) refl ∙ sym (map-append (chosen_by choice) (scenario_cases i s) (flat_map (scenario_cases i) ss))
 
-rules_are : (choice : Choice) (f : FeatureValue) (n : ℕ) (rules : List RuleValue) → rules_selected choice f.tags rules ≡ map (chosen_by choice) (flat_map (rule_cases f) (enumerate_from n rules))
+rules_are : (choice : ChoiceValue) (f : FeatureValue) (n : ℕ) (rules : List RuleValue) → rules_selected choice f.tags rules ≡ map (chosen_by choice) (flat_map (rule_cases f) (enumerate_from n rules))
 rules_are choice f n [] = refl
 rules_are choice f n (r ∷ rules) = grind (arith, common_steps, scenarios_are choice (inherited_in_rule f n r), rules_are choice f (n + 1) rules, map-append, flat_map)
 
-pub all_selected : (choice : Choice) (f : FeatureValue) → flat_map (scenario_selected choice f.tags) f.scenarios ++ rules_selected choice f.tags f.rules ≡ map (chosen_by choice) (cases f)
+pub all_selected : (choice : ChoiceValue) (f : FeatureValue) → flat_map (scenario_selected choice f.tags) f.scenarios ++ rules_selected choice f.tags f.rules ≡ map (chosen_by choice) (cases f)
 unfolding cases
 all_selected choice f = grind (arith, common_steps, scenarios_are choice (inherited_in_feature f), rules_are, map-append, flat_map)
 
@@ -49,7 +49,7 @@ some_part {A} F v xs ys i x same less is has =
     subst (λ (zs : List A). 0 < length (flat_map F (map v zs))) same (omega (arith, has, there, most))
 
 -- If a scenario in no rule has a case, so has the feature.
-pub some_own : (choice : Choice) (f : FeatureValue) → 0 < length (flat_map (scenario_selected choice f.tags) f.scenarios) → 0 < length (cases f)
+pub some_own : (choice : ChoiceValue) (f : FeatureValue) → 0 < length (flat_map (scenario_selected choice f.tags) f.scenarios) → 0 < length (cases f)
 some_own choice f has =
     let own = flat_map (scenario_selected choice f.tags) f.scenarios in
     omega (arith, has, length-append own (rules_selected choice f.tags f.rules), ap length (all_selected choice f), length-map (cases f) (chosen_by choice))

@@ -1,5 +1,5 @@
 -- What words of an expression have built has those words.
-use Rattle.gk_select.proofs.Common.{◌≡◌, List, [], ◌∷◌, ◌++◌, map, Option, Some, None, option_and_then, refl, ap, sym, ◌∙◌, append_assoc, append-nil, arith, common_steps, TagRule, tag_rule_value, WordValue, word_value, open_word, close_word, not_word, and_word, or_word, tag_word, Expression, Term, Factor, tagged, negated, spelling, term_spelling, factor_spelling, SpeltBy, GroupRest, State, waiting, ready, empty, closed, step, run, built_from}
+use Rattle.gk_select.proofs.Common.{◌≡◌, List, [], ◌∷◌, ◌++◌, Option, Some, None, option_and_then, refl, ap, sym, ◌∙◌, append_assoc, append-nil, arith, common_steps, WordValue, open_word, close_word, not_word, and_word, or_word, tag_word, Expression, Term, Factor, tagged, negated, spelling, term_spelling, factor_spelling, SpeltBy, GroupRest, State, waiting, ready, empty, closed, step, run, built_from}
 
 -- What is built has the words taken so far.
 abbrev pub joined_words : Option Term → List WordValue
@@ -55,8 +55,5 @@ pub spelt_by : (ws : List WordValue) (f : Factor) (p : GroupRest) → run ws ≡
 spelt_by ws f p e = closed_words f p ∙ ap (λ (x : List WordValue). factor_spelling f ++ x) (sym (append-nil (part_words p))) ∙ run_words ws (ready f p []) e
 
 -- What is spelt is the one expression that the words spell.
-spelt_is : (ws : List WordValue) (s : SpeltBy ws) (e : Expression) → spelling e ≡ ws → s.0 ≡ e
+pub spelt_is : (ws : List WordValue) (s : SpeltBy ws) (e : Expression) → spelling e ≡ ws → s.0 ≡ e
 spelt_is ws s e says = built_from s.0 ws s.1 ∙ sym (built_from e ws says)
-
-pub rule_is : (r : TagRule) (e : Expression) → spelling e ≡ map word_value r.words.items → tag_rule_value r ≡ e
-rule_is r e says = spelt_is (map word_value r.words.items) r.spelt e says

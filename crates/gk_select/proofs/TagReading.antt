@@ -1,5 +1,5 @@
 -- A text spells one rule, whichever form it has.
-use Rattle.gk_select.proofs.Common.{◌≡◌, ◌⊎◌, ◌≤◌, ◌<◌, ℕ, true, false, List, [], ◌∷◌, length, map, get_or, slice_index_or, Option, Some, IsSome, Result, Ok, Err, IfOk, IfErr, refl, sym, ap, subst, ◌∙◌, arith, inl, inr, list_any, SelectFault, TooMany, BadTagText, Memory, TagRule, AlternativeValue, alternative, alternative_holds, pieces, or_of, ReadsAlternatives, AnswersOrLacksMemory, Expression, spelling, depth, depth_limit, tag_rule_value, ReadsTags, ReadsNewForm, SpellsNone, one_expression, holds, WordValue, AreWords, is_of_new_form, words_of_text, word_said}
+use Rattle.gk_select.proofs.Common.{◌≡◌, ◌⊎◌, ◌≤◌, ◌<◌, ℕ, true, false, List, [], ◌∷◌, length, map, get_or, slice_index_or, Option, Some, IsSome, Result, Ok, Err, IfOk, IfErr, refl, sym, ap, subst, ◌∙◌, arith, inl, inr, list_any, SelectFault, TooMany, BadTagText, Memory, AlternativeValue, alternative, alternative_holds, pieces, or_of, ReadsAlternatives, AnswersOrLacksMemory, Expression, spelling, depth, depth_limit, ReadsTags, ReadsNewForm, SpellsNone, one_expression, holds, WordValue, AreWords, is_of_new_form, words_of_text, word_said}
 use Rattle.gk_select.proofs.AlternativeWords.{no_pieces, one_list, or_value}
 use Rattle.gk_select.proofs.TagTextWords.{one_words}
 
@@ -14,10 +14,10 @@ one_rule text a b (inl x) (inr y) = let no : ⊥ = cc (sym x.reads.old_form ∙ 
 one_rule text a b (inr x) (inl y) = let no : ⊥ = cc (sym x.new_form ∙ y.reads.old_form) in absurd no
 one_rule text a b (inr x) (inr y) = one_expression a b (one_words (spelling a) (spelling b) (sym x.says ∙ y.says))
 
-pub only_from : (text : List ℕ) (r : Result TagRule SelectFault) → IfOk r (λ (x : TagRule). ReadsTags text (tag_rule_value x))
+pub only_from : (text : List ℕ) (r : Result Expression SelectFault) → IfOk r (λ (x : Expression). ReadsTags text x)
     → IfErr r (λ (e : SelectFault). (e ≡ Memory) ⊎ ((e ≡ BadTagText) × SpellsNone text))
-    → (rule : Expression) → ReadsTags text rule → AnswersOrLacksMemory tag_rule_value r (Some rule)
-only_from text (Ok x) found fault rule reads = ap (λ (e : Expression). Some e) (one_rule text rule (tag_rule_value x) reads found)
+    → (rule : Expression) → ReadsTags text rule → AnswersOrLacksMemory (λ (x : Expression). x) r (Some rule)
+only_from text (Ok x) found fault rule reads = ap (λ (e : Expression). Some e) (one_rule text rule x reads found)
 only_from text (Err Memory) found fault rule reads = refl
 only_from text (Err BadTagText) found (inl m) rule reads = let no : ⊥ = cc m in absurd no
 only_from text (Err BadTagText) found (inr bad) rule reads = absurd (bad.1 rule reads)

@@ -1,5 +1,5 @@
 -- The rows of a feature's outlines, with the headers of their cells.
-use Rattle.std.specs.Prelude.{◌≡◌, ℕ, Bool, true, false, List, [], ◌++◌, map, flat_map, zip, string_bytes, Some, Vec}
+use Rattle.std.specs.Prelude.{◌≡◌, ℕ, true, false, List, [], ◌++◌, map, flat_map, zip, string_bytes, Some, Vec}
 use Rattle.std.specs.List.{enumerate_from}
 use Rattle.std.specs.List.Sorted.{IsStrictlyIncreasing}
 use Rattle.gk_gherkin.specs.Lines.{lines_of}

@@ -1,5 +1,5 @@
 -- A feature whose tags are taken from it, and its cases.
-use Rattle.std.specs.Prelude.{◌≡◌, List, [], map}
+use Rattle.std.specs.Prelude.{◌≡◌, [], map}
 use Rattle.gk_gherkin.specs.Feature.{RuleValue, FeatureValue}
 use Rattle.gk_select.specs.Case.{CaseValue}
 use Rattle.gk_select.specs.Expansion.{cases, step_count, IsExpandable}

@@ -1,5 +1,5 @@
 -- Results that may be refused, and the texts of the faults.
-use Rattle.std.specs.Prelude.{codes, ◌≡◌, ℕ, List, Option, Some, None, IsSome, Result, Ok, Err}
+use Rattle.std.specs.Prelude.{codes, ◌≡◌, Option, Some, None, IsSome, Result, Ok, Err}
 use Rattle.gk_gherkin.specs.ReadFault.{FaultSaid, said_no_memory}
 use Rattle.gk_select.specs.declared.select_fault.SelectFault.{SelectFault}
 use Rattle.gk_select.specs.declared.select_fault.SelectFault.TheVariants.{TooMany, BadTagText, Memory}

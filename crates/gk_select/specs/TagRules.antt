@@ -4,11 +4,6 @@ use Rattle.std.specs.List.{list_any}
 use Rattle.gk_select.specs.TagWords.{is_of_new_form, words_of_text, word_said, AreWords}
 use Rattle.gk_select.specs.TagGrammar.{Expression, spelling, depth, depth_limit}
 use Rattle.gk_select.specs.Alternatives.{AlternativeValue, ReadsAlternatives, FirstAlternativeSays, or_of}
-use Rattle.gk_select.specs.declared.tag_values.TagRule.{TagRule}
-
--- The value of a `TagRule`: the expression that its words spell.
-abbrev pub tag_rule_value : TagRule → Expression
-tag_rule_value r = r.spelt.0
 
 -- A text of the old form: the tag rule is the `or` of its alternatives. (behave's documentation: tag expressions)
 pub record ReadsOldForm (text : List ℕ) (rule : Expression) : Type 0 where

@@ -1,5 +1,6 @@
 -- The proof that words spell at most one expression: read from the last to the first, they build it.
-use Rattle.std.specs.Prelude.{◌≡◌, List, [], ◌∷◌, ◌++◌, Option, Some, None, option_and_then}
+use Rattle.std.specs.Coded.{Coded, code_by, coded×, coded_list, coded_ℕ}
+use Rattle.std.specs.Prelude.{◌≡◌, ℕ, zero, suc, List, [], ◌∷◌, ◌++◌, Option, Some, None, option_and_then}
 use Rattle.std.proofs.Common.{refl, ap, sym, ◌∙◌, append_assoc, append-nil}
 use mathlib.Core.HLevel.{Σ_prop_path}
 use mathlib.Core.List.{is_set as List-set}
@@ -131,6 +132,41 @@ built_from e ws says = sym (ap built (ap run (sym says) ∙ run_whole e) ∙ exp
 -- Expressions with the same words are equal.
 pub one_expression : (d e : Expression) → spelling d ≡ spelling e → d ≡ e
 one_expression d e same = built_from d (spelling e) same ∙ sym (built_from e (spelling e) refl)
+
+-- A word as a number and a text, and back.
+abbrev pub word_as_pair : WordValue → ℕ × List ℕ
+word_as_pair open_word = (0, [])
+word_as_pair close_word = (1, [])
+word_as_pair not_word = (2, [])
+word_as_pair and_word = (3, [])
+word_as_pair or_word = (4, [])
+word_as_pair (tag_word tag) = (5, tag)
+
+-- The word of such a pair.
+abbrev pub word_of_pair : ℕ × List ℕ → WordValue
+word_of_pair (zero, text) = open_word
+word_of_pair (suc zero, text) = close_word
+word_of_pair (suc (suc zero), text) = not_word
+word_of_pair (suc (suc (suc zero)), text) = and_word
+word_of_pair (suc (suc (suc (suc zero))), text) = or_word
+word_of_pair (suc (suc (suc (suc (suc n)))), text) = tag_word text
+
+-- A word that was made a pair is itself again.
+pub word_again : (word : WordValue) → word_of_pair (word_as_pair word) ≡ word
+word_again open_word = refl
+word_again close_word = refl
+word_again not_word = refl
+word_again and_word = refl
+word_again or_word = refl
+word_again (tag_word tag) = refl
+
+-- Words are stored as such pairs.
+abbrev pub words_code : Coded (List WordValue)
+words_code = coded_list (code_by (ℕ × List ℕ) (coded× coded_ℕ (coded_list coded_ℕ)) word_as_pair word_of_pair word_again)
+
+-- An expression is stored as its words.
+abbrev pub expression_code : Coded Expression
+expression_code = code_by (List WordValue) words_code spelling (λ ws. built (run ws)) (λ e. sym (built_from e (spelling e) refl))
 
 -- Words spell at most one expression, in one way.
 pub spelt_once : (ws : List WordValue) → IsProp (SpeltBy ws)

@@ -1,19 +1,18 @@
 //! The choice of cases by tags and lines.
-ghost use Rattle.std.specs.Prelude.{◌≡◌, ◌&&◌, map};
-ghost use Rattle.std.specs.List.Sorted.{IsNonDecreasing};
+ghost use Rattle.std.specs.Prelude.{◌≡◌, ◌&&◌};
 ghost use Rattle.gk_gherkin.specs.Feature.{texts};
 ghost use Rattle.gk_select.specs.Case.{case_value};
 ghost use Rattle.gk_select.specs.TagLists.{tags_of};
-ghost use Rattle.gk_select.specs.TagRules.{tag_rule_value};
 
 use crate::case::Case;
 use crate::names::Names;
 use crate::tag_lists::TagLists;
 use crate::tag_values::TagRule;
 use std::alloc::Global;
+use std::marker::Model;
 
-// The number of words of tag rules from which an index of a case's tags is worth its cost.
-const MANY_WORDS: usize = 64;
+// The number of tags, and of words of tag rules, from which an index of the tags is worth its cost.
+const MANY: usize = 64;
 
 /// A condition by which cases are chosen: every tag rule holds for the case's tags, and its line is among the
 /// lines, if there are any. (behave's documentation: tag expressions)
@@ -21,7 +20,19 @@ const MANY_WORDS: usize = 64;
 pub struct Choice {
     rules: Vec<TagRule>,
     lines: Vec<u32>,
-    ghost sorted: { IsNonDecreasing lines.items },
+}
+
+impl Model for Choice {
+    ghost use Rattle.std.specs.List.Sorted.{IsNonDecreasing};
+    ghost use Rattle.gk_select.specs.Choice.{ChoiceValue, choice_code};
+
+    ghost Value = { ChoiceValue };
+
+    ghost coded = { choice_code };
+
+    ghost view = { λ choice. record { rules = choice.rules.items; lines = choice.lines.items } };
+
+    ghost invariant = { λ choice. IsNonDecreasing choice.lines.items };
 }
 
 impl Choice {
@@ -29,7 +40,7 @@ impl Choice {
 
     /// Returns the choice by these tag rules and lines, which may be in any order. Doesn't allocate.
     pub fn new(rules: Vec<TagRule>, lines: Vec<u32>) -> Choice
-        ensures { chosen_by result ≡ is_chosen (map tag_rule_value rules.items) lines.items }
+        ensures { chosen_by result ≡ is_chosen rules.items lines.items }
     {
         let mut lines = lines;
         lines.sort_unstable();
@@ -54,15 +65,14 @@ impl Choice {
 
     // Returns whether the tag rules have many words. Each has one at least.
     fn has_many_words(&self) -> bool {
-        self.rules.len() > MANY_WORDS
-            || self.rules.iter().any(|rule| rule.word_count() > MANY_WORDS)
+        self.rules.len() > MANY || self.rules.iter().any(|rule| rule.word_count() > MANY)
     }
 
-    /// Returns tags for lookup, without an index if few words look tags up.
+    /// Returns tags for lookup, without an index if they are few and few words look them up.
     pub(crate) fn lookup<'a>(&self, alloc: Global, tags: &'a [String]) -> Names<'a>
         ensures { result ≡ texts tags.now }
     {
-        if self.has_many_words() {
+        if tags.len() > MANY || self.has_many_words() {
             Names::new(alloc, tags)
         } else {
             Names::scanned(tags)
@@ -71,20 +81,20 @@ impl Choice {
 
     /// Returns whether every tag rule holds for the tags of a case.
     pub(crate) fn rules_hold(&self, tags: &TagLists<'_, '_>) -> bool
-        ensures { result ≡ all_hold (map tag_rule_value self.now.rules.items) (tags_of tags.now) }
+        ensures { result ≡ all_hold self.now.rules (tags_of tags.now) }
     {
         self.rules.iter().all(|rule| rule.holds_for(tags))
     }
 
     /// Returns whether a case at this line is chosen. `hold`: whether the tag rules hold for its tags.
     pub(crate) fn takes(&self, hold: bool, line: u32) -> bool
-        ensures { result ≡ hold && is_at_lines self.now.lines.items line }
+        ensures { result ≡ hold && is_at_lines self.now.lines line }
     {
         hold && self.has_line(line)
     }
 
     fn has_line(&self, line: u32) -> bool
-        ensures { result ≡ is_at_lines self.now.lines.items line }
+        ensures { result ≡ is_at_lines self.now.lines line }
     {
         let lines = self.lines.as_slice();
         lines.is_empty() || lines.binary_search(&line).is_ok()

@@ -5,7 +5,7 @@ ghost use Rattle.gk_select.specs.declared.select_fault.SelectFault.TheVariants.{
 ghost use Rattle.gk_select.specs.SelectFault.{AnswersOrLacksMemory};
 ghost use Rattle.gk_select.specs.Alternatives.{FirstAlternativeSays};
 ghost use Rattle.gk_select.specs.TagGrammar.{Expression};
-ghost use Rattle.gk_select.specs.TagRules.{ReadsTags, ReadsOldForm, ReadsNewForm, SpellsNone, NeedsMemory, FirstWordSays, tag_rule_value};
+ghost use Rattle.gk_select.specs.TagRules.{ReadsTags, ReadsOldForm, ReadsNewForm, SpellsNone, NeedsMemory, FirstWordSays};
 ghost use Rattle.gk_select.specs.TagWords as spec;
 
 use crate::alternatives::words_of_alternatives;
@@ -24,7 +24,7 @@ pub fn has_new_form(text: &str) -> bool
 
 fn read_old_form(alloc: Global, text: &str) -> Result<TagRule, SelectFault>
     requires { list_any spec.is_of_new_form text.now ≡ false }
-    ensures found { IfOk result (λ r. ReadsOldForm text.now (tag_rule_value r)) }
+    ensures found { IfOk result (λ r. ReadsOldForm text.now r) }
     ensures memory { result ≡ Err Memory → FirstAlternativeSays text.now }
     ensures fault { IfErr result (λ e. (e ≡ Memory) ⊎ ((e ≡ BadTagText) × SpellsNone text.now)) }
 {
@@ -34,7 +34,7 @@ fn read_old_form(alloc: Global, text: &str) -> Result<TagRule, SelectFault>
 
 fn read_new_form(alloc: Global, text: &str) -> Result<TagRule, SelectFault>
     requires { list_any spec.is_of_new_form text.now ≡ true }
-    ensures found { IfOk result (λ r. ReadsNewForm text.now (tag_rule_value r)) }
+    ensures found { IfOk result (λ r. ReadsNewForm text.now r) }
     ensures memory { result ≡ Err Memory → FirstWordSays text.now }
     ensures fault { IfErr result (λ e. (e ≡ Memory) ⊎ ((e ≡ BadTagText) × SpellsNone text.now)) }
 {
@@ -44,7 +44,7 @@ fn read_new_form(alloc: Global, text: &str) -> Result<TagRule, SelectFault>
 }
 
 fn read_either_form(alloc: Global, text: &str) -> Result<TagRule, SelectFault>
-    ensures found { IfOk result (λ r. ReadsTags text.now (tag_rule_value r)) }
+    ensures found { IfOk result (λ r. ReadsTags text.now r) }
     ensures memory { result ≡ Err Memory → NeedsMemory text.now }
     ensures fault { IfErr result (λ e. (e ≡ Memory) ⊎ ((e ≡ BadTagText) × SpellsNone text.now)) }
 {
@@ -78,10 +78,10 @@ fn read_either_form(alloc: Global, text: &str) -> Result<TagRule, SelectFault>
 /// expressions)
 pub fn read_tags(alloc: Global, text: &str) -> Result<TagRule, SelectFault>
     // The result is a tag rule that the text spells.
-    ensures found { IfOk result (λ r. ReadsTags text.now (tag_rule_value r)) }
+    ensures found { IfOk result (λ r. ReadsTags text.now r) }
     // If the text spells a tag rule, that one is returned, unless memory runs out.
     ensures only { (rule : Expression) → ReadsTags text.now rule →
-        AnswersOrLacksMemory tag_rule_value result (Some rule) }
+        AnswersOrLacksMemory (λ r. r) result (Some rule) }
     // Memory runs out only if the first alternative, or the first word of an expression, is valid.
     ensures memory { result ≡ Err Memory → NeedsMemory text.now }
     // The fault is `Memory` or, only for a text that spells no tag rule, `BadTagText`.

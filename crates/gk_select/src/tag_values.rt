@@ -13,6 +13,7 @@ use crate::names::Names;
 use crate::tag_lists::TagLists;
 use crate::tag_words::Word;
 use std::alloc::{AllocError, Global};
+use std::marker::Model;
 
 /// The state of the evaluation after the words read so far.
 #[derive(Clone, Copy, Debug)]
@@ -102,21 +103,30 @@ pub struct TagRule {
     ghost spelt: { SpeltBy (map word_value words.items) } by { spelt_once (map word_value words.items) },
 }
 
-impl TagRule {
-    ghost use Rattle.gk_select.specs.TagRules.{tag_rule_value};
+impl Model for TagRule {
+    ghost use Rattle.gk_select.specs.TagGrammar.{Expression};
+    ghost use Rattle.gk_select.specs.TagTrees.{expression_code};
 
+    ghost Value = { Expression };
+
+    ghost coded = { expression_code };
+
+    ghost view = { λ rule. rule.spelt.0 };
+}
+
+impl TagRule {
     /// Returns the tag rule that these words spell.
     pub(crate) fn of_words(words: Vec<Word>) -> TagRule
         requires { SpeltBy (map word_value words.items) }
         ensures { (e : Expression) → spelling e ≡ map word_value words.items →
-            tag_rule_value result ≡ e }
+            result ≡ e }
     {
         TagRule { words }
     }
 
     /// Returns the number of its words.
     pub(crate) fn word_count(&self) -> usize
-        ensures { result ≡ length self.now.words.items }
+        ensures { result ≡ length (spelling self.now) }
     {
         self.words.len()
     }
@@ -124,7 +134,7 @@ impl TagRule {
     /// Returns whether the tag rule holds for a set of tags, each with its `@`. Doesn't allocate. (behave's
     /// documentation: tag expressions; Cucumber's tag expressions)
     pub fn selects(&self, tags: &[String]) -> bool
-        ensures { result ≡ holds (tag_rule_value self.now) (texts tags.now) }
+        ensures { result ≡ holds self.now (texts tags.now) }
     {
         let all = Names::scanned(tags);
         let none = Names::scanned(&[]);
@@ -139,7 +149,7 @@ impl TagRule {
     /// Returns whether the tag rule holds for the tags of a case. Doesn't allocate.
     #[tactic(auto, using(std::proofs::lemmas::Grind::common_steps, crate::proofs::TagShows::value_seen, crate::proofs::TagShows::depth_seen))]
     pub(crate) fn holds_for(&self, tags: &TagLists<'_, '_>) -> bool
-        ensures { result ≡ holds (tag_rule_value self.now) (tags_of tags.now) }
+        ensures { result ≡ holds self.now (tags_of tags.now) }
     {
         let words = self.words.as_slice();
         let mut seen = Seen::Value(false);
@@ -156,7 +166,7 @@ impl TagRule {
     #[tactic(auto, using(crate::proofs::TagNames::among_words))]
     pub fn tags(&self, alloc: Global) -> Result<Vec<&str>, AllocError>
         ensures { IfOk result (λ tags. map (λ t. t.now) tags.items
-            ≡ tags_in (tag_rule_value self.now)) }
+            ≡ tags_in self.now) }
     {
         let mut tags = Vec::new(alloc);
         push_tags(&mut tags, self.words.as_slice())?;

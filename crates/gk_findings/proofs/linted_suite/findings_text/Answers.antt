@@ -1,4 +1,4 @@
-use Rattle.gk_findings.proofs.Common.{map, ap, sym, ◌∙◌, subst, hooks_value, is_chosen, tag_rule_value, library_value, NotedLibraryValue, noted_library_value, IsLibrary, bytes_of, library_name, files_value, request_of_files, noted_library, read_of, sources_unread}
+use Rattle.gk_findings.proofs.Common.{map, ap, sym, ◌∙◌, subst, hooks_value, is_chosen, library_value, NotedLibraryValue, noted_library_value, IsLibrary, bytes_of, library_name, files_value, request_of_files, noted_library, read_of, sources_unread}
 use Rattle.gk_findings.proofs.linted_suite.findings_text.Goals as goal
 
 pub returns-in-Ok-lint_sources-clause-linted : goal.returns-in-Ok-lint_sources-clause-linted
@@ -27,7 +27,7 @@ returns-in-Err-clause-fault g c =
 pub returns-clause-fault : goal.returns-clause-fault
 returns-clause-fault g c =
     let request = request_of_files c.args.options.now (files_value g.S.FeatureSource.value c.args.files.now) in
-    let rules = map tag_rule_value c.in-Ok.before.rules.items in
+    let rules = c.in-Ok.before.rules.items in
     let read = rw (c.bytes_of-library.ensures, c.bytes_of-hooks.ensures) at c.in-Ok.ensures.read in
     let says = rw (c.as_slice.ensures.value) at c.in-Err-lint_sources.ensures.fault in
     sources_unread request rules (library_value c.in-Ok.before.library) (hooks_value c.in-Ok.before.hooks) c.in-Err-lint_sources.fault read.tags read.library read.hooks

@@ -1,4 +1,4 @@
-use Rattle.gk_findings.proofs.Common.{◌++◌, ◌∙◌, map, ap, ap₂, subst, string_bytes, feature_value, hooks_value, tag_rule_value, AreInOrder, nowhere, without_scenario, hooks_of_no_tag, of_hooks, found_in, bytes_of, hooks_name, files_value, noted_library_value, noted_lines, tag_lines, idle_lines, looked_up, noted_hooks, library_lines}
+use Rattle.gk_findings.proofs.Common.{◌++◌, ◌∙◌, map, ap, ap₂, subst, string_bytes, feature_value, hooks_value, AreInOrder, nowhere, without_scenario, hooks_of_no_tag, of_hooks, found_in, bytes_of, hooks_name, files_value, noted_library_value, noted_lines, tag_lines, idle_lines, looked_up, noted_hooks, library_lines}
 use Rattle.gk_findings.proofs.LintedSuiteLemmas.{five_parts}
 use Rattle.gk_findings.proofs.linted_suite.whole_text.Goals as goal
 
@@ -10,7 +10,7 @@ returns g c =
     let found = c.in_ok-of_hooks.of_hooks.findings.items in
     let used = c.as_slice-9.ensures.value ∙ c.in_ok-append.ensures.items ∙ ap₂ (λ l m. l ++ m) c.in_ok-of_hooks.ensures.used c.requires.used in
     let tags =
-    ap (map (λ t. t.now)) c.as_slice-5.ensures.value ∙ c.in_ok-tags.ensures ∙ ap₂ (λ features rules. nowhere (map feature_value features) (map tag_rule_value rules)) c.as_slice-4.ensures.value c.as_slice-3.ensures.value in
+    ap (map (λ t. t.now)) c.as_slice-5.ensures.value ∙ c.in_ok-tags.ensures ∙ ap₂ (λ features rules. nowhere (map feature_value features) rules) c.as_slice-4.ensures.value c.as_slice-3.ensures.value in
     let idle =
     c.as_slice-8.ensures.value ∙ c.in_ok-idle.ensures ∙ ap₂ (λ features lines. without_scenario (map feature_value features) lines) c.as_slice-7.ensures.value c.as_slice-6.ensures.value in (
       found,

@@ -1,4 +1,4 @@
-use Rattle.gk_request.proofs.Common.{sym, subst, string_bytes, texts, Expression, ReadsTags, tag_rule_value, IsFirstBadText}
+use Rattle.gk_request.proofs.Common.{sym, subst, string_bytes, texts, Expression, ReadsTags, IsFirstBadText}
 use Rattle.gk_request.proofs.InputsLemmas.{at_place, first_bad, is_bad, one_rule_more}
 use Rattle.gk_request.proofs.inputs.first_bad_tags.Goals as goal
 
@@ -14,4 +14,4 @@ pub loop-text-preserved : goal.loop-text-preserved
 loop-text-preserved c =
     let text = string_bytes c.text-item.result in
     let place = at_place string_bytes c.args.tags.now c.loop-text.text-index c.text-item.result c.loop-text-test.true c.text-item.is in
-    one_rule_more (texts c.args.tags.now) c.loop-text.text-index text c.loop-text.invariant.0 (tag_rule_value c.in-Ok._rule) place c.loop-text.invariant.1 (subst (λ b. ReadsTags b (tag_rule_value c.in-Ok._rule)) c.as_str.ensures.value c.in-Ok.ensures.found)
+    one_rule_more (texts c.args.tags.now) c.loop-text.text-index text c.loop-text.invariant.0 c.in-Ok._rule place c.loop-text.invariant.1 (subst (λ b. ReadsTags b c.in-Ok._rule) c.as_str.ensures.value c.in-Ok.ensures.found)

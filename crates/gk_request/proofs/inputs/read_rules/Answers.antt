@@ -1,4 +1,4 @@
-use Rattle.gk_request.proofs.Common.{BadTagText, ◌≡◌, ◌⊎◌, ◌∷◌, [], ◌++◌, map, take, ap, sym, subst, ◌∙◌, string_bytes, map_push, texts, Expression, ReadsTags, tag_rule_value, AreRules}
+use Rattle.gk_request.proofs.Common.{BadTagText, ◌≡◌, ◌⊎◌, ◌∷◌, [], ◌++◌, map, take, ap, sym, subst, ◌∙◌, string_bytes, map_push, texts, Expression, ReadsTags, AreRules}
 use Rattle.gk_select.specs.declared.select_fault.SelectFault.TheVariants.{Memory}
 use Rattle.gk_request.proofs.InputsLemmas.{at_place, take_one, rules_one, says_tags}
 use Rattle.gk_request.proofs.inputs.read_rules.Goals as goal
@@ -9,7 +9,7 @@ returns-in-Err c =
     let place = at_place string_bytes c.args.tags.now c.loop-text.text-index c.text-item.result c.loop-text-test.true c.text-item.is in
     record {
       rules = tt;
-      fault = says_tags tags c.loop-text.text-index (string_bytes c.text-item.result) (map tag_rule_value c.loop-text.rules.items) c.in-Err.fault place c.loop-text.invariant
+      fault = says_tags tags c.loop-text.text-index (string_bytes c.text-item.result) c.loop-text.rules.items c.in-Err.fault place c.loop-text.invariant
           (subst (λ b. (c.in-Err.fault ≡ Memory) ⊎ ((c.in-Err.fault ≡ BadTagText) × ((rule : Expression) → ReadsTags b rule → ⊥))) c.as_str.ensures.value c.in-Err.ensures.fault);
     }
 
@@ -18,7 +18,7 @@ loop-text-preserved c =
     let tags = texts c.args.tags.now in
     let text = string_bytes c.text-item.result in
     let place = at_place string_bytes c.args.tags.now c.loop-text.text-index c.text-item.result c.loop-text-test.true c.text-item.is in
-    let reads = subst (λ b. ReadsTags b (tag_rule_value c.in-Ok.rule)) c.as_str.ensures.value c.in-Ok.ensures.found in
-    subst (λ ts. AreRules ts (map tag_rule_value c.push.new.self.items)) (sym (take_one tags c.loop-text.text-index text place))
-    (subst (AreRules (take c.loop-text.text-index tags ++ text ∷ [])) (sym (ap (map tag_rule_value) c.in_ok-push.ensures.items ∙ map_push tag_rule_value c.loop-text.rules.items c.in-Ok.rule))
-    (rules_one (take c.loop-text.text-index tags) (map tag_rule_value c.loop-text.rules.items) text (tag_rule_value c.in-Ok.rule) c.loop-text.invariant reads))
+    let reads = subst (λ b. ReadsTags b c.in-Ok.rule) c.as_str.ensures.value c.in-Ok.ensures.found in
+    subst (λ ts. AreRules ts c.push.new.self.items) (sym (take_one tags c.loop-text.text-index text place))
+    (subst (AreRules (take c.loop-text.text-index tags ++ text ∷ [])) (sym c.in_ok-push.ensures.items)
+    (rules_one (take c.loop-text.text-index tags) c.loop-text.rules.items text c.in-Ok.rule c.loop-text.invariant reads))

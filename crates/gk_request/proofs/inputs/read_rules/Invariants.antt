@@ -1,5 +1,5 @@
-use Rattle.gk_request.proofs.Common.{map, take, texts, tag_rule_value, AreRules}
+use Rattle.gk_request.proofs.Common.{map, take, texts, AreRules}
 use Rattle.gk_request.proofs.inputs.read_rules.Given as goal
 
 abbrev pub invariant-loop-text : goal.invariant-loop-text
-invariant-loop-text l = AreRules (take l.text-index (texts l.tags)) (map tag_rule_value l.rules.items)
+invariant-loop-text l = AreRules (take l.text-index (texts l.tags)) l.rules.items
