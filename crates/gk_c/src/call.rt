@@ -1,6 +1,5 @@
 //! Answering a call.
 ghost use Rattle.std.specs.Prelude.{◌≡◌, ◌++◌, [], Some, codes, map, IfOk, OnOk, string_bytes};
-ghost use Rattle.gk_request.specs.Counted.{inner_of};
 ghost use Rattle.gk_cli.specs.Writing.{device_of};
 ghost use Rattle.gk_c.specs.Room.{IsPut, put_over};
 ghost use Rattle.gk_c.specs.Answer.{IsAnsweredBy, IsAnsweredWith, IsRefusal, refusal};
@@ -58,7 +57,7 @@ fn answer_with(
     ensures out { result.out_length ≡ out_length }
     ensures answered { IsAnsweredWith (device_of (λ buffer. Some buffer.items) out.now)
         (device_of (λ buffer. Some buffer.items) errors.now) ended
-        (inner_of errors.now).items room.old room.new result }
+        errors.now.inner.items room.old room.new result }
 {
     if out.failures() == 0 && errors.failures() == 0 {
         Answer {

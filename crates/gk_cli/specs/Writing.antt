@@ -1,8 +1,7 @@
 -- A writer, and what is written to it.
 use Rattle.std.specs.Prelude.{◌≡◌, ◌≤◌, ◌+◌, ℕ, List, [], length, Option, Result, Ok, Err}
 use Rattle.std.specs.Io.KnownBytes.{Appends}
-use Rattle.gk_request.specs.Counted.{calls_of, failures_of, flushes_of, idle_of, inner_of, one_more, IsPrefixWritten}
-use Rattle.gk_request.specs.declared.counted.Counted.{Counted}
+use Rattle.gk_request.specs.Counted.{CountedValue, one_more, IsPrefixWritten}
 use Rattle.gk_request.specs.declared.run_fault.RunFault.{RunFault}
 use Rattle.gk_request.specs.declared.run_fault.RunFault.TheVariants.{Write, Memory}
 
@@ -15,8 +14,8 @@ pub record Device : Type 0 where
   pub idle : ℕ
 
 -- What a counted writer took and counted.
-abbrev pub device_of : {W : Type 0} → (W → Option (List ℕ)) → Counted W → Device
-device_of bytes_of out = record { bytes = bytes_of (inner_of out); calls = calls_of out; flushes = flushes_of out; failures = failures_of out; idle = idle_of out }
+abbrev pub device_of : {W : Type 0} → (W → Option (List ℕ)) → CountedValue W → Device
+device_of bytes_of out = record { bytes = bytes_of out.inner; calls = out.calls; flushes = out.flushes; failures = out.failures; idle = out.idle }
 
 -- Nothing was written, and the writer wasn't called.
 pub record IsUntouched (old new : Device) : Type 0 where

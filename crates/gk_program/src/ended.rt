@@ -1,7 +1,7 @@
 //! How the program ended, and telling why.
 ghost use Rattle.std.specs.Prelude.{◌≡◌, OnErr, OnOk};
 ghost use Rattle.std.specs.Io.KnownBytes.{Appends};
-ghost use Rattle.gk_request.specs.Counted.{HasFailedOnce, HasNotFailed, inner_of};
+ghost use Rattle.gk_request.specs.Counted.{HasFailedOnce, HasNotFailed};
 ghost use Rattle.gk_cli.specs.Writing.{device_of};
 ghost use Rattle.gk_program.specs.Ended.{IsTold, place_of_done, status_of};
 ghost use Rattle.gk_program.specs.Fault.{text_of};
@@ -25,7 +25,7 @@ pub struct ProgramEnd {
 // Writes the lines of a fault: in one piece, if there is memory for it.
 fn tell<E: Write>(alloc: Global, fault: &Fault, errors: &mut Counted<E>) -> Result<(), NotWritten>
     ensures told { OnOk result
-        (Appends (E.contents (inner_of errors.old)) (E.contents (inner_of errors.new))
+        (Appends (E.contents errors.old.inner) (E.contents errors.new.inner)
         (text_of fault.now)) }
     ensures quiet { OnOk result (HasNotFailed errors.old errors.new) }
     ensures failed { OnErr result (HasFailedOnce errors.old errors.new) }

@@ -3,7 +3,7 @@ ghost use Rattle.std.specs.Prelude.{◌≡◌, map, IfOk, IfErr, OnOk, Some, opt
 ghost use Rattle.gk_gherkin.specs.Feature.{texts};
 ghost use Rattle.gk_world.specs.Sandbox.{depth, new_sandbox};
 ghost use Rattle.gk_cli.specs.Arguments.{pair_value};
-ghost use Rattle.gk_request.specs.Counted.{FailuresCanRise, flushes_of, failures_of, one_more};
+ghost use Rattle.gk_request.specs.Counted.{FailuresCanRise, one_more};
 ghost use Rattle.gk_cli.specs.Writing.{device_of};
 ghost use Rattle.gk_request.specs.Source.{source_value};
 ghost use Rattle.gk_request.specs.Request.{files_value, request_of_files};
@@ -34,8 +34,8 @@ fn show_text<W: Write>(text: &str, out: &mut Counted<W>) -> Result<u8, Fault>
     requires room { FailuresCanRise out.old }
     ensures shown { IfOk result
         (IsShown text.now (device_of W.contents out.old) (device_of W.contents out.new)) }
-    ensures quiet { OnOk result (failures_of out.new ≡ failures_of out.old) }
-    ensures flushed { OnOk result (flushes_of out.new ≡ one_more (flushes_of out.old)) }
+    ensures quiet { OnOk result (out.new.failures ≡ out.old.failures) }
+    ensures flushed { OnOk result (out.new.flushes ≡ one_more out.old.flushes) }
     ensures fault { IfErr result (IsTextFault text.now
         (device_of W.contents out.old) (device_of W.contents out.new)) }
     ensures calls { IfErr result
@@ -170,8 +170,8 @@ fn run_sources<W: Write>(
         (request_of_files options.now (files_value source_value files))
         sandbox.old.now (device_of W.contents out.old) (device_of W.contents out.new)) }
     // A status comes only if the writer did not fail, and was flushed once.
-    ensures quiet { OnOk result (failures_of out.new ≡ failures_of out.old) }
-    ensures flushed { OnOk result (flushes_of out.new ≡ one_more (flushes_of out.old)) }
+    ensures quiet { OnOk result (out.new.failures ≡ out.old.failures) }
+    ensures flushed { OnOk result (out.new.flushes ≡ one_more out.old.flushes) }
     // A fault is that of the run, or the flush failed.
     ensures fault { IfErr result (SaysSuite mode (files_value source_value files)
         (request_of_files options.now (files_value source_value files))
@@ -215,8 +215,8 @@ fn run_files<S: System, W: Write>(
     requires outside { depth sandbox.old ≡ 0 }
     ensures run { IfOk result (IsRunFrom S.reads words sandbox.old.now system.old system.new
         (device_of W.contents out.old) (device_of W.contents out.new)) }
-    ensures quiet { OnOk result (failures_of out.new ≡ failures_of out.old) }
-    ensures flushed { OnOk result (flushes_of out.new ≡ one_more (flushes_of out.old)) }
+    ensures quiet { OnOk result (out.new.failures ≡ out.old.failures) }
+    ensures flushed { OnOk result (out.new.flushes ≡ one_more out.old.flushes) }
     ensures fault { IfErr result (SaysRunFrom S.reads words sandbox.old.now system.old system.new
         (device_of W.contents out.old) (device_of W.contents out.new)) }
     ensures calls { IfErr result
@@ -240,8 +240,8 @@ fn run_in<S: System, W: Write>(
     requires empty { sandbox.old ≡ new_sandbox }
     ensures run { IfOk result (IsRun S.reads words system.old system.new
         (device_of W.contents out.old) (device_of W.contents out.new)) }
-    ensures quiet { OnOk result (failures_of out.new ≡ failures_of out.old) }
-    ensures flushed { OnOk result (flushes_of out.new ≡ one_more (flushes_of out.old)) }
+    ensures quiet { OnOk result (out.new.failures ≡ out.old.failures) }
+    ensures flushed { OnOk result (out.new.flushes ≡ one_more out.old.flushes) }
     ensures fault { IfErr result (SaysProgram S.reads words system.old system.new
         (device_of W.contents out.old) (device_of W.contents out.new)) }
     ensures calls { IfErr result
@@ -266,8 +266,8 @@ fn run_words<S: System, W: Write>(
     // are those of one run of the bytes that it returned, or of what is found in them.
     ensures run { IfOk result (IsRun S.reads words system.old system.new
         (device_of W.contents out.old) (device_of W.contents out.new)) }
-    ensures quiet { OnOk result (failures_of out.new ≡ failures_of out.old) }
-    ensures flushed { OnOk result (flushes_of out.new ≡ one_more (flushes_of out.old)) }
+    ensures quiet { OnOk result (out.new.failures ≡ out.old.failures) }
+    ensures flushed { OnOk result (out.new.flushes ≡ one_more out.old.flushes) }
     // The fault is that of the first variable or file that can't be taken, and no file was read after it; or memory was
     // refused; or it is the run's.
     ensures fault { IfErr result (SaysPrinted S.reads words system.old system.new
@@ -295,8 +295,8 @@ fn run_given<S: System, W: Write>(
     requires room { FailuresCanRise out.old }
     ensures done { IfOk result (IsDoneFor S.reads (given_value arguments) system.old system.new
         (device_of W.contents out.old) (device_of W.contents out.new)) }
-    ensures quiet { OnOk result (failures_of out.new ≡ failures_of out.old) }
-    ensures flushed { OnOk result (flushes_of out.new ≡ one_more (flushes_of out.old)) }
+    ensures quiet { OnOk result (out.new.failures ≡ out.old.failures) }
+    ensures flushed { OnOk result (out.new.flushes ≡ one_more out.old.flushes) }
     ensures fault { IfErr result (IsFaultFor S.reads (given_value arguments) system.old system.new
         (device_of W.contents out.old) (device_of W.contents out.new)) }
     // If standard output isn't at fault, it was not called, or memory was refused after a prefix of the run's output.

@@ -38,7 +38,6 @@ pub use Rattle.gk_steps.specs.LibraryFile.{LibraryReadingIsUnique}
 pub use Rattle.gk_steps.specs.declared.library_fault.LibraryFault.{LibraryFault}
 pub use denote.Ref.{Bor}
 pub use Rattle.gk_request.specs.AllFaults.{AllFaultsAreFound, AreAdded, AreFaultsOf, IsFaultOf, RunFile, SaysOfFiles, after_library, hooks_files, library_files, source_at, sources_from}
-pub use Rattle.gk_request.specs.Counted.{calls_of, failures_of, idle_of, inner_of}
 pub use Rattle.gk_request.specs.Inputs.{AreHooks, AreRead, AreRowsIf, AreRowsOf, AreRowsReadOnto, AreRules, Inputs, InputsAreUnique, IsFirstBadText, IsLibrary, IsReadAs, IsReadOnto, IsReading, IsWithinLimit, chosen_of, head_of, member_by, with_reading, with_rows}
 pub use Rattle.gk_request.specs.Request.{AreLeftAt, Request, asked_of, bytes_of, request_of_files, files_value}
 pub use Rattle.gk_request.specs.RunFault.{IsUnread, IsUnreadBefore, SaysExpansion, SaysHooks, SaysLibrary, SaysSourceAt, SaysSources, SaysTags, SaysTooMany, hooks_fault, library_fault, select_fault_at, tags_fault}

@@ -1,59 +1,46 @@
 -- Readers and writers whose calls and failures are counted.
 use Rattle.std.specs.Prelude.{◌≡◌, ◌<◌, ◌≤◌, ℕ, zero, suc, ◌+◌, ◌-◌, ◌^◌, min, List, [], ◌∷◌, length, take, Option, Result, Ok, Err}
 use Rattle.std.specs.Io.KnownBytes.{Appends}
-use Rattle.gk_request.specs.declared.counted.Counted.{Counted}
 
--- The reader or writer whose calls are counted.
-abbrev pub inner_of : {T : Type 0} → Counted T → T
-inner_of c = c.inner
-
--- The count of its calls of `read` and `write`.
-abbrev pub calls_of : {T : Type 0} → Counted T → ℕ
-calls_of c = c.calls
-
--- The count of its calls of `flush`.
-abbrev pub flushes_of : {T : Type 0} → Counted T → ℕ
-flushes_of c = c.flushes
-
--- The count of its failures.
-abbrev pub failures_of : {T : Type 0} → Counted T → ℕ
-failures_of c = c.failures
-
--- The count of its calls of `read` and `write` that moved no byte.
-abbrev pub idle_of : {T : Type 0} → Counted T → ℕ
-idle_of c = c.idle
+-- A reader or a writer whose calls are counted, and the counts: its calls of `read` and `write`, its calls of `flush`, its failures, and its calls of `read` and `write` that moved no byte.
+pub record CountedValue (T : Type 0) : Type 0 where
+  pub inner : T
+  pub calls : ℕ
+  pub flushes : ℕ
+  pub failures : ℕ
+  pub idle : ℕ
 
 -- One more, up to the largest `u64`.
 abbrev pub one_more : ℕ → ℕ
 one_more n = min (n + 1) (2 ^ 64 - 1)
 
 -- The count of failures is less than the largest `u64`, at which a count stays, so one more failure changes it.
-abbrev pub FailuresCanRise : {T : Type 0} → Counted T → Type 0
-FailuresCanRise c = failures_of c < 2 ^ 64 - 1
+abbrev pub FailuresCanRise : {T : Type 0} → CountedValue T → Type 0
+FailuresCanRise c = c.failures < 2 ^ 64 - 1
 
 -- The device was called once more.
-abbrev pub IsCalledOnce : {T : Type 0} → Counted T → Counted T → Type 0
-IsCalledOnce old new = calls_of new ≡ one_more (calls_of old)
+abbrev pub IsCalledOnce : {T : Type 0} → CountedValue T → CountedValue T → Type 0
+IsCalledOnce old new = new.calls ≡ one_more old.calls
 
 -- The device wasn't flushed in between.
-abbrev pub IsUnflushed : {T : Type 0} → Counted T → Counted T → Type 0
-IsUnflushed old new = flushes_of new ≡ flushes_of old
+abbrev pub IsUnflushed : {T : Type 0} → CountedValue T → CountedValue T → Type 0
+IsUnflushed old new = new.flushes ≡ old.flushes
 
 -- No call of the device failed in between.
-abbrev pub HasNotFailed : {T : Type 0} → Counted T → Counted T → Type 0
-HasNotFailed old new = failures_of new ≡ failures_of old
+abbrev pub HasNotFailed : {T : Type 0} → CountedValue T → CountedValue T → Type 0
+HasNotFailed old new = new.failures ≡ old.failures
 
 -- One more call of the device failed.
-abbrev pub HasFailedOnce : {T : Type 0} → Counted T → Counted T → Type 0
-HasFailedOnce old new = failures_of new ≡ one_more (failures_of old)
+abbrev pub HasFailedOnce : {T : Type 0} → CountedValue T → CountedValue T → Type 0
+HasFailedOnce old new = new.failures ≡ one_more old.failures
 
 -- Each call of `read` and `write` in between moved at least one byte.
-abbrev pub IsNeverIdle : {T : Type 0} → Counted T → Counted T → Type 0
-IsNeverIdle old new = idle_of new ≡ idle_of old
+abbrev pub IsNeverIdle : {T : Type 0} → CountedValue T → CountedValue T → Type 0
+IsNeverIdle old new = new.idle ≡ old.idle
 
 -- One call of `read` or `write` in between moved no byte, and each other call moved at least one.
-abbrev pub IsIdleOnce : {T : Type 0} → Counted T → Counted T → Type 0
-IsIdleOnce old new = idle_of new ≡ one_more (idle_of old)
+abbrev pub IsIdleOnce : {T : Type 0} → CountedValue T → CountedValue T → Type 0
+IsIdleOnce old new = new.idle ≡ one_more old.idle
 
 -- The count of idle calls after a read or a write. The call moved no byte if it failed, or if it gave or took none, as it does for an empty piece.
 abbrev pub counted_idle : {E : Type 0} → Result ℕ E → ℕ → ℕ

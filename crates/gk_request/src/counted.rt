@@ -1,11 +1,12 @@
 //! Readers and writers whose calls are counted, and writing bytes and texts whole.
 ghost use Rattle.std.specs.Prelude.{◌≡◌, ◌≤◌, ◌+◌, length, IfSome, OnOk, OnErr};
 ghost use Rattle.std.specs.Io.KnownBytes.{Appends};
-ghost use Rattle.gk_request.specs.Counted.{inner_of, calls_of, one_more, IsPrefixWritten, HasNotFailed, HasFailedOnce, IsUnflushed, IsNeverIdle, IsIdleOnce};
+ghost use Rattle.gk_request.specs.Counted.{one_more, IsPrefixWritten, HasNotFailed, HasFailedOnce, IsUnflushed, IsNeverIdle, IsIdleOnce};
 
 use std::fmt::Display;
 use std::io;
 use std::io::{Read, Write};
+use std::marker::Model;
 
 /// A reader or a writer whose calls are passed on and counted. Flushes are counted apart from the other calls. Calls
 /// that failed and calls that moved no byte are counted, too. Each count stops rising at `u64::MAX`.
@@ -18,6 +19,20 @@ pub struct Counted<T> {
     idle: u64,
 }
 
+impl<T> Model for Counted<T> {
+    ghost use Rattle.gk_request.specs.Counted.{CountedValue};
+
+    ghost Value = { CountedValue T };
+
+    ghost view = { λ c. record {
+      inner = c.inner;
+      calls = c.calls;
+      flushes = c.flushes;
+      failures = c.failures;
+      idle = c.idle;
+    } };
+}
+
 // Adds one to a count; at `u64::MAX` it stays.
 fn count_one(count: &mut u64)
     ensures { count.new ≡ one_more count.old }
@@ -26,15 +41,13 @@ fn count_one(count: &mut u64)
 }
 
 impl<T> Counted<T> {
-    ghost use Rattle.gk_request.specs.Counted.{inner_of, calls_of, flushes_of, failures_of, idle_of};
-
     /// Counts the calls of `inner` from 0. Doesn't allocate.
     pub fn new(inner: T) -> Counted<T>
-        ensures inner { inner_of result ≡ inner }
-        ensures calls { calls_of result ≡ 0 }
-        ensures flushes { flushes_of result ≡ 0 }
-        ensures failures { failures_of result ≡ 0 }
-        ensures idle { idle_of result ≡ 0 }
+        ensures inner { result.inner ≡ inner }
+        ensures calls { result.calls ≡ 0 }
+        ensures flushes { result.flushes ≡ 0 }
+        ensures failures { result.failures ≡ 0 }
+        ensures idle { result.idle ≡ 0 }
     {
         Counted {
             inner,
@@ -47,14 +60,14 @@ impl<T> Counted<T> {
 
     /// Returns the number of calls of `read` and `write`. Doesn't allocate.
     pub fn calls(&self) -> u64
-        ensures { result ≡ calls_of self.now }
+        ensures { result ≡ self.now.calls }
     {
         self.calls
     }
 
     /// Returns the number of calls of `flush`. Doesn't allocate.
     pub fn flushes(&self) -> u64
-        ensures { result ≡ flushes_of self.now }
+        ensures { result ≡ self.now.flushes }
     {
         self.flushes
     }
@@ -62,7 +75,7 @@ impl<T> Counted<T> {
     /// Returns the number of calls that failed, including each write that took no byte of a nonempty piece. It doesn't
     /// allocate.
     pub fn failures(&self) -> u64
-        ensures { result ≡ failures_of self.now }
+        ensures { result ≡ self.now.failures }
     {
         self.failures
     }
@@ -70,14 +83,14 @@ impl<T> Counted<T> {
     /// Returns the number of calls of `read` and `write` that moved no byte: those with an empty piece, those that gave
     /// or took nothing, and those that failed. Doesn't allocate.
     pub fn idle(&self) -> u64
-        ensures { result ≡ idle_of self.now }
+        ensures { result ≡ self.now.idle }
     {
         self.idle
     }
 
     /// Returns the reader or writer itself. Doesn't allocate.
     pub fn inner(&self) -> &T
-        ensures { result.now ≡ inner_of self.now }
+        ensures { result.now ≡ self.now.inner }
     {
         &self.inner
     }
@@ -87,19 +100,19 @@ impl<W: Write> Write for Counted<W> {
     ghost use Rattle.std.specs.Prelude.{◌≡◌};
     ghost use Rattle.std.specs.Io.{WritesAtMost};
     ghost use Rattle.std.specs.Io.KnownBytes.{Keeps, WriteAppends};
-    ghost use Rattle.gk_request.specs.Counted.{inner_of, calls_of, flushes_of, failures_of, idle_of, one_more, counted_write, counted_flush, counted_idle, IsCalledOnce, IsUnflushed, IsNeverIdle};
+    ghost use Rattle.gk_request.specs.Counted.{one_more, counted_write, counted_flush, counted_idle, IsCalledOnce, IsUnflushed, IsNeverIdle};
 
-    ghost contents = { λ c. W.contents (inner_of c) };
+    ghost contents = { λ c. W.contents c.inner };
 
     fn write(&mut self, buf: &[u8]) -> io::Result<usize>
         ensures bound { WritesAtMost result buf.now }
         ensures bytes { WriteAppends
-            (W.contents (inner_of self.old)) (W.contents (inner_of self.new)) result buf.now }
+            (W.contents self.old.inner) (W.contents self.new.inner) result buf.now }
         ensures calls { IsCalledOnce self.old self.new }
         ensures flushes { IsUnflushed self.old self.new }
-        ensures failures { failures_of self.new
-            ≡ counted_write result buf.now (failures_of self.old) }
-        ensures idle { idle_of self.new ≡ counted_idle result (idle_of self.old) }
+        ensures failures { self.new.failures
+            ≡ counted_write result buf.now self.old.failures }
+        ensures idle { self.new.idle ≡ counted_idle result self.old.idle }
     {
         count_one(&mut self.calls);
         let taken = self.inner.write(buf);
@@ -120,10 +133,10 @@ impl<W: Write> Write for Counted<W> {
     }
 
     fn flush(&mut self) -> io::Result<()>
-        ensures bytes { Keeps (W.contents (inner_of self.old)) (W.contents (inner_of self.new)) }
-        ensures calls { calls_of self.new ≡ calls_of self.old }
-        ensures flushes { flushes_of self.new ≡ one_more (flushes_of self.old) }
-        ensures failures { failures_of self.new ≡ counted_flush result (failures_of self.old) }
+        ensures bytes { Keeps (W.contents self.old.inner) (W.contents self.new.inner) }
+        ensures calls { self.new.calls ≡ self.old.calls }
+        ensures flushes { self.new.flushes ≡ one_more self.old.flushes }
+        ensures failures { self.new.failures ≡ counted_flush result self.old.failures }
         ensures idle { IsNeverIdle self.old self.new }
     {
         count_one(&mut self.flushes);
@@ -139,18 +152,18 @@ impl<R: Read> Read for Counted<R> {
     ghost use Rattle.std.specs.Prelude.{◌≡◌};
     ghost use Rattle.std.specs.Io.{ReadsAtMost};
     ghost use Rattle.std.specs.Io.KnownBytes.{ReadConsumes};
-    ghost use Rattle.gk_request.specs.Counted.{inner_of, failures_of, idle_of, counted_read, counted_idle, IsCalledOnce, IsUnflushed};
+    ghost use Rattle.gk_request.specs.Counted.{counted_read, counted_idle, IsCalledOnce, IsUnflushed};
 
-    ghost remaining = { λ c. R.remaining (inner_of c) };
+    ghost remaining = { λ c. R.remaining c.inner };
 
     fn read(&mut self, buf: &mut [u8]) -> io::Result<usize>
         ensures bound { ReadsAtMost result buf.new }
         ensures bytes { ReadConsumes
-            (R.remaining (inner_of self.old)) (R.remaining (inner_of self.new)) result buf.new }
+            (R.remaining self.old.inner) (R.remaining self.new.inner) result buf.new }
         ensures calls { IsCalledOnce self.old self.new }
         ensures flushes { IsUnflushed self.old self.new }
-        ensures failures { failures_of self.new ≡ counted_read result (failures_of self.old) }
-        ensures idle { idle_of self.new ≡ counted_idle result (idle_of self.old) }
+        ensures failures { self.new.failures ≡ counted_read result self.old.failures }
+        ensures idle { self.new.idle ≡ counted_idle result self.old.idle }
     {
         count_one(&mut self.calls);
         let given = self.inner.read(buf);
@@ -176,14 +189,14 @@ pub struct NotWritten;
 /// stays there. Doesn't allocate.
 pub fn write_whole<W: Write>(out: &mut Counted<W>, bytes: &[u8]) -> Result<(), NotWritten>
     ensures ok { OnOk result
-        (Appends (W.contents (inner_of out.old)) (W.contents (inner_of out.new)) bytes.now) }
+        (Appends (W.contents out.old.inner) (W.contents out.new.inner) bytes.now) }
     ensures quiet { OnOk result (HasNotFailed out.old out.new) }
     ensures cut { OnErr result (IsPrefixWritten
-        (W.contents (inner_of out.old)) (W.contents (inner_of out.new)) bytes.now) }
+        (W.contents out.old.inner) (W.contents out.new.inner) bytes.now) }
     // At an error the writer failed once.
     ensures failed { OnErr result (HasFailedOnce out.old out.new) }
     // The number of calls is at most the number of bytes.
-    ensures calls { calls_of out.new ≤ calls_of out.old + length bytes.now }
+    ensures calls { out.new.calls ≤ out.old.calls + length bytes.now }
     // Each call moved at least one byte, except for the one that failed.
     ensures busy { OnOk result (IsNeverIdle out.old out.new) }
     ensures idle { OnErr result (IsIdleOnce out.old out.new) }
@@ -208,10 +221,10 @@ pub fn write_displayed<W: Write, D: Display + Drop>(
     text: D,
 ) -> Result<(), NotWritten>
     ensures ok { OnOk result (IfSome (D.output text)
-        (Appends (W.contents (inner_of out.old)) (W.contents (inner_of out.new)))) }
+        (Appends (W.contents out.old.inner) (W.contents out.new.inner))) }
     ensures quiet { OnOk result (HasNotFailed out.old out.new) }
     ensures failed { OnErr result (HasFailedOnce out.old out.new) }
-    ensures calls { calls_of out.new ≡ calls_of out.old }
+    ensures calls { out.new.calls ≡ out.old.calls }
     ensures idle { IsNeverIdle out.old out.new }
     ensures unflushed { IsUnflushed out.old out.new }
 {

@@ -1,7 +1,7 @@
 //! The sources of a run, and reading a whole source.
 ghost use Rattle.std.specs.Prelude.{◌≡◌, ◌≢◌, ◌≤◌, ◌+◌, [], Some, IfOk, IfSome, IsErrOf, vec_len};
 ghost use Rattle.gk_gherkin.specs.Lines.{limit};
-ghost use Rattle.gk_request.specs.Counted.{inner_of, calls_of, idle_of, HasNotFailed, HasFailedOnce};
+ghost use Rattle.gk_request.specs.Counted.{HasNotFailed, HasFailedOnce};
 ghost use Rattle.gk_request.specs.Source.{SourceValue, StopsAfter, GivesAtMost, borrowed_value, idle_after, source_value, without_bytes};
 
 use crate::counted::Counted;
@@ -98,26 +98,26 @@ const PIECE: usize = 16_384;
 /// that failed isn't called again. A count of the reader that has reached `u64::MAX` stays there.
 pub fn read_source<R: Read>(alloc: Global, reader: &mut Counted<R>) -> Result<Vec<u8>, SourceFault>
     ensures whole { IfOk result (λ v.
-        IfSome (R.remaining (inner_of reader.old)) (λ xs. v.items ≡ xs)) }
+        IfSome (R.remaining reader.old.inner) (λ xs. v.items ≡ xs)) }
     ensures within { IfOk result (λ v. vec_len v ≤ limit) }
     ensures quiet { IfOk result (λ v. HasNotFailed reader.old reader.new) }
     // `TooLong`: a reader whose bytes are known gave one more than the limit. No reader failed.
     ensures long { IsErrOf result SourceFault.TooLong →
         StopsAfter (limit + 1)
-        (R.remaining (inner_of reader.old)) (R.remaining (inner_of reader.new)) }
+        (R.remaining reader.old.inner) (R.remaining reader.new.inner) }
     ensures long_quiet { IsErrOf result SourceFault.TooLong → HasNotFailed reader.old reader.new }
     // At `Device` the reader failed once.
     ensures device { IsErrOf result SourceFault.Device → HasFailedOnce reader.old reader.new }
     // At `Memory` the reader didn't fail, and isn't known to be empty.
     ensures spare { IsErrOf result SourceFault.Memory → HasNotFailed reader.old reader.new }
-    ensures free { IsErrOf result SourceFault.Memory → R.remaining (inner_of reader.old) ≢ Some [] }
+    ensures free { IsErrOf result SourceFault.Memory → R.remaining reader.old.inner ≢ Some [] }
     // Whatever is returned, at most one call gives no byte. If the reader's bytes are known, it gives none after
     // number LONGEST_FILE + 1; for other readers `given` says nothing.
-    ensures idle { idle_of reader.new ≡ idle_after result (idle_of reader.old) }
+    ensures idle { reader.new.idle ≡ idle_after result reader.old.idle }
     ensures given { GivesAtMost (limit + 1)
-        (R.remaining (inner_of reader.old)) (R.remaining (inner_of reader.new)) }
-    ensures calls { IfOk result (λ v. calls_of reader.new ≤ calls_of reader.old + vec_len v + 1) }
-    ensures bounded { calls_of reader.new ≤ calls_of reader.old + (limit + 1) }
+        (R.remaining reader.old.inner) (R.remaining reader.new.inner) }
+    ensures calls { IfOk result (λ v. reader.new.calls ≤ reader.old.calls + vec_len v + 1) }
+    ensures bounded { reader.new.calls ≤ reader.old.calls + (limit + 1) }
 {
     let mut bytes = Vec::new(alloc);
     let mut piece = [0u8; PIECE];
