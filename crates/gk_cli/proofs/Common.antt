@@ -14,7 +14,7 @@ pub use Rattle.std.specs.Io.KnownBytes.{Appends}
 pub use Rattle.std.specs.List.{All, AllByRecursion, FoldsTo, after_first, before_first, list_all, list_any, slice_index_or}
 pub use Rattle.std.specs.List.Sorted.{IsNonDecreasingBy}
 pub use Rattle.std.specs.Option.{option_map_or}
-pub use Rattle.std.specs.Prelude.{IsErrAnd, IsOk, String, find, if◌then◌else◌, option_map, unwrap_or}
+pub use Rattle.std.specs.Prelude.{IsErrAnd, IsOk, String, find, if◌then◌else◌, option_map, slice_get, unwrap_or}
 pub use Rattle.std.specs.Str.{bytes_eq}
 pub use Rattle.std.specs.Str.Parse.{ParsesBool, ParsesUnsigned}
 pub use Rattle.std.specs.Vec.Iter.{into_iter_items, into_iter_len}
@@ -45,19 +45,21 @@ pub use Rattle.gk_explain.specs.Headings.{failures_text}
 pub use Rattle.gk_explain.specs.declared.explainer.Explainer.{Explainer}
 pub use Rattle.gk_findings.specs.LintedSuite.{IsLinted}
 pub use Rattle.gk_gherkin.specs.Feature.{FeatureValue, RuleValue}
-pub use Rattle.gk_gherkin.specs.Grammar.{Reads}
+pub use Rattle.gk_gherkin.specs.Grammar.{HasOneReading, Reads}
+pub use Rattle.gk_gherkin.specs.HooksGrammar.{HaveOneHooksReading}
 pub use Rattle.gk_gherkin.specs.Lines.{lines_of}
 pub use Rattle.gk_report.specs.PartPieces.{IsPiece, rest}
 pub use Rattle.gk_report.specs.Report.{ReportsGrowByParts, head, is_empty, part, parts, parts_from, plain_style, report, tail}
 pub use Rattle.gk_report.specs.RuleGroups.{AreInFileOrder}
 pub use Rattle.gk_report.specs.Summary.{feature_statuses, scenario_statuses, status, step_statuses, summary_of}
 pub use Rattle.gk_report.specs.declared.report.Style.{Style}
+pub use Rattle.gk_request.proofs.InputsLemmas.{OneRule, same_hooks, same_library, same_rules}
 pub use Rattle.gk_request.proofs.ResultLemmas.{if_err, if_ok, ok_known, on_ok, passed_on}
 pub use Rattle.gk_request.specs.Counted.{one_more}
-pub use Rattle.gk_request.specs.Inputs.{AreInputs, AreRead, Inputs, InputsAreUnique, chosen_of, head_of, inputs_value, member_by, with_reading}
-pub use Rattle.gk_request.specs.Request.{AreLeftAt, FilesValue, Request, hooks_name, name_of, request_of_files, files_value}
+pub use Rattle.gk_request.specs.Inputs.{AreHooks, AreInputs, AreRead, Inputs, InputsAreUnique, IsLibrary, chosen_of, head_of, inputs_value, member_by, with_reading}
+pub use Rattle.gk_request.specs.Request.{FilesValue, Request, asked, hooks_name, name_of, request_of_files, files_value}
 pub use Rattle.gk_request.specs.RunFault.{IsUnread}
-pub use Rattle.gk_request.specs.Source.{SourceValue, borrowed_value, source_value, without_bytes}
+pub use Rattle.gk_request.specs.Source.{SourceValue, source_value}
 pub use Rattle.gk_request.specs.declared.run_fault.RunFault.{RunFault}
 pub use Rattle.gk_request.specs.declared.run_fault.RunFault.TheVariants.{Hooks, Library, Memory, Read, Select, Write}
 pub use Rattle.gk_run.specs.Chosen.{CasesFallIntoRules, ChosenValue, HeadValue, IsFormed, MemberValue, chosen_value}
@@ -66,6 +68,7 @@ pub use Rattle.gk_run.specs.Ending.{has_passed}
 pub use Rattle.gk_run.specs.Events.{Event, ended_in, result_of, section_now}
 pub use Rattle.gk_run.specs.Features.{FeatureCuts, IsFeatureResult, ResultsStandInFileOrder, StandsInFileOrder, feature_of, feature_verdict, features_of, rule_statuses, uncut_feature, verdict_by}
 pub use Rattle.gk_run.specs.Judged.{BeginsJudged, Cuts, DryRunsAreJudged, Judged, OneList, UnfinishedDryRunsAreJudged, dry_results, has_memory, is_memory_case, is_memory_feature, is_memory_rule, plain_results, results_from, results_of, uncut}
+pub use Rattle.gk_run.specs.OwnResult.{BeginsLike, HasResult, IsLike, IsSameScenario, IsSettled, ResultsAreTheSameInEachRun, above}
 pub use Rattle.gk_run.specs.OpenRun.{AreFeatures, FinishedRunsAreJudged, IsFinishTold, IsFinished, IsKept, IsStarted, SuiteValue, opens_features}
 pub use Rattle.gk_run.specs.OpenSection.{IsBegun, IsEndTold, Run, run_of}
 pub use Rattle.gk_run.specs.Results.{CaseRow, FeatureRow, Results, RuleRow, feature_row, is_failed, is_memory, is_undefined}
@@ -77,17 +80,21 @@ pub use Rattle.gk_select.specs.Choice.{is_chosen}
 pub use Rattle.gk_select.specs.ExampleRows.{ExampleRowValue, row_lists}
 pub use Rattle.gk_select.specs.Expansion.{cases}
 pub use Rattle.gk_select.specs.FileOrder.{CasesAreInFileOrder}
+pub use Rattle.gk_select.specs.OwnTags.{with_own_tags}
 pub use Rattle.gk_select.specs.RuleOrder.{FallIntoRules}
+pub use Rattle.gk_select.specs.TagGrammar.{Expression}
 pub use Rattle.gk_steps.specs.Finding.{LibraryValue, library_value}
+pub use Rattle.gk_steps.specs.LibraryFile.{LibraryReadingIsUnique}
 pub use Rattle.gk_world.specs.Sandbox.{IsSame, SandboxValue}
 pub use Rattle.gk_world.specs.State.{Contents, State, state_of}
 pub use Rattle.gk_cli.specs.Arguments.{HasRule, IsAskedBy, IsCommand, IsFaultBy, IsFirstWithout, IsLineNumber, PairValue, SaysArguments, SaysMatches, SaysPair, command, faults_in, format_asked, found_in, has_equals, is_clash, is_format, is_given, line_number, pair_value, split_at_equals, values_of, with_version}
 pub use Rattle.gk_cli.specs.ExplainedRun.{Adds, Closes, Explains, IsExplainedUpTo}
 pub use Rattle.gk_cli.specs.ExplainedSuite.{ExplainedInPart, explained_by}
 pub use Rattle.gk_cli.specs.GrowingReport.{AddsPart, ClosesByTail, Stays, prints_nothing, results_with, style_of}
-pub use Rattle.gk_cli.specs.Modes.{AreLeft, IsWrittenAs, LintedInPart, SaysFaultAs}
+pub use Rattle.gk_cli.specs.Modes.{IsWrittenAs, LintedInPart, SaysFaultAs}
 pub use Rattle.gk_cli.specs.OptionTable.{option_value, rule_of_option}
 pub use Rattle.gk_cli.specs.Reporter.{StopsAdding}
+pub use Rattle.gk_cli.specs.SameResult.{HasRow, IsSettledIn, ScenariosComeToTheSameInEachRun}
 pub use Rattle.gk_cli.specs.RowOrder.{JudgedRowsAreInFileOrder, RowsAreInFileOrder}
 pub use Rattle.gk_cli.specs.Suite.{AreJudged, IsReported, JudgedReport, OnlyReport, ReportedInPart, SaysFaultBy, run_by, run_with}
 pub use Rattle.gk_cli.specs.ToldRun.{AreTold, AreToldUpTo, EndsNext, IsClosed, IsDryResult, IsNextResult, IsTextSoFar, IsToldRun, IsToldUpTo, IsWholeText, StopsClosing, TellsDryFeature, TellsFeature, TellsFeatures, TellsFirst, TellsNext, counts_of, reporter_of, stays, stays_begun}

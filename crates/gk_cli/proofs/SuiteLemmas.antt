@@ -1,5 +1,5 @@
 -- Features, one after another, and what their status says of them.
-use Rattle.gk_cli.proofs.Common.{◌≡◌, ◌≢◌, ℕ, Bool, true, false, cond, ◌&&◌, ◌||◌, List, [], ◌∷◌, Result, Ok, Err, IfOk, IfErr, ◌++◌, map, take, drop, refl, ap, sym, subst, ◌∙◌, inl, inr, length, arith, AllByRecursion, list_any, true≢false, append-nil, drop_all, take_all, list_any-append, Contents, State, state_of, SandboxValue, IsSame, Status, CaseRow, FeatureRow, RuleRow, Results, is_memory, is_failed, is_undefined, section_now, result_of, Run, IsBegun, ChosenValue, case_statuses, first_or, without_first, stays_open, FeatureCuts, uncut_feature, rule_statuses, verdict_by, feature_verdict, feature_of, features_of, Cuts, dry_results, results_from, Judged, plain_results, is_memory_case, is_memory_feature, is_memory_rule, has_memory, OneList, AreFeatures, FinishedRunsAreJudged, IsFinished, IsKept, IsStarted, SuiteValue, opens_features, dry_features_of, LibraryValue, feature_statuses, scenario_statuses, step_statuses, status, RunFault, Read, Library, Hooks, Select, Write, Memory, Inputs, AreInputs, InputsAreUnique, Request, AreLeftAt, IsUnread, SourceValue, without_bytes, IsReported, JudgedReport, OnlyReport, AreJudged, ReportedInPart, SaysFaultBy, run_with, Device, IsUntouched, IsWritten, StopsBy, UsesWriter, IsWhole, IsPrefix, common_steps}
+use Rattle.gk_cli.proofs.Common.{◌≡◌, ◌≢◌, ℕ, Bool, true, false, cond, ◌&&◌, ◌||◌, List, [], ◌∷◌, Result, Ok, Err, IfOk, IfErr, ◌++◌, map, refl, ap, sym, subst, ◌∙◌, inl, inr, length, arith, AllByRecursion, list_any, true≢false, list_any-append, Contents, State, state_of, SandboxValue, IsSame, Status, CaseRow, FeatureRow, RuleRow, Results, is_memory, is_failed, is_undefined, section_now, result_of, Run, IsBegun, ChosenValue, case_statuses, first_or, without_first, stays_open, FeatureCuts, uncut_feature, rule_statuses, verdict_by, feature_verdict, feature_of, features_of, Cuts, dry_results, results_from, Judged, plain_results, is_memory_case, is_memory_feature, is_memory_rule, has_memory, OneList, AreFeatures, FinishedRunsAreJudged, IsFinished, IsKept, IsStarted, SuiteValue, opens_features, dry_features_of, LibraryValue, feature_statuses, scenario_statuses, step_statuses, status, RunFault, Read, Library, Hooks, Select, Write, Memory, Inputs, AreInputs, InputsAreUnique, Request, IsUnread, IsReported, JudgedReport, OnlyReport, AreJudged, ReportedInPart, SaysFaultBy, run_with, Device, IsUntouched, IsWritten, StopsBy, UsesWriter, IsWhole, IsPrefix, common_steps}
 use Rattle.gk_run.specs.declared.section.Level.TheVariants as levels
 
 -- A list without length.
@@ -155,19 +155,6 @@ unread_says IsCut r old new (Hooks why) unread same = (unread, same)
 unread_says IsCut r old new (Select input why) unread same = (unread, same)
 unread_says IsCut r old new Write unread same = absurd unread
 unread_says IsCut r old new Memory unread same = inl same
-
--- What a fault after the sources were read leaves of them: each has dropped its bytes.
-pub left_by_run : (old new : Device) (before after : List SourceValue) (fault : RunFault) → StopsBy old new fault → after ≡ map without_bytes before → AreLeftAt before after fault
-left_by_run old new before after (Read input why) by gone = absurd by
-left_by_run old new before after (Library why) by gone = absurd by
-left_by_run old new before after (Hooks why) by gone = absurd by
-left_by_run old new before after (Select input why) by gone = absurd by
-left_by_run old new before after Write by gone = gone
-left_by_run old new before after Memory by gone =
-    let all = length before in
-    let first : map without_bytes (take all before) ++ drop all before ≡ map without_bytes before =
-    ap (λ xs. map without_bytes xs ++ drop all before) (take_all all before (omega arith)) ∙ ap (λ xs. map without_bytes before ++ xs) (drop_all all before (omega arith)) ∙ append-nil (map without_bytes before) in
-    (all, gone ∙ sym first)
 
 -- How the writer was used, by what was written.
 pub used_by_run : {P : ℕ → Type 0} {Q : RunFault → Type 0} (result : Result ℕ RunFault) (old new : Device) → ((status : ℕ) → P status → (text : List ℕ) × IsWritten old new text) → ((fault : RunFault) → Q fault → new.flushes ≡ old.flushes)

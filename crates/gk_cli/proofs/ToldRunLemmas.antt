@@ -1,6 +1,5 @@
 -- Features that are told to a reporter one after another, and what is written of them.
 use Rattle.gk_cli.proofs.Common.{FoldsTo, ◌≡◌, ℕ, Bool, true, List, [], ◌∷◌, ◌++◌, inl, inr, refl, ap, sym, subst, ◌∙◌, append_assoc, arith, append-nil, Contents, State, state_of, SandboxValue, IsSame, LibraryValue, Status, FeatureRow, Results, Run, IsEndTold, ChosenValue, dry_features_of, AreDryFeatures, FeatureCuts, features_of, Judged, BeginsJudged, result_of, Event, AreFeatures, FinishedRunsAreJudged, IsFinishTold, IsKept, IsStarted, SuiteValue, opens_features, summary_of, RunFault, Memory, CountingReporter, Device, IsWritten, IsStopped, results_with, StopsAdding, stays, TellsFeatures, TellsFirst, IsToldRun, IsToldUpTo, TellsNext, EndsNext, IsNextResult, IsDryResult, AreTold, AreToldUpTo, IsClosed, StopsClosing, stays_begun, common_steps}
-use Rattle.gk_run.specs.declared.ending.Ending.TheVariants as endings
 use Rattle.gk_run.specs.declared.section.Level.TheVariants as levels
 use Rattle.gk_cli.proofs.GrowingReportLemmas.{written_more, stopped_after, stopped_here}
 use Rattle.gk_cli.proofs.SuiteLemmas.{judged_by, begun_still}

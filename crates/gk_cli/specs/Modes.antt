@@ -1,12 +1,12 @@
--- What is written for a suite in each mode, and what is left of its files.
-use Rattle.std.specs.Prelude.{◌≡◌, ℕ, Bool, List, [], ◌∷◌, Result}
+-- What is written for a suite in each mode.
+use Rattle.std.specs.Prelude.{◌≡◌, ℕ, Bool, List, [], ◌∷◌}
 use Rattle.gk_world.specs.State.{Contents}
 use Rattle.gk_cli.specs.declared.arguments.Mode.{Mode}
 use Rattle.gk_cli.specs.declared.arguments.Mode.TheVariants.{Report, Explanation, Findings}
 use Rattle.gk_request.specs.declared.run_fault.RunFault.{RunFault}
 use Rattle.gk_request.specs.declared.run_fault.RunFault.TheVariants as faults
 use Rattle.gk_cli.specs.ExplainedSuite.{Explained, ExplainedInPart}
-use Rattle.gk_request.specs.Request.{Request, AreLeftByRun, FilesValue, hooks_name, library_name}
+use Rattle.gk_request.specs.Request.{Request, FilesValue, hooks_name, library_name}
 use Rattle.gk_findings.specs.LintedSuite.{IsLinted}
 use Rattle.gk_cli.specs.Suite.{JudgedReport, OnlyReport, ReportedInPart, SaysFaultBy}
 use Rattle.gk_cli.specs.Writing.{Device, IsStopped, IsWritten}
@@ -39,8 +39,3 @@ IsStoppedAs (Findings steps) files request contents old new = LintedInPart steps
 -- What each fault of a suite says.
 abbrev pub SaysFaultAs : Mode → FilesValue → Request → Contents → Device → Device → RunFault → Type 0
 SaysFaultAs mode files request contents old new by = SaysFaultBy (IsStoppedAs mode files request contents old new) request old new by
-
--- What is left of the files: a run leaves their names. Files whose findings are written are unchanged.
-abbrev pub AreLeft : Mode → Result ℕ RunFault → FilesValue → FilesValue → Type 0
-AreLeft (Findings steps) result old new = new ≡ old
-AreLeft mode result old new = AreLeftByRun result old new

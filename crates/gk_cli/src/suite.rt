@@ -1,9 +1,8 @@
 //! A whole run of a suite, with its report, with an explanation in its place, or with the findings before any run.
-ghost use Rattle.std.specs.Prelude.{◌≡◌, map, option_map, IfOk, IfErr};
+ghost use Rattle.std.specs.Prelude.{◌≡◌, IfOk, IfErr};
 ghost use Rattle.gk_world.specs.Sandbox.{depth, IsSame};
-ghost use Rattle.gk_request.specs.Source.{borrowed_value, source_value};
-ghost use Rattle.gk_request.specs.Request.{asked, bytes_of, files_value, request_of_files, library_name, hooks_name, AreLeftByRun};
-ghost use Rattle.gk_cli.specs.Modes.{lint_status, AreLeft, IsWrittenAs, Linted, LintedInPart, SaysFaultAs};
+ghost use Rattle.gk_request.specs.Request.{asked, files_value, request_of_files, library_name, hooks_name};
+ghost use Rattle.gk_cli.specs.Modes.{lint_status, IsWrittenAs, Linted, LintedInPart, SaysFaultAs};
 ghost use Rattle.gk_cli.specs.Suite.{JudgedReport, OnlyReport, Reported, ReportedInPart, SaysFault, SaysFaultBy};
 ghost use Rattle.gk_cli.specs.ExplainedSuite.{Explained, ExplainedInPart};
 ghost use Rattle.gk_cli.specs.Writing.{UsesWriter, device_of};
@@ -14,210 +13,13 @@ use crate::writing::write_piece;
 use crate::written_run::write_run;
 use gk_findings::findings_text;
 use gk_request::{
-    BorrowedSource, Counted, FeatureSource, Options, RunFault, Source, SuiteFiles,
-    inputs_are_unique, name_of, read_inputs,
+    Counted, Options, RunFault, Source, SuiteFiles, bytes_of, inputs_are_unique, name_of,
+    read_inputs,
 };
 use gk_run::without_memory_there_is_one_list;
 use gk_world::Sandbox;
-use std::alloc::{AllocError, Global};
+use std::alloc::Global;
 use std::io::Write;
-
-// Borrows each source.
-fn lent<'a>(alloc: Global, sources: &'a [Source]) -> Result<Vec<BorrowedSource<'a>>, AllocError>
-    ensures { IfOk result (λ v. map borrowed_value v.items ≡ map source_value sources.entry.now) }
-{
-    let mut borrowed = Vec::new(alloc);
-    for source in sources {
-        borrowed.push(BorrowedSource {
-            name: source.name.as_str(),
-            bytes: source.bytes.as_slice(),
-        })?;
-    }
-    Ok(borrowed)
-}
-
-// Gives the bytes of a file, if there is one, an empty name.
-fn unnamed<'a>(bytes: Option<&'a [u8]>) -> Option<BorrowedSource<'a>>
-    ensures { bytes_of (option_map borrowed_value result)
-        ≡ option_map (λ bytes. bytes.now) bytes.entry }
-{
-    match bytes {
-        Some(bytes) => Some(BorrowedSource { name: "", bytes }),
-        None => None,
-    }
-}
-
-// Runs these files and writes the report.
-fn report_suite<S: FeatureSource, W: Write>(
-    alloc: Global,
-    sandbox: &mut Sandbox,
-    options: &Options,
-    files: &mut SuiteFiles<S>,
-    out: &mut Counted<W>,
-) -> Result<u8, RunFault>
-    requires outside { depth sandbox.old ≡ 0 }
-    ensures judged { IfOk result (JudgedReport
-        (request_of_files options.now (files_value S.value files.old)) sandbox.old.now
-        (device_of W.contents out.old) (device_of W.contents out.new)) }
-    ensures plain { IfOk result (OnlyReport
-        (request_of_files options.now (files_value S.value files.old)) sandbox.old.now
-        (device_of W.contents out.old) (device_of W.contents out.new)) }
-    ensures fault { IfErr result (SaysFault
-        (request_of_files options.now (files_value S.value files.old)) sandbox.old.now
-        (device_of W.contents out.old) (device_of W.contents out.new)) }
-    ensures same { IsSame sandbox.old sandbox.new }
-    ensures left { AreLeftByRun result
-        (files_value S.value files.old) (files_value S.value files.new) }
-    ensures used { UsesWriter result
-        (device_of W.contents out.old) (device_of W.contents out.new) }
-{
-    // No code runs in these two: the laws say that a request reads in only one way, and that results without a mark of
-    // memory are the plain ones.
-    inputs_are_unique();
-    without_memory_there_is_one_list();
-    match read_inputs(alloc, options, false, files) {
-        Ok(inputs) => write_run(alloc, sandbox, options, inputs, out),
-        Err(fault) => Err(fault),
-    }
-}
-
-// Runs these files and writes an explanation.
-fn explain_suite<S: FeatureSource, W: Write>(
-    alloc: Global,
-    sandbox: &mut Sandbox,
-    options: &Options,
-    files: &mut SuiteFiles<S>,
-    out: &mut Counted<W>,
-) -> Result<u8, RunFault>
-    requires outside { depth sandbox.old ≡ 0 }
-    ensures explained { IfOk result (Explained
-        (request_of_files options.now (files_value S.value files.old))
-        (hooks_name (files_value S.value files.old)) sandbox.old.now
-        (device_of W.contents out.old) (device_of W.contents out.new)) }
-    ensures fault { IfErr result (SaysFaultBy (ExplainedInPart
-        (request_of_files options.now (files_value S.value files.old))
-        (hooks_name (files_value S.value files.old)) sandbox.old.now
-        (device_of W.contents out.old) (device_of W.contents out.new))
-        (request_of_files options.now (files_value S.value files.old))
-        (device_of W.contents out.old) (device_of W.contents out.new)) }
-    ensures same { IsSame sandbox.old sandbox.new }
-    ensures left { AreLeftByRun result
-        (files_value S.value files.old) (files_value S.value files.new) }
-    ensures used { UsesWriter result
-        (device_of W.contents out.old) (device_of W.contents out.new) }
-{
-    match read_inputs(alloc, options, true, files) {
-        Ok(inputs) => {
-            let hooks = name_of(&files.hooks);
-            write_explanation(alloc, sandbox, options, hooks, inputs, out)
-        }
-        Err(fault) => Err(fault),
-    }
-}
-
-// Returns the status of a lint that writes this text.
-fn lint_status(text: &str) -> u8
-    ensures { result ≡ lint_status text.now }
-{
-    if text.is_empty() { 0 } else { 1 }
-}
-
-// Reads the request, runs nothing, and writes the findings.
-#[tactic(auto, using(crate::proofs::ModesLemmas::part_of_lint))]
-fn lint_suite<S: FeatureSource, W: Write>(
-    alloc: Global,
-    options: &Options,
-    steps: bool,
-    files: &SuiteFiles<S>,
-    out: &mut Counted<W>,
-) -> Result<u8, RunFault>
-    ensures linted { IfOk result (Linted steps
-        (request_of_files options.now (files_value S.value files.now))
-        (library_name (files_value S.value files.now))
-        (hooks_name (files_value S.value files.now))
-        (device_of W.contents out.old) (device_of W.contents out.new)) }
-    ensures fault { IfErr result (SaysFaultBy (LintedInPart steps
-        (request_of_files options.now (files_value S.value files.now))
-        (library_name (files_value S.value files.now))
-        (hooks_name (files_value S.value files.now))
-        (device_of W.contents out.old) (device_of W.contents out.new))
-        (request_of_files options.now (files_value S.value files.now))
-        (device_of W.contents out.old) (device_of W.contents out.new)) }
-    ensures used { UsesWriter result
-        (device_of W.contents out.old) (device_of W.contents out.new) }
-{
-    match findings_text(alloc, options, steps, files) {
-        Ok(text) => match write_piece(out, text.as_str()) {
-            Ok(()) => Ok(lint_status(text.as_str())),
-            Err(fault) => Err(fault),
-        },
-        Err(fault) => Err(fault),
-    }
-}
-
-/// Reads these files, and writes what the mode asks for.
-///
-/// `Report`: runs them as `run_suite` does, with the same results and the same errors.
-///
-/// `Explanation`: runs them in the same way, and writes an explanation instead of the report. When a feature has ended,
-/// each of its scenarios that failed or ran out of memory gets a heading with its place and status. Below the heading
-/// is the row of the Examples, if the scenario is the case of a row, and a line for each of its events, in order. The
-/// hooks and cleanups of each of its rules, and the feature's own, get the same if they failed or ran out of memory.
-/// When the run has ended, so do its own. Then the headings appear as a list, followed by the closing lines of the plain
-/// report. Scenarios that passed, are skipped or aren't reached are only counted. Of the options, `dry_run` and `style`
-/// are ignored.
-///
-/// `Findings`: runs nothing, and writes the findings, each as a line `NAME:LINE: TEXT`. Those of the hooks file come
-/// first, then those of each source in order, each in the order of its lines. Then there is a line for each tag of
-/// `--tags` that occurs nowhere, as often as it is named, and for each `--line` that chooses no scenario. The unused
-/// entries of the library file come last, with a line that counts them. Below an undefined step are its text and the
-/// entry that may be meant. Findings are silently ignored parts of a file, steps that can't work because an entry, a
-/// text or a table is missing, unused items, and scenarios that share a name. Without `steps`, no step is looked up, and
-/// neither steps nor entries have findings. Of the options, only `tags` and `lines` are looked at.
-///
-/// Returns the status of the results, as `run_suite` does; with `Findings`, 0 if nothing was found, and 1 otherwise.
-/// `RunFault` says when each error comes and what was written. Whatever is returned, files, variables, values and layers
-/// of the sandbox are as they were, and nothing is flushed. No layer of the sandbox may be open. A count of the writer
-/// that has reached `u64::MAX` stays there.
-///
-/// Each source of a run drops its bytes as soon as its feature is read, before the next one is read. So the bytes of
-/// sources that own them, and what is made of the bytes, are never all held at once. Sources after one that doesn't read
-/// keep theirs. The names stay, so a caller can name the source of a fault. With `Findings` all files stay as they were.
-#[tactic(auto, using(crate::proofs::ModesLemmas::fault_in_mode, crate::proofs::ModesLemmas::in_mode, crate::proofs::ModesLemmas::left_in_mode, gk_request::proofs::ResultLemmas::if_ok_both))]
-pub fn write_suite<S: FeatureSource, W: Write>(
-    alloc: Global,
-    sandbox: &mut Sandbox,
-    options: &Options,
-    mode: Mode,
-    files: &mut SuiteFiles<S>,
-    out: &mut Counted<W>,
-) -> Result<u8, RunFault>
-    requires outside { depth sandbox.old ≡ 0 }
-
-    // The output and the status: the report of a judged list, which at each status except 4 is the one that plain maps
-    // give, the explanation of a run with judged results, or all findings and no others.
-    ensures written { IfOk result (IsWrittenAs mode (files_value S.value files.old)
-        (request_of_files options.now (files_value S.value files.old)) sandbox.old.now
-        (device_of W.contents out.old) (device_of W.contents out.new)) }
-    // The fault, and what was written.
-    ensures fault { IfErr result (SaysFaultAs mode (files_value S.value files.old)
-        (request_of_files options.now (files_value S.value files.old)) sandbox.old.now
-        (device_of W.contents out.old) (device_of W.contents out.new)) }
-    // Whatever is returned, files, variables, values and layers are as they were.
-    ensures same { IsSame sandbox.old sandbox.new }
-    // Whatever is returned, the names of the files stay. After a run's fault, only the last sources have bytes.
-    ensures left { AreLeft mode result
-        (files_value S.value files.old) (files_value S.value files.new) }
-    // The writer isn't flushed. With a status, it didn't fail, and each call moved at least one byte.
-    ensures used { UsesWriter result
-        (device_of W.contents out.old) (device_of W.contents out.new) }
-{
-    match mode {
-        Mode::Report => report_suite(alloc, sandbox, options, files, out),
-        Mode::Explanation => explain_suite(alloc, sandbox, options, files, out),
-        Mode::Findings { steps } => lint_suite(alloc, options, steps, files, out),
-    }
-}
 
 /// Reads the request, runs the selected scenarios of the features in order, and writes the report. The hooks and
 /// cleanups of the run and of each feature, rule and scenario run around them. The head of the report is written before
@@ -263,13 +65,155 @@ pub fn run_suite<W: Write>(
     ensures used { UsesWriter result
         (device_of W.contents out.old) (device_of W.contents out.new) }
 {
-    let library = unnamed(library);
-    let hooks = unnamed(hooks);
-    let sources = lent(alloc, sources)?;
-    let mut files = SuiteFiles {
+    // No code runs in these two: the laws say that a request reads in only one way, and that results without a mark of
+    // memory are the plain ones.
+    inputs_are_unique();
+    without_memory_there_is_one_list();
+    match read_inputs(alloc, options, false, library, hooks, sources) {
+        Ok(inputs) => write_run(alloc, sandbox, options, inputs, out),
+        Err(fault) => Err(fault),
+    }
+}
+
+// Runs these files and writes an explanation.
+fn explain_suite<W: Write>(
+    alloc: Global,
+    sandbox: &mut Sandbox,
+    options: &Options,
+    files: &SuiteFiles,
+    out: &mut Counted<W>,
+) -> Result<u8, RunFault>
+    requires outside { depth sandbox.old ≡ 0 }
+    ensures explained { IfOk result (Explained
+        (request_of_files options.now (files_value files.now))
+        (hooks_name (files_value files.now)) sandbox.old.now
+        (device_of W.contents out.old) (device_of W.contents out.new)) }
+    ensures fault { IfErr result (SaysFaultBy (ExplainedInPart
+        (request_of_files options.now (files_value files.now))
+        (hooks_name (files_value files.now)) sandbox.old.now
+        (device_of W.contents out.old) (device_of W.contents out.new))
+        (request_of_files options.now (files_value files.now))
+        (device_of W.contents out.old) (device_of W.contents out.new)) }
+    ensures same { IsSame sandbox.old sandbox.new }
+    ensures used { UsesWriter result
+        (device_of W.contents out.old) (device_of W.contents out.new) }
+{
+    let library = bytes_of(&files.library);
+    let hooks = bytes_of(&files.hooks);
+    match read_inputs(
+        alloc,
+        options,
+        true,
         library,
         hooks,
-        sources,
-    };
-    write_suite(alloc, sandbox, options, Mode::Report, &mut files, out)
+        files.sources.as_slice(),
+    ) {
+        Ok(inputs) => {
+            let name = name_of(&files.hooks);
+            write_explanation(alloc, sandbox, options, name, inputs, out)
+        }
+        Err(fault) => Err(fault),
+    }
+}
+
+// Returns the status of a lint that writes this text.
+fn lint_status(text: &str) -> u8
+    ensures { result ≡ lint_status text.now }
+{
+    if text.is_empty() { 0 } else { 1 }
+}
+
+// Reads the request, runs nothing, and writes the findings.
+#[tactic(auto, using(crate::proofs::ModesLemmas::part_of_lint))]
+fn lint_suite<W: Write>(
+    alloc: Global,
+    options: &Options,
+    steps: bool,
+    files: &SuiteFiles,
+    out: &mut Counted<W>,
+) -> Result<u8, RunFault>
+    ensures linted { IfOk result (Linted steps
+        (request_of_files options.now (files_value files.now))
+        (library_name (files_value files.now))
+        (hooks_name (files_value files.now))
+        (device_of W.contents out.old) (device_of W.contents out.new)) }
+    ensures fault { IfErr result (SaysFaultBy (LintedInPart steps
+        (request_of_files options.now (files_value files.now))
+        (library_name (files_value files.now))
+        (hooks_name (files_value files.now))
+        (device_of W.contents out.old) (device_of W.contents out.new))
+        (request_of_files options.now (files_value files.now))
+        (device_of W.contents out.old) (device_of W.contents out.new)) }
+    ensures used { UsesWriter result
+        (device_of W.contents out.old) (device_of W.contents out.new) }
+{
+    match findings_text(alloc, options, steps, files) {
+        Ok(text) => match write_piece(out, text.as_str()) {
+            Ok(()) => Ok(lint_status(text.as_str())),
+            Err(fault) => Err(fault),
+        },
+        Err(fault) => Err(fault),
+    }
+}
+
+/// Reads these files, and writes what the mode asks for.
+///
+/// `Report`: runs them by `run_suite`, with the same results and the same errors.
+///
+/// `Explanation`: runs them in the same way, and writes an explanation instead of the report. When a feature has ended,
+/// each of its scenarios that failed or ran out of memory gets a heading with its place and status. Below the heading
+/// is the row of the Examples, if the scenario is the case of a row, and a line for each of its events, in order. The
+/// hooks and cleanups of each of its rules, and the feature's own, get the same if they failed or ran out of memory.
+/// When the run has ended, so do its own. Then the headings appear as a list, followed by the closing lines of the plain
+/// report. Scenarios that passed, are skipped or aren't reached are only counted. Of the options, `dry_run` and `style`
+/// are ignored.
+///
+/// `Findings`: runs nothing, and writes the findings, each as a line `NAME:LINE: TEXT`. Those of the hooks file come
+/// first, then those of each source in order, each in the order of its lines. Then there is a line for each tag of
+/// `--tags` that occurs nowhere, as often as it is named, and for each `--line` that chooses no scenario. The unused
+/// entries of the library file come last, with a line that counts them. Below an undefined step are its text and the
+/// entry that may be meant. Findings are silently ignored parts of a file, steps that can't work because an entry, a
+/// text or a table is missing, unused items, and scenarios that share a name. Without `steps`, no step is looked up, and
+/// neither steps nor entries have findings. Of the options, only `tags` and `lines` are looked at.
+///
+/// Returns the status of the results, as `run_suite` does; with `Findings`, 0 if nothing was found, and 1 otherwise.
+/// `RunFault` says when each error comes and what was written. Whatever is returned, files, variables, values and layers
+/// of the sandbox are as they were, and nothing is flushed. No layer of the sandbox may be open. A count of the writer
+/// that has reached `u64::MAX` stays there.
+#[tactic(auto, using(crate::proofs::ModesLemmas::fault_in_mode, crate::proofs::ModesLemmas::in_mode))]
+pub fn write_suite<W: Write>(
+    alloc: Global,
+    sandbox: &mut Sandbox,
+    options: &Options,
+    mode: Mode,
+    files: &SuiteFiles,
+    out: &mut Counted<W>,
+) -> Result<u8, RunFault>
+    requires outside { depth sandbox.old ≡ 0 }
+
+    // The output and the status: the report of a judged list, which at each status except 4 is the one that plain maps
+    // give, the explanation of a run with judged results, or all findings and no others.
+    ensures written { IfOk result (IsWrittenAs mode (files_value files.now)
+        (request_of_files options.now (files_value files.now)) sandbox.old.now
+        (device_of W.contents out.old) (device_of W.contents out.new)) }
+    // The fault, and what was written.
+    ensures fault { IfErr result (SaysFaultAs mode (files_value files.now)
+        (request_of_files options.now (files_value files.now)) sandbox.old.now
+        (device_of W.contents out.old) (device_of W.contents out.new)) }
+    // Whatever is returned, files, variables, values and layers are as they were.
+    ensures same { IsSame sandbox.old sandbox.new }
+    // The writer isn't flushed. With a status, it didn't fail, and each call moved at least one byte.
+    ensures used { UsesWriter result
+        (device_of W.contents out.old) (device_of W.contents out.new) }
+{
+    match mode {
+        Mode::Report => {
+            let library = bytes_of(&files.library);
+            let hooks = bytes_of(&files.hooks);
+            let sources = files.sources.as_slice();
+            run_suite(alloc, sandbox, options, library, hooks, sources, out)
+        }
+        Mode::Explanation => explain_suite(alloc, sandbox, options, files, out),
+        Mode::Findings { steps } => lint_suite(alloc, options, steps, files, out),
+    }
 }

@@ -2,7 +2,7 @@ use crate::whole_suite_tests::{files_with, oil, source};
 use gk_findings::{EnvMistake, findings_text, notes_on_env, push_notes};
 use gk_gherkin::ReadFault;
 use gk_request::{
-    Options, ReadInputs, RunFault, Source, SuiteFiles, bytes_of, file_at_fault, first_bad_tags,
+    Options, ReadInputs, RunFault, SuiteFiles, bytes_of, file_at_fault, first_bad_tags,
     line_at_fault, name_of, read_before, read_feature_at, read_inputs,
 };
 use gk_select::SelectFault;
@@ -14,7 +14,7 @@ const HOOKS: &str = "before_all:\n  Given it passes\nafter_tag @bell:\n  Then it
 const BELLS: &str =
     "@bell\nFeature: Bells\n  Scenario: It rings\n  Rule: At night\n    Scenario Outline: It is still\n      Given it passes\n      Examples:\n        | hour |\n        | one  |\n        | two  |\n";
 
-fn bells(alloc: Global) -> Result<SuiteFiles<Source>, AllocError> {
+fn bells(alloc: Global) -> Result<SuiteFiles, AllocError> {
     let hooks = source(alloc, "bells.hooks", HOOKS)?;
     let feature = source(alloc, "bells.feature", BELLS)?;
     files_with(alloc, None, Some(hooks), feature)
@@ -51,24 +51,28 @@ fn inputs(
     alloc: Global,
     options: &Options,
     with_rows: bool,
-    files: &mut SuiteFiles<Source>,
-) -> Result<String, Fail> {
-    let read = read_inputs(alloc, options, with_rows, files)?;
-    shown(alloc, &read)
+    files: &SuiteFiles,
+) -> Result<ReadInputs, RunFault> {
+    let library = bytes_of(&files.library);
+    let hooks = bytes_of(&files.hooks);
+    read_inputs(
+        alloc,
+        options,
+        with_rows,
+        library,
+        hooks,
+        files.sources.as_slice(),
+    )
 }
 
 #[test]
 fn requests_are_read(rt: HostRuntime) -> Result<(), Fail> {
     let options = tagged(rt.alloc())?;
-    let mut files = bells(rt.alloc())?;
+    let files = bells(rt.alloc())?;
+    let read = inputs(rt.alloc(), &options, false, &files)?;
     assert_eq!(rt;
-        inputs(rt.alloc(), &options, false, &mut files)?.as_str(),
+        shown(rt.alloc(), &read)?.as_str(),
         "false 2; bells.feature Bells [RuleHead { line: 4, tags: [] }] [true, false, true] []"
-    );
-    let left = format!(in rt.alloc(); "{:?}", files.sources)?;
-    assert_eq!(rt;
-        left.as_str(),
-        "[Source { name: \"bells.feature\", bytes: [] }]"
     );
     Ok(())
 }
@@ -76,8 +80,8 @@ fn requests_are_read(rt: HostRuntime) -> Result<(), Fail> {
 #[test]
 fn rows_are_read_if_they_are_asked_for(rt: HostRuntime) -> Result<(), Fail> {
     let options = Options::plain(rt.alloc());
-    let mut files = bells(rt.alloc())?;
-    let read = read_inputs(rt.alloc(), &options, true, &mut files)?;
+    let files = bells(rt.alloc())?;
+    let read = inputs(rt.alloc(), &options, true, &files)?;
     let rows = format!(in rt.alloc(); "{:?}", read.rows)?;
     assert_eq!(rt;
         rows.as_str(),
@@ -129,7 +133,7 @@ fn features_are_read(rt: HostRuntime) -> Result<(), AllocError> {
 }
 
 // The name and the number of bytes of the file of a fault, and the line that the fault names.
-fn place(alloc: Global, files: &SuiteFiles<Source>, fault: RunFault) -> Result<String, AllocError> {
+fn place(alloc: Global, files: &SuiteFiles, fault: RunFault) -> Result<String, AllocError> {
     let file = file_at_fault(files, fault);
     let named = file.map(|file| (file.name.as_str(), file.bytes.len()));
     format!(in alloc; "{named:?} {:?}", line_at_fault(fault))
@@ -162,7 +166,7 @@ fn findings_are_listed(rt: HostRuntime) -> Result<(), Fail> {
     let options = tagged(rt.alloc())?;
     let text = findings_text(rt.alloc(), &options, true, &files)?;
     assert_eq!(rt; text.as_str(), FOUND);
-    let none: SuiteFiles<Source> = SuiteFiles {
+    let none = SuiteFiles {
         library: None,
         hooks: None,
         sources: Vec::new(rt.alloc()),

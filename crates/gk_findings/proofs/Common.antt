@@ -21,7 +21,7 @@ pub use Rattle.gk_lint.specs.WrittenSteps.{found_in, of_hooks}
 pub use Rattle.gk_request.proofs.InputsLemmas.{at_place, first_unread, sources_unread, take_one}
 pub use Rattle.gk_request.specs.Inputs.{AreRead, IsLibrary, with_reading}
 pub use Rattle.gk_request.specs.Request.{bytes_of, hooks_name, library_name, request_of_files, files_value}
-pub use Rattle.gk_request.specs.Source.{SourceValue}
+pub use Rattle.gk_request.specs.Source.{SourceValue, source_value}
 pub use Rattle.gk_run.specs.Chosen.{ChosenValue}
 pub use Rattle.gk_select.specs.Case.{CaseValue}
 pub use Rattle.gk_select.specs.Choice.{is_chosen}

@@ -164,11 +164,11 @@ fn hint_in(alloc: Global, file: Option<&Source>, fault: RunFault) -> Result<Stri
 fn push_file_notes(
     out: &mut String,
     alloc: Global,
-    files: &SuiteFiles<Source>,
+    files: &SuiteFiles,
     fault: RunFault,
 ) -> Result<(), AllocError>
     ensures { Pushes out.old
-        (spec.file_notes (files_value source_value files.now) fault) result out.new }
+        (spec.file_notes (files_value files.now) fault) result out.new }
 {
     let file = file_at_fault(files, fault);
     push_quote(out, alloc, file, line_at_fault(fault))?;
@@ -193,11 +193,11 @@ pub fn push_notes(
     out: &mut String,
     alloc: Global,
     tags: Option<&str>,
-    files: &SuiteFiles<Source>,
+    files: &SuiteFiles,
     fault: RunFault,
 ) -> Result<(), AllocError>
     ensures { Pushes out.old (spec.notes (option_map (λ text. text.now) tags.entry)
-        (files_value source_value files.now) fault) result out.new }
+        (files_value files.now) fault) result out.new }
 {
     match tags {
         Some(text) => push_tags_notes(out, alloc, text),

@@ -8,6 +8,7 @@ ghost use Rattle.gk_report.specs.ReportTexts.{Pushes};
 ghost use Rattle.gk_findings.specs.FindingLines as of_notes;
 ghost use Rattle.gk_findings.specs.FindingLines.{noted_library_value, noted_lines};
 ghost use Rattle.gk_request.specs.Inputs.{IsReadAs};
+ghost use Rattle.gk_request.specs.Source.{source_value};
 ghost use Rattle.gk_request.specs.RunFault.{SaysSourceAt};
 ghost use Rattle.gk_findings.specs.LintedSources as spec;
 ghost use Rattle.gk_findings.specs.LintedSources.{IsLintOf, IsLintedOnto, SaysOfSources, used_by};
@@ -16,7 +17,7 @@ use crate::finding_lines::{NotedFile, NotedLibrary, push_noted_findings};
 use crate::notes::text_lines;
 use gk_gherkin::{Feature, LONGEST_FILE, Scenario, text_of};
 use gk_lint::{Finding, StepFindings, in_order, lint_feature, lint_steps, scenarios_of};
-use gk_request::{FeatureSource, RunFault, read_feature_at};
+use gk_request::{RunFault, Source, read_feature_at};
 use gk_select::read_features_are_expandable;
 use std::alloc::{AllocError, Global};
 
@@ -156,26 +157,26 @@ fn push_source_findings(
 
 // Adds the findings of a source that reads as this feature, or as none.
 #[tactic(auto, using(crate::proofs::LintedSourcesLemmas::expandable))]
-fn add_source<S: FeatureSource>(
+fn add_source(
     so_far: &mut LintSoFar,
     alloc: Global,
     library: &NotedLibrary<'_>,
-    source: &S,
+    source: &Source,
     feature: Option<Feature>,
 ) -> Result<(), AllocError>
-    requires { IsReadAs (S.value source.now).bytes (option_map feature_value feature) }
+    requires { IsReadAs source.now.bytes.items (option_map feature_value feature) }
     ensures { OnOk result (IsLintedOnto (noted_library_value library.now)
-        (S.value source.now) so_far.old so_far.new) }
+        (source_value source.now) so_far.old so_far.new) }
 {
     // No code runs here: the law says that what was read can be expanded.
     read_features_are_expandable();
-    let text = known_text(source.bytes());
+    let text = known_text(source.bytes.as_slice());
     let mut found = all_findings(alloc, library, &feature, text)?;
     push_source_findings(
         &mut so_far.text,
         alloc,
         library,
-        source.name(),
+        source.name.as_str(),
         text,
         &feature,
         found.findings.as_slice(),
@@ -188,18 +189,18 @@ fn add_source<S: FeatureSource>(
 }
 
 // Reads the source at a place and adds its findings.
-fn lint_source<S: FeatureSource>(
+fn lint_source(
     alloc: Global,
     library: &NotedLibrary<'_>,
     input: usize,
-    source: &S,
+    source: &Source,
     so_far: &mut LintSoFar,
 ) -> Result<(), RunFault>
     ensures ok { OnOk result (IsLintedOnto (noted_library_value library.now)
-        (S.value source.now) so_far.old so_far.new) }
-    ensures fault { IfErr result (λ e. SaysSourceAt input (S.value source.now).bytes e) }
+        (source_value source.now) so_far.old so_far.new) }
+    ensures fault { IfErr result (λ e. SaysSourceAt input source.now.bytes.items e) }
 {
-    match read_feature_at(alloc, input, source.bytes()) {
+    match read_feature_at(alloc, input, source.bytes.as_slice()) {
         Ok(feature) => Ok(add_source(so_far, alloc, library, source, feature)?),
         Err(fault) => Err(fault),
     }
@@ -208,14 +209,14 @@ fn lint_source<S: FeatureSource>(
 /// Reads the sources one after another and collects their findings: those of the file, and those of the steps, if they
 /// are looked up in the library. An error names the first source that doesn't read, as that of a run does; `Memory`
 /// comes only if a growth was refused.
-pub fn lint_sources<S: FeatureSource>(
+pub fn lint_sources(
     alloc: Global,
     library: &NotedLibrary<'_>,
-    sources: &[S],
+    sources: &[Source],
 ) -> Result<LintSoFar, RunFault>
     ensures linted { IfOk result (λ l. IsLintOf (noted_library_value library.now)
-        (map S.value sources.now) l) }
-    ensures fault { IfErr result (λ e. SaysOfSources (map S.value sources.now) e) }
+        (map source_value sources.now) l) }
+    ensures fault { IfErr result (λ e. SaysOfSources (map source_value sources.now) e) }
 {
     let mut so_far = LintSoFar {
         text: String::new(alloc),

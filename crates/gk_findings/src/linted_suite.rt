@@ -7,6 +7,7 @@ ghost use Rattle.gk_steps.specs.Finding.{library_value};
 ghost use Rattle.gk_lint.specs.Findings.{AreInOrder};
 ghost use Rattle.gk_request.specs.Request as of_files;
 ghost use Rattle.gk_request.specs.Request.{files_value, request_of_files, library_name, hooks_name};
+ghost use Rattle.gk_request.specs.Source.{source_value};
 ghost use Rattle.gk_findings.specs.FindingLines.{noted_library_value, noted_file_value};
 ghost use Rattle.gk_findings.specs.LintedSuite as spec;
 ghost use Rattle.gk_request.specs.RunFault.{IsUnread};
@@ -26,30 +27,30 @@ use gk_lint::{
     EntryHints, StepFindings, entry_lines, lines_without_scenario, lint_hook_tags, lint_hooks,
     lint_library, tags_that_stand_nowhere,
 };
-use gk_request::{FeatureSource, Options, ReadBefore, RunFault, SuiteFiles, bytes_of, read_before};
+use gk_request::{Options, ReadBefore, RunFault, Source, SuiteFiles, bytes_of, read_before};
 use gk_steps::Library;
 use std::alloc::{AllocError, Global};
 
 // Returns the library, as notes name it.
-fn noted_library<'a, S: FeatureSource>(
+fn noted_library<'a>(
     alloc: Global,
     library: &'a Library,
     steps: bool,
-    file: &'a Option<S>,
+    file: &'a Option<Source>,
 ) -> Result<NotedLibrary<'a>, AllocError>
-    requires { AreTexts (of_files.bytes_of (option_map S.value file.now)) }
-    ensures { let f = option_map S.value file.now in IfOk result (λ noted.
+    requires { AreTexts (of_files.bytes_of (option_map source_value file.now)) }
+    ensures { let f = option_map source_value file.now in IfOk result (λ noted.
         noted_library_value noted ≡ spec.noted_library steps (of_files.name_of f)
         (of_files.bytes_of f) (library_value library.now)) }
 {
     let hints = EntryHints::new(alloc, library)?;
     match file {
         Some(source) => {
-            let text = known_text(source.bytes());
+            let text = known_text(source.bytes.as_slice());
             Ok(NotedLibrary {
                 hints,
                 steps,
-                name: source.name(),
+                name: source.name.as_str(),
                 lines: entry_lines(alloc, text)?,
             })
         }
@@ -63,19 +64,16 @@ fn noted_library<'a, S: FeatureSource>(
 }
 
 // Returns the hooks file, as notes quote it.
-fn noted_hooks<S: FeatureSource>(
-    alloc: Global,
-    file: &Option<S>,
-) -> Result<NotedFile<'_>, AllocError>
-    requires { AreTexts (of_files.bytes_of (option_map S.value file.now)) }
-    ensures { let f = option_map S.value file.now in IfOk result (λ noted.
+fn noted_hooks(alloc: Global, file: &Option<Source>) -> Result<NotedFile<'_>, AllocError>
+    requires { AreTexts (of_files.bytes_of (option_map source_value file.now)) }
+    ensures { let f = option_map source_value file.now in IfOk result (λ noted.
         noted_file_value noted ≡ spec.noted_hooks (of_files.name_of f) (of_files.bytes_of f)) }
 {
     match file {
         Some(source) => {
-            let text = known_text(source.bytes());
+            let text = known_text(source.bytes.as_slice());
             Ok(NotedFile {
-                name: source.name(),
+                name: source.name.as_str(),
                 lines: text_lines(alloc, text)?,
                 scenarios: Vec::new(alloc),
             })
@@ -90,25 +88,25 @@ fn noted_hooks<S: FeatureSource>(
 
 // Appends the lines of a library file, if there is one and steps are looked up in it, given the places of its entries
 // that are used.
-fn push_library_lines<S: FeatureSource>(
+fn push_library_lines(
     out: &mut String,
     alloc: Global,
     library: &NotedLibrary<'_>,
-    file: &Option<S>,
+    file: &Option<Source>,
     used: &[usize],
 ) -> Result<(), AllocError>
-    requires texts { AreTexts (of_files.bytes_of (option_map S.value file.now)) }
+    requires texts { AreTexts (of_files.bytes_of (option_map source_value file.now)) }
     requires entries { library.now.lines.items ≡ spec.lines_of_library
-        (of_files.bytes_of (option_map S.value file.now)) }
+        (of_files.bytes_of (option_map source_value file.now)) }
     ensures { Pushes out.old (spec.library_lines library.now.steps library.now.name.now
-        (of_files.bytes_of (option_map S.value file.now)) used.now) result out.new }
+        (of_files.bytes_of (option_map source_value file.now)) used.now) result out.new }
 {
     if !library.steps {
         return Ok(());
     }
     match file {
         Some(source) => {
-            let text = known_text(source.bytes());
+            let text = known_text(source.bytes.as_slice());
             let findings = lint_library(alloc, text, used)?;
             push_findings(out, alloc, library.name, &findings)?;
             push_count_line(out, library.name, findings.len(), library.lines.len())
@@ -156,23 +154,23 @@ fn findings_of_hooks(
 }
 
 // Makes the text of all findings.
-fn whole_text<S: FeatureSource>(
+fn whole_text(
     alloc: Global,
     options: &Options,
-    files: &SuiteFiles<S>,
+    files: &SuiteFiles,
     library: &NotedLibrary<'_>,
     before: &ReadBefore,
     so_far: LintSoFar,
 ) -> Result<String, AllocError>
-    requires texts { AreTexts (of_files.bytes_of (option_map S.value files.now.library)) }
-    requires hooks { AreTexts (of_files.bytes_of (option_map S.value files.now.hooks)) }
+    requires texts { AreTexts (of_files.bytes_of (option_map source_value files.now.library)) }
+    requires hooks { AreTexts (of_files.bytes_of (option_map source_value files.now.hooks)) }
     requires entries { library.now.lines.items ≡ spec.lines_of_library
-        (of_files.bytes_of (option_map S.value files.now.library)) }
+        (of_files.bytes_of (option_map source_value files.now.library)) }
     requires used { so_far.used.items ≡ used_by (noted_library_value library.now)
         (map feature_value so_far.features.items) }
     ensures { IfOk result (λ text. IsTextOf
-        (request_of_files options.now (files_value S.value files.now))
-        (hooks_name (files_value S.value files.now))
+        (request_of_files options.now (files_value files.now))
+        (hooks_name (files_value files.now))
         (read_of (noted_library_value library.now) before.now so_far) (string_bytes text)) }
 {
     let LintSoFar {
@@ -210,18 +208,18 @@ fn whole_text<S: FeatureSource>(
 /// Reads the request, runs nothing, and returns the text of all its findings. `steps` says whether steps are looked up
 /// in the library; without that, neither steps nor entries have findings. An error says why the request doesn't read;
 /// `Memory` comes only if a growth was refused.
-pub fn findings_text<S: FeatureSource>(
+pub fn findings_text(
     alloc: Global,
     options: &Options,
     steps: bool,
-    files: &SuiteFiles<S>,
+    files: &SuiteFiles,
 ) -> Result<String, RunFault>
     ensures linted { IfOk result (λ text. IsLinted steps
-        (request_of_files options.now (files_value S.value files.now))
-        (library_name (files_value S.value files.now))
-        (hooks_name (files_value S.value files.now)) (string_bytes text)) }
+        (request_of_files options.now (files_value files.now))
+        (library_name (files_value files.now))
+        (hooks_name (files_value files.now)) (string_bytes text)) }
     ensures fault { IfErr result (λ e. IsUnread
-        (request_of_files options.now (files_value S.value files.now)) e) }
+        (request_of_files options.now (files_value files.now)) e) }
 {
     let library = bytes_of(&files.library);
     let hooks = bytes_of(&files.hooks);

@@ -13,7 +13,7 @@ pub use Rattle.std.specs.declared.alloc.Global.{Global}
 pub use Rattle.clap.specs.Words.{IsAmong, Text, kind_of}
 pub use Rattle.clap.specs.declared.error.Error.{Error}
 pub use Rattle.gk_cli.specs.Arguments.{PairValue, SaysArguments, faults_in, is_lint, pair_value}
-pub use Rattle.gk_cli.specs.Modes.{AreLeft, SaysFaultAs}
+pub use Rattle.gk_cli.specs.Modes.{SaysFaultAs}
 pub use Rattle.gk_cli.specs.Writing.{Device, IsUntouched, device_of}
 pub use Rattle.gk_cli.specs.declared.arguments.Mode.{Mode}
 pub use Rattle.gk_cli.specs.declared.arguments.Mode.TheVariants.{Explanation, Findings, Report}
@@ -23,8 +23,8 @@ pub use Rattle.gk_findings.specs.declared.env_notes.EnvMistake.TheVariants.{NoEq
 pub use Rattle.gk_gherkin.specs.Feature.{texts}
 pub use Rattle.gk_request.specs.Counted.{one_more}
 pub use Rattle.gk_request.specs.FaultLine.{name_at_fault}
-pub use Rattle.gk_request.specs.Request.{FilesValue, HaveSameNames, Request, request_of_files, files_value}
-pub use Rattle.gk_request.specs.Source.{SourceValue, names_of, source_value}
+pub use Rattle.gk_request.specs.Request.{FilesValue, Request, request_of_files, files_value}
+pub use Rattle.gk_request.specs.Source.{SourceValue, source_value}
 pub use Rattle.gk_request.specs.declared.request.SuiteFiles.{SuiteFiles}
 pub use Rattle.gk_request.specs.declared.run_fault.RunFault.{RunFault}
 pub use Rattle.gk_request.specs.declared.source.Source.{Source}

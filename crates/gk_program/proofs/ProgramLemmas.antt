@@ -1,5 +1,6 @@
 -- A run whose output is flushed, the program's faults for those of the run, help, and variables one after another.
-use Rattle.gk_program.proofs.Common.{◌≡◌, ◌≢◌, ◌⊎◌, ◌∙◌, ◌+◌, ◌-◌, ◌^◌, ◌<◌, ◌≤◌, ◌++◌, ap, sym, subst, refl, inl, inr, arith, suc, zero, ℕ, true, List, [], ◌∷◌, length, map, take, drop, get_or, Option, Some, None, Result, Ok, Err, add-one, IfErr, IfOk, IsSomeAnd, String, option_map, slice_get, string_bytes, Global, All, Any, Appends, Keeps, slice_get-map, slice_get_read, map-append, map_push, take-append-drop, take_all, All-push, drop-cons, take-suc, Contents, IsFault, put_refusal, SandboxValue, new_sandbox, with_env, WorldFault, PairValue, pair_value, one_more, Request, FilesValue, HaveSameNames, request_of_files, files_value, SourceValue, source_value, names_of, Source, Device, IsUntouched, AreLeft, SaysFaultAs, name_at_fault, SuiteFiles, Mode, Report, Explanation, Findings, Words, RunFault, AreRead, IsFaultOfFiles, IsFileFault, Reading, StopsReading, files_in_order, name_of, AreGiven, AreTaken, IsFaultAs, IsFaultOfGiven, IsFaultOfRun, IsFirstRefused, IsFlushedRun, IsMemoryAfter, IsRefused, IsRun, SaysCallsOfRun, IsFaultIn, IsFaultShown, IsSameButName, name_in, IsRunFrom, SaysProgram, SaysRunFrom, SaysSuite, SaysVariables, contents_given, variables_given, with_variables, hinted, files_to_put, names_given, ArePut, StopsPutting, IsEnvFault, IsFaultOfVariable, is_lint, mistake_of, Fault, NotUtf8, Usage, Env, File, NotText, TextTooLong, CannotRead, TooLong, OfRun, Unread, Write, Memory, common_steps}
+use Rattle.gk_program.proofs.Common.{◌≡◌, ◌≢◌, ◌⊎◌, ◌∙◌, ◌+◌, ◌-◌, ◌^◌, ◌<◌, ◌≤◌, ◌++◌, ap, sym, subst, refl, inl, inr, arith, suc, zero, ℕ, true, List, [], ◌∷◌, length, map, take, drop, get_or, Option, Some, None, Result, Ok, Err, add-one, IfErr, IfOk, IsSomeAnd, String, option_map, slice_get, string_bytes, Global, All, Any, Appends, Keeps, slice_get-map, slice_get_read, map-append, map_push, take-append-drop, take_all, All-push, drop-cons, take-suc, Contents, IsFault, put_refusal, SandboxValue, new_sandbox, with_env, WorldFault, PairValue, pair_value, one_more, Request, FilesValue, request_of_files, files_value, SourceValue, source_value, Source, Device, IsUntouched, SaysFaultAs, SuiteFiles, Mode, Report, Explanation, Findings, Words, RunFault, AreRead, IsFaultOfFiles, IsFileFault, Reading, StopsReading, files_in_order, name_of, AreGiven, AreTaken, IsFaultAs, IsFaultOfGiven, IsFaultOfRun, IsFirstRefused, IsFlushedRun, IsMemoryAfter, IsRefused, IsRun, SaysCallsOfRun, IsFaultIn, IsFaultShown, IsSameButName, name_in, IsRunFrom, SaysProgram, SaysRunFrom, SaysSuite, SaysVariables, contents_given, variables_given, with_variables, hinted, files_to_put, names_given, ArePut, StopsPutting, IsEnvFault, IsFaultOfVariable, is_lint, mistake_of, Fault, NotUtf8, Usage, Env, File, NotText, TextTooLong, CannotRead, TooLong, OfRun, Unread, Write, Memory, common_steps}
+use Rattle.gk_program.proofs.FilesLemmas.{names_of_values}
 use Rattle.gk_world.specs.declared.refusals.WorldFault.TheVariants as world
 use Rattle.gk_request.specs.declared.run_fault.RunFault.TheVariants as run
 
@@ -17,38 +18,6 @@ pub no_name_there : (xs : List Source) (i : ℕ) → length xs ≤ i → ◌≡�
 no_name_there [] i past = refl
 no_name_there (x ∷ xs) zero past = absurd (omega arith)
 no_name_there (x ∷ xs) (suc i) past = no_name_there xs i (omega arith)
-
--- so a fault is of a file of the same name as before sources gave up their bytes
-named_still : (old new : List SourceValue) (input : ℕ) → names_of new ≡ names_of old → option_map (λ (s : SourceValue). s.name) (slice_get new input) ≡ option_map (λ (s : SourceValue). s.name) (slice_get old input)
-named_still old new input same = sym (slice_get-map (λ (s : SourceValue). s.name) new input) ∙ ap (λ names. slice_get names input) same ∙ slice_get-map (λ (s : SourceValue). s.name) old input
-
-same_name : (old new : FilesValue) (by : RunFault) → HaveSameNames old new → name_at_fault new by ≡ name_at_fault old by
-same_name old new run.Write same = refl
-same_name old new run.Memory same = refl
-same_name old new (run.Read input f) same = named_still old.sources new.sources input same.sources
-same_name old new (run.Library f) same = ap (option_map (λ (s : SourceValue). s.name)) same.library
-same_name old new (run.Hooks f) same = ap (option_map (λ (s : SourceValue). s.name)) same.hooks
-same_name old new (run.Select (Some input) f) same = named_still old.sources new.sources input same.sources
-same_name old new (run.Select None f) same = refl
-
--- and named as before
-named_as_before : (old new : FilesValue) (by : RunFault) (fault : Fault) → HaveSameNames old new → IsFaultOfRun new by fault → IsFaultOfRun old by fault
-named_as_before old new run.Write fault same is = is
-named_as_before old new run.Memory fault same is = is
-named_as_before old new (run.Read input f) (OfRun name g) same is = (is.0, is.1 ∙ same_name old new (run.Read input f) same)
-named_as_before old new (run.Read input f) _ same is = absurd is
-named_as_before old new (run.Library f) (OfRun name g) same is = grind (arith, common_steps)
-named_as_before old new (run.Library f) _ same is = absurd is
-named_as_before old new (run.Hooks f) (OfRun name g) same is = grind (arith, common_steps)
-named_as_before old new (run.Hooks f) _ same is = absurd is
-named_as_before old new (run.Select input f) (OfRun name g) same is = (is.0, is.1 ∙ same_name old new (run.Select input f) same)
-named_as_before old new (run.Select input f) _ same is = absurd is
-
--- so the program's fault is that of the files before
-pub fault_as_before : (mode : Mode) (tags : List (List ℕ)) (result : Result ℕ RunFault) (old new : FilesValue) (by : RunFault) (fault : Fault) → AreLeft mode result old new → IsFaultAs mode tags new by fault → IsFaultAs mode tags old by fault
-fault_as_before Report tags result old new by fault left is = named_as_before old new by fault left.names is
-fault_as_before Explanation tags result old new by fault left is = named_as_before old new by fault left.names is
-fault_as_before (Findings steps) tags result old new by fault left is = subst (λ (files : FilesValue). IsFaultAs (Findings steps) tags files by fault) left is
 
 -- why a run was stopped
 pub fewer : (a b : ℕ) → a < 2 ^ 64 - 1 → b ≡ one_more a → a < b
@@ -281,17 +250,13 @@ of_suite r w c a b files old new fault given read says = grind (arith, common_st
 
 -- ---- the run of the files
 
-their_names : (xs : List Source) → names_of (map source_value xs) ≡ map name_of xs
-their_names [] = refl
-their_names (x ∷ xs) = ap (λ l. name_of x ∷ l) (their_names xs)
-
 name_given : (file : Option Source) → option_map (λ s. s.name) (option_map source_value file) ≡ option_map name_of file
 name_given None = refl
 name_given (Some x) = refl
 
-pub are_given : (w : Words) (files : SuiteFiles Source) → option_map name_of files.library ≡ option_map string_bytes w.library → option_map name_of files.hooks ≡ option_map string_bytes w.hooks
-    → map name_of files.sources.items ≡ map string_bytes w.files.items → AreGiven w (files_value source_value files)
-are_given w files l h s = grind (arith, common_steps, their_names, name_given)
+pub are_given : (w : Words) (files : SuiteFiles) → option_map name_of files.library ≡ option_map string_bytes w.library → option_map name_of files.hooks ≡ option_map string_bytes w.hooks
+    → map name_of files.sources.items ≡ map string_bytes w.files.items → AreGiven w (files_value files)
+are_given w files l h s = grind (arith, common_steps, names_of_values, name_given)
 
 -- the variables that were put are those that were given
 pub taken_in : (w : Words) (variables : List (String Global × String Global)) → AreTaken (map pair_value variables) → variables ≡ w.env.items → AreTaken (variables_given w)

@@ -22,12 +22,12 @@ fn push_block(
     out: &mut String,
     alloc: Global,
     tags: Option<&str>,
-    files: &SuiteFiles<Source>,
+    files: &SuiteFiles,
     fault: RunFault,
 ) -> Result<(), AllocError>
     ensures { OnOk result (string_bytes out.new ≡ string_bytes out.old
         ++ spec.block (option_map (λ text. text.now) tags.entry)
-        (files_value source_value files.now) fault) }
+        (files_value files.now) fault) }
 {
     let name = shown_if_named(alloc, name_at_fault(files, fault))?;
     let named = NamedFault {
@@ -42,11 +42,11 @@ fn push_block(
 fn push_blocks(
     out: &mut String,
     alloc: Global,
-    files: &SuiteFiles<Source>,
+    files: &SuiteFiles,
     faults: &[RunFault],
 ) -> Result<(), AllocError>
     ensures { OnOk result (string_bytes out.new
-        ≡ string_bytes out.old ++ spec.blocks (files_value source_value files.now) faults.now) }
+        ≡ string_bytes out.old ++ spec.blocks (files_value files.now) faults.now) }
 {
     for fault in faults {
         push_block(out, alloc, None, files, *fault)?;
@@ -72,11 +72,11 @@ fn text_at(alloc: Global, tags: &[String], fault: RunFault) -> Result<Option<&st
 fn listing(
     alloc: Global,
     tags: &[String],
-    files: &SuiteFiles<Source>,
+    files: &SuiteFiles,
     first: RunFault,
 ) -> Result<String, AllocError>
     ensures { IfOk result (λ text. IsListing (texts tags.now)
-        (files_value source_value files.now) first (string_bytes text)) }
+        (files_value files.now) first (string_bytes text)) }
 {
     let bad = text_at(alloc, tags, first)?;
     let later = faults_after(alloc, files, first)?;
@@ -90,11 +90,11 @@ fn listing(
 fn listed(
     alloc: Global,
     tags: &[String],
-    files: &SuiteFiles<Source>,
+    files: &SuiteFiles,
     first: RunFault,
 ) -> Result<Fault, AllocError>
     ensures { IfOk result
-        (IsListedAs (texts tags.now) (files_value source_value files.now) first) }
+        (IsListedAs (texts tags.now) (files_value files.now) first) }
 {
     let lines = listing(alloc, tags, files, first)?;
     let name = shown_if_named(alloc, name_at_fault(files, first))?;
@@ -107,13 +107,8 @@ fn listed(
 
 /// Returns the program's fault if a run of these files, with these texts of tags, has this fault and `--lint` is given. Its
 /// output has all faults of the files, from this one on. `Memory` comes only if a growth was refused.
-pub fn fault_listed(
-    alloc: Global,
-    tags: &[String],
-    files: &SuiteFiles<Source>,
-    first: RunFault,
-) -> Fault
-    ensures { IsListedAs (texts tags.now) (files_value source_value files.now) first result }
+pub fn fault_listed(alloc: Global, tags: &[String], files: &SuiteFiles, first: RunFault) -> Fault
+    ensures { IsListedAs (texts tags.now) (files_value files.now) first result }
 {
     match listed(alloc, tags, files, first) {
         Ok(fault) => fault,

@@ -113,7 +113,7 @@ pub fn read_run_files<S: System>(
     library: Option<String>,
     hooks: Option<String>,
     names: Vec<String>,
-) -> Result<SuiteFiles<Source>, Fault>
+) -> Result<SuiteFiles, Fault>
     ensures library { IfOk result
         (λ files. option_map name_of files.library ≡ option_map string_bytes library) }
     ensures hooks { IfOk result
@@ -122,7 +122,7 @@ pub fn read_run_files<S: System>(
         (λ files. map name_of files.sources.items ≡ map string_bytes names.items) }
     // Each source has the bytes that the system returned for its name, and no other file was read.
     ensures read { IfOk result (λ files.
-        AreRead S.reads system.old (files_in_order (files_value source_value files)) system.new) }
+        AreRead S.reads system.old (files_in_order (files_value files)) system.new) }
     // The fault is that of the first file that wasn't read, in the order library, hooks, files; or memory was refused.
     ensures first { IfErr result (StopsReading S.reads system.old
         (names_in_order library hooks names.items) system.new) }

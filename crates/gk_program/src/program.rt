@@ -97,9 +97,9 @@ fn name_at(sources: Vec<Source>, input: usize) -> Option<String>
 }
 
 // Returns the name of the file that has a fault of the run, if a file has it.
-fn name_of_fault(fault: RunFault, files: SuiteFiles<Source>) -> Option<String>
+fn name_of_fault(fault: RunFault, files: SuiteFiles) -> Option<String>
     ensures { option_map string_bytes result
-        ≡ name_at_fault (files_value source_value files) fault }
+        ≡ name_at_fault (files_value files) fault }
 {
     match fault {
         RunFault::Read { input, .. } => name_at(files.sources, input),
@@ -114,11 +114,11 @@ fn name_of_fault(fault: RunFault, files: SuiteFiles<Source>) -> Option<String>
 }
 
 // Returns the program's fault for a fault of the run. Files are named instead of numbered.
-fn fault_of_run(fault: RunFault, files: SuiteFiles<Source>) -> Fault
-    ensures named { IsFaultOfRun (files_value source_value files) fault result }
+fn fault_of_run(fault: RunFault, files: SuiteFiles) -> Fault
+    ensures named { IsFaultOfRun (files_value files) fault result }
     // This is the line that is printed.
     ensures line { text_of result
-        ≡ said_line (name_at_fault (files_value source_value files) fault) fault }
+        ≡ said_line (name_at_fault (files_value files) fault) fault }
 {
     match fault {
         RunFault::Write => Fault::Write,
@@ -131,14 +131,8 @@ fn fault_of_run(fault: RunFault, files: SuiteFiles<Source>) -> Fault
 }
 
 // Returns the program's fault for a fault of the run, by the mode. With `--lint`, all invalid files are listed.
-fn fault_as(
-    alloc: Global,
-    mode: Mode,
-    tags: &[String],
-    fault: RunFault,
-    files: SuiteFiles<Source>,
-) -> Fault
-    ensures { IsFaultAs mode (texts tags.now) (files_value source_value files) fault result }
+fn fault_as(alloc: Global, mode: Mode, tags: &[String], fault: RunFault, files: SuiteFiles) -> Fault
+    ensures { IsFaultAs mode (texts tags.now) (files_value files) fault result }
 {
     match mode {
         Mode::Report => fault_of_run(fault, files),
@@ -160,28 +154,27 @@ fn run_sources<W: Write>(
     sandbox: &mut Sandbox,
     options: &Options,
     mode: Mode,
-    files: SuiteFiles<Source>,
+    files: SuiteFiles,
     out: &mut Counted<W>,
 ) -> Result<u8, Fault>
     requires room { FailuresCanRise out.old }
     requires outside { depth sandbox.old ≡ 0 }
     // The output and the status are those of one run of these inputs, or of what is found in them.
-    ensures run { IfOk result (IsFlushedRun mode (files_value source_value files)
-        (request_of_files options.now (files_value source_value files))
+    ensures run { IfOk result (IsFlushedRun mode (files_value files)
+        (request_of_files options.now (files_value files))
         sandbox.old.now (device_of W.contents out.old) (device_of W.contents out.new)) }
     // A status comes only if the writer did not fail, and was flushed once.
     ensures quiet { OnOk result (out.new.failures ≡ out.old.failures) }
     ensures flushed { OnOk result (out.new.flushes ≡ one_more out.old.flushes) }
     // A fault is that of the run, or the flush failed.
-    ensures fault { IfErr result (SaysSuite mode (files_value source_value files)
-        (request_of_files options.now (files_value source_value files))
+    ensures fault { IfErr result (SaysSuite mode (files_value files)
+        (request_of_files options.now (files_value files))
         sandbox.old.now (device_of W.contents out.old) (device_of W.contents out.new)) }
     // If standard output isn't at fault, it was not called, or memory was refused after a prefix of the run's output.
     ensures calls { IfErr result
         (SaysCallsOfRun (device_of W.contents out.old) (device_of W.contents out.new)) }
 {
-    let mut files = files;
-    match write_suite(alloc, sandbox, options, mode, &mut files, out) {
+    match write_suite(alloc, sandbox, options, mode, &files, out) {
         Ok(status) => match out.flush() {
             Ok(()) => Ok(status),
             Err(_) => Err(Fault::Write),

@@ -1,5 +1,5 @@
 -- The scenarios of rules, one after another.
-use Rattle.gk_report.proofs.Common.{◌≡◌, ℕ, ◌+◌, Bool, false, cond, not, List, [], ◌∷◌, ◌++◌, flat_map, Option, codes, ap, sym, ◌∙◌, append_assoc, arith, common_steps, decimal, take_while-cons, CaseRow, RuleRow, is_passed, status_text, line_feed, is_hidden, begins_above, cases_before, cases_behind, status_line, case_lines, printed_lines, rule_line, lines_in}
+use Rattle.gk_report.proofs.Common.{◌≡◌, ℕ, Bool, false, cond, not, List, [], ◌∷◌, ◌++◌, flat_map, Option, codes, ap, sym, ◌∙◌, append_assoc, arith, common_steps, decimal, take_while-cons, CaseRow, RuleRow, is_passed, status_text, line_feed, is_hidden, begins_above, cases_before, cases_behind, status_line, case_lines, printed_lines, rule_line, lines_in}
 
 -- A scenario in front of the first rule is one of those in front of it.
 pub before_next : (rules : List RuleRow) (c : CaseRow) (cs : List CaseRow) → begins_above rules c.line ≡ false → cases_before rules (c ∷ cs) ≡ c ∷ cases_before rules cs

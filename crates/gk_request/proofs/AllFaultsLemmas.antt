@@ -2,7 +2,6 @@
 use Rattle.gk_request.proofs.Common.{◌≡◌, ◌≢◌, ℕ, suc, zero, ◌+◌, List, [], ◌∷◌, ◌++◌, drop, Option, Some, None, Err, refl, ap, sym, subst, ◌∙◌, inl, inr, add-one, append_assoc, arith, common_steps, append-nil, slice_get, ReadFault, FeatureValue, HookValue, FaultSays, HooksFault, LibraryFault, LibraryValue, RunFault, Read, Library, Hooks, Select, Write, Memory, RunFile, source_at, AreFaultsOf, library_files, hooks_files, sources_from, SaysOfFiles, AreAdded, bytes_of, IsLibrary, AreHooks, IsReadAs, SaysLibrary, SaysHooks, SaysSourceAt, library_fault, hooks_fault, SourceValue}
 use Rattle.gk_gherkin.specs.declared.read_fault.ReadFault.TheVariants as read_faults
 use Rattle.gk_select.specs.declared.select_fault.SelectFault.TheVariants as select_faults
-use Rattle.gk_steps.specs.declared.library_fault.LibraryFault.TheVariants as library_faults
 use Rattle.gk_request.proofs.InputsLemmas.{same_some}
 
 -- A library file that reads, or none.

@@ -1,5 +1,5 @@
 -- Inputs, one after another, and that they are determined.
-use Rattle.gk_request.proofs.Common.{◌≡◌, ◌⊎◌, inl, inr, ℕ, suc, zero, ◌+◌, ◌<◌, Bool, true, false, List, [], ◌∷◌, ◌++◌, map, take, drop, length, get_or, Option, Some, None, Result, Ok, Err, refl, ap, sym, subst, ◌∙◌, arith, add-one, common_steps, Bor, option_map, slice_get, zip, OnOk, AllByRecursion, ReadFault, lines_of, IsText, Feature, FeatureValue, feature_value, Reads, HasOneReading, HookValue, HaveOneHooksReading, Case, SelectFault, CaseValue, case_value, ExampleRowValue, with_own_tags, Expression, ReadsTags, is_chosen, LibraryFault, LibraryValue, default_text, LibraryReadingIsUnique, Chosen, HeadValue, MemberValue, ChosenValue, chosen_value, member_of, members_of, IsFormed, SourceValue, GaveUpThrough, Inputs, InputsAreUnique, IsFirstBadText, AreRules, IsLibrary, AreHooks, member_by, chosen_of, with_reading, IsWithinLimit, AreRead, with_rows, AreRowsOf, AreRowsIf, AreRowsReadOnto, IsReading, IsReadOnto, Options, Request, AreLeftAt, RunFault, Read, Library, Hooks, Select, Write, Memory, IsUnread, IsUnreadBefore, SaysTags, SaysLibrary, SaysHooks, SaysSourceAt, SaysSources, SaysTooMany, select_fault_at, tags_fault, library_fault, hooks_fault, SaysExpansion}
+use Rattle.gk_request.proofs.Common.{◌≡◌, ◌⊎◌, inl, inr, ℕ, suc, zero, ◌+◌, ◌<◌, Bool, true, false, List, [], ◌∷◌, ◌++◌, map, take, drop, length, get_or, Option, Some, None, Result, Ok, Err, refl, ap, sym, subst, ◌∙◌, arith, add-one, common_steps, option_map, slice_get, zip, OnOk, AllByRecursion, ReadFault, lines_of, IsText, Feature, FeatureValue, feature_value, Reads, HasOneReading, HookValue, HaveOneHooksReading, Case, SelectFault, CaseValue, case_value, ExampleRowValue, with_own_tags, Expression, ReadsTags, is_chosen, LibraryFault, LibraryValue, default_text, LibraryReadingIsUnique, Chosen, HeadValue, MemberValue, ChosenValue, chosen_value, member_of, members_of, IsFormed, SourceValue, Inputs, InputsAreUnique, IsFirstBadText, AreRules, IsLibrary, AreHooks, member_by, chosen_of, with_reading, IsWithinLimit, AreRead, with_rows, AreRowsOf, AreRowsIf, AreRowsReadOnto, IsReading, IsReadOnto, Request, RunFault, Read, Library, Hooks, Select, Write, Memory, IsUnread, SaysTags, SaysLibrary, SaysHooks, SaysSourceAt, SaysSources, SaysTooMany, select_fault_at, tags_fault, library_fault, hooks_fault, SaysExpansion}
 use Rattle.gk_gherkin.specs.declared.read_fault.ReadFault.TheVariants as read_faults
 use Rattle.gk_select.specs.declared.select_fault.SelectFault.TheVariants as select_faults
 use Rattle.gk_steps.specs.declared.library_fault.LibraryFault.TheVariants as library_faults
@@ -146,30 +146,6 @@ first_unread chooses sources features input source (Hooks fault) read place h = 
 first_unread chooses sources features input source Write read place h = h
 first_unread chooses sources features input source Memory read place h = tt
 
--- What a fault of the source at a place leaves of the sources: those up to it have dropped their bytes.
-pub left_at : (input : ℕ) (bytes : List ℕ) (fault : RunFault) (old new : List SourceValue) → SaysSourceAt input bytes fault → GaveUpThrough input old new → AreLeftAt old new fault
-left_at input bytes (Read i fault) old new says gave = subst (λ n. GaveUpThrough n old new) (sym says.0) gave
-left_at input bytes (Select (Some i) select_faults.TooMany) old new says gave = subst (λ n. GaveUpThrough n old new) (sym says.0) gave
-left_at input bytes (Select (Some i) select_faults.BadTagText) old new says gave = absurd says
-left_at input bytes (Select (Some i) select_faults.Memory) old new says gave = absurd says
-left_at input bytes (Select None fault) old new says gave = absurd says
-left_at input bytes (Library fault) old new says gave = absurd says
-left_at input bytes (Hooks fault) old new says gave = absurd says
-left_at input bytes Write old new says gave = absurd says
-left_at input bytes Memory old new says gave = (input + 1, gave)
-
--- A fault of what is read before the sources leaves all of them.
-pub left_before : (options : Options) (library hooks : Option (Bor (List ℕ))) (fault : RunFault) (sources : List SourceValue) → IsUnreadBefore options library hooks fault → AreLeftAt sources sources fault
-left_before options library hooks (Read i fault) sources unread = let place = (unread []).0.first.place in let no : ⊥ = cc place in absurd no
-left_before options library hooks (Select (Some i) select_faults.TooMany) sources unread = let place = (unread []).first.place in let no : ⊥ = cc place in absurd no
-left_before options library hooks (Select (Some i) select_faults.BadTagText) sources unread = absurd (unread [])
-left_before options library hooks (Select (Some i) select_faults.Memory) sources unread = absurd (unread [])
-left_before options library hooks (Select None fault) sources unread = refl
-left_before options library hooks (Library fault) sources unread = refl
-left_before options library hooks (Hooks fault) sources unread = refl
-left_before options library hooks Write sources unread = absurd (unread [])
-left_before options library hooks Memory sources unread = (0, refl)
-
 pub first_bad : (tags : List (List ℕ)) (i : ℕ) (text : List ℕ) (rules : List Expression) → slice_get tags i ≡ Some text → AreRules (take i tags) rules → ((rule : Expression) → ReadsTags text rule → ⊥) → IsFirstBadText tags text
 first_bad tags i text rules place read bad = record { before = take i tags; after = drop (suc i) tags; whole = split_at tags i text place; rules = rules; read = read; bad = bad }
 
@@ -223,7 +199,7 @@ sources_unread r rules entries hooks Memory tags library around h = tt
 abbrev pub OneRule : Type 0
 OneRule = (text : List ℕ) (a b : Expression) → ReadsTags text a → ReadsTags text b → a ≡ b
 
-same_rules : OneRule → (ts : List (List ℕ)) (rs qs : List Expression) → AreRules ts rs → AreRules ts qs → rs ≡ qs
+pub same_rules : OneRule → (ts : List (List ℕ)) (rs qs : List Expression) → AreRules ts rs → AreRules ts qs → rs ≡ qs
 same_rules one [] rs qs a b = a ∙ sym b
 same_rules one (t ∷ ts) rs qs (rule, others, reads, rest, is) (rule', others', reads', rest', is') =
     is ∙ ap (λ r. r ∷ others) (one t rule rule' reads reads') ∙ ap (λ x. rule' ∷ x) (same_rules one ts others others' rest rest') ∙ sym is'
@@ -234,11 +210,11 @@ same_features one chooses (s ∷ ss) fs gs (reading, others, read, rest, is) (re
     is ∙ ap (λ r. with_reading chooses s.name r others) (one (lines_of s.bytes) reading reading' read.reads read'.reads)
     ∙ ap (with_reading chooses s.name reading') (same_features one chooses ss others others' rest rest') ∙ sym is'
 
-same_library : LibraryReadingIsUnique → (file : Option (List ℕ)) (a b : LibraryValue) → IsLibrary file a → IsLibrary file b → a ≡ b
+pub same_library : LibraryReadingIsUnique → (file : Option (List ℕ)) (a b : LibraryValue) → IsLibrary file a → IsLibrary file b → a ≡ b
 same_library one None a b h g = one (lines_of default_text) a b h g
 same_library one (Some bytes) a b h g = one (lines_of bytes) a b h.1 g.1
 
-same_hooks : HaveOneHooksReading → (file : Option (List ℕ)) (a b : List HookValue) → AreHooks file a → AreHooks file b → a ≡ b
+pub same_hooks : HaveOneHooksReading → (file : Option (List ℕ)) (a b : List HookValue) → AreHooks file a → AreHooks file b → a ≡ b
 same_hooks one None a b h g = h ∙ sym g
 same_hooks one (Some bytes) a b h g = one (lines_of bytes) a b h.1 g.1
 

@@ -3,6 +3,5 @@ pub mod ResultLemmas
 pub mod CountedLemmas
 pub mod SourceLemmas
 pub mod InputsLemmas
-pub mod TakenSourcesLemmas
 pub mod AllFaultsLemmas
 pub mod AllFaultsLaw

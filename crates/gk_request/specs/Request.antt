@@ -1,15 +1,13 @@
--- What is asked of a run, and what remains of its files after they are read.
+-- What is asked of a run, and its files.
 use denote.Ref.{Bor}
-use Rattle.std.specs.Prelude.{◌≡◌, ℕ, Bool, false, List, [], map, unwrap_or, Option, Some, None, IfErr, OnOk, Result, option_map}
+use Rattle.std.specs.Prelude.{ℕ, Bool, false, List, [], map, unwrap_or, Option, None, option_map}
 use Rattle.gk_gherkin.specs.Feature.{texts}
 use Rattle.gk_report.specs.declared.report.Style.{Style}
 use Rattle.gk_report.specs.Report.{plain_style}
 use Rattle.gk_request.specs.declared.request.Options.{Options}
 use Rattle.gk_request.specs.declared.request.SuiteFiles.{SuiteFiles}
-use Rattle.gk_request.specs.declared.run_fault.RunFault.{RunFault}
-use Rattle.gk_request.specs.declared.run_fault.RunFault.TheVariants.{Read, Select, Write, Memory}
 use Rattle.gk_request.specs.declared.source.Source.{Source}
-use Rattle.gk_request.specs.Source.{SourceValue, source_value, names_of, without_bytes, GaveUpInTurn, GaveUpThrough}
+use Rattle.gk_request.specs.Source.{SourceValue, source_value}
 
 -- A request for a run: the texts of tags, the lines, whether it is a dry run, whether the first failure stops it, and the report's style; the bytes of the library file and of the hooks file, if they are given; and the sources.
 pub record Request : Type 0 where
@@ -63,9 +61,9 @@ pub record FilesValue : Type 0 where
   pub hooks : Option SourceValue
   pub sources : List SourceValue
 
--- The value of a run's files, from the value of each file.
-abbrev pub files_value : {S : Type 0} → (S → SourceValue) → SuiteFiles S → FilesValue
-files_value value files = record { library = option_map value files.library; hooks = option_map value files.hooks; sources = map value files.sources.items }
+-- The value of a run's files.
+abbrev pub files_value : SuiteFiles → FilesValue
+files_value files = record { library = option_map source_value files.library; hooks = option_map source_value files.hooks; sources = map source_value files.sources.items }
 
 -- The bytes of an optional file.
 abbrev pub bytes_of : Option SourceValue → Option (List ℕ)
@@ -86,27 +84,3 @@ library_name files = name_of files.library
 -- The name of the hooks file; the empty name if there is none.
 abbrev pub hooks_name : FilesValue → List ℕ
 hooks_name files = name_of files.hooks
-
--- The library file and the hooks file are unchanged, and the sources have the same names, in order.
-pub record HaveSameNames (old new : FilesValue) : Type 0 where
-  pub library : new.library ≡ old.library
-  pub hooks : new.hooks ≡ old.hooks
-  pub sources : names_of new.sources ≡ names_of old.sources
-
--- Each source dropped its bytes and kept its name.
-abbrev pub AreGivenUp : FilesValue → FilesValue → Type 0
-AreGivenUp old new = new.sources ≡ map without_bytes old.sources
-
--- What a fault leaves of the sources. If one of them doesn't read, it and those before it have dropped their bytes, and the others are unchanged. At a fault of the texts of tags, the library or the hooks, each is unchanged. If the writer failed, each has dropped its bytes. If memory was refused, some of the first have.
-abbrev pub AreLeftAt : List SourceValue → List SourceValue → RunFault → Type 0
-AreLeftAt old new (Read input fault) = GaveUpThrough input old new
-AreLeftAt old new (Select (Some input) fault) = GaveUpThrough input old new
-AreLeftAt old new Write = new ≡ map without_bytes old
-AreLeftAt old new Memory = GaveUpInTurn old new
-AreLeftAt old new fault = new ≡ old
-
--- What a run leaves of its files. The names stay. After a status, each source has dropped its bytes; after a fault, some of the first have.
-pub record AreLeftByRun (result : Result ℕ RunFault) (old new : FilesValue) : Type 0 where
-  pub names : HaveSameNames old new
-  pub given_up : OnOk result (AreGivenUp old new)
-  pub at_fault : IfErr result (AreLeftAt old.sources new.sources)

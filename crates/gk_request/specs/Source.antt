@@ -1,8 +1,7 @@
 -- Sources, and reading a whole source.
-use Rattle.std.specs.Prelude.{◌≡◌, ◌≤◌, ◌+◌, ◌++◌, ℕ, List, [], length, map, take, drop, Option, Some, None, Result, Ok, Err, IsSomeAnd, string_bytes}
+use Rattle.std.specs.Prelude.{◌≡◌, ◌≤◌, ℕ, List, length, drop, Option, Some, None, Result, Ok, Err, IsSomeAnd, string_bytes}
 use Rattle.std.specs.Io.KnownBytes.{Consumes}
 use Rattle.gk_request.specs.Counted.{one_more}
-use Rattle.gk_request.specs.declared.source.BorrowedSource.{BorrowedSource}
 use Rattle.gk_request.specs.declared.source.Source.{Source}
 use Rattle.gk_request.specs.declared.source.SourceFault.{SourceFault}
 use Rattle.gk_request.specs.declared.source.SourceFault.TheVariants.{Device, TooLong, Memory}
@@ -15,30 +14,6 @@ pub record SourceValue : Type 0 where
 -- The value of a `Source`.
 abbrev pub source_value : Source → SourceValue
 source_value s = record { name = string_bytes s.name; bytes = s.bytes.items }
-
--- The value of a `BorrowedSource`.
-abbrev pub borrowed_value : BorrowedSource → SourceValue
-borrowed_value s = record { name = s.name.now; bytes = s.bytes.now }
-
--- The names of sources, in order.
-abbrev pub names_of : List SourceValue → List (List ℕ)
-names_of sources = map (λ (s : SourceValue). s.name) sources
-
--- A source that dropped its bytes: it has its name, and no bytes.
-abbrev pub without_bytes : SourceValue → SourceValue
-without_bytes s = record { name = s.name; bytes = [] }
-
--- The first sources, of this number, dropped their bytes, and the others are unchanged.
-abbrev pub GaveUpFirst : ℕ → List SourceValue → List SourceValue → Type 0
-GaveUpFirst count old new = new ≡ map without_bytes (take count old) ++ drop count old
-
--- The source at a place, counted from 0, and those before it dropped their bytes, and the others are unchanged.
-abbrev pub GaveUpThrough : ℕ → List SourceValue → List SourceValue → Type 0
-GaveUpThrough place old new = GaveUpFirst (place + 1) old new
-
--- Some of the first sources dropped their bytes, and the others are unchanged.
-abbrev pub GaveUpInTurn : List SourceValue → List SourceValue → Type 0
-GaveUpInTurn old new = (count : ℕ) × GaveUpFirst count old new
 
 -- The reader had this many bytes and gave exactly these, if its bytes are known.
 abbrev pub StopsAfter : ℕ → Option (List ℕ) → Option (List ℕ) → Type 0

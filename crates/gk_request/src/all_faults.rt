@@ -103,9 +103,9 @@ fn add_sources_after(
 fn add_after_library(
     faults: &mut Vec<RunFault>,
     alloc: Global,
-    files: &SuiteFiles<Source>,
+    files: &SuiteFiles,
 ) -> Result<(), AllocError>
-    ensures { OnOk result (AreAdded (after_library (files_value source_value files.now))
+    ensures { OnOk result (AreAdded (after_library (files_value files.now))
         faults.old.items faults.new.items) }
 {
     add_fault(faults, check_hooks(alloc, &files.hooks))?;
@@ -113,12 +113,8 @@ fn add_after_library(
 }
 
 // Adds the faults of all files.
-fn add_all(
-    faults: &mut Vec<RunFault>,
-    alloc: Global,
-    files: &SuiteFiles<Source>,
-) -> Result<(), AllocError>
-    ensures { OnOk result (AreAdded (run_files (files_value source_value files.now))
+fn add_all(faults: &mut Vec<RunFault>, alloc: Global, files: &SuiteFiles) -> Result<(), AllocError>
+    ensures { OnOk result (AreAdded (run_files (files_value files.now))
         faults.old.items faults.new.items) }
 {
     add_fault(faults, check_library(alloc, &files.library))?;
@@ -129,10 +125,10 @@ fn add_all(
 fn add_after(
     faults: &mut Vec<RunFault>,
     alloc: Global,
-    files: &SuiteFiles<Source>,
+    files: &SuiteFiles,
     first: RunFault,
 ) -> Result<(), AllocError>
-    ensures { OnOk result (AreAdded (files_after (files_value source_value files.now) first)
+    ensures { OnOk result (AreAdded (files_after (files_value files.now) first)
         faults.old.items faults.new.items) }
 {
     let sources = files.sources.as_slice();
@@ -154,11 +150,11 @@ fn add_after(
 /// only if a growth was refused.
 pub fn faults_after(
     alloc: Global,
-    files: &SuiteFiles<Source>,
+    files: &SuiteFiles,
     first: RunFault,
 ) -> Result<Vec<RunFault>, AllocError>
     ensures { IfOk result (λ faults.
-        AreFaultsOf (files_after (files_value source_value files.now) first) faults.items) }
+        AreFaultsOf (files_after (files_value files.now) first) faults.items) }
 {
     let mut faults = Vec::new(alloc);
     add_after(&mut faults, alloc, files, first)?;

@@ -4,19 +4,17 @@ ghost use Rattle.std.specs.Fmt.{DisplaysOnOk};
 ghost use Rattle.gk_request.specs.FaultLine as spec;
 ghost use Rattle.gk_request.specs.FaultLine.{fault_line, placed};
 ghost use Rattle.gk_request.specs.Request.{files_value};
+ghost use Rattle.gk_request.specs.Source.{source_value};
 
 use crate::request::SuiteFiles;
 use crate::run_fault::RunFault;
-use crate::source::FeatureSource;
+use crate::source::Source;
 use std::fmt;
 
 /// Returns the file that a fault of a run is in, if it is in one. It doesn't allocate.
-pub fn file_at_fault<'a, S: FeatureSource>(
-    files: &'a SuiteFiles<S>,
-    fault: RunFault,
-) -> Option<&'a S>
-    ensures { option_map (λ file. S.value file.now) result
-        ≡ spec.file_at_fault (files_value S.value files.now) fault }
+pub fn file_at_fault(files: &SuiteFiles, fault: RunFault) -> Option<&Source>
+    ensures { option_map (λ file. source_value file.now) result
+        ≡ spec.file_at_fault (files_value files.now) fault }
 {
     match fault {
         RunFault::Read { input, .. } => files.sources.get(input),
@@ -31,15 +29,12 @@ pub fn file_at_fault<'a, S: FeatureSource>(
 }
 
 /// Returns the name of the file that a fault of a run is in, if it is in one. It doesn't allocate.
-pub fn name_at_fault<'a, S: FeatureSource>(
-    files: &'a SuiteFiles<S>,
-    fault: RunFault,
-) -> Option<&'a str>
+pub fn name_at_fault(files: &SuiteFiles, fault: RunFault) -> Option<&str>
     ensures { option_map (λ name. name.now) result
-        ≡ spec.name_at_fault (files_value S.value files.now) fault }
+        ≡ spec.name_at_fault (files_value files.now) fault }
 {
     match file_at_fault(files, fault) {
-        Some(file) => Some(file.name()),
+        Some(file) => Some(file.name.as_str()),
         None => None,
     }
 }

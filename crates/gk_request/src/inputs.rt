@@ -10,16 +10,16 @@ ghost use Rattle.gk_select.specs.Expansion.{IsExpandable};
 ghost use Rattle.gk_select.specs.OwnTags.{untagged, untagged_rule};
 ghost use Rattle.gk_steps.specs.Finding.{library_value};
 ghost use Rattle.gk_run.specs.Chosen.{chosen_value, head_value, IsFormed};
-ghost use Rattle.gk_request.specs.Source.{names_of, without_bytes};
-ghost use Rattle.gk_request.specs.Request.{files_value, request_of_files, HaveSameNames, AreGivenUp, AreLeftAt, asked_of};
+ghost use Rattle.gk_request.specs.Source.{source_value};
+ghost use Rattle.gk_request.specs.Request.{asked, asked_of};
 ghost use Rattle.gk_request.specs.Inputs as spec;
 ghost use Rattle.gk_request.specs.Inputs.{InputsAreUnique, IsBadText, IsReadAs, AreRules, IsLibrary, AreHooks, AreRead, AreRowsIf, AreRowsReadOnto, AreInputs, IsReading, IsReadBefore, IsReadOnto, inputs_value};
 ghost use Rattle.gk_request.specs.RunFault as faults;
 ghost use Rattle.gk_request.specs.RunFault.{IsUnread, IsUnreadBefore, SaysTags, SaysLibrary, SaysHooks, SaysExpansion, SaysSourceAt, SaysSources, SaysTooMany};
 
-use crate::request::{Options, SuiteFiles, bytes_of};
+use crate::request::Options;
 use crate::run_fault::RunFault;
-use crate::source::FeatureSource;
+use crate::source::Source;
 use gk_gherkin::{
     Feature, HookFile, ReadFault, Rule, hooks_reading_is_unique, read_feature, read_hooks,
     reading_is_unique,
@@ -352,29 +352,26 @@ fn add_rows(
 }
 
 // Reads the source at a place, and adds its feature, if it has one, after those of other sources, and the rows of its
-// outlines, if they are wanted. The source drops its bytes before its rows and the cases of its feature are listed.
-fn read_onto<S: FeatureSource>(
+// outlines, if they are wanted.
+fn read_onto(
     alloc: Global,
     choice: &Choice,
     with_rows: bool,
     input: usize,
-    source: &mut S,
+    source: &Source,
     features: &mut Vec<Chosen>,
     rows: &mut Vec<Vec<ExampleRow>>,
 ) -> Result<(), RunFault>
-    ensures given_up { S.value source.new ≡ without_bytes (S.value source.old) }
-    ensures ok { OnOk result (IsReadOnto (chosen_by choice.now) (S.value source.old)
+    ensures ok { OnOk result (IsReadOnto (chosen_by choice.now) (source_value source.now)
         features.old.items features.new.items) }
-    ensures rows { OnOk result (AreRowsReadOnto with_rows (S.value source.old)
+    ensures rows { OnOk result (AreRowsReadOnto with_rows (source_value source.now)
         (row_lists rows.old.items) (row_lists rows.new.items)) }
-    ensures fault { IfErr result (λ e. SaysSourceAt input (S.value source.old).bytes e) }
+    ensures fault { IfErr result (λ e. SaysSourceAt input source.now.bytes.items e) }
 {
-    let read = feature_at(alloc, input, source.bytes());
-    source.give_up(alloc);
-    let name = source.name();
-    match read {
+    match feature_at(alloc, input, source.bytes.as_slice()) {
         Ok(Some(feature)) => {
             add_rows(alloc, with_rows, &feature, rows)?;
+            let name = source.name.as_str();
             add_feature(alloc, choice, input, name, feature, features)
         }
         Ok(None) => Ok(()),
@@ -389,29 +386,24 @@ struct ReadSources {
     rows: Vec<Vec<ExampleRow>>,
 }
 
-// Reads sources. Each drops its bytes before the next one is read.
-fn read_sources<S: FeatureSource>(
+// Reads sources.
+fn read_sources(
     alloc: Global,
     choice: &Choice,
     with_rows: bool,
-    sources: &mut [S],
+    sources: &[Source],
 ) -> Result<ReadSources, RunFault>
     ensures read { IfOk result (λ r. AreRead (chosen_by choice.now)
-        (map S.value sources.old) (map chosen_value r.features.items)) }
+        (map source_value sources.now) (map chosen_value r.features.items)) }
     ensures rows { IfOk result (λ r. AreRowsIf with_rows
-        (map S.value sources.old) (row_lists r.rows.items)) }
+        (map source_value sources.now) (row_lists r.rows.items)) }
     ensures formed { IfOk result (λ r. AllByRecursion IsFormed r.features.items) }
     ensures fault { IfErr result (λ e. SaysSources (chosen_by choice.now)
-        (map S.value sources.old) e) }
-    ensures names { names_of (map S.value sources.new) ≡ names_of (map S.value sources.old) }
-    ensures given_up { OnOk result (map S.value sources.new
-        ≡ map without_bytes (map S.value sources.old)) }
-    ensures left { IfErr result (AreLeftAt
-        (map S.value sources.old) (map S.value sources.new)) }
+        (map source_value sources.now) e) }
 {
     let mut features = Vec::new(alloc);
     let mut rows = Vec::new(alloc);
-    for (input, source) in sources.iter_mut().enumerate() {
+    for (input, source) in sources.iter().enumerate() {
         if let Err(fault) = read_onto(
             alloc,
             choice,
@@ -468,37 +460,29 @@ pub fn read_before(
 }
 
 /// Reads the request: first the texts of tags, then the library, then the hooks, then each source. An error names the
-/// first that doesn't read. Each source drops its bytes before the next one is read, and the names stay. At an error,
-/// the sources after the one at which reading stopped have their bytes. The rows of outlines are copied only if
-/// `with_rows` asks for them.
-pub fn read_inputs<S: FeatureSource>(
+/// first that doesn't read. The rows of outlines are copied only if `with_rows` asks for them.
+pub fn read_inputs(
     alloc: Global,
     options: &Options,
     with_rows: bool,
-    files: &mut SuiteFiles<S>,
+    library: Option<&[u8]>,
+    hooks: Option<&[u8]>,
+    sources: &[Source],
 ) -> Result<ReadInputs, RunFault>
-    ensures names { HaveSameNames (files_value S.value files.old) (files_value S.value files.new) }
-    ensures given_up { OnOk result (AreGivenUp
-        (files_value S.value files.old) (files_value S.value files.new)) }
-    // The source that doesn't read and those before it have dropped their bytes, the others haven't.
-    ensures left { IfErr result (AreLeftAt
-        (map S.value files.old.sources.items) (map S.value files.new.sources.items)) }
     ensures read { IfOk result (λ inputs. AreInputs
-        (request_of_files options.now (files_value S.value files.old)) (inputs_value inputs)) }
-    ensures rows { let files = files_value S.value files.old in IfOk result (λ inputs.
-        AreRowsIf with_rows files.sources (row_lists inputs.rows.items)) }
+        (asked options.now library.entry hooks.entry sources.now) (inputs_value inputs)) }
+    ensures rows { IfOk result (λ inputs. AreRowsIf with_rows
+        (map source_value sources.now) (row_lists inputs.rows.items)) }
     ensures formed { IfOk result (λ inputs. AllByRecursion IsFormed inputs.features.items) }
     ensures fault { IfErr result (λ e. IsUnread
-        (request_of_files options.now (files_value S.value files.old)) e) }
+        (asked options.now library.entry hooks.entry sources.now) e) }
 {
-    let library = bytes_of(&files.library);
-    let hooks = bytes_of(&files.hooks);
     let before = match read_before(alloc, options, library, hooks) {
         Ok(before) => before,
         Err(fault) => return Err(fault),
     };
     let choice = choice_by(alloc, before.rules, options.lines.as_slice())?;
-    match read_sources(alloc, &choice, with_rows, files.sources.as_mut_slice()) {
+    match read_sources(alloc, &choice, with_rows, sources) {
         Ok(read) => Ok(ReadInputs {
             library: before.library,
             hooks: before.hooks,

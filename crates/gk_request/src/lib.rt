@@ -19,4 +19,4 @@ pub use inputs::{
 };
 pub use request::{Options, SuiteFiles, bytes_of, name_of};
 pub use run_fault::RunFault;
-pub use source::{BorrowedSource, FeatureSource, Source, SourceFault, read_source};
+pub use source::{Source, SourceFault, read_source};

@@ -1,8 +1,9 @@
 //! What is asked of a run: its options and its files.
 ghost use Rattle.std.specs.Prelude.{◌≡◌, option_map};
 ghost use Rattle.gk_request.specs.Request as spec;
+ghost use Rattle.gk_request.specs.Source.{source_value};
 
-use crate::source::FeatureSource;
+use crate::source::Source;
 use gk_report::{Format, Style};
 use std::alloc::Global;
 
@@ -50,31 +51,31 @@ impl Options {
 
 /// The files of a run, each with its name.
 #[derive(Drop)]
-pub struct SuiteFiles<S> {
+pub struct SuiteFiles {
     /// The library file; without it, the steps are those of the default library.
-    pub library: Option<S>,
+    pub library: Option<Source>,
     /// The hooks file; without it, there are no hooks.
-    pub hooks: Option<S>,
-    pub sources: Vec<S>,
+    pub hooks: Option<Source>,
+    pub sources: Vec<Source>,
 }
 
 /// Returns the bytes of a file, if it is given. Doesn't allocate.
-pub fn bytes_of<S: FeatureSource>(file: &Option<S>) -> Option<&[u8]>
+pub fn bytes_of(file: &Option<Source>) -> Option<&[u8]>
     ensures { option_map (λ bytes. bytes.now) result
-        ≡ spec.bytes_of (option_map S.value file.now) }
+        ≡ spec.bytes_of (option_map source_value file.now) }
 {
     match file {
-        Some(source) => Some(source.bytes()),
+        Some(source) => Some(source.bytes.as_slice()),
         None => None,
     }
 }
 
 /// Returns the name of a file, or an empty name if it isn't given. Doesn't allocate.
-pub fn name_of<S: FeatureSource>(file: &Option<S>) -> &str
-    ensures { result.now ≡ spec.name_of (option_map S.value file.now) }
+pub fn name_of(file: &Option<Source>) -> &str
+    ensures { result.now ≡ spec.name_of (option_map source_value file.now) }
 {
     match file {
-        Some(source) => source.name(),
+        Some(source) => source.name.as_str(),
         None => "",
     }
 }

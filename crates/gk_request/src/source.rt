@@ -2,7 +2,7 @@
 ghost use Rattle.std.specs.Prelude.{◌≡◌, ◌≢◌, ◌≤◌, ◌+◌, [], Some, IfOk, IfSome, IsErrOf, vec_len};
 ghost use Rattle.gk_gherkin.specs.Lines.{limit};
 ghost use Rattle.gk_request.specs.Counted.{HasNotFailed, HasFailedOnce};
-ghost use Rattle.gk_request.specs.Source.{SourceValue, StopsAfter, GivesAtMost, borrowed_value, idle_after, source_value, without_bytes};
+ghost use Rattle.gk_request.specs.Source.{StopsAfter, GivesAtMost, idle_after};
 
 use crate::counted::Counted;
 use gk_gherkin::LONGEST_FILE;
@@ -15,65 +15,6 @@ use thiserror::Error;
 pub struct Source {
     pub name: String,
     pub bytes: Vec<u8>,
-}
-
-/// A source that the caller holds: its name and its bytes.
-#[derive(Clone, Copy, Debug)]
-pub struct BorrowedSource<'a> {
-    pub name: &'a str,
-    pub bytes: &'a [u8],
-}
-
-/// A feature file of a run: its name, and its bytes until its feature is read.
-pub trait FeatureSource {
-    /// The name and the bytes.
-    ghost value: { Self → SourceValue };
-
-    /// Returns the name.
-    fn name(&self) -> &str
-        ensures { result.now ≡ (value self.now).name };
-
-    /// Returns the bytes.
-    fn bytes(&self) -> &[u8]
-        ensures { result.now ≡ (value self.now).bytes };
-
-    /// Drops the bytes. The name stays.
-    fn give_up(&mut self, alloc: Global)
-        ensures { value self.new ≡ without_bytes (value self.old) };
-}
-
-/// Dropping the bytes releases their memory.
-impl FeatureSource for Source {
-    ghost value = { source_value };
-
-    fn name(&self) -> &str {
-        self.name.as_str()
-    }
-
-    fn bytes(&self) -> &[u8] {
-        self.bytes.as_slice()
-    }
-
-    fn give_up(&mut self, alloc: Global) {
-        self.bytes = Vec::new(alloc);
-    }
-}
-
-/// The caller keeps the bytes.
-impl FeatureSource for BorrowedSource<'_> {
-    ghost value = { borrowed_value };
-
-    fn name(&self) -> &str {
-        self.name
-    }
-
-    fn bytes(&self) -> &[u8] {
-        self.bytes
-    }
-
-    fn give_up(&mut self, _alloc: Global) {
-        self.bytes = &[];
-    }
 }
 
 /// Why a source couldn't be read whole.

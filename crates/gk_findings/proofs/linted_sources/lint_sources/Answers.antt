@@ -1,13 +1,13 @@
-use Rattle.gk_findings.proofs.Common.{map, take, sym, subst, string_bytes, noted_library_value, IsLintOf, at_place, take_one, first_unread}
+use Rattle.gk_findings.proofs.Common.{map, take, sym, subst, string_bytes, source_value, noted_library_value, IsLintOf, at_place, take_one, first_unread}
 use Rattle.gk_findings.proofs.LintedSourcesLemmas.{are_read, lint_of_more}
 use Rattle.gk_findings.proofs.linted_sources.lint_sources.Goals as goal
 
 pub returns-in-Err : goal.returns-in-Err
-returns-in-Err g c =
+returns-in-Err c =
     let library = noted_library_value c.args.library.now in
-    let sources = map g.S.FeatureSource.value c.args.sources.now in
-    let source = g.S.FeatureSource.value c.index-sources-input.result in
-    let place = at_place g.S.FeatureSource.value c.args.sources.now c.loop-input.input c.index-sources-input.result c.loop-input-test.true c.index-sources-input.is in
+    let sources = map source_value c.args.sources.now in
+    let source = source_value c.index-sources-input.result in
+    let place = at_place source_value c.args.sources.now c.loop-input.input c.index-sources-input.result c.loop-input-test.true c.index-sources-input.is in
     let before = c.loop-input.invariant in
     record {
       linted = tt;
@@ -17,10 +17,10 @@ returns-in-Err g c =
     }
 
 pub loop-input-preserved : goal.loop-input-preserved
-loop-input-preserved g c =
+loop-input-preserved c =
     let library = noted_library_value c.args.library.now in
-    let sources = map g.S.FeatureSource.value c.args.sources.now in
-    let source = g.S.FeatureSource.value c.index-sources-input.result in
-    let place = at_place g.S.FeatureSource.value c.args.sources.now c.loop-input.input c.index-sources-input.result c.loop-input-test.true c.index-sources-input.is in
+    let sources = map source_value c.args.sources.now in
+    let source = source_value c.index-sources-input.result in
+    let place = at_place source_value c.args.sources.now c.loop-input.input c.index-sources-input.result c.loop-input-test.true c.index-sources-input.is in
     subst (λ ss. IsLintOf library ss c.lint_source.new.so_far) (sym (take_one sources c.loop-input.input source place))
     (lint_of_more library (take c.loop-input.input sources) source c.loop-input.so_far c.lint_source.new.so_far c.loop-input.invariant c.in_default.ensures.ok)

@@ -1,11 +1,11 @@
-use Rattle.gk_findings.proofs.Common.{map, ap, sym, ◌∙◌, subst, hooks_value, is_chosen, library_value, NotedLibraryValue, noted_library_value, IsLibrary, bytes_of, library_name, files_value, request_of_files, noted_library, read_of, sources_unread}
+use Rattle.gk_findings.proofs.Common.{source_value, map, ap, sym, ◌∙◌, subst, hooks_value, is_chosen, library_value, NotedLibraryValue, noted_library_value, IsLibrary, bytes_of, library_name, files_value, request_of_files, noted_library, read_of, sources_unread}
 use Rattle.gk_findings.proofs.linted_suite.findings_text.Goals as goal
 
 pub returns-in-Ok-lint_sources-clause-linted : goal.returns-in-Ok-lint_sources-clause-linted
-returns-in-Ok-lint_sources-clause-linted g c =
+returns-in-Ok-lint_sources-clause-linted c =
     let read = rw (c.bytes_of-library.ensures, c.bytes_of-hooks.ensures) at c.in-Ok.ensures.read in
     let lint = rw (c.as_slice.ensures.value) at c.in-Ok-lint_sources.ensures.linted in
-    let files = files_value g.S.FeatureSource.value c.args.files.now in
+    let files = files_value c.args.files.now in
     let entries = ap (λ (noted : NotedLibraryValue). noted.entries) c.in_ok-noted.ensures in
     record {
       tags = read.tags;
@@ -20,13 +20,13 @@ returns-in-Ok-lint_sources-clause-linted g c =
     }
 
 pub returns-in-Err-clause-fault : goal.returns-in-Err-clause-fault
-returns-in-Err-clause-fault g c =
-    let unread = rw (c.bytes_of-library.ensures, c.bytes_of-hooks.ensures) at c.in-Err.ensures.fault (map g.S.FeatureSource.value c.args.files.now.sources.items) in
+returns-in-Err-clause-fault c =
+    let unread = rw (c.bytes_of-library.ensures, c.bytes_of-hooks.ensures) at c.in-Err.ensures.fault (map source_value c.args.files.now.sources.items) in
     unread
 
 pub returns-clause-fault : goal.returns-clause-fault
-returns-clause-fault g c =
-    let request = request_of_files c.args.options.now (files_value g.S.FeatureSource.value c.args.files.now) in
+returns-clause-fault c =
+    let request = request_of_files c.args.options.now (files_value c.args.files.now) in
     let rules = c.in-Ok.before.rules.items in
     let read = rw (c.bytes_of-library.ensures, c.bytes_of-hooks.ensures) at c.in-Ok.ensures.read in
     let says = rw (c.as_slice.ensures.value) at c.in-Err-lint_sources.ensures.fault in

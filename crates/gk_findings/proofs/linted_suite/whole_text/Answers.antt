@@ -3,8 +3,8 @@ use Rattle.gk_findings.proofs.LintedSuiteLemmas.{five_parts}
 use Rattle.gk_findings.proofs.linted_suite.whole_text.Goals as goal
 
 pub returns : goal.returns
-returns g c =
-    let files = files_value g.S.FeatureSource.value c.args.files.now in
+returns c =
+    let files = files_value c.args.files.now in
     let noted = noted_library_value c.args.library.now in
     let hooks = hooks_value c.args.before.now.hooks in
     let found = c.in_ok-of_hooks.of_hooks.findings.items in

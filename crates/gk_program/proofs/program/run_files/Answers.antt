@@ -1,4 +1,4 @@
-use Rattle.gk_program.proofs.Common.{subst, sym, device_of, source_value, files_value, SaysCallsOfRun, SaysRunFrom}
+use Rattle.gk_program.proofs.Common.{subst, sym, device_of, files_value, SaysCallsOfRun, SaysRunFrom}
 use Rattle.gk_program.proofs.ProgramLemmas.{are_given, calls_of_files, fails, from_run_files, runs}
 use Rattle.gk_program.proofs.program.run_files.Goals as goal
 
@@ -21,11 +21,11 @@ returns-clause-calls g c =
 pub returns-in-Ok-clause-run : goal.returns-in-Ok-clause-run
 returns-in-Ok-clause-run g c =
     let given = are_given c.args.words c.in-Ok.files c.in-Ok.ensures.library c.in-Ok.ensures.hooks c.in-Ok.ensures.named in
-    runs g.S.System.reads c.args.words c.args.system.now c.read_run_files.new.system (files_value source_value c.in-Ok.files) _ _ c.args.sandbox.now.now c.run_sources.result
+    runs g.S.System.reads c.args.words c.args.system.now c.read_run_files.new.system (files_value c.in-Ok.files) _ _ c.args.sandbox.now.now c.run_sources.result
     given c.in-Ok.ensures.read c.run_sources.ensures.run
 
 pub returns-in-Ok-clause-fault : goal.returns-in-Ok-clause-fault
 returns-in-Ok-clause-fault g c =
     let given = are_given c.args.words c.in-Ok.files c.in-Ok.ensures.library c.in-Ok.ensures.hooks c.in-Ok.ensures.named in
-    fails g.S.System.reads c.args.words c.args.system.now c.read_run_files.new.system (files_value source_value c.in-Ok.files) _ _ c.args.sandbox.now.now c.run_sources.result
+    fails g.S.System.reads c.args.words c.args.system.now c.read_run_files.new.system (files_value c.in-Ok.files) _ _ c.args.sandbox.now.now c.run_sources.result
     given c.in-Ok.ensures.read c.run_sources.ensures.fault

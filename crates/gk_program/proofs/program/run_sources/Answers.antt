@@ -1,5 +1,5 @@
-use Rattle.gk_program.proofs.Common.{texts, source_value, files_value, arith, common_steps}
-use Rattle.gk_program.proofs.ProgramLemmas.{calls_as, fault_as_before}
+use Rattle.gk_program.proofs.Common.{files_value, arith, common_steps}
+use Rattle.gk_program.proofs.ProgramLemmas.{calls_as}
 use Rattle.gk_program.proofs.program.run_sources.Goals as goal
 
 pub returns-in-Ok-flush-clause-run : goal.returns-in-Ok-flush-clause-run
@@ -9,10 +9,9 @@ pub returns-in-Ok-clause-fault : goal.returns-in-Ok-clause-fault
 returns-in-Ok-clause-fault g c = grind (arith, common_steps)
 
 pub returns-clause-fault : goal.returns-clause-fault
-returns-clause-fault g c = grind (arith, common_steps, fault_as_before)
+returns-clause-fault g c = grind (arith, common_steps)
 
 pub returns-clause-calls : goal.returns-clause-calls
 returns-clause-calls g c =
-    let named = rw c.as_slice.ensures.value at c.fault_as.ensures in
-    let fault = fault_as_before c.args.mode (texts c.args.options.now.tags.items) c.write_suite.result (files_value source_value c.args.files) (files_value source_value c.write_suite.new.files) c.in-Err.fault c.fault_as.result c.write_suite.ensures.left named in
-    calls_as c.args.mode _ _ _ _ (files_value source_value c.args.files) c.in-Err.fault c.fault_as.result c.requires.room fault c.in-Err.ensures.fault
+    let fault = rw c.as_slice.ensures.value at c.fault_as.ensures in
+    calls_as c.args.mode _ _ _ _ (files_value c.args.files) c.in-Err.fault c.fault_as.result c.requires.room fault c.in-Err.ensures.fault

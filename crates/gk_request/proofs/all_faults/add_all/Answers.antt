@@ -5,5 +5,5 @@ use Rattle.gk_request.proofs.all_faults.add_all.Goals as goal
 pub returns : goal.returns
 returns c =
     on_ok_weaker c.add_after_library.result
-    (added_more (library_files (option_map source_value c.args.files.now.library)) (after_library (files_value source_value c.args.files.now)) c.args.faults.now.items c.add_fault.new.faults.items c.add_after_library.new.faults.items (c.in_ok-add_fault.ensures (library_files (option_map source_value c.args.files.now.library)) c.check_library.ensures.says))
+    (added_more (library_files (option_map source_value c.args.files.now.library)) (after_library (files_value c.args.files.now)) c.args.faults.now.items c.add_fault.new.faults.items c.add_after_library.new.faults.items (c.in_ok-add_fault.ensures (library_files (option_map source_value c.args.files.now.library)) c.check_library.ensures.says))
     c.add_after_library.ensures

@@ -1,4 +1,4 @@
-use Rattle.gk_request.proofs.Common.{sym, subst, map, arith, texts, library_value, AreRules, asked_of, IsUnread, common_steps}
+use Rattle.gk_request.proofs.Common.{sym, subst, arith, texts, library_value, AreRules, asked_of, IsUnread, common_steps}
 use Rattle.gk_request.proofs.InputsLemmas.{tags_unread, library_unread, hooks_unread}
 use Rattle.gk_request.proofs.inputs.read_before.Goals as goal
 

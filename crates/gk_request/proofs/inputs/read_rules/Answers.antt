@@ -1,4 +1,4 @@
-use Rattle.gk_request.proofs.Common.{BadTagText, ◌≡◌, ◌⊎◌, ◌∷◌, [], ◌++◌, map, take, ap, sym, subst, ◌∙◌, string_bytes, map_push, texts, Expression, ReadsTags, AreRules}
+use Rattle.gk_request.proofs.Common.{BadTagText, ◌≡◌, ◌⊎◌, ◌∷◌, [], ◌++◌, take, sym, subst, string_bytes, texts, Expression, ReadsTags, AreRules}
 use Rattle.gk_select.specs.declared.select_fault.SelectFault.TheVariants.{Memory}
 use Rattle.gk_request.proofs.InputsLemmas.{at_place, take_one, rules_one, says_tags}
 use Rattle.gk_request.proofs.inputs.read_rules.Goals as goal

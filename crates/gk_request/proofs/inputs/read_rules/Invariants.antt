@@ -1,4 +1,4 @@
-use Rattle.gk_request.proofs.Common.{map, take, texts, AreRules}
+use Rattle.gk_request.proofs.Common.{take, texts, AreRules}
 use Rattle.gk_request.proofs.inputs.read_rules.Given as goal
 
 abbrev pub invariant-loop-text : goal.invariant-loop-text
