@@ -6,3 +6,4 @@ pub mod ToldRunLemmas
 pub mod ExplainedSuiteLemmas
 pub mod ModesLemmas
 pub mod RowOrderLaw
+pub mod SameResultLaw

@@ -1,6 +1,5 @@
 -- The results of inputs that read stand in file order.
 use Rattle.gk_cli.proofs.Common.{◌≡◌, ℕ, ◌<◌, Bool, true, false, cond, List, [], ◌∷◌, length, map, get_or, ◌&&◌, Option, Some, None, refl, ap, sym, subst, ◌∙◌, arith, get_or-map, length-map, map-map, AllByRecursion, IsNonDecreasingBy, lines_of, RuleValue, FeatureValue, Reads, CaseValue, is_chosen, cases, CasesAreInFileOrder, FallIntoRules, LibraryValue, State, Contents, result_of, Run, first_or, without_first, stays_open, HeadValue, MemberValue, ChosenValue, CasesFallIntoRules, dry_cases_of, dry_feature_of, dry_features_of, dry_rules_of, FeatureCuts, uncut_feature, feature_of, features_of, StandsInFileOrder, ResultsStandInFileOrder, Cuts, results_of, CaseRow, RuleRow, FeatureRow, Results, Cut, AreInFileOrder, RowsAreInFileOrder, JudgedRowsAreInFileOrder, member_by, head_of, chosen_of, with_reading, AreRead, SourceValue, run_with, common_steps}
-use Rattle.gk_run.specs.declared.section.Level.TheVariants as levels
 
 -- Two lists with the same numbers rise alike.
 number_at : {A B : Type 0} (n : A → ℕ) (m : B → ℕ) (xs : List A) (ys : List B) (i : ℕ) (d : A) (e : B) → map n xs ≡ map m ys → i < length xs → i < length ys → n (get_or xs i d) ≡ m (get_or ys i e)
@@ -26,8 +25,11 @@ record IsOrdered (f : ChosenValue) : Type 0 where
   falls : CasesFallIntoRules f
 
 -- What `cases_fall_into_rules` says.
-abbrev CasesFall : Type 0
+abbrev pub CasesFall : Type 0
 CasesFall = (f : FeatureValue) → FallIntoRules (length f.rules) (map (λ (c : CaseValue). c.rule) (cases f))
+
+pub chosen_falls : CasesFall → (chooses : CaseValue → Bool) (source : List ℕ) (f : FeatureValue) → CasesFallIntoRules (chosen_of chooses source f)
+chosen_falls falls chooses source f = rw (length-map f.rules head_of, map-map (λ (m : MemberValue). m.scenario.rule) (member_by chooses) (cases f)) (falls f)
 
 chosen_ordered : CasesAreInFileOrder → CasesFall
     → (chooses : CaseValue → Bool) (source bytes : List ℕ) (f : FeatureValue) → Reads (lines_of bytes) (Some f) → IsOrdered (chosen_of chooses source f)
@@ -36,7 +38,7 @@ chosen_ordered ordered falls chooses source bytes f reads =
     record {
       heads = rise_alike (λ (head : HeadValue). head.line) (λ (r : RuleValue). r.line) (map head_of f.rules) f.rules (map-map (λ (head : HeadValue). head.line) head_of f.rules) order.rising_rules;
       members = rise_alike (λ (m : MemberValue). m.scenario.line) (λ (c : CaseValue). c.line) (map (member_by chooses) (cases f)) (cases f) (map-map (λ (m : MemberValue). m.scenario.line) (member_by chooses) (cases f)) order.rising_cases;
-      falls = rw (length-map f.rules head_of, map-map (λ (m : MemberValue). m.scenario.rule) (member_by chooses) (cases f)) (falls f);
+      falls = chosen_falls falls chooses source f;
     }
 
 reading_ordered : CasesAreInFileOrder → CasesFall → (chooses : CaseValue → Bool) (s : SourceValue) (reading : Option FeatureValue) (others : List ChosenValue)

@@ -3,6 +3,7 @@ pub mod OptionTable
 pub mod Arguments
 pub mod Writing
 pub mod Suite
+pub mod SameResult
 pub mod RowOrder
 pub mod GrowingReport
 pub mod Reporter

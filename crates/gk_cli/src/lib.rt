@@ -5,9 +5,9 @@
 mod arguments;
 mod explained_run;
 mod growing_report;
+mod laws;
 mod option_table;
 mod reporter;
-mod row_order;
 mod suite;
 mod told_run;
 mod writing;
@@ -15,5 +15,5 @@ mod written_run;
 
 pub use arguments::{Mode, Words, WordsFault, read_words};
 pub use gk_request::{Counted, Options, RunFault, Source, SourceFault, read_source};
-pub use row_order::judged_rows_are_in_file_order;
+pub use laws::{judged_rows_are_in_file_order, scenarios_come_to_the_same_in_each_run};
 pub use suite::{run_suite, write_suite};
