@@ -232,12 +232,25 @@ REMOVED = [f"removal {removal}, next {following}\nin the layer {is_there}\nafter
                                                 ("Ok(())", "Ok(())", "false"))]
 
 
+# What the calls come to that no run of the program makes, and what each comes to if memory is refused in it.
+CALLS = {
+    b"read_lines Ok(4)": [b"read_lines Err(Memory)"],
+    b"expand Ok(1)": [b"expand Err(Memory)"],
+    b"run_case Ok(Passed)": [b"run_case Ok(Memory)", b"run_case Err(NoRoom)"],
+    b"run_feature Ok(Passed)": [b"run_feature Ok(Memory)", b"run_feature Err(NoRoom)"],
+    b"part Ok(168)": [b"part Err(AllocError)"],
+    # In its beginning, in its feature, and at its end.
+    b"suite Ok(Passed), Passed": [b"suite Ok(Untested), Memory", b"suite Ok(Memory), Passed", b"suite Err(NoRoom), Passed",
+                                  b"suite Ok(Passed), Memory"],
+}
+
+
 class RefusedInside(OfGrowths):
     """The test program of crates/gk_refusals runs through `run_suite`.
 
     After a run no layer of the sandbox is open, no change is recorded, and its listing is empty. If the growth is
     refused before the run begins, nothing is run. A file that is removed in a layer is there after it, whichever growth
-    was refused."""
+    was refused. Of the calls that no run of the program makes, only the one in which memory was refused says so."""
 
     @property
     def program(self):
@@ -284,6 +297,23 @@ class RefusedInside(OfGrowths):
     def test_hook_before_the_feature_fails(self):
         files = RUNS[HOOKS_OF_TAGS][1]
         self.try_inside(NOT_BEGUN_FEATURE, {**files, HOOKS: b"before_feature:\nGiven it fails\n" + files[HOOKS]})
+
+    def test_single_calls(self):
+        log, found = os.path.join(self.room, "calls.log"), set()
+        for number in itertools.count(1):
+            status, printed, said = driver.start(self.program, ["calls"], self.room,
+                                                 driver.limited(self.room, REFUSE=number, REFUSE_LOG=log))
+            is_met = driver.read(log) != b"unmet\n"
+            if is_met and (status, printed, said) == NOT_BEGUN:
+                self.check("")
+                continue
+            changed = [(call, it) for call, it in zip(CALLS, said.splitlines()) if call != it]
+            is_well = (status, printed, said.count(b"\n")) == (0, b"", len(CALLS)) and len(changed) <= is_met
+            self.unless(f"calls, growth {number} refused: {said}", is_well and all(it in CALLS[call] for call, it in changed))
+            found.update(it for _, it in changed)
+            if not is_met:
+                break
+        self.same("what calls come to in which memory was refused", sorted(found), sorted(sum(CALLS.values(), [])))
 
     def test_removed_file(self):
         log, found = os.path.join(self.room, "removed.log"), []

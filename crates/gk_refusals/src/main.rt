@@ -1,15 +1,18 @@
 //! The test program in which `tests/test_refused_memory.py` refuses one growth of memory after another. With
 //! a feature file, and a hooks file if one is named, it runs `run_suite` in an empty sandbox, and
-//! writes what the sandbox has afterwards. Without arguments it removes a file in a layer, and writes
+//! writes what the sandbox has afterwards. With the word `calls` it makes the calls that no run of the
+//! program makes, and writes their results. Without arguments it removes a file in a layer, and writes
 //! the result.
 #![tactic(auto)]
 
 mod removed_file;
+mod single_calls;
 mod whole_run;
 
 use gk_cli::Counted;
 use gk_world::Sandbox;
 use removed_file::remove_in_layer;
+use single_calls::make_calls;
 use std::env;
 use std::io::Write;
 use std::process::ExitCode;
@@ -80,9 +83,24 @@ fn show_removed_file<R: Eprint + AllocGlobal>(rt: &R) -> u8 {
     0
 }
 
+// Makes the calls that no run of the program makes, and writes their results.
+fn show_single_calls<R: Eprint + AllocGlobal>(rt: &R) -> u8 {
+    let Some(made) = make_calls(rt.alloc()) else {
+        return not_begun(rt);
+    };
+    let _ = eprintln!(rt; "read_lines {:?}", made.lines);
+    let _ = eprintln!(rt; "expand {:?}", made.cases);
+    let _ = eprintln!(rt; "run_case {:?}", made.case);
+    let _ = eprintln!(rt; "run_feature {:?}", made.feature);
+    let _ = eprintln!(rt; "part {:?}", made.part);
+    let _ = eprintln!(rt; "suite {:?}, {:?}", made.of_suite, made.suite);
+    0
+}
+
 fn main(rt: HostRuntime) -> ExitCode {
     let status = match arguments_of(&rt) {
         Some(arguments) => match arguments.get(1) {
+            Some(word) if word.as_str() == "calls" => show_single_calls(&rt),
             Some(feature) => show_run(
                 &rt,
                 feature,
