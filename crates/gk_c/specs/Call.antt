@@ -64,4 +64,4 @@ AreFilesPut arguments old new count =
 
 -- The version of the library.
 abbrev pub version : List ℕ
-version = codes "1.0.2"
+version = codes "1.1.0"
