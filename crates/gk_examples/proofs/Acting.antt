@@ -76,7 +76,7 @@ remove_file : Does actions.RemoveFile
 remove_file = refl
 
 rename_file : Does actions.RenameFile
-    ((renaming (codes "a") (codes "b"), record (passes (without_file (with_file start (codes "b") (codes "one")) (codes "a"))) { files = (codes "b", codes "one") ∷ [] }) ∷
+    ((renaming (codes "a") (codes "b"), passes (without_file (with_file start (codes "b") (codes "one")) (codes "a"))) ∷
     (renaming (codes "a") (codes "a"), passes start) ∷
     (renaming (codes "b") [], fails start reasons.Absent) ∷
     (renaming (codes "a") [], fails start reasons.BadName) ∷ [])

@@ -1,5 +1,5 @@
 -- What the world's changes and answers are to the table of actions.
-use Rattle.gk_run.proofs.Common.{⊤, ℤ, pos, negsuc, ◌+ℤ◌, String, FitsSigned, cond, option_map, Option, Some, None, Result, Ok, Err, OnOk, OnErr, map, is_none, get-insert, get-remove, signed_decimal, inl, inr, ◌≤◌, Vec, Global, get_or, w64, ◌≡◌, ℕ, ◌+◌, ◌<◌, Bool, true, false, List, [], ◌∷◌, length, drop, refl, sym, ap, subst, ◌∙◌, arith, leb-true, le-leb, common_steps, Decides-ltb, length_signed_le, nat_list_cmp_total, is_eq-slice_cmp, WorldFault, Texts, Contents, State, Map, with_text, without, laid, see, state_of, first_true, IsAnswer, IsFault, joined, is_bad_name, is_too_long, SandboxValue, Becomes, Outcome, Site, Reason, number_of, is_i64, Action, Does, Changes, Checks, Registers, Skips, UsedFields, HasUsedFields, LibraryValue, FoundValue, action_of, BlockValue, texts, Arguments, WritesFirst, WritesFile, row_file, ArgumentsValue, arguments_of, arguments_by_uses, arguments_value, table, act, at_site, does_at_site, without_cleanups, CleanupValue, HasRegistered, write_row, write_rows, Done, add_number, is_pass, and_then, put, passes, fails, stays, unless, outcome_of, IsDone, IsActed, Performs, exists, is_absent, agrees, skip_outcome, with_file, without_file, with_env, without_env, with_own, without_own}
+use Rattle.gk_run.proofs.Common.{⊤, ◌||◌, unwrap_or, bytes_eq, bytes_eq-Decides, ℤ, pos, negsuc, ◌+ℤ◌, String, FitsSigned, cond, option_map, Option, Some, None, Result, Ok, Err, OnOk, OnErr, map, is_none, get-insert, get-remove, signed_decimal, inl, inr, ◌≤◌, Vec, Global, get_or, w64, ◌≡◌, ℕ, ◌+◌, ◌<◌, Bool, true, false, List, [], ◌∷◌, length, drop, refl, sym, ap, subst, ◌∙◌, arith, leb-true, le-leb, common_steps, Decides-ltb, length_signed_le, nat_list_cmp_total, is_eq-slice_cmp, WorldFault, Texts, Contents, State, Map, with_text, without, laid, see, state_of, first_true, IsAnswer, IsFault, joined, is_bad_name, is_too_long, rename_refusal, SandboxValue, Becomes, Outcome, Site, Reason, number_of, is_i64, Action, Does, Changes, Checks, Registers, Skips, UsedFields, HasUsedFields, LibraryValue, FoundValue, action_of, BlockValue, texts, Arguments, WritesFirst, WritesFile, row_file, ArgumentsValue, arguments_of, arguments_by_uses, arguments_value, table, act, at_site, does_at_site, without_cleanups, CleanupValue, HasRegistered, write_row, write_rows, Done, add_number, is_pass, and_then, moved, rename_file, put, passes, stays, unless, outcome_of, IsDone, IsActed, Performs, exists, is_absent, agrees, skip_outcome, with_file, without_file, with_env, without_env, with_own, without_own}
 use Rattle.std.specs.FinMap as finite
 use Rattle.std.proofs.lemmas.List.{append-nil}
 use Rattle.gk_world.specs.declared.refusals.WorldFault.TheVariants as faults
@@ -126,6 +126,41 @@ remove_tests held name = (is_bad_name name, faults.BadName) ∷ (is_none (held n
 abbrev pub delete_tests : State → List ℕ → List (Bool × WorldFault)
 delete_tests s name = (is_bad_name name, faults.BadName) ∷ (is_none (see s name), faults.Absent) ∷ (is_none (s.own name), faults.OtherLayer) ∷ []
 
+-- the new name put in before or after the old one is taken out
+moved_either_way : (m : Map) (name to text : List ℕ) → bytes_eq name to ≡ false → with_text (without m name) to text ≡ without (with_text m to text) name
+moved_either_way m name to text differ i other = apart (m other) (bytes_eq other to) (bytes_eq other name) (both other) i
+  where
+    both : (other : List ℕ) → bytes_eq other to ≡ true → bytes_eq other name ≡ true → ⊥
+    both other a b = grind (arith, common_steps, bytes_eq-Decides)
+
+    apart : (x : Option (List ℕ)) (b c : Bool) → (b ≡ true → c ≡ true → ⊥) → cond b (Some text) (cond c None x) ≡ cond c None (cond b (Some text) x)
+    apart x true true h = absurd (h refl refl)
+    apart x true false h = refl
+    apart x false c h = refl
+
+-- a renamed file, in the plain state
+file_renamed : (c : Contents) (name to : List ℕ) → bytes_eq name to ≡ false → state_of (changes.with_renamed c name to) ≡ moved (state_of c) name to
+file_renamed c name to differ =
+    let text = unwrap_or (finite.get c.files name) [] in
+    file_put (changes.without_file c name) to text
+    ∙ ap (λ (s : State). with_file s to text) (file_removed c name)
+    ∙ ap (λ (m : Map). let s : State = state_of c in record s { files = m }) (moved_either_way (finite.get c.files) name to text differ)
+    ∙ ap (λ b. cond b (state_of c) (without_file (with_file (state_of c) to text) name)) (sym differ)
+
+-- a file that is there moves to another name
+pub file_moved : (name to : List ℕ) (r : Result ⊤ WorldFault) (o : Outcome) (old new : SandboxValue) → is_bad_name name ≡ false → is_none (finite.get old.now.files name) ≡ false → bytes_eq name to ≡ false → o ≡ outcome_of r
+    → OnOk r (changes.RenamesFile old name to new) → IsAnswer (rename_refusal (finite.get old.now.files) name to) r → OnErr r (new ≡ old) → IsActed (rename_file (state_of old.now) name to) old o new
+file_moved name to r o old new good there differ is ok answer err =
+    let held = is_none (finite.get old.now.files name) in
+    let after = moved (state_of old.now) name to in
+    let ws : List (Bool × WorldFault) = (is_bad_name to, faults.BadName) ∷ [] in
+    let asked : rename_refusal (finite.get old.now.files) name to ≡ first_true ws =
+    ap (λ b. first_true ((b || is_bad_name to, faults.BadName) ∷ (held, faults.Absent) ∷ [])) good
+    ∙ ap (λ b. first_true ((is_bad_name to, faults.BadName) ∷ (b, faults.Absent) ∷ [])) there in
+    let known : (is_bad_name name || held) ≡ false = ap (λ b. b || held) good ∙ there in
+    let done = acted ws r o old new (changes.with_renamed old.now name to) after is ok (subst (λ f. IsAnswer f r) asked answer) err (file_renamed old.now name to differ) in
+    subst (λ b. IsActed (unless (state_of old.now) ((b, reasons.Absent) ∷ (is_bad_name to, reasons.BadName) ∷ []) after) old o new) (sym known) done
+
 -- memory was refused
 abbrev pub refuses : Outcome → Bool
 refuses outcomes.Memory = true
@@ -172,10 +207,6 @@ went_on d files outcomes.Skip s h = h
 went_on d files (outcomes.Failed why) s h = h
 went_on d files outcomes.Memory s h = refl
 
--- a change that is refused, or only one, writes no files of several
-pub put_no_files : (s : State) (name text : List ℕ) (new : State) → (put s name text new).files ≡ []
-put_no_files s name text new = grind (arith, common_steps)
-
 -- an action in two parts, of which the first wrote a file and passed
 pub part_passes : (file : List ℕ × List ℕ) (this : Done) (next : State → Done) (old mid new : SandboxValue) (written o : Outcome) → written ≡ outcomes.Passed
     → IsActed this old written mid → WritesFile file old written mid → IsActed (next (state_of mid.now)) mid o new → IsActed (and_then file this (next this.state)) old o new
@@ -192,16 +223,6 @@ part_passes file this next old mid new written o is h puts k =
       layers = record { layers = second.layers.layers ∙ first.layers.layers; starts = second.layers.starts ∙ first.layers.starts };
       kept = λ m. inr (mid, puts is, second.kept m);
     })
-
-ended_so : (file : List ℕ × List ℕ) (this next : Done) (old new : SandboxValue) (o : Outcome) → is_pass o ≡ false → o ≡ this.outcome → IsActed this old o new → IsActed (and_then file this next) old o new
-ended_so file this next old new o fails is h = grind (arith, common_steps)
-
--- an action in two parts, which ended with the first
-pub part_ends : (file : List ℕ × List ℕ) (this next : Done) (old new : SandboxValue) (o : Outcome) → this.files ≡ [] → (o ≡ outcomes.Passed → ⊥) → IsActed this old o new → IsActed (and_then file this next) old o new
-part_ends file this next old new outcomes.Passed none never h = absurd (never refl)
-part_ends file this next old new outcomes.Skip none never h = ended_so file this next old new outcomes.Skip refl h.carried_out.0 h
-part_ends file this next old new (outcomes.Failed why) none never h = ended_so file this next old new (outcomes.Failed why) refl h.carried_out.0 h
-part_ends file this next old new outcomes.Memory none never h = grind (arith, common_steps)
 
 -- a number's text is short
 short_number : (z : ℤ) (text : List ℕ) → FitsSigned w64 z → text ≡ signed_decimal z → is_too_long text ≡ false

@@ -9,11 +9,12 @@ pub use Rattle.std.proofs.lemmas.List.{at_drop_all, at_drop_more, drop_all, leng
 pub use Rattle.std.proofs.lemmas.List.Folds.{list_any-append}
 pub use Rattle.std.proofs.lemmas.Map.Text.{is_eq-slice_cmp}
 pub use Rattle.std.proofs.lemmas.Option.{none-some, same_Some}
+pub use Rattle.std.proofs.lemmas.Slice.Eq.{bytes_eq-Decides}
 pub use Rattle.std.specs.FinMap.{get-insert, get-remove}
 pub use Rattle.std.specs.Fmt.{signed_decimal}
 pub use Rattle.std.specs.List.{AllZip, FoldsTo, list_all, list_any}
 pub use Rattle.std.specs.Option.{option_map_or}
-pub use Rattle.std.specs.Prelude.{OnOk, bytes_eq, is_none, negsuc, pos, ⊤}
+pub use Rattle.std.specs.Prelude.{OnOk, bytes_eq, is_none, negsuc, pos, unwrap_or, ⊤}
 pub use Rattle.std.specs.Slice.{IsItemAt}
 pub use Rattle.std.specs.Vec.Iter.{into_iter_items, into_iter_len}
 pub use Rattle.gk_gherkin.specs.Feature.{BlockValue, StepValue, Table, block_value, step_value, texts}
@@ -35,11 +36,11 @@ pub use Rattle.gk_steps.specs.declared.action.Does.TheVariants.{Changes, Checks,
 pub use Rattle.gk_steps.specs.declared.library.Library.{Library}
 pub use Rattle.gk_steps.specs.declared.used_fields.FoundUse.{FoundUse}
 pub use Rattle.gk_steps.specs.declared.used_fields.UsedFields.{UsedFields}
-pub use Rattle.gk_world.specs.Refusals.{IsAnswer, IsFault, first_true, is_bad_name, is_too_long, joined}
+pub use Rattle.gk_world.specs.Refusals.{IsAnswer, IsFault, first_true, is_bad_name, is_too_long, joined, rename_refusal}
 pub use Rattle.gk_world.specs.Sandbox.{Becomes, IsSame, KeepsLayers, SandboxValue}
 pub use Rattle.gk_world.specs.State.{Contents, Map, State, Texts, enter, laid, nothing_yet, see, state_of, with_text, without}
 pub use Rattle.gk_world.specs.declared.refusals.WorldFault.{WorldFault}
-pub use Rattle.gk_run.specs.Acting.{ArgumentsValue, CleanupValue, Done, HasRegistered, IsActed, IsDone, Performs, WritesFile, WritesFirst, add_number, agrees, and_then, arguments_by_uses, arguments_of, arguments_value, at_site, cleanup_value, does_at_site, done_of, exists, fails, is_absent, is_pass, outcome_of, passes, put, remove_file, row_file, skip_outcome, stays, table, unless, with_env, with_file, with_own, without_cleanups, without_env, without_file, without_own, write_below, write_row, write_rows, write_table}
+pub use Rattle.gk_run.specs.Acting.{ArgumentsValue, CleanupValue, Done, HasRegistered, IsActed, IsDone, Performs, WritesFile, WritesFirst, add_number, agrees, and_then, arguments_by_uses, arguments_of, arguments_value, at_site, cleanup_value, does_at_site, done_of, exists, fails, is_absent, is_pass, moved, outcome_of, passes, put, rename_file, row_file, skip_outcome, stays, table, unless, with_env, with_file, with_own, without_cleanups, without_env, without_file, without_own, write_below, write_row, write_rows, write_table}
 unfoldable pub use Rattle.gk_run.specs.Acting.{act}
 pub use Rattle.gk_run.specs.Chosen.{CasesFallIntoRules, ChosenValue, FormedCasesFallIntoRules, Group, GroupsAreAll, HeadValue, MemberValue, chosen_value, falls_from, groups_from, has_selected, head_value, member_of, members_of, members_of_rank, own_members, rule_groups}
 pub use Rattle.gk_run.specs.DryRun.{AreDrySteps, IsDryStep, dry_case_of, dry_cases_of, dry_events, dry_feature_of, dry_features_of, dry_row, dry_rules_of, dry_step, dry_verdict}

@@ -178,7 +178,7 @@ without_own s name = record s { own = without s.own name }
 abbrev pub put : State → List ℕ → List ℕ → State → Done
 put s name text new = unless s (bad_name name ∷ too_long text ∷ []) new
 
--- A file is removed, as by `remove_file`.
+-- A file is removed.
 abbrev pub remove_file : State → List ℕ → Done
 remove_file s name = unless s (bad_name name ∷ absent (s.files name) ∷ []) (without_file s name)
 
@@ -186,13 +186,9 @@ remove_file s name = unless s (bad_name name ∷ absent (s.files name) ∷ []) (
 abbrev pub moved : State → List ℕ → List ℕ → State
 moved s name to = cond (bytes_eq name to) s (without_file (with_file s to (unwrap_or (s.files name) [])) name)
 
--- The file of the new name, unless the names are equal.
-abbrev pub renamed_files : State → List ℕ → List ℕ → List (List ℕ × List ℕ)
-renamed_files s name to = cond (bytes_eq name to) [] ((to, unwrap_or (s.files name) []) ∷ [])
-
 -- A file is renamed. This fails with `Absent` if there is no such file, as under a bad name, and then with `BadName` if the new name is bad.
 abbrev pub rename_file : State → List ℕ → List ℕ → Done
-rename_file s name to = let done = unless s ((is_bad_name name || is_none (s.files name), reasons.Absent) ∷ bad_name to ∷ []) (moved s name to) in record done { files = cond (is_pass done.outcome) (renamed_files s name to) [] }
+rename_file s name to = unless s ((is_bad_name name || is_none (s.files name), reasons.Absent) ∷ bad_name to ∷ []) (moved s name to)
 
 -- A row of a table of files, written as a file. A row of such a table has two cells.
 abbrev pub write_row : State → List (List ℕ) → Done
@@ -356,10 +352,6 @@ outcome_of (Err faults.TextTooLong) = outcomes.Failed reasons.TextTooLong
 outcome_of (Err faults.BadName) = outcomes.Failed reasons.BadName
 outcome_of (Err faults.OtherLayer) = outcomes.Failed reasons.OtherLayer
 outcome_of (Err faults.Memory) = outcomes.Memory
-
--- A text is written under a new name, and then the old name is removed.
-abbrev pub put_and_remove : State → List ℕ → List ℕ → List ℕ → Done
-put_and_remove s name to text = let written = put s to text (with_file s to text) in and_then (to, text) written (remove_file written.state name)
 
 -- If the outcome is `Passed`, this file was written.
 abbrev pub WritesFile : List ℕ × List ℕ → SandboxValue → Outcome → SandboxValue → Type 0

@@ -181,7 +181,7 @@ fn perform(
         Action::WriteFile => write_file(sandbox, arguments),
         Action::AppendFile => append_file(sandbox, arguments),
         Action::RemoveFile => remove_file(sandbox, arguments.name),
-        Action::RenameFile => rename_file(alloc, sandbox, arguments),
+        Action::RenameFile => rename_file(sandbox, arguments),
         Action::WriteFiles => write_files(sandbox, arguments),
         Action::FileExists => exists(sandbox.file(arguments.name)),
         Action::FileAbsent => is_absent(sandbox.file(arguments.name)),
@@ -286,9 +286,8 @@ pub(crate) fn act_by(
 /// with a step that has the ends of no entry of type `step`. `at_cleanup` adds a cleanup to those that
 /// are registered; every other action, and a refusal, leaves these as they are. An action that fails
 /// midway keeps what it did before: rows of `write_files` before the refused one stay. At `Memory` the
-/// sandbox and the cleanups are as they were, except for what `write_files` and `rename_file` changed
-/// before; the end of the layer restores what the sandbox held when the layer began. (behave's
-/// documentation: cleanups)
+/// sandbox and the cleanups are as they were, except for what `write_files` changed before; the end of
+/// the layer restores what the sandbox held when the layer began. (behave's documentation: cleanups)
 #[tactic(auto, using(crate::proofs::ActingLemmas::called_is))]
 pub fn act(
     alloc: Global,

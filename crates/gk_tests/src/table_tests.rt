@@ -67,6 +67,17 @@ fn tables_say_why_a_change_is_refused(rt: HostRuntime) -> Result<(), WorldFault>
     equal(&rt, &table.remove_refusal("a"), &None);
     equal(&rt, &table.remove_refusal(""), &Some(WorldFault::BadName));
     equal(&rt, &table.remove_refusal("b"), &Some(WorldFault::Absent));
+    equal(&rt, &table.rename_refusal("a", "b"), &None);
+    equal(
+        &rt,
+        &table.rename_refusal("b", ""),
+        &Some(WorldFault::BadName),
+    );
+    equal(
+        &rt,
+        &table.rename_refusal("b", "a"),
+        &Some(WorldFault::Absent),
+    );
     Ok(())
 }
 

@@ -12,6 +12,8 @@ enum Call {
     PutFile,
     AppendFile,
     RemoveFile,
+    /// The text of the call is the new name.
+    RenameFile,
     PutEnv,
     RemoveEnv,
     SetValue,
@@ -26,6 +28,7 @@ fn make(world: &mut Sandbox, call: Call, name: &str, text: &str) -> Result<(), W
         Call::PutFile => world.put_file(name, text),
         Call::AppendFile => world.append_file(name, text),
         Call::RemoveFile => world.remove_file(name),
+        Call::RenameFile => world.rename_file(name, text),
         Call::PutEnv => world.put_env(name, text),
         Call::RemoveEnv => world.remove_env(name),
         Call::SetValue => world.set_value(name, text),
@@ -36,7 +39,7 @@ fn make(world: &mut Sandbox, call: Call, name: &str, text: &str) -> Result<(), W
 /// Returns what a call's name has after the call.
 fn seen<'a>(world: &'a Sandbox, call: Call, name: &str) -> Option<&'a str> {
     match call {
-        Call::PutFile | Call::AppendFile | Call::RemoveFile => world.file(name),
+        Call::PutFile | Call::AppendFile | Call::RemoveFile | Call::RenameFile => world.file(name),
         Call::PutEnv | Call::RemoveEnv => world.env(name),
         Call::SetValue | Call::DeleteValue => world.value(name),
     }
@@ -66,10 +69,14 @@ fn first_wrong(world: &mut Sandbox, rows: &[Row]) -> Option<usize>
     None
 }
 
-const OUTER: [Row; 12] = [
+const OUTER: [Row; 16] = [
     (Call::AppendFile, "f", "x", Err(WorldFault::Absent), None),
     (Call::RemoveFile, "f", "", Err(WorldFault::Absent), None),
+    (Call::RenameFile, "f", "", Err(WorldFault::BadName), None),
+    (Call::RenameFile, "f", "g", Err(WorldFault::Absent), None),
     (Call::PutFile, "f", "one", Ok(()), Some("one")),
+    (Call::RenameFile, "f", "g", Ok(()), None),
+    (Call::RenameFile, "g", "f", Ok(()), None),
     (Call::AppendFile, "f", "two", Ok(()), Some("onetwo")),
     (Call::RemoveFile, "f", "", Ok(()), None),
     (Call::PutFile, "f", "", Ok(()), Some("")),
@@ -81,7 +88,7 @@ const OUTER: [Row; 12] = [
     (Call::SetValue, "", "5", Err(WorldFault::BadName), None),
 ];
 
-const INNER: [Row; 4] = [
+const INNER: [Row; 6] = [
     (
         Call::DeleteValue,
         "n",
@@ -91,7 +98,9 @@ const INNER: [Row; 4] = [
     ),
     (Call::SetValue, "n", "7", Ok(()), Some("7")),
     (Call::DeleteValue, "n", "", Ok(()), Some("5")),
-    (Call::RemoveFile, "f", "", Ok(()), None),
+    (Call::RenameFile, "f", "g", Ok(()), None),
+    (Call::RenameFile, "g", "h", Ok(()), None),
+    (Call::RemoveFile, "h", "", Ok(()), None),
 ];
 
 /// Makes the calls of the inner rows in a new layer, and ends it. Returns the first wrong row, and the
@@ -121,8 +130,8 @@ fn both_layers_hold(world: &mut Sandbox) -> bool
     wrong.is_none()
         && wrong_inside.is_none()
         && depth == 2
-        && recorded == 10
-        && recorded_after == 7
+        && recorded == 14
+        && recorded_after == 9
         && is_there
 }
 
@@ -146,10 +155,11 @@ fn change_all(world: &mut Sandbox, names: &[String], round: usize) -> usize
         Call::RemoveFile,
         Call::DeleteValue,
         Call::RemoveEnv,
+        Call::RenameFile,
     ];
     let mut done: usize = 0;
     for (place, name) in names.iter().enumerate() {
-        let call = calls[place.wrapping_add(round) % 7];
+        let call = calls[place.wrapping_add(round) % 8];
         if make(world, call, name, "text").is_ok() {
             done = done.saturating_add(1);
         }
@@ -237,7 +247,7 @@ fn three_layers_give_back(world: &mut Sandbox, alloc: Global) -> Result<bool, Wo
     let names = forty_names(alloc)?;
     fill(world, &names)?;
     let before = world.listing(alloc)?;
-    let are_thousand = three_layers_end(world, &names, 10);
+    let are_thousand = three_layers_end(world, &names, 11);
     let after = world.listing(alloc)?;
     Ok(are_thousand && is_same(&before, &after))
 }

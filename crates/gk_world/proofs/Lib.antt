@@ -6,6 +6,7 @@ pub mod JournalLemmas
 pub mod RowsLemmas
 pub mod RemovedLemmas
 pub mod SlotsLemmas
+pub mod MoveLemmas
 pub mod UndoLemmas
 pub mod WorldLemmas
 pub mod TextsLemmas

@@ -10,7 +10,7 @@ use Rattle.gk_world.proofs.UndoLemmas.{undo_writes, map_undone, layers_put, diff
 pub contents_undone : (d : ℕ) (u : WorldUndo) (w : World) → NamesDiffer w → Fits u w → contents_of d (undone u w) ≡ contents.undone (seen_undo w u) (contents_of d w)
 contents_undone d (File u) w n h = λ i. record { files = map_undone u w.files n.files h i; env = map_at 0 w.env; values = layers_of d w.values }
 contents_undone d (Env u) w n h = λ i. record { files = map_at 0 w.files; env = map_undone u w.env n.env h i; values = layers_of d w.values }
-contents_undone d (Value u) w n h = λ i. record { files = map_at 0 w.files; env = map_at 0 w.env; values = layers_put d (slot.cell_of u) (slot.name_of w.values u) (slot.old_of w.values u) w.values (slot.undone u w.values) (undo_writes layers u w.values n.values h) i }
+contents_undone d (Value u) w n h = λ i. record { files = map_at 0 w.files; env = map_at 0 w.env; values = layers_put d (slot.cell_of u) (slot.olds_of w.values u) w.values (slot.undone u w.values) (undo_writes layers u w.values n.values h) i }
 
 -- older undos are seen where the newer ones are undone
 pub seen_undos-append : (w : World) (us vs : List WorldUndo) → seen_undos w (us ++ vs) ≡ seen_undos (rewound undone vs w) us ++ seen_undos w vs

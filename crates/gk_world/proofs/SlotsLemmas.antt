@@ -1,5 +1,5 @@
 -- Slots and the maps that they stand for.
-use Rattle.gk_world.proofs.Common.{◌≡◌, ℕ, zero, suc, ◌<◌, Bool, true, false, cond, List, [], ◌∷◌, ◌++◌, Option, None, Some, MatchOption, length, take, refl, sym, ap, subst, ◌∙◌, bytes_eq, get_or, set, arith, get_or-set_other, get_or-set_same, common_steps, get, get-empty, get-insert, get-remove, same_map, slice_cmp-IsAntisymmetric, nat_cmp-IsAntisymmetric, nat_list_cmp_total, is_eq-slice_cmp, bytes_eq-Decides, take-append-le, take-length, Slot, Cell, cell_at, IsOnly, Texts, with_entry, map_at, Writes, with_cells, with_cell, cells_of, name_at, IsPosition, IsMissing, IsAt, IsNew, HasCell, IsNewest, NamesDiffer}
+use Rattle.gk_world.proofs.Common.{◌≡◌, ℕ, zero, suc, ◌<◌, Bool, true, false, cond, List, [], ◌∷◌, ◌++◌, Option, None, Some, MatchOption, length, take, refl, sym, ap, subst, ◌∙◌, bytes_eq, get_or, set, arith, get_or-set_other, get_or-set_same, common_steps, get, get-empty, get-insert, get-remove, same_map, slice_cmp-IsAntisymmetric, nat_cmp-IsAntisymmetric, nat_list_cmp_total, is_eq-slice_cmp, bytes_eq-Decides, take-append-le, take-length, Slot, Cell, cell_at, IsOnly, Texts, with_entry, map_at, Writes, with_cells, with_cell, cells_of, name_at, IsPosition, IsMissing, IsAt, IsNew, HasCell, IsNewest, NamesDiffer, WritesEach, length-set}
 use Rattle.std.specs.FinMap as map
 use Rattle.std.proofs.lemmas.List.{length-append}
 
@@ -68,6 +68,13 @@ writes n s t i j c e h lt = subst (Writes n j c s) (sym e) (record {
       ∙ same_write (map_at k s) n (cell_at k (cells_of s i)) (get-map_at-position k n s i h);
 })
 
+-- two writes of one cell, one after the other
+pub writes_both : (n m : List ℕ) (c d : Cell) (j : ℕ) (r s t : List Slot) → Writes n j c r s → Writes m j d s t → WritesEach ((n, c) ∷ (m, d) ∷ []) j r t
+writes_both n m c d j r s t first second = record {
+  here = second.here ∙ ap (λ x. with_entry x m d) first.here;
+  others = λ k ne. second.others k ne ∙ first.others k ne;
+}
+
 -- a slot that is added, with one text
 pub pushes : (n : List ℕ) (s t : List Slot) (cells : List Cell) (j : ℕ) (c : Cell) → t ≡ s ++ (n, cells) ∷ [] → IsMissing n s → IsOnly j c cells → Writes n j c s t
 pushes n s t cells j c e h only = grind (arith, common_steps, map_at-push, same_write, get-map_at-missing)
@@ -106,7 +113,7 @@ missing_before [] i d lt = absurd (omega arith)
 missing_before (w ∷ s) zero d lt = tt
 missing_before (w ∷ s) (suc i) d lt = (missing-name w.0 s i d.0 (omega arith), missing_before s i d.1 (omega arith))
 
-missing-with_cells : (n : List ℕ) (s : List Slot) (i : ℕ) (c : List Cell) → IsMissing n s → IsMissing n (with_cells s i c)
+pub missing-with_cells : (n : List ℕ) (s : List Slot) (i : ℕ) (c : List Cell) → IsMissing n s → IsMissing n (with_cells s i c)
 missing-with_cells n [] i c h = tt
 missing-with_cells n (w ∷ s) zero c h = h
 missing-with_cells n (w ∷ s) (suc i) c h = (h.0, missing-with_cells n s i c h.1)
@@ -142,7 +149,7 @@ pub differ-push : (s : List Slot) (w : Slot) → NamesDiffer s → IsMissing w.0
 differ-push [] w d h = (tt, tt)
 differ-push (v ∷ s) w d h = (missing-push v.0 s w d.0 (unequal w.0 v.0 h.0), differ-push s w d.1 h.1)
 
-length-with_cells : (s : List Slot) (i : ℕ) (c : List Cell) → length (with_cells s i c) ≡ length s
+pub length-with_cells : (s : List Slot) (i : ℕ) (c : List Cell) → length (with_cells s i c) ≡ length s
 length-with_cells [] i c = refl
 length-with_cells (w ∷ s) zero c = refl
 length-with_cells (w ∷ s) (suc i) c = ap suc (length-with_cells s i c)
@@ -152,9 +159,32 @@ cells-written [] i cs lt = absurd (omega arith)
 cells-written (w ∷ s) zero cs lt = refl
 cells-written (w ∷ s) (suc i) cs lt = cells-written s i cs (omega arith)
 
+-- what a write of one slot keeps of each
+pub name-with_cells : (s : List Slot) (i k : ℕ) (cs : List Cell) → name_at (with_cells s i cs) k ≡ name_at s k
+name-with_cells [] i k cs = refl
+name-with_cells (w ∷ s) zero zero cs = refl
+name-with_cells (w ∷ s) zero (suc k) cs = refl
+name-with_cells (w ∷ s) (suc i) zero cs = refl
+name-with_cells (w ∷ s) (suc i) (suc k) cs = name-with_cells s i k cs
+
+pub length-cells_of : (s : List Slot) (i j k : ℕ) (c : Cell) → length (cells_of (with_cell s i j c) k) ≡ length (cells_of s k)
+length-cells_of [] i j k c = refl
+length-cells_of (w ∷ s) zero j zero c = length-set w.1 j c
+length-cells_of (w ∷ s) zero j (suc k) c = refl
+length-cells_of (w ∷ s) (suc i) j zero c = refl
+length-cells_of (w ∷ s) (suc i) j (suc k) c = length-cells_of s i j k c
+
 -- a slot whose cell is written has that cell
 pub has_cell : (w : ℕ) (s t : List Slot) (i j : ℕ) (c : Cell) → t ≡ with_cell s i j c → i < length s → j < length (cells_of s i) → j < w → HasCell w t i j
 has_cell w s t i j c e there within allowed = grind (arith, common_steps, length-with_cells, cells-written)
+
+-- each slot still has its cells
+pub has_still : (w : ℕ) (s : List Slot) (i j k l : ℕ) (c : Cell) → HasCell w s k l → HasCell w (with_cell s i j c) k l
+has_still w s i j k l c h = record {
+  there = subst (λ n. k < n) (sym (length-with_cells s i _)) h.there;
+  within = subst (λ n. l < n) (sym (length-cells_of s i j k c)) h.within;
+  allowed = h.allowed;
+}
 
 -- a slot that is added is the newest
 pub newest : (width : ℕ) (n : List ℕ) (s t : List Slot) (cells : List Cell) (i j : ℕ) (c : Cell) → t ≡ s ++ (n, cells) ∷ [] → i ≡ length s → IsOnly j c cells → j < width → IsNewest width t i j

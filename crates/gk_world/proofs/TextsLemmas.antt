@@ -1,5 +1,5 @@
 -- Changes keep texts short.
-use Rattle.gk_world.proofs.Common.{◌≡◌, ℕ, false, List, [], ◌∷◌, Some, None, IfSome, is_none, bytes_eq, string_bytes, sym, subst, arith, common_steps, AllByRecursion, get, empty, get-empty, Texts, Map, Contents, with_entry, with_innermost, state_of, Cell, is_too_long, joined, put_refusal, append_refusal, TableChange, ValueChange, WorldChange, changed, refusal, SandboxValue, NoneTooLong, HasShortTexts, TextsAreShort, layer_begun, EndsLayer}
+use Rattle.gk_world.proofs.Common.{◌≡◌, ℕ, false, List, [], ◌∷◌, Some, None, IfSome, is_none, unwrap_or, bytes_eq, string_bytes, refl, sym, subst, arith, common_steps, AllByRecursion, get, empty, get-empty, Texts, Map, Contents, with_entry, with_innermost, state_of, Cell, is_too_long, joined, put_refusal, append_refusal, TableChange, ValueChange, WorldChange, changed, refusal, SandboxValue, NoneTooLong, HasShortTexts, TextsAreShort, layer_begun, EndsLayer}
 use Rattle.gk_world.specs.declared.table.TableChange.TheVariants as tables
 use Rattle.gk_world.specs.declared.values.ValueChange.TheVariants as values
 use Rattle.gk_world.specs.declared.world.WorldChange.TheVariants as changes
@@ -26,10 +26,15 @@ short_empty name = subst IsShort (sym (get-empty _ name)) tt
 short_entry : (m : Texts) (name : List ℕ) (cell : Cell) → IsShort cell → NoneTooLong m → NoneTooLong (with_entry m name cell)
 short_entry m name cell short h q = grind (arith, common_steps, get-with_entry, bytes_eq)
 
+held_short : (cell : Cell) → IsShort cell → is_too_long (unwrap_or cell []) ≡ false
+held_short None short = refl
+held_short (Some text) short = short
+
 short_table : (c : TableChange) (m : Texts) → table.refusal c m ≡ None → NoneTooLong m → NoneTooLong (table.changed c m)
 short_table (tables.Put name text) m r h = short_entry m _ (Some _) (put_short (string_bytes name) _ r) h
 short_table (tables.Append name more) m r h = short_entry m _ (Some _) (put_short (string_bytes name) _ (append_puts (get m) (string_bytes name) (string_bytes more) r)) h
 short_table (tables.Remove name) m r h = short_entry m _ None tt h
+short_table (tables.Rename name to) m r h = short_entry _ _ (Some _) (held_short (get m (string_bytes name)) (h (string_bytes name))) (short_entry m _ None tt h)
 
 -- ---- contents
 short_value : (c : ValueChange) (m : Contents) → value.refusal c (state_of m) ≡ None → IsShort (value.text_of c)

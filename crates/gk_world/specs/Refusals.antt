@@ -40,6 +40,12 @@ remove_refusal m name = first_true (
     (is_bad_name name, BadName) ∷
     (is_none (m name), Absent) ∷ [])
 
+-- The reason why a file can't be renamed.
+abbrev pub rename_refusal : Map → List ℕ → List ℕ → Option WorldFault
+rename_refusal m name to = first_true (
+    (is_bad_name name || is_bad_name to, BadName) ∷
+    (is_none (m name), Absent) ∷ [])
+
 -- The reason why a value can't be deleted: it is deleted only in the layer that set it. (behave's documentation: context layers)
 abbrev pub delete_refusal : State → List ℕ → Option WorldFault
 delete_refusal s name = first_true (

@@ -1,6 +1,6 @@
 -- The undo of a change of the contents.
 use Rattle.std.specs.Prelude.{ℕ, suc, cond, nat_eq, List, [], ◌∷◌, length, Option}
-use Rattle.gk_world.specs.State.{Texts, Contents, with_entry}
+use Rattle.gk_world.specs.State.{Texts, Contents, with_entries}
 
 -- A map of the contents: the files, the variables, or the values of the layer with this number, counted from 1 at the outermost.
 pub data Which : Type 0 where
@@ -8,11 +8,10 @@ pub data Which : Type 0 where
   of_env : Which
   of_layer : ℕ → Which
 
--- An undo: a map, a name in it, and the text that the name had there, if it had one.
+-- An undo: a map, and names in it, each with the text that it had there, if it had one.
 pub record UndoValue : Type 0 where
   pub which : Which
-  pub name : List ℕ
-  pub old : Option (List ℕ)
+  pub old : List (List ℕ × Option (List ℕ))
 
 -- The values with another map for the layer with this number. The first in the list is the innermost, whose number is the list's length.
 abbrev pub with_values : ℕ → (Texts → Texts) → List Texts → List Texts
@@ -25,6 +24,6 @@ with_map of_files change c = record c { files = change c.files }
 with_map of_env change c = record c { env = change c.env }
 with_map (of_layer number) change c = record c { values = with_values number change c.values }
 
--- The contents after an undo: its name has its old text again, or is gone, and the rest stays.
+-- The contents after an undo: each of its names has its old text again, or is gone, and the rest stays.
 abbrev pub undone : UndoValue → Contents → Contents
-undone u c = with_map u.which (λ m. with_entry m u.name u.old) c
+undone u c = with_map u.which (λ m. with_entries m u.old) c

@@ -1,10 +1,10 @@
 -- A sandbox as contracts see it.
-use Rattle.std.specs.Prelude.{◌≡◌, ℕ, zero, suc, ◌<◌, List, [], ◌∷◌, ◌++◌, length, drop, Option, Some, None, IfSome, false, refl}
+use Rattle.std.specs.Prelude.{◌≡◌, ℕ, zero, suc, ◌<◌, List, [], ◌∷◌, ◌++◌, length, drop, Option, Some, None, IfSome, unwrap_or, false, refl}
 use Rattle.std.specs.FinMap as finite
 use Rattle.std.specs.List.{AllByRecursion}
 use Rattle.std.specs.Coded.{Coded, code_by, coded×, coded_list, coded_option, coded_ℕ}
 use Rattle.std.proofs.Common.{ap}
-use Rattle.gk_world.specs.State.{layers, Texts, Contents, with_layer, with_innermost, nothing_yet, contents_code, with_text, without, state_of}
+use Rattle.gk_world.specs.State.{Texts, Contents, with_layer, with_innermost, nothing_yet, contents_code, with_text, without, state_of}
 use Rattle.gk_world.specs.Refusals.{joined, is_too_long}
 use Rattle.gk_world.specs.Journal.{rewound}
 use Rattle.gk_world.specs.Reversible.{Which, of_files, of_env, of_layer, UndoValue, undone}
@@ -124,10 +124,10 @@ which_again (of_layer number) = refl
 
 -- How a program's value encodes an undo.
 abbrev pub undo_code : Coded UndoValue
-undo_code = code_by (Option (Option ℕ) × (List ℕ × Option (List ℕ)))
-    (coded× (coded_option (coded_option coded_ℕ)) (coded× (coded_list coded_ℕ) (coded_option (coded_list coded_ℕ))))
-    (λ u. (which_as_option u.which, (u.name, u.old))) (λ p. record { which = which_of_option p.0; name = p.1.0; old = p.1.1 })
-    (λ u. ap (λ w. record { which = w; name = u.name; old = u.old }) (which_again u.which))
+undo_code = code_by (Option (Option ℕ) × List (List ℕ × Option (List ℕ)))
+    (coded× (coded_option (coded_option coded_ℕ)) (coded_list (coded× (coded_list coded_ℕ) (coded_option (coded_list coded_ℕ)))))
+    (λ u. (which_as_option u.which, u.old)) (λ p. record { which = which_of_option p.0; old = p.1 })
+    (λ u. ap (λ w. record { which = w; old = u.old }) (which_again u.which))
 
 -- How a program's value encodes a sandbox.
 abbrev pub sandbox_code : Coded SandboxValue
@@ -146,6 +146,10 @@ with_more c name more = with_file c name (joined (finite.get c.files) name more)
 -- The contents without a file.
 abbrev pub without_file : Contents → List ℕ → Contents
 without_file c name = record c { files = finite.remove c.files name }
+
+-- The contents in which a file's text has moved to another name. No text counts as empty.
+abbrev pub with_renamed : Contents → List ℕ → List ℕ → Contents
+with_renamed c name to = with_file (without_file c name) to (unwrap_or (finite.get c.files name) [])
 
 -- The contents with this text in a variable.
 abbrev pub with_env : Contents → List ℕ → List ℕ → Contents
@@ -174,6 +178,10 @@ AppendsToFile old name more new = Becomes (with_more old.now name more) old new
 -- One change removes a file, and what each layer's end restores stays.
 abbrev pub RemovesFile : SandboxValue → List ℕ → SandboxValue → Type 0
 RemovesFile old name new = Becomes (without_file old.now name) old new
+
+-- One change renames a file, and what each layer's end restores stays.
+abbrev pub RenamesFile : SandboxValue → List ℕ → List ℕ → SandboxValue → Type 0
+RenamesFile old name to new = Becomes (with_renamed old.now name to) old new
 
 -- One change sets a variable, and what each layer's end restores stays.
 abbrev pub PutsEnv : SandboxValue → List ℕ → List ℕ → SandboxValue → Type 0

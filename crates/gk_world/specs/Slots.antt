@@ -4,9 +4,9 @@ use Rattle.std.specs.FinMap as finite
 use Rattle.std.specs.Global.{Global}
 use Rattle.std.specs.String.Boundary.{IsSplitPoint}
 use Rattle.gk_world.specs.declared.slots.SlotUndo.{SlotUndo}
-use Rattle.gk_world.specs.declared.slots.SlotUndo.TheVariants.{Restore, Created, Cut}
-use Rattle.gk_world.specs.State.{Texts, with_entry, Map}
-use Rattle.gk_world.specs.Cells.{Slot, Cell, cell_at}
+use Rattle.gk_world.specs.declared.slots.SlotUndo.TheVariants.{Restore, Created, Cut, Moved, MovedToNew}
+use Rattle.gk_world.specs.State.{Texts, with_entry, with_entries, Map}
+use Rattle.gk_world.specs.Cells.{Slot, Cell, cell_at, IsOnly}
 
 -- Rows as slots: names and texts, without their places in memory.
 module _ {C : Type 0} (cells : C → List Cell) where
@@ -32,14 +32,22 @@ abbrev pub layers_of : ℕ → List Slot → List Texts
 layers_of zero s = []
 layers_of (suc d) s = map_at d s ∷ layers_of d s
 
--- One cell of one name gets a new text, or none, and the rest stays.
-pub record Writes (name : List ℕ) (cell : ℕ) (text : Cell) (old new : List Slot) : Type 0 where
-  pub here : map_at cell new ≡ with_entry (map_at cell old) name text
+-- One cell of each of these names gets its new text, or none, one name after another, and the rest stays.
+pub record WritesEach (entries : List (List ℕ × Cell)) (cell : ℕ) (old new : List Slot) : Type 0 where
+  pub here : map_at cell new ≡ with_entries (map_at cell old) entries
   pub others : (k : ℕ) → k ≢ cell → map_at k new ≡ map_at k old
+
+-- One cell of one name gets a new text, or none, and the rest stays.
+abbrev pub Writes : List ℕ → ℕ → Cell → List Slot → List Slot → Type 0
+Writes name cell text old new = WritesEach ((name, text) ∷ []) cell old new
 
 -- A cell of a name gets this text, and the rest stays.
 abbrev pub Puts : {Y Z : Type 0} → String Y → ℕ → String Z → List Slot → List Slot → Type 0
 Puts name cell text old new = Writes (string_bytes name) cell (Some (string_bytes text)) old new
+
+-- A cell's text of one name moves to another name, and the rest stays.
+abbrev pub Moves : List ℕ → List ℕ → ℕ → List Slot → List Slot → Type 0
+Moves name to cell old new = WritesEach ((name, None) ∷ (to, text_at cell old name) ∷ []) cell old new
 
 -- The slots with these cells in the slot at i.
 abbrev pub with_cells : List Slot → ℕ → List Cell → List Slot
@@ -59,6 +67,10 @@ cells_of s i = let w : Slot = slice_index_or s i ([], []) in w.1
 abbrev pub with_cell : List Slot → ℕ → ℕ → Cell → List Slot
 with_cell s i k c = with_cells s i (slice_set (cells_of s i) k c)
 
+-- The slots with a cell's content moved from one slot to another, and this content left in its place.
+abbrev pub with_moved : List Slot → ℕ → ℕ → ℕ → Cell → List Slot
+with_moved s from to k left = with_cell (with_cell s from k left) to k (cell_at k (cells_of s from))
+
 -- The first slot of this name is at i.
 abbrev pub IsPosition : List ℕ → List Slot → ℕ → Type 0
 IsPosition name [] i = ⊥
@@ -73,6 +85,12 @@ WritesAt i cell text old new = (name : List ℕ) → IsPosition name old i → W
 abbrev pub IsMissing : List ℕ → List Slot → Type 0
 IsMissing name [] = Unit {0}
 IsMissing name (s ∷ ss) = (bytes_eq name s.0 ≡ false) × IsMissing name ss
+
+-- A slot with this name is added at the end, and has its only text in this cell.
+pub record Adds (name : List ℕ) (cell : ℕ) (text : List ℕ) (old new : List Slot) : Type 0 where
+  pub cells : List Cell
+  pub added : new ≡ old ++ (name, cells) ∷ []
+  pub only : IsOnly cell (Some text) cells
 
 -- The slot at i is the first of this name, and holds the name's texts.
 pub record IsAt (name : List ℕ) (s : List Slot) (i : ℕ) : Type 0 where
@@ -118,36 +136,38 @@ cut_to kept = option_map (take kept)
 abbrev pub grown : Cell → List ℕ → Cell
 grown c more = Some (unwrap_or c [] ++ more)
 
--- Whether an undo fits these slots: the slot and the cell that it names exist. For a creation, the slot is the last, and its other cells are absent. For a growth, the cell's text can be cut to its old length.
+-- Whether an undo fits these slots: each slot and the cell that it names exist. For a creation, the slot is the last, and its other cells are absent. For a growth, the cell's text can be cut to its old length.
 abbrev pub Fits : ℕ → SlotUndo → List Slot → Type 0
 Fits width (Restore position cell old) s = HasCell width s position cell
 Fits width (Created position cell) s = IsNewest width s position cell
 Fits width (Cut position cell kept) s = HasLonger width s position cell kept
+Fits width (Moved from to cell old) s = HasCell width s from cell × HasCell width s to cell
+Fits width (MovedToNew from position cell) s = HasCell width (take position s) from cell × IsNewest width s position cell
 
--- The slots before a change: the cell has its old text again, or the new slot is gone. After a growth, the old text is the beginning of the present one.
+-- The slots before a change: the cell has its old text again, or the new slot is gone. After a growth, the old text is the beginning of the present one. A text that moved is back in its place.
 abbrev pub undone : SlotUndo → List Slot → List Slot
 undone (Restore position cell old) s = with_cell s position cell (option_map string_bytes old)
 undone (Created position cell) s = take position s
 undone (Cut position cell kept) s = with_cell s position cell (cut_to kept (cell_at cell (cells_of s position)))
-
--- The name of the slot that an undo changes.
-abbrev pub name_of : List Slot → SlotUndo → List ℕ
-name_of s (Restore position cell old) = name_at s position
-name_of s (Created position cell) = name_at s position
-name_of s (Cut position cell kept) = name_at s position
+undone (Moved from to cell old) s = with_moved s to from cell (option_map string_bytes old)
+undone (MovedToNew from position cell) s = with_cell (take position s) from cell (cell_at cell (cells_of s position))
 
 -- The cell that an undo changes.
 abbrev pub cell_of : SlotUndo → ℕ
 cell_of (Restore position cell old) = cell
 cell_of (Created position cell) = cell
 cell_of (Cut position cell kept) = cell
+cell_of (Moved from to cell old) = cell
+cell_of (MovedToNew from position cell) = cell
 
--- The text, or none, that an undo restores in these slots.
-abbrev pub old_of : List Slot → SlotUndo → Cell
-old_of s (Restore position cell old) = option_map string_bytes old
-old_of s (Created position cell) = None
-old_of s (Cut position cell kept) = cut_to kept (cell_at cell (cells_of s position))
+-- The names that an undo changes in these slots, each with the text, or none, that it restores.
+abbrev pub olds_of : List Slot → SlotUndo → List (List ℕ × Cell)
+olds_of s (Restore position cell old) = (name_at s position, option_map string_bytes old) ∷ []
+olds_of s (Created position cell) = (name_at s position, None) ∷ []
+olds_of s (Cut position cell kept) = (name_at s position, cut_to kept (cell_at cell (cells_of s position))) ∷ []
+olds_of s (Moved from to cell old) = (name_at s to, option_map string_bytes old) ∷ (name_at s from, cell_at cell (cells_of s to)) ∷ []
+olds_of s (MovedToNew from position cell) = (name_at s position, None) ∷ (name_at s from, cell_at cell (cells_of s position)) ∷ []
 
--- An undo, on maps: the cell of its name has the old text again, or none, and the rest stays.
+-- An undo, on maps: the cell of each of its names has the old text again, or none, and the rest stays.
 abbrev pub Undoes : SlotUndo → List Slot → List Slot → Type 0
-Undoes u old new = Writes (name_of old u) (cell_of u) (old_of old u) old new
+Undoes u old new = WritesEach (olds_of old u) (cell_of u) old new

@@ -19,6 +19,11 @@ abbrev pub with_entry : Texts → List ℕ → Option (List ℕ) → Texts
 with_entry m name None = finite.remove m name
 with_entry m name (Some text) = finite.insert m name text
 
+-- A map in which each of these names gets its text, or is removed if there is no text, one after another.
+abbrev pub with_entries : Texts → List (List ℕ × Option (List ℕ)) → Texts
+with_entries m [] = m
+with_entries m (e ∷ es) = with_entries (with_entry m e.0 e.1) es
+
 -- Files, variables, and one map of values for each open layer, the innermost first. (behave's documentation: context layers)
 pub record Contents : Type 0 where
   pub files : Texts

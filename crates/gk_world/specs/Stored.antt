@@ -6,16 +6,16 @@ use Rattle.gk_world.specs.declared.world.WorldUndo.TheVariants.{File, Env, Value
 use Rattle.gk_world.specs.State.{layers, Contents}
 use Rattle.gk_world.specs.Reversible.{of_files, of_env, of_layer, UndoValue}
 use Rattle.gk_world.specs.Sandbox.{SandboxValue, TextsAreShort}
-use Rattle.gk_world.specs.Slots.{name_of, cell_of, old_of}
+use Rattle.gk_world.specs.Slots.{cell_of, olds_of}
 use Rattle.gk_world.specs.Journal.{rewound, FitAll}
 use Rattle.gk_world.specs.World as world
 use Rattle.gk_world.specs.World.{contents_of, Fits, IsClear}
 
 -- The value of an undo in this world.
 abbrev pub seen_undo : World → WorldUndo → UndoValue
-seen_undo w (File u) = record { which = of_files; name = name_of w.files u; old = old_of w.files u }
-seen_undo w (Env u) = record { which = of_env; name = name_of w.env u; old = old_of w.env u }
-seen_undo w (Value u) = record { which = of_layer (suc (cell_of u)); name = name_of w.values u; old = old_of w.values u }
+seen_undo w (File u) = record { which = of_files; old = olds_of w.files u }
+seen_undo w (Env u) = record { which = of_env; old = olds_of w.env u }
+seen_undo w (Value u) = record { which = of_layer (suc (cell_of u)); old = olds_of w.values u }
 
 -- The values of undos, oldest first: each in the world with the newer ones undone, so as it was recorded.
 abbrev pub seen_undos : World → List WorldUndo → List UndoValue

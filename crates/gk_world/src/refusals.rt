@@ -8,7 +8,7 @@ use std::alloc::AllocError;
 /// order `BadName`, `Absent`, `OtherLayer`, `TextTooLong` is returned.
 #[derive(Clone, Copy, Debug, PartialEq, Eq)]
 pub enum WorldFault {
-    /// The file, variable or value to be extended, removed or deleted doesn't exist.
+    /// The file, variable or value to be extended, removed, renamed or deleted doesn't exist.
     Absent,
     /// The text would have more bytes than `LONGEST_TEXT`.
     TextTooLong,

@@ -22,8 +22,8 @@ pub trait Reversible {
     /// The slots before the change.
     ghost undone: { Self.Undo → Slots → Slots };
 
-    /// Whether an undo leads from these slots to those, on the maps that they represent. Its name has its old text
-    /// again, or is gone, and the rest stays.
+    /// Whether an undo leads from these slots to those, on the maps that they represent. Each of its names has its old
+    /// text again, or is gone, and the rest stays.
     ghost undoes: { Self.Undo → Slots → Slots → Type 0 };
 
     /// Whether an allowed change can lead from these slots to those.

@@ -4,9 +4,9 @@ ghost use Rattle.std.specs.FinMap as finite;
 ghost use Rattle.gk_world.specs.Listing.{IsListing};
 ghost use Rattle.gk_world.specs.State.{see, state_of, layers};
 ghost use Rattle.gk_world.specs.Refusals as refusals;
-ghost use Rattle.gk_world.specs.Refusals.{append_refusal, remove_refusal, delete_refusal, IsAnswer};
+ghost use Rattle.gk_world.specs.Refusals.{append_refusal, remove_refusal, rename_refusal, delete_refusal, IsAnswer};
 ghost use Rattle.gk_world.specs.World.{IsHere, changed, refusal};
-ghost use Rattle.gk_world.specs.Sandbox.{PutsFile, AppendsToFile, RemovesFile, PutsEnv, RemovesEnv, SetsValue, DeletesValue, new_sandbox, depth, layer_begun, EndsLayer, EndsByUndos, Becomes, UndosGiveBack, TextsAreShort, LayersGiveBack, ChangesAreOfState};
+ghost use Rattle.gk_world.specs.Sandbox.{PutsFile, AppendsToFile, RemovesFile, RenamesFile, PutsEnv, RemovesEnv, SetsValue, DeletesValue, new_sandbox, depth, layer_begun, EndsLayer, EndsByUndos, Becomes, UndosGiveBack, TextsAreShort, LayersGiveBack, ChangesAreOfState};
 
 use crate::cells::LAYERS;
 use crate::journal::Journal;
@@ -60,6 +60,16 @@ impl Model for Sandbox {
     ghost invariant = { λ s. IsSound s.world s.journal (open_starts s.depth s.starts) };
 }
 
+// Copies a name and a text.
+fn copied(alloc: Global, name: &str, text: &str) -> Result<(String, String), AllocError>
+    ensures { IfOk result (λ copies.
+        (string_bytes copies.0 ≡ name.now) × (string_bytes copies.1 ≡ text.now)) }
+{
+    let name = String::from_str(alloc, name)?;
+    let text = String::from_str(alloc, text)?;
+    Ok((name, text))
+}
+
 // Copies a name and a text, unless the text can't be put under the name.
 fn copied_for_put(alloc: Global, name: &str, text: &str) -> Result<(String, String), WorldFault>
     ensures answer { IsAnswer (refusals.put_refusal name.now text.now) result }
@@ -69,9 +79,7 @@ fn copied_for_put(alloc: Global, name: &str, text: &str) -> Result<(String, Stri
     if let Some(fault) = put_refusal(name, text) {
         return Err(fault);
     }
-    let name = String::from_str(alloc, name)?;
-    let text = String::from_str(alloc, text)?;
-    Ok((name, text))
+    Ok(copied(alloc, name, text)?)
 }
 
 impl Sandbox {
@@ -188,8 +196,7 @@ impl Sandbox {
         if let Some(fault) = self.world.files.append_refusal(name, more) {
             return Err(fault);
         }
-        let name = String::from_str(self.alloc, name)?;
-        let more = String::from_str(self.alloc, more)?;
+        let (name, more) = copied(self.alloc, name, more)?;
         self.change(WorldChange::File(TableChange::Append(name, more)))
     }
 
@@ -231,6 +238,22 @@ impl Sandbox {
         }
         let name = String::from_str(self.alloc, name)?;
         self.change(WorldChange::File(TableChange::Remove(name)))
+    }
+
+    /// Renames a file: its text moves to the new name, and isn't copied. A file of the new name is replaced. Equal names
+    /// change nothing, but the change is recorded. Refusals are checked in the order `BadName` (of either name),
+    /// `Absent`. A refusal changes nothing; `Memory` is returned only if there is no other reason.
+    pub fn rename_file(&mut self, name: &str, to: &str) -> Result<(), WorldFault>
+        ensures ok { OnOk result (RenamesFile self.old name.now to.now self.new) }
+        ensures answer { IsAnswer
+            (rename_refusal (finite.get self.old.now.files) name.now to.now) result }
+        ensures err { OnErr result (self.new ≡ self.old) }
+    {
+        if let Some(fault) = self.world.files.rename_refusal(name, to) {
+            return Err(fault);
+        }
+        let (name, to) = copied(self.alloc, name, to)?;
+        self.change(WorldChange::File(TableChange::Rename(name, to)))
     }
 
     /// Removes a variable. Refusals are checked in the order `BadName`, `Absent`. A refusal changes nothing; `Memory`

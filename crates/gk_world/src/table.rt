@@ -23,6 +23,8 @@ pub enum TableChange {
     Append(String, String),
     /// The name has no text any more.
     Remove(String),
+    /// The name's text moves to the other name.
+    Rename(String, String),
 }
 
 /// Texts by name, for files or variables. A removed name keeps its position.
@@ -86,6 +88,19 @@ impl Table {
         None
     }
 
+    /// Returns the reason why the text of a name can't move to another name, if there is one.
+    pub fn rename_refusal(&self, name: &str, to: &str) -> Option<WorldFault>
+        ensures { IsReason (refusals.rename_refusal (text_at 0 self.now) name.now to.now) result }
+    {
+        if is_bad_name(name) || is_bad_name(to) {
+            return Some(WorldFault::BadName);
+        }
+        if self.get(name).is_none() {
+            return Some(WorldFault::Absent);
+        }
+        None
+    }
+
     /// Returns the names that have a text, each with its text, sorted by name.
     pub(crate) fn listing(&self, alloc: Global) -> Result<Vec<(String, String)>, AllocError>
         ensures { IfOk result (λ pairs. Lists (text_at 0 self.now) pairs.items) }
@@ -113,6 +128,7 @@ impl Table {
             TableChange::Put(name, text) => put_refusal(name, text),
             TableChange::Append(name, more) => self.append_refusal(name, more),
             TableChange::Remove(name) => self.remove_refusal(name),
+            TableChange::Rename(name, to) => self.rename_refusal(name, to),
         }
     }
 }
@@ -158,6 +174,7 @@ impl Reversible for Table {
             TableChange::Put(name, text) => self.slots.put(name, 0, text),
             TableChange::Append(name, more) => self.slots.extend(&name, 0, &more),
             TableChange::Remove(name) => self.slots.remove(&name, 0).ok_or(WorldFault::Absent),
+            TableChange::Rename(name, to) => self.slots.rename(&name, to, 0),
         }
     }
 

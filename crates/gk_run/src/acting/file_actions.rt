@@ -11,7 +11,6 @@ use crate::results::{Outcome, Reason};
 use gk_gherkin::Block;
 use gk_steps::files_below;
 use gk_world::{Sandbox, is_bad_name};
-use std::alloc::{AllocError, Global};
 
 // Writes a text to a file.
 #[tactic(auto, using(crate::proofs::ActingLemmas::acted, crate::proofs::ActingLemmas::put_tests, crate::proofs::ActingLemmas::file_put, crate::proofs::ActingLemmas::file_written))]
@@ -51,41 +50,18 @@ pub fn append_file(sandbox: &mut Sandbox, arguments: &Arguments<'_>) -> Outcome
     }
 }
 
-// Writes a text under the new name, and then removes the old name.
-fn put_and_remove(sandbox: &mut Sandbox, name: &str, to: &str, text: &str) -> Outcome
-    ensures { IsActed
-        (words.put_and_remove (state_of sandbox.old.now) name.now to.now text.now)
-        sandbox.old result sandbox.new }
-{
-    let written = put(sandbox, to, text);
-    match written {
-        Outcome::Passed => remove_file(sandbox, name),
-        _ => written,
-    }
-}
-
-pub fn rename_file(alloc: Global, sandbox: &mut Sandbox, arguments: &Arguments<'_>) -> Outcome
+#[tactic(auto, using(crate::proofs::ActingLemmas::file_moved))]
+pub fn rename_file(sandbox: &mut Sandbox, arguments: &Arguments<'_>) -> Outcome
     ensures { Performs actions.RenameFile arguments.now sandbox.old result sandbox.new }
 {
     // A bad name belongs to no file.
-    if is_bad_name(arguments.name) {
+    if is_bad_name(arguments.name) || sandbox.file(arguments.name).is_none() {
         return Outcome::Failed(Reason::Absent);
-    }
-    // The text that moves isn't too long.
-    sandbox.texts_are_short();
-    let Some(held) = sandbox.file(arguments.name) else {
-        return Outcome::Failed(Reason::Absent);
-    };
-    if is_bad_name(arguments.to) {
-        return Outcome::Failed(Reason::BadName);
     }
     if arguments.name == arguments.to {
         return Outcome::Passed;
     }
-    match String::from_str(alloc, held) {
-        Err(AllocError) => Outcome::Memory,
-        Ok(text) => put_and_remove(sandbox, arguments.name, arguments.to, text.as_str()),
-    }
+    outcome_of(sandbox.rename_file(arguments.name, arguments.to))
 }
 
 // Writes a row as a file.

@@ -3,6 +3,13 @@ use Rattle.gk_world.proofs.SlotsLemmas.{pushes, newest, push-back, differ-push}
 use Rattle.gk_world.proofs.RowsLemmas.{inserted, length-slots_of}
 use Rattle.gk_world.proofs.slots.Slots.push.Goals as goal
 
+pub returns-in-Ok-clause-adds : goal.returns-in-Ok-clause-adds
+returns-in-Ok-clause-adds g c = record {
+  cells = g.C.Cells.cells c.only.result;
+  added = inserted g.C.Cells.cells c.self.inside.rows c.insert.new.self.entries c.args.self.now c.args.name c.only.result c.self.view_is c.requires.missing c.in-Ok.ensures.entries;
+  only = c.only.ensures;
+}
+
 pub returns-in-Ok-clause-writes : goal.returns-in-Ok-clause-writes
 returns-in-Ok-clause-writes g c =
     let s = c.args.self.now in
