@@ -16,4 +16,4 @@ pub record CaseValue : Type 0 where
 
 -- The value of a `Case`.
 abbrev pub case_value : Case → CaseValue
-case_value c = record { name = string_bytes c.name; keyword = keyword_text c.keyword; line = c.line; rule = c.rule; tags = texts c.tags.items; own_tags = texts c.own_tags.items; steps = map step_value c.steps.items }
+case_value c = record { name = string_bytes c.name; keyword = keyword_text c.keyword; line = c.line; rule = c.rule; tags = texts c.tags.value.items; own_tags = texts c.own_tags.value.items; steps = map step_value c.steps.items }

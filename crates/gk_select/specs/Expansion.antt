@@ -8,9 +8,10 @@ use Rattle.gk_gherkin.specs.declared.feature.Rule.{Rule}
 use Rattle.gk_gherkin.specs.declared.feature.Feature.{Feature}
 use Rattle.gk_gherkin.specs.Feature.{texts, RowValue, ExamplesValue, ScenarioValue, RuleValue, FeatureValue, row_value, examples_value, scenario_value, rule_value, feature_value}
 use Rattle.gk_select.specs.declared.inherited.Inherited.{Inherited}
+use Rattle.gk_select.specs.declared.inherited.CaseTags.{CaseTags}
 use Rattle.gk_select.specs.Case.{CaseValue}
 use Rattle.gk_select.specs.Filling.{filled, filled_step}
-use Rattle.gk_select.specs.Inherited.{InheritedValue, inherited_value, inherited_in_feature, inherited_in_rule}
+use Rattle.gk_select.specs.Inherited.{InheritedValue, inherited_value, inherited_in_feature, inherited_in_rule, AreCaseTags}
 use Rattle.gk_select.specs.Outline.{is_outline, outline_name, FitsHeader, AllFit}
 
 -- The case of a row; its line is the row's. (Cucumber's Gherkin reference: examples)
@@ -106,6 +107,10 @@ case_count f = sum_by case_count_of f.scenarios + sum_by (λ (r : RuleValue). su
 -- The name of a row's case.
 abbrev pub name_of_row : Scenario → ℕ → Examples → ℕ → Row → List ℕ
 name_of_row s e examples n row = outline_name (filled (texts examples.header.items) (texts row.cells.items) (scenario_value s).name) e n (examples_value examples).name
+
+-- These are the tags of the cases of Examples.
+abbrev pub AreTagsOfRows : Inherited → Scenario → Examples → CaseTags → Type 0
+AreTagsOfRows i s examples tags = AreCaseTags i ((scenario_value s).tags ++ (examples_value examples).tags) tags
 
 -- The case of a row.
 abbrev pub case_of_row : Inherited → Scenario → ℕ → Examples → ℕ → Row → CaseValue

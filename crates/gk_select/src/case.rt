@@ -1,6 +1,7 @@
 //! A scenario as it is run.
 
 use gk_gherkin::{Keyword, Step};
+use std::rc::Rc;
 
 /// A plain scenario, or an outline filled from one row.
 #[derive(Debug, Drop)]
@@ -13,10 +14,11 @@ pub struct Case {
     pub line: u32,
     /// The index of the case's rule among the feature's rules, counted from 0; `None` if it is in no rule.
     pub rule: Option<u32>,
-    /// The tags of the feature, the rule, the scenario and the Examples, in that order, each with its `@`.
-    pub tags: Vec<String>,
+    /// The tags of the feature, the rule, the scenario and the Examples, in that order, each with its `@`. The
+    /// rows of one Examples share this list and the next.
+    pub tags: Rc<Vec<String>>,
     /// The tags of the scenario and the Examples only.
-    pub own_tags: Vec<String>,
+    pub own_tags: Rc<Vec<String>>,
     /// The steps of the feature's Background, of the rule's Background, and then the scenario's own.
     pub steps: Vec<Step>,
 }

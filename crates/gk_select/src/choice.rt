@@ -52,7 +52,7 @@ impl Choice {
     pub fn chooses(&self, case: &Case) -> bool
         ensures { result ≡ chosen_by self.now (case_value case.now) }
     {
-        let all = Names::scanned(&case.tags);
+        let all = Names::scanned(case.tags.as_slice());
         let none = Names::scanned(&[]);
         let tags = TagLists {
             feature: &all,

@@ -8,7 +8,7 @@ ghost use Rattle.gk_select.specs.Copies.{Appends};
 ghost use Rattle.gk_select.specs.Filling.{filled, filled_step};
 ghost use Rattle.gk_select.specs.Expansion as spec;
 ghost use Rattle.gk_select.specs.Expansion.{cases, step_count, step_limit, HasPart, HasTooManySteps, IsExpandable, RowsFit};
-ghost use Rattle.gk_select.specs.Expansion.{name_of_row, case_of_row, cases_of_rows, RowsFitHeader};
+ghost use Rattle.gk_select.specs.Expansion.{name_of_row, case_of_row, cases_of_rows, AreTagsOfRows, RowsFitHeader};
 ghost use Rattle.gk_select.specs.Expansion.{cases_of_parts, cases_of_scenarios, cases_of_rules};
 ghost use Rattle.gk_select.specs.Inherited.{inherited_value};
 ghost use Rattle.gk_select.specs.Outline.{FitsHeader, AllFit};
@@ -19,8 +19,8 @@ use crate::copies::{copied_texts, push_filled_steps, push_steps, push_texts};
 use crate::counting::has_room;
 use crate::filling::push_filled;
 use crate::inherited::{
-    Inherited, after_inherited_steps, after_inherited_tags, inherited_in_feature,
-    inherited_in_rule, push_inherited_steps,
+    CaseTags, Inherited, after_inherited_steps, case_tags, inherited_in_feature, inherited_in_rule,
+    push_inherited_steps,
 };
 use crate::names::Names;
 use crate::outline::{case_name, is_outline};
@@ -45,23 +45,26 @@ fn plain_case(
         steps,
         examples: _,
     } = scenario;
+    let tags = case_tags(alloc, inherited, own_tags)?;
     Ok(Case {
         name,
         keyword,
         line,
         rule: inherited.rule,
-        tags: after_inherited_tags(alloc, inherited, &own_tags)?,
-        own_tags,
+        tags: tags.all,
+        own_tags: tags.own,
         steps: after_inherited_steps(alloc, inherited, steps)?,
     })
 }
 
-// Examples of an outline, with their number, counted from 1, and the columns of their header.
+// Examples of an outline, with their number, counted from 1, the columns of their header and the tags of their
+// cases.
 #[derive(Drop)]
 struct NumberedExamples<'a> {
     number: usize,
     examples: &'a Examples,
     columns: Names<'a>,
+    tags: CaseTags,
 }
 
 // The room for the numbers in the name of a row's case. With greater numbers the name grows.
@@ -88,18 +91,19 @@ fn row_name(
     case_name(name, part.number, row_number, examples_name)
 }
 
-// Returns a row's own tags: those of its scenario, then those of its Examples.
-fn own_row_tags(
+// Returns the tags of the cases of Examples. A case's own tags are those of its scenario, then those of its
+// Examples.
+fn tags_of_rows(
     alloc: Global,
+    inherited: &Inherited<'_>,
     scenario: &Scenario,
     examples: &Examples,
-) -> Result<Vec<String>, AllocError>
-    ensures { IfOk result (λ tags. texts tags.items ≡
-        (scenario_value scenario.now).tags ++ (examples_value examples.now).tags) }
+) -> Result<CaseTags, AllocError>
+    ensures { IfOk result (AreTagsOfRows inherited.now scenario.now examples.now) }
 {
-    let mut tags = copied_texts(alloc, &scenario.tags)?;
-    push_texts(alloc, &mut tags, &examples.tags)?;
-    Ok(tags)
+    let mut own = copied_texts(alloc, &scenario.tags)?;
+    push_texts(alloc, &mut own, &examples.tags)?;
+    case_tags(alloc, inherited, own)
 }
 
 // Returns copies of the inherited steps and, after them, the scenario's own steps, filled from a row.
@@ -135,17 +139,17 @@ fn row_case(
 ) -> Result<Case, AllocError>
     requires fits { FitsHeader (examples_value part.now.examples.now) (row_value row.now) }
     requires columns { part.now.columns ≡ texts part.now.examples.now.header.items }
+    requires tags { AreTagsOfRows inherited.now scenario.now part.now.examples.now part.now.tags }
     ensures { IfOk result (λ c. case_value c ≡ case_of_row
         inherited.now scenario.now part.now.number part.now.examples.now row_number row.now) }
 {
-    let own_tags = own_row_tags(alloc, scenario, part.examples)?;
     Ok(Case {
         name: row_name(alloc, scenario, part, row_number, row)?,
         keyword: scenario.keyword,
         line: row.line,
         rule: inherited.rule,
-        tags: after_inherited_tags(alloc, inherited, &own_tags)?,
-        own_tags,
+        tags: part.tags.all.clone()?,
+        own_tags: part.tags.own.clone()?,
         steps: row_steps(alloc, inherited, scenario, &part.columns, &row.cells)?,
     })
 }
@@ -160,6 +164,7 @@ fn push_row_cases(
 ) -> Result<(), AllocError>
     requires fit { RowsFitHeader part.now.examples.now rows.now }
     requires columns { part.now.columns ≡ texts part.now.examples.now.header.items }
+    requires tags { AreTagsOfRows inherited.now scenario.now part.now.examples.now part.now.tags }
     ensures { Appends case_value result cases.old.items cases.new.items (cases_of_rows
         inherited.now scenario.now part.now.number part.now.examples.now 1 rows.now) }
 {
@@ -186,6 +191,7 @@ fn push_examples_cases(
         number: examples_number,
         examples,
         columns: Names::new(alloc, &examples.header),
+        tags: tags_of_rows(alloc, inherited, scenario, examples)?,
     };
     push_row_cases(alloc, cases, inherited, scenario, &part, &examples.rows)
 }
@@ -306,6 +312,7 @@ fn copied_case(
         spec.plain_case (inherited_value inherited.now) (scenario_value scenario.now)) }
 {
     let own_tags = copied_texts(alloc, &scenario.tags)?;
+    let tags = case_tags(alloc, inherited, own_tags)?;
     let mut steps = Vec::new(alloc);
     push_inherited_steps(alloc, &mut steps, inherited)?;
     push_steps(alloc, &mut steps, &scenario.steps)?;
@@ -314,8 +321,8 @@ fn copied_case(
         keyword: scenario.keyword,
         line: scenario.line,
         rule: inherited.rule,
-        tags: after_inherited_tags(alloc, inherited, &own_tags)?,
-        own_tags,
+        tags: tags.all,
+        own_tags: tags.own,
         steps,
     })
 }

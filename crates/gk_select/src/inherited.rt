@@ -3,11 +3,12 @@ ghost use Rattle.std.specs.Prelude.{◌≡◌, ◌++◌, map, option_map, IfOk};
 ghost use Rattle.gk_gherkin.specs.Feature.{texts, background_value, step_value, feature_value, rule_value};
 ghost use Rattle.gk_select.specs.Copies.{Appends};
 ghost use Rattle.gk_select.specs.Inherited as spec;
-ghost use Rattle.gk_select.specs.Inherited.{background_steps, inherited_value};
+ghost use Rattle.gk_select.specs.Inherited.{background_steps, inherited_value, AreCaseTags};
 
 use crate::copies::{copied_texts, push_steps, push_texts};
 use gk_gherkin::{Background, Feature, Rule, Step};
 use std::alloc::{AllocError, Global};
+use std::rc::Rc;
 
 /// The index of the rule that scenarios are in, if any, and the tags and Background steps that they inherit.
 /// Those of the feature come first, then those of the rule.
@@ -89,8 +90,8 @@ pub fn after_inherited_steps(
     Ok(steps)
 }
 
-/// Returns copies of the inherited tags, followed by copies of a case's own tags.
-pub fn after_inherited_tags(
+// Returns copies of the inherited tags, followed by copies of the own tags.
+fn after_inherited_tags(
     alloc: Global,
     inherited: &Inherited<'_>,
     own: &[String],
@@ -98,11 +99,35 @@ pub fn after_inherited_tags(
     ensures { IfOk result (λ tags. texts tags.items ≡
         (inherited_value inherited.now).tags ++ texts own.now) }
 {
-    if inherited.feature_tags.is_empty() && inherited.rule_tags.is_empty() {
-        return copied_texts(alloc, own);
-    }
     let mut tags = copied_texts(alloc, inherited.feature_tags)?;
     push_texts(alloc, &mut tags, inherited.rule_tags)?;
     push_texts(alloc, &mut tags, own)?;
     Ok(tags)
+}
+
+/// The tags of cases that have the same ones: all of them, and those that aren't inherited.
+#[derive(Drop)]
+pub struct CaseTags {
+    pub all: Rc<Vec<String>>,
+    pub own: Rc<Vec<String>>,
+}
+
+/// Returns the tags of cases with these own tags. If no tag is inherited, the two lists are the same one.
+pub fn case_tags(
+    alloc: Global,
+    inherited: &Inherited<'_>,
+    own: Vec<String>,
+) -> Result<CaseTags, AllocError>
+    ensures { IfOk result (AreCaseTags inherited.now (texts own.items)) }
+{
+    let own = Rc::new(alloc, own)?;
+    if inherited.feature_tags.is_empty() && inherited.rule_tags.is_empty() {
+        let all = own.clone()?;
+        return Ok(CaseTags { all, own });
+    }
+    let all = after_inherited_tags(alloc, inherited, &own)?;
+    Ok(CaseTags {
+        all: Rc::new(alloc, all)?,
+        own,
+    })
 }

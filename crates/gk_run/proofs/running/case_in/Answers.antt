@@ -1,4 +1,4 @@
-use Rattle.gk_run.proofs.Common.{List, ℕ, ◌∙◌, ◌≡◌, ap, map, subst, sym, StepValue, step_value, texts, case_value, state_of, section_now, Status, around_status, verdict_status, worse, CaseRow, step_row, run_value, after_lists, before_events, entered, Happens, IsClosing, AreEventsTold}
+use Rattle.gk_run.proofs.Common.{Global, List, String, Vec, ℕ, ◌∙◌, ◌≡◌, ap, map, subst, sym, StepValue, step_value, texts, case_value, state_of, section_now, Status, around_status, verdict_status, worse, CaseRow, step_row, run_value, after_lists, before_events, entered, Happens, IsClosing, AreEventsTold}
 use Rattle.gk_run.specs.declared.ending.Ending.TheVariants as endings
 use Rattle.gk_run.specs.declared.section.Level.TheVariants as levels
 use Rattle.gk_run.proofs.SectionLemmas.{case_told}
@@ -22,7 +22,7 @@ returns-clause-told g c =
     let here = c.open_section-opened.new.observer in
     let there = c.run_steps-stepped.new.observer in
     let last = c.end_section-closed.new.observer in
-    let tags : texts c.as_slice.result.now ≡ case.own_tags = ap texts c.as_slice.ensures.value in
+    let tags : texts c.as_slice.result.now ≡ case.own_tags = ap texts c.as_slice.ensures.value ∙ ap (λ (tags : Vec (String Global) Global). texts tags.items) c.deref.ensures in
     let opens = c.open_section-opened.ensures in
     let begins = opens.0.begins in
     let Begins : List (List ℕ) → Type 0 = λ ts. Happens hears endings.Passed (before_events run.library run.hooks levels.Scenario ts section) (entered section) start b first here in
