@@ -43,7 +43,7 @@ pub use Rattle.gk_steps.specs.Decimal.{IsNumber, is_i64, is_number, is_numeral, 
 pub use Rattle.gk_steps.specs.DefaultFile.{default_entries}
 unfoldable pub use Rattle.gk_steps.specs.DefaultFile.{default_text}
 pub use Rattle.gk_steps.specs.Digits.{HasNumber, IsNumberRow, KnowsDigits}
-pub use Rattle.gk_steps.specs.EntryIndex.{AreHeads, AreListed, AreSingle, CanStand, HasEnds, HasFirst, HasIndex, IsAmong, IsAny, IsIndexOf, IsLeastFrom, IsMarked, IsOther, IsShorter, Lists, PassesHeads, Skips, SkipsEntries, StandsFor, ends_key, first_length, first_literal, head_of, items_under, key_over, last_length, last_literal, literal_of, word_of}
+pub use Rattle.gk_steps.specs.EntryIndex.{AreListed, GrowsLengths, HasLongLiteral, IsEndsKey, IsIndexOf, IsKeyOf, IsLeast, IsLiteralKey, Lists, NoneIsLessAt, Skips, SkipsAt, SkipsByEnds, SkipsEntries, SkipsInside, ends_key, ends_of, first_literal, key_over, last_byte, last_literal, literal_of, window_at}
 pub use Rattle.gk_steps.specs.FilesTable.{are_pairs}
 pub use Rattle.gk_steps.specs.FilledCells.{GoesOnBy, cells_of_type, table_cells}
 pub use Rattle.gk_steps.specs.Finding.{EntryValue, FindsWhatIsFound, FitsLibrary, FoundValue, HasCandidate, HasTableCandidate, HasUsedFields, HaveKindsOf, IsFirstFound, IsFound, IsFoundAny, IsFoundOf, IsUseOf, LibraryValue, MayNeedTable, NoneBefore, NoneFound, action_of, entry_value, field_named, field_of, found_at, found_from, found_value, is_of_type, library_value, match_where}
@@ -55,6 +55,7 @@ pub use Rattle.gk_steps.specs.LibraryFile.{EntryNeedsMemory, HasNeededFields, Ha
 unfoldable pub use Rattle.gk_steps.specs.LibraryFile.{last_arrow, sides_of, type_of}
 pub use Rattle.gk_steps.specs.LibraryLine.{AddsLine, EntryFaultSays, EntryTextFaultSays, FitsAction, HasOtherKind, Ignored, IsEntryText, LacksField, LineFaultSays, Spelled, has_needed, has_right_kind, has_right_kinds, is_none_or_kind}
 pub use Rattle.gk_steps.specs.LiteralEnds.{EndsWith, EndsWithPiece, FitsEnd, FitsStart, IsAfterStart}
+pub use Rattle.gk_steps.specs.LiteralOrder.{HasLiterals, LacksLiterals}
 pub use Rattle.gk_steps.specs.Matching.{AreSpans, FieldValue, IsBestMatch, IsMatchResult, IsPreferred, IsSpan, Matches, MatchesNot, NumberField, TextField, best_match, field_match, field_value, is_span, longest_match, rest_where, shortest_match, span_value, span_values, spans_with, woven}
 unfoldable pub use Rattle.gk_steps.specs.Matching.{match_of}
 pub use Rattle.gk_steps.specs.Pattern.{AreDistinctNames, AreLongestRuns, BeginsWithPiece, FieldPiece, Literal, PieceValue, SpellsPattern, field_kind, field_names, is_field_name, is_name_byte, is_name_letter, pattern_value, piece_value, spelled_literal, spelled_piece}
@@ -66,7 +67,7 @@ pub use Rattle.gk_steps.specs.UsedFields.{AreFirst, AreJoined, HasRest, IsAdded,
 pub use Rattle.gk_steps.specs.declared.action.Action.{Action}
 pub use Rattle.gk_steps.specs.declared.action.ActionRow.{ActionRow}
 pub use Rattle.gk_steps.specs.declared.captures.NoCaptures.{NoCaptures}
-pub use Rattle.gk_steps.specs.declared.entry_index.HeadWord.{HeadWord}
+pub use Rattle.gk_steps.specs.declared.entry_index.Ends.{Ends}
 pub use Rattle.gk_steps.specs.declared.entry_index.Index.{Index}
 pub use Rattle.gk_steps.specs.declared.filled_cells.CellCounter.{CellCounter}
 pub use Rattle.gk_steps.specs.declared.library.Entry.{Entry}

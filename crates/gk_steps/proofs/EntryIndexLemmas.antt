@@ -1,9 +1,13 @@
 -- An index over the literals at the ends of patterns.
-use Rattle.gk_steps.proofs.Common.{◌≡◌, ℕ, Bool, zero, suc, ◌+◌, ◌-◌, ◌*◌, ◌%◌, ◌^◌, ◌<◌, ◌≤◌, ◌⊎◌, inl, inr, List, [], ◌∷◌, ◌++◌, length, take, drop, map, get_or, Option, Some, refl, ap, sym, subst, ◌∙◌, arith, length-append, None, common_steps, slice_get, slice_set, is_some, true, false, eq-or-lt_of_le, cases_lt, append-nil, take_at, drop_at, take_all, Entry, Piece, Index, HeadWord, PieceValue, Literal, FieldPiece, piece_value, pattern_value, Matches, MatchesNot, woven, FitsEnd, StepType, EntryValue, entry_value, NoneBefore, cells_of_type, literal_of, first_literal, last_literal, first_length, last_length, key_over, ends_key, items_under, IsAmong, IsMarked, Lists, AreListed, IsIndexOf, IsLeastFrom, Skips, CanStand, HasFirst, HasEnds, IsShorter, IsAny, SkipsEntries, word_of, head_of, IsOther, PassesHeads, StandsFor, AreHeads, AreSingle}
+use Rattle.gk_steps.proofs.Common.{◌≡◌, ℕ, zero, suc, ◌+◌, ◌-◌, ◌<◌, ◌≤◌, ◌⊎◌, inl, inr, List, [], ◌∷◌, ◌++◌, length, take, drop, map, get_or, Option, Some, None, refl, ap, sym, subst, ◌∙◌, arith, length-append, common_steps, slice_get, false, eq-or-lt_of_le, cases_lt, append-nil, take_all, take-append-drop, Entry, Piece, Index, Ends, PieceValue, Literal, FieldPiece, piece_value, pattern_value, Matches, MatchesNot, woven, FitsEnd, StepType, EntryValue, entry_value, NoneBefore, cells_of_type, HasLiterals, IsTrue, literal_of, first_literal, last_literal, last_byte, ends_key, ends_of, key_over, window_at, IsEndsKey, IsKeyOf, Lists, AreListed, IsIndexOf, IsLeast, NoneIsLessAt, SkipsAt, SkipsByEnds, SkipsInside, Skips, SkipsEntries}
+use Rattle.std.specs.Int.{w32, w64, from_le_bytes}
+use Rattle.gk_steps.specs.declared.keyed_numbers.Keyed.{Keyed}
+use Rattle.gk_steps.specs.KeyedNumbers.{bucket_of, IsUnder}
 use Rattle.gk_steps.proofs.LiteralEndLemmas.{match_fits}
+use Rattle.gk_steps.proofs.LiteralOrderLemmas.{match_has}
 
 -- the last literal
-same_some : {A : Type 0} (x y : A) → ◌≡◌ {A = Option A} (Some x) (Some y) → x ≡ y
+pub same_some : {A : Type 0} (x y : A) → ◌≡◌ {A = Option A} (Some x) (Some y) → x ≡ y
 same_some x y e = cc
 
 last_said : (pieces : List Piece) (n : ℕ) (p : Piece) → length pieces ≡ suc n → slice_get pieces n ≡ Some p → literal_of (piece_value p) ≡ last_literal (map piece_value pieces)
@@ -13,12 +17,22 @@ last_said (q ∷ []) (suc n) p size e = absurd (omega arith)
 last_said (q ∷ r ∷ rest) zero p size e = absurd (omega arith)
 last_said (q ∷ r ∷ rest) (suc n) p size e = last_said (r ∷ rest) n p (omega arith) e
 
-not_empty : (pieces : List Piece) (p : Piece) → slice_get pieces (length pieces - 1) ≡ Some p → length pieces ≡ suc (length pieces - 1)
-not_empty [] p e = let bad : ⊥ = cc in absurd bad
-not_empty (q ∷ pieces) p e = omega arith
+not_empty : {X : Type 0} (xs : List X) (x : X) → slice_get xs (length xs - 1) ≡ Some x → length xs ≡ suc (length xs - 1)
+not_empty [] x e = let bad : ⊥ = cc in absurd bad
+not_empty (y ∷ xs) x e = omega arith
 
 pub last_is : (pieces : List Piece) (p : Piece) → slice_get pieces (length pieces - 1) ≡ Some p → literal_of (piece_value p) ≡ last_literal (map piece_value pieces)
 last_is pieces p e = last_said pieces (length pieces - 1) p (not_empty pieces p e) e
+
+last_byte_at : (bytes : List ℕ) (n b : ℕ) → length bytes ≡ suc n → slice_get bytes n ≡ Some b → b ≡ last_byte bytes
+last_byte_at [] n b size e = absurd (omega (arith, size))
+last_byte_at (c ∷ []) zero b size e = sym (same_some c b e)
+last_byte_at (c ∷ []) (suc n) b size e = absurd (omega (arith, size))
+last_byte_at (c ∷ d ∷ rest) zero b size e = absurd (omega (arith, size))
+last_byte_at (c ∷ d ∷ rest) (suc n) b size e = last_byte_at (d ∷ rest) n b (omega (arith, size)) e
+
+pub last_byte_is : (bytes : List ℕ) (b : ℕ) → slice_get bytes (length bytes - 1) ≡ Some b → b ≡ last_byte bytes
+last_byte_is bytes b e = last_byte_at bytes (length bytes - 1) b (not_empty bytes b e) e
 
 -- positions of a list
 pub get_at : {X : Type 0} (xs : List X) (i : ℕ) (x : X) → i < length xs → x ≡ get_or xs i x → slice_get xs i ≡ Some x
@@ -36,13 +50,6 @@ get_within [] k x is = let bad : ⊥ = cc in absurd bad
 get_within (y ∷ ys) zero x is = omega arith
 get_within (y ∷ ys) (suc k) x is = let less = get_within ys k x is in omega arith
 
--- keys
-pub key_between : (key : ℕ) (bytes : List ℕ) (size first : ℕ) → size ≤ first → first ≤ length bytes → key_over (key_over key (take size bytes)) (take (first - size) (drop size bytes)) ≡ key_over key (take first bytes)
-key_between key bytes zero first some within = let same : first - 0 ≡ first = omega arith in ap (λ n. key_over key (take n bytes)) same
-key_between key [] (suc size) first some within = absurd (omega arith)
-key_between key (b ∷ bytes) (suc size) zero some within = absurd (omega arith)
-key_between key (b ∷ bytes) (suc size) (suc first) some within = grind (arith, common_steps, key_between ((key * 33 % 2 ^ 64 + b) % 2 ^ 64) bytes size first (omega arith) (omega arith))
-
 -- the ends of a text that a pattern matches
 match_begins : (ps : List PieceValue) (text : List ℕ) (spans : List (List ℕ)) → Matches ps text spans → (rest : List ℕ) × (text ≡ first_literal ps ++ rest)
 match_begins [] text spans m = (text, refl)
@@ -58,131 +65,220 @@ ends_so (p ∷ q ∷ ps) text h = ends_so (q ∷ ps) text h
 match_ends : (ps : List PieceValue) (text : List ℕ) (spans : List (List ℕ)) → Matches ps text spans → (prefix : List ℕ) × (text ≡ prefix ++ last_literal ps)
 match_ends ps text spans m = ends_so ps text (match_fits ps text spans m)
 
-first_taken : (ps : List PieceValue) (text : List ℕ) (spans : List (List ℕ)) → Matches ps text spans → take (length (first_literal ps)) text ≡ first_literal ps
-first_taken ps text spans m = let a = match_begins ps text spans m in ap (take (length (first_literal ps))) a.1 ∙ take_at (first_literal ps) a.0 (length (first_literal ps)) refl
+last_after : (prefix xs : List ℕ) → 0 < length xs → last_byte (prefix ++ xs) ≡ last_byte xs
+last_after [] xs some = refl
+last_after (b ∷ []) [] some = absurd (omega (arith, some))
+last_after (b ∷ []) (x ∷ xs) some = refl
+last_after (b ∷ c ∷ bs) xs some = last_after (c ∷ bs) xs some
 
-last_taken : (ps : List PieceValue) (text : List ℕ) (spans : List (List ℕ)) → Matches ps text spans → drop (length text - length (last_literal ps)) text ≡ last_literal ps
-last_taken ps text spans m =
-    let b = match_ends ps text spans m in
-    let size : length b.0 ≡ length text - length (last_literal ps) = omega (arith, ap length b.1, length-append b.0 (last_literal ps)) in
-    ap (drop (length text - length (last_literal ps))) b.1 ∙ drop_at b.0 (last_literal ps) (length text - length (last_literal ps)) size
+last_cases : (last prefix text : List ℕ) → text ≡ prefix ++ last → (last_byte last ≡ last_byte text) ⊎ (last_byte last ≡ 0)
+last_cases [] prefix text e = inr refl
+last_cases (b ∷ bs) prefix text e = inl (sym (ap last_byte e ∙ last_after prefix (b ∷ bs) (omega arith)))
 
-fits_length : (ps : List PieceValue) (text : List ℕ) (spans : List (List ℕ)) → Matches ps text spans → (length (first_literal ps) ≤ length text) × (length (last_literal ps) ≤ length text)
-fits_length ps text spans m =
+take_before : (n : ℕ) (xs ys : List ℕ) → n ≤ length xs → take n (xs ++ ys) ≡ take n xs
+take_before zero xs ys le = refl
+take_before (suc n) [] ys le = absurd (omega (arith, le))
+take_before (suc n) (x ∷ xs) ys le = ap (λ zs. x ∷ zs) (take_before n xs ys (omega (arith, le)))
+
+ends_there : (ps : List PieceValue) (text : List ℕ) (spans : List (List ℕ)) (key : ℕ) → Matches ps text spans → IsEndsKey key ps → (7 ≤ length text) × ((key ≡ ends_key text (last_byte text)) ⊎ (key ≡ ends_key text 0))
+ends_there ps text spans key m is =
     let a = match_begins ps text spans m in
     let b = match_ends ps text spans m in
-    (omega (arith, ap length a.1, length-append (first_literal ps) a.0), omega (arith, ap length b.1, length-append b.0 (last_literal ps)))
+    let first : take 7 (first_literal ps) ≡ take 7 text = sym (ap (take 7) a.1 ∙ take_before 7 (first_literal ps) a.0 is.long) in
+    let key_now : key ≡ from_le_bytes w64 (take 7 text ++ last_byte (last_literal ps) ∷ []) = is.key_is ∙ ap (λ bs. from_le_bytes w64 (bs ++ last_byte (last_literal ps) ∷ [])) first in (
+      omega (arith, is.long, ap length a.1, length-append (first_literal ps) a.0),
+      elim (last_cases (last_literal ps) b.0 text b.1) [
+        | inl same ↦ inl (key_now ∙ ap (ends_key text) same)
+        | inr none ↦ inr (key_now ∙ ap (ends_key text) none)
+      ],
+    )
 
--- patterns with a length below some
-pub skips_none : (index : Index) (from most : ℕ) (text : List ℕ) → Skips (λ ps. ⊥) index from most text most
-skips_none index from most text = record { low = λ l. l; high = omega arith; skipped = λ position ps never lists low under spans m. never }
+has_ends : (text : List ℕ) → 7 ≤ length text → ends_of text ≡ Some (record { by_literal = ends_key text (last_byte text); by_field = ends_key text 0 })
+has_ends text long = grind (arith, common_steps)
 
-pub shorter_more : (IsKind IsNext : List PieceValue → Type 0) (length_of : List PieceValue → ℕ) (index : Index) (size from most least next : ℕ) (text : List ℕ) → Skips (IsShorter IsKind length_of size) index from most text least → Skips IsNext index from least text next
-    → ((position : ℕ) (ps : List PieceValue) (spans : List (List ℕ)) → IsKind ps → length_of ps ≡ size → Lists index position ps → Matches ps text spans → IsNext ps) → Skips (IsShorter IsKind length_of (size + 1)) index from most text next
-shorter_more IsKind IsNext length_of index size from most least next text h more cover = record {
-  low = λ l. more.low (h.low l);
-  high = omega (arith, h.high, more.high);
-  skipped = λ position ps kind lists low under spans m. elim (let le : length_of ps ≤ size = omega (arith, kind.1) in eq-or-lt_of_le le) [
-    | inr less ↦ h.skipped position ps (kind.0, less) lists low (omega (arith, under, more.high)) spans m
-    | inl same ↦ more.skipped position ps (cover position ps spans kind.0 same lists m) lists low under spans m
-  ];
+-- literals of a text
+later_at : (before x : List ℕ) (n start : ℕ) → n ≡ start + length before → drop n (before ++ x) ≡ drop start x
+later_at [] x n start e = ap (λ m. drop m x) (let same : n ≡ start = omega (arith, e) in same)
+later_at (b ∷ bs) x zero start e = absurd (omega (arith, e))
+later_at (b ∷ bs) x (suc n) start e = later_at bs x n start (omega (arith, e))
+
+part_longer : (x rest : List ℕ) (start n : ℕ) → start + n ≤ length x → take n (drop start (x ++ rest)) ≡ take n (drop start x)
+part_longer x rest zero n le = take_before n x rest (omega (arith, le))
+part_longer [] rest (suc start) n le = absurd (omega (arith, le))
+part_longer (a ∷ xs) rest (suc start) n le = part_longer xs rest start n (omega (arith, le))
+
+abbrev pub IsPart : List ℕ → List ℕ → Type 0
+IsPart part text = (start : ℕ) × (start + length part ≤ length text) × (take (length part) (drop start text) ≡ part)
+
+in_front : (part x rest : List ℕ) → IsPart part x → IsPart part (x ++ rest)
+in_front part x rest h = (h.0, omega (arith, h.1, length-append x rest), part_longer x rest h.0 (length part) h.1 ∙ h.2)
+
+in_back : (part before x : List ℕ) → IsPart part x → IsPart part (before ++ x)
+in_back part before x h = (h.0 + length before, omega (arith, h.1, length-append before x), ap (take (length part)) (later_at before x (h.0 + length before) h.0 refl) ∙ h.2)
+
+in_itself : (part : List ℕ) → IsPart part part
+in_itself part = (0, omega arith, take_all (length part) part (omega arith))
+
+in_text : (ps : List PieceValue) (text literal : List ℕ) (k : ℕ) (p : PieceValue) → HasLiterals ps text → slice_get ps k ≡ Some p → literal ≡ literal_of p → 4 ≤ length literal → IsPart literal text
+in_text [] text literal k p h is same long = let bad : ⊥ = cc in absurd bad
+in_text (Literal own ∷ ps) text literal zero p h is same long =
+    let here : literal ≡ own = same ∙ ap literal_of (sym (same_some (Literal own) p is)) in
+    subst (IsPart literal) (sym h.2) (in_back literal h.0 (own ++ h.1) (in_front literal own h.1 (subst (IsPart literal) here (in_itself literal))))
+in_text (Literal own ∷ ps) text literal (suc k) p h is same long = subst (IsPart literal) (sym h.2) (in_back literal h.0 (own ++ h.1) (in_back literal own h.1 (in_text ps h.1 literal k p h.3 is same long)))
+in_text (FieldPiece name kind ∷ ps) text literal zero p h is same long =
+    let none : literal ≡ [] = same ∙ ap literal_of (sym (same_some (FieldPiece name kind) p is)) in
+    absurd (omega (arith, long, ap length none))
+in_text (FieldPiece name kind ∷ ps) text literal (suc k) p h is same long = in_text ps text literal k p h is same long
+
+same_window : (literal text : List ℕ) (start : ℕ) → 4 ≤ length literal → take (length literal) (drop start text) ≡ literal → window_at text start ≡ window_at literal 0
+same_window literal text start long part =
+    let rest = drop (length literal) (drop start text) in
+    let whole : drop start text ≡ literal ++ rest = sym (take-append-drop (length literal) (drop start text)) ∙ ap (λ t. t ++ rest) part in
+    ap (λ t. from_le_bytes w32 (take 4 t)) whole ∙ ap (from_le_bytes w32) (take_before 4 literal rest long)
+
+whole_is : (literal text : List ℕ) (spans : List (List ℕ)) → Matches (Literal literal ∷ []) text spans → text ≡ literal
+whole_is literal text spans m = m.whole ∙ append-nil literal
+
+-- what an index lists for a text
+pub least_kept : (index : Index) (key from old new : ℕ) → new ≤ old → IsLeast index key from old → IsLeast index key from new
+least_kept index key from old new le h = λ position among low. omega (arith, le, h position among low)
+
+pub at_kept : (index : Index) (start from old new : ℕ) (bytes : List ℕ) → new ≤ old → NoneIsLessAt index start from bytes old → NoneIsLessAt index start from bytes new
+at_kept index start from old new bytes le h = λ size among fits. least_kept index (key_over 0 (take size (drop start bytes))) from old new le (h size among fits)
+
+-- the literals at one place, of the first lengths
+abbrev pub LeastOf : Index → ℕ → ℕ → List ℕ → List Keyed → ℕ → ℕ → Type 0
+LeastOf index start from bytes items k least = (j size : ℕ) → j < k → slice_get items j ≡ Some (record { key = window_at bytes start; number = size }) → start + size ≤ length bytes → IsLeast index (key_over 0 (take size (drop start bytes))) from least
+
+pub lengths_none : (index : Index) (start from least : ℕ) (bytes : List ℕ) (items : List Keyed) → LeastOf index start from bytes items 0 least
+lengths_none index start from least bytes items j size less = absurd (omega (arith, less))
+
+pub lengths_more : (index : Index) (start from old new k : ℕ) (bytes : List ℕ) (items : List Keyed) (item : Keyed) → slice_get items k ≡ Some item → new ≤ old → LeastOf index start from bytes items k old
+    → (item.key ≡ window_at bytes start → start + item.number ≤ length bytes → IsLeast index (key_over 0 (take item.number (drop start bytes))) from new) → LeastOf index start from bytes items (k + 1) new
+lengths_more index start from old new k bytes items item there le h now j size less is fits = elim (let most : j ≤ k = omega (arith, less) in eq-or-lt_of_le most) [
+  | inr before ↦ least_kept index (key_over 0 (take size (drop start bytes))) from old new le (h j size before is fits)
+  | inl here ↦
+      let own : Keyed = record { key = window_at bytes start; number = size } in
+      let same : item ≡ own = same_some item own (sym there ∙ ap (slice_get items) (sym here) ∙ is) in
+      let number : item.number ≡ size = ap (λ (i : Keyed). i.number) same in
+      subst (λ n. IsLeast index (key_over 0 (take n (drop start bytes))) from new) number (now (ap (λ (i : Keyed). i.key) same) (omega (arith, number, fits)))
+]
+
+pub lengths_all : (index : Index) (start from most least k : ℕ) (bytes : List ℕ) (items : List Keyed) → items ≡ bucket_of index.lengths.buckets.items (window_at bytes start) → length items ≤ k → (from ≤ most → from ≤ least) → least ≤ most → LeastOf index start from bytes items k least → SkipsAt index start from most bytes least
+lengths_all index start from most least k bytes items is past low high h = record {
+  low = low;
+  high = high;
+  least = λ size among fits.
+      let there : slice_get items among.0 ≡ Some (record { key = window_at bytes start; number = size }) = ap (λ xs. slice_get xs among.0) is ∙ among.1 in
+      h among.0 size (omega (arith, past, get_within items among.0 (record { key = window_at bytes start; number = size }) there)) there fits;
 }
 
-shorter_all : (IsKind : List PieceValue → Type 0) (length_of : List PieceValue → ℕ) (index : Index) (size from most least : ℕ) (text : List ℕ) → Skips (IsShorter IsKind length_of size) index from most text least
-    → ((position : ℕ) (ps : List PieceValue) (spans : List (List ℕ)) → Lists index position ps → IsKind ps → Matches ps text spans → length_of ps < size) → Skips IsKind index from most text least
-shorter_all IsKind length_of index size from most least text h all = record {
+pub places_none : (index : Index) (from least : ℕ) (text : List ℕ) (start : ℕ) → start < 0 → NoneIsLessAt index start from text least
+places_none index from least text start less = absurd (omega (arith, less))
+
+pub places_more : (index : Index) (from least next k : ℕ) (text : List ℕ) → next ≤ least → ((start : ℕ) → start < k → NoneIsLessAt index start from text least) → NoneIsLessAt index k from text next → (start : ℕ) → start < k + 1 → NoneIsLessAt index start from text next
+places_more index from least next k text le h now start less = elim (let most : start ≤ k = omega (arith, less) in eq-or-lt_of_le most) [
+  | inr before ↦ at_kept index start from least next text le (h start before)
+  | inl here ↦ subst (λ n. NoneIsLessAt index n from text next) (sym here) now
+]
+
+pub places_all : (index : Index) (from most least count : ℕ) (text : List ℕ) → length text ≤ count + 3 → (from ≤ most → from ≤ least) → least ≤ most → IsLeast index (key_over 0 text) from least
+    → ((start : ℕ) → start < count → NoneIsLessAt index start from text least) → SkipsInside index from most text least
+places_all index from most least count text enough low high whole literals = record {
+  low = low;
+  high = high;
+  whole = whole;
+  literals = λ start fits. literals start (omega (arith, fits, enough));
+}
+
+pub ends_none : (index : Index) (from most least : ℕ) (ends : Option Ends) → ends ≡ None → (from ≤ most → from ≤ least) → least ≤ most → IsLeast index 0 from least → SkipsByEnds index from most ends least
+ends_none index from most least ends none low high other = record {
+  low = low;
+  high = high;
+  other = other;
+  by_literal = λ e is. let bad : ⊥ = cc in absurd bad;
+  by_field = λ e is. let bad : ⊥ = cc in absurd bad;
+}
+
+skips_of : (index : Index) (from most least : ℕ) (text : List ℕ) (ends : Option Ends) → ends ≡ ends_of text → SkipsByEnds index from most ends least → (IsTrue index.looks_inside → SkipsInside index from most text least) → Skips index from most text least
+skips_of index from most least text ends same h more = record {
   low = h.low;
   high = h.high;
-  skipped = λ position ps kind lists low under spans m. h.skipped position ps (kind, all position ps spans lists kind m) lists low under spans m;
+  skipped = λ position ps lists later under spans m.
+      let passed : (key : ℕ) → IsLeast index key from least → lists.0 ≡ key → ⊥ = λ key is_least same. omega (arith, under, is_least position (subst (λ n. IsUnder index.positions.buckets.items n position) same lists.2) later) in
+      elim lists.1 [
+        | inl zero_key ↦ passed 0 h.other zero_key
+        | inr (inl by_ends) ↦
+            let there = ends_there ps text spans lists.0 m by_ends in
+            let is = same ∙ has_ends text there.0 in
+            elim there.1 [ inl literal ↦ passed _ (h.by_literal _ is) literal | inr field ↦ passed _ (h.by_field _ is) field ]
+        | inr (inr inside) ↦
+            let s = more inside.0 in
+            elim inside.1 [
+              | inl whole ↦ passed (key_over 0 text) s.whole (whole.2 ∙ ap (key_over 0) (sym (whole_is whole.0 text spans (subst (λ qs. Matches qs text spans) whole.1 m))))
+              | inr by_literal ↦
+                  let literal = by_literal.literal in
+                  let has = by_literal.has in
+                  let there = in_text ps text literal has.place has.piece (match_has ps text spans m) has.there has.same has.long in
+                  let window = same_window literal text there.0 has.long there.2 in
+                  let size : IsUnder index.lengths.buckets.items (window_at text there.0) (length literal) = subst (λ w. IsUnder index.lengths.buckets.items w (length literal)) (sym window) by_literal.length_is in
+                  passed (key_over 0 (take (length literal) (drop there.0 text))) (s.literals there.0 (omega (arith, there.1, has.long)) (length literal) size there.1) (by_literal.key_is ∙ ap (key_over 0) (sym there.2))
+            ]
+      ];
 }
 
--- both ends
-pub ends_short : (index : Index) (key last from most : ℕ) (text : List ℕ) → length text < last → Skips (HasEnds key last) index from most text most
-ends_short index key last from most text short = record {
-  low = λ l. l;
-  high = omega arith;
-  skipped = λ position ps kind lists low under spans m. omega (arith, short, kind.1, (fits_length ps text spans m).1);
-}
+pub skips_by_ends : (index : Index) (from most least : ℕ) (text : List ℕ) (ends : Option Ends) → ends ≡ ends_of text → index.looks_inside ≡ false → SkipsByEnds index from most ends least → Skips index from most text least
+skips_by_ends index from most least text ends same off h = skips_of index from most least text ends same h (λ yes. let bad : ⊥ = cc in absurd bad)
 
-pub ends_under : (index : Index) (key last from most result : ℕ) (text back positions : List ℕ) (ends : ℕ) → back ≡ drop (length text - last) text → ends ≡ key_over key back → positions ≡ items_under index.positions ends → IsLeastFrom positions from most result → Skips (HasEnds key last) index from most text result
-ends_under index key last from most result text back positions ends b e is h = record {
-  low = h.low;
-  high = h.high;
-  skipped = λ position ps kind lists low under spans m.
-      let back_is : back ≡ last_literal ps = b ∙ ap (λ n. drop (length text - n) text) kind.1 ∙ last_taken ps text spans m in
-      let ends_is : ends ≡ ends_key ps = e ∙ ap (key_over key) back_is ∙ ap (λ k. key_over k (last_literal ps)) kind.0 in
-      let here : IsAmong position positions = subst (IsAmong position) (sym is) (subst (λ q. IsAmong position (items_under index.positions q)) (sym ends_is) lists.listed) in
-      omega (arith, under, h.least position here low);
-}
-
--- the last literals beside a first one
-can_stand : (ps : List PieceValue) (text : List ℕ) (spans : List (List ℕ)) → Matches ps text spans → CanStand (length (first_literal ps)) (length (last_literal ps)) (length text)
-can_stand [] text spans m = inl (omega arith)
-can_stand (Literal literal ∷ []) text spans m = inr (ap length (sym (m.whole ∙ append-nil literal)))
-can_stand (FieldPiece name kind ∷ []) text spans m = inl (omega arith)
-can_stand (Literal literal ∷ q ∷ ps) text spans m =
-    let rest = woven (q ∷ ps) spans in
-    let more : Matches (q ∷ ps) rest spans = record { spans_fit = m.spans_fit; whole = refl } in
-    inl (omega (arith, ap length m.whole, length-append literal rest, (fits_length (q ∷ ps) rest spans more).1))
-can_stand (FieldPiece name kind ∷ q ∷ ps) text spans m = inl (omega (arith, (fits_length (FieldPiece name kind ∷ q ∷ ps) text spans m).1))
-
-pub last_more : (index : Index) (first key last from most least next : ℕ) (text : List ℕ) → Skips (IsShorter (HasFirst first key) last_length last) index from most text least → Skips (HasEnds key last) index from least text next
-    → Skips (IsShorter (HasFirst first key) last_length (last + 1)) index from most text next
-last_more index first key last from most least next text h more = shorter_more (HasFirst first key) (HasEnds key last) last_length index last from most least next text h more (λ position ps spans kind same lists m. (kind.1, sym same))
-
-pub last_passed : (index : Index) (first key last from most least size : ℕ) (lasts : List Bool) (text : List ℕ) → lasts ≡ items_under index.lasts key → last < length lasts → size ≡ length text → (get_or lasts last false ≡ true → CanStand first last size → ⊥)
-    → Skips (IsShorter (HasFirst first key) last_length last) index from most text least → Skips (IsShorter (HasFirst first key) last_length (last + 1)) index from most text least
-last_passed index first key last from most least size lasts text is l same_size never h = shorter_more (HasFirst first key) (λ ps. ⊥) last_length index last from most least least text h (skips_none index from least text) (λ position ps spans kind same lists m.
-    let there : IsMarked last lasts = subst (λ n. IsMarked n lasts) same (subst (IsMarked (last_length ps)) (sym is) (subst (λ k. IsMarked (last_length ps) (items_under index.lasts k)) (sym kind.1) lists.last)) in
-    let stands : CanStand first last size = subst (λ n. CanStand n last size) (sym kind.0) (subst (λ n. CanStand (first_length ps) n size) same (subst (CanStand (first_length ps) (last_length ps)) (sym same_size) (can_stand ps text spans m))) in
-    never (same_some (get_or lasts last false) true (sym (get_there lasts last false l) ∙ there)) stands)
-
-pub last_short : (index : Index) (first key last from most least : ℕ) (text : List ℕ) → length text < last → Skips (IsShorter (HasFirst first key) last_length last) index from most text least → Skips (HasFirst first key) index from most text least
-last_short index first key last from most least text short h = shorter_all (HasFirst first key) last_length index last from most least text h (λ position ps spans lists kind m. omega (arith, short, (fits_length ps text spans m).1))
-
-pub last_all : (index : Index) (first key last from most least : ℕ) (lasts : List Bool) (text : List ℕ) → lasts ≡ items_under index.lasts key → length lasts ≤ last → Skips (IsShorter (HasFirst first key) last_length last) index from most text least → Skips (HasFirst first key) index from most text least
-last_all index first key last from most least lasts text is past h = shorter_all (HasFirst first key) last_length index last from most least text h (λ position ps spans lists kind m.
-    let there : IsMarked (last_length ps) lasts = subst (IsMarked (last_length ps)) (sym is) (subst (λ k. IsMarked (last_length ps) (items_under index.lasts k)) (sym kind.1) lists.last) in
-    omega (arith, past, get_within lasts (last_length ps) true there))
-
--- the first literals
-pub first_more : (index : Index) (first key from most least next : ℕ) (text : List ℕ) → key ≡ key_over 0 (take first text) → Skips (IsShorter IsAny first_length first) index from most text least → Skips (HasFirst first key) index from least text next → Skips (IsShorter IsAny first_length (first + 1)) index from most text next
-first_more index first key from most least next text e h more = shorter_more IsAny (HasFirst first key) first_length index first from most least next text h more (λ position ps spans kind same lists m.
-    (sym same, e ∙ ap (λ n. key_over 0 (take n text)) (sym same) ∙ ap (key_over 0) (first_taken ps text spans m)))
-
-pub first_unmarked : (index : Index) (marked : Bool) (first from most least : ℕ) (text : List ℕ) → first < length index.firsts.items → marked ≡ get_or index.firsts.items first marked → ◌≡◌ marked false → Skips (IsShorter IsAny first_length first) index from most text least → Skips (IsShorter IsAny first_length (first + 1)) index from most text least
-first_unmarked index marked first from most least text l e not h = shorter_more IsAny (λ ps. ⊥) first_length index first from most least least text h (skips_none index from least text) (λ position ps spans kind same lists m.
-    let bad : ◌≡◌ false true = sym not ∙ same_some marked true (sym (get_at index.firsts.items first marked l e) ∙ ap (slice_get index.firsts.items) (sym same) ∙ lists.first) in
-    let none : ⊥ = cc in none)
-
-pub first_short : (index : Index) (first from most least : ℕ) (text : List ℕ) → length text < first → Skips (IsShorter IsAny first_length first) index from most text least → Skips IsAny index from most text least
-first_short index first from most least text short h = shorter_all IsAny first_length index first from most least text h (λ position ps spans lists kind m. omega (arith, short, (fits_length ps text spans m).0))
-
-pub first_all : (index : Index) (first from most least : ℕ) (text : List ℕ) → length index.firsts.items ≤ first → Skips (IsShorter IsAny first_length first) index from most text least → Skips IsAny index from most text least
-first_all index first from most least text past h = shorter_all IsAny first_length index first from most least text h (λ position ps spans lists kind m. omega (arith, past, get_within index.firsts.items (first_length ps) true lists.first))
+pub skips_both : (index : Index) (from most middle least : ℕ) (text : List ℕ) (ends : Option Ends) → ends ≡ ends_of text → SkipsByEnds index from most ends middle → SkipsInside index from middle text least → Skips index from most text least
+skips_both index from most middle least text ends same h s = skips_of index from most least text ends same
+    (record {
+      low = λ le. s.low (h.low le);
+      high = omega (arith, h.high, s.high);
+      other = least_kept index 0 from middle least s.high h.other;
+      by_literal = λ e is. least_kept index e.by_literal from middle least s.high (h.by_literal e is);
+      by_field = λ e is. least_kept index e.by_field from middle least s.high (h.by_field e is);
+    })
+    (λ yes. record { low = λ le. s.low (h.low le); high = omega (arith, h.high, s.high); whole = s.whole; literals = s.literals })
 
 -- the entries
-pub skips_entries : (index : Index) (entries : List Entry) (from result : ℕ) (text : List ℕ) → from < index.listed → AreListed index entries → Skips IsAny index from index.listed text result → SkipsEntries entries from text result
+pub skips_entries : (index : Index) (entries : List Entry) (from result : ℕ) (text : List ℕ) → from < index.listed → AreListed index entries → Skips index from index.listed text result → SkipsEntries entries from text result
 skips_entries index entries from result text less listed h = record {
   low = λ le. h.low (omega (arith, less));
-  skipped = λ position entry is low under spans m. listed position entry (omega (arith, under, h.high)) is (λ lists. h.skipped position (pattern_value entry.pattern) tt lists low under spans m);
+  skipped = λ position entry is low under spans m. listed position entry (omega (arith, under, h.high)) is (λ lists. h.skipped position (pattern_value entry.pattern) lists low under spans m);
 }
 
 -- one entry more is listed
+pub key_kept : (old new : Index) (key : ℕ) (ps : List PieceValue) → (IsTrue old.looks_inside → IsTrue new.looks_inside) → ((k n : ℕ) → IsUnder old.lengths.buckets.items k n → IsUnder new.lengths.buckets.items k n) → IsKeyOf old key ps → IsKeyOf new key ps
+key_kept old new key ps flag kept is = elim is [
+  | inl other ↦ inl other
+  | inr (inl by_ends) ↦ inr (inl by_ends)
+  | inr (inr inside) ↦ inr (inr (
+    flag inside.0,
+    elim inside.1 [
+      | inl whole ↦ inl whole
+      | inr literal ↦ inr (record { literal = literal.literal; has = literal.has; key_is = literal.key_is; length_is = kept (window_at literal.literal 0) (length literal.literal) literal.length_is })
+    ],
+  ))
+]
+
+pub nothing_listed : (index : Index) (entries : List Entry) → index.listed ≡ 0 → IsIndexOf index entries
+nothing_listed index entries none = record {
+  within = omega (arith, none);
+  listed = λ position entry less is bad. absurd (omega (arith, less, none));
+}
+
 pub listed_more : (old middle : Index) (entries : List Entry) (x : Entry) → old.listed < length entries → x ≡ get_or entries old.listed x → ((p : ℕ) (ps : List PieceValue) → Lists old p ps → Lists middle p ps) → Lists middle old.listed (pattern_value x.pattern) → AreListed old entries
-    → IsIndexOf (record { listed = old.listed + 1; firsts = middle.firsts; lasts = middle.lasts; positions = middle.positions }) entries
-listed_more old middle entries x l e kept added h =
-    let new : Index = record { listed = old.listed + 1; firsts = middle.firsts; lasts = middle.lasts; positions = middle.positions } in
-    let as_new : (p : ℕ) (ps : List PieceValue) → Lists middle p ps → Lists new p ps = λ p ps lists. record { first = lists.first; last = lists.last; listed = lists.listed } in
-    record {
-      within = omega (arith, l);
-      listed = λ position entry less is bad. elim (let le : position ≤ old.listed = omega (arith, less) in eq-or-lt_of_le le) [
-        | inr before ↦ h position entry before is (λ lists. bad (as_new position (pattern_value entry.pattern) (kept position (pattern_value entry.pattern) lists)))
-        | inl here ↦
-            let entry_is : x ≡ entry = same_some x entry (sym (get_at entries old.listed x l e) ∙ ap (slice_get entries) (sym here) ∙ is) in
-            bad (as_new position (pattern_value entry.pattern) (subst (λ n. Lists middle n (pattern_value entry.pattern)) (sym here) (subst (λ (v : Entry). Lists middle old.listed (pattern_value v.pattern)) entry_is added)))
-      ];
-    }
+    → IsIndexOf (record { listed = old.listed + 1; looks_inside = middle.looks_inside; lengths = middle.lengths; positions = middle.positions }) entries
+listed_more old middle entries x l e kept added h = record {
+  within = omega (arith, l);
+  listed = λ position entry less is bad_new. let bad : Lists middle position (pattern_value entry.pattern) → ⊥ = λ lists. bad_new (lists.0, key_kept middle _ lists.0 (pattern_value entry.pattern) (λ yes. yes) (λ k n is. is) lists.1, lists.2) in elim (let le : position ≤ old.listed = omega (arith, less) in eq-or-lt_of_le le) [
+    | inr before ↦ h position entry before is (λ lists. bad (kept position (pattern_value entry.pattern) lists))
+    | inl here ↦
+        let entry_is : x ≡ entry = same_some x entry (sym (get_at entries old.listed x l e) ∙ ap (slice_get entries) (sym here) ∙ is) in
+        bad (subst (λ n. Lists middle n (pattern_value entry.pattern)) (sym here) (subst (λ (v : Entry). Lists middle old.listed (pattern_value v.pattern)) entry_is added))
+  ];
+}
 
 -- entries that are skipped
 get_map : (entries : List Entry) (k : ℕ) (other : EntryValue) → slice_get (map entry_value entries) k ≡ Some other → (x : Entry) × (slice_get entries k ≡ Some x) × (entry_value x ≡ other)
@@ -235,90 +331,3 @@ get_taken (y ∷ ys) (suc n) (suc i) x e = get_taken ys n i x e
 
 pub listed_taken : (index : Index) (entries slice : List Entry) (n : ℕ) → slice ≡ take n entries → AreListed index entries → AreListed index slice
 listed_taken index entries slice n same h position entry less is = h position entry less (get_taken entries n position entry (ap (λ es. slice_get es position) (sym same) ∙ is))
-
--- the word of a text
-pub all_before : {X : Type 0} (xs : List X) (size : ℕ) → length xs ≤ size → xs ≡ take size xs
-all_before xs size le = sym (take_all size xs le)
-
-word_more : (first rest : List ℕ) (word : ℕ) → Some word ≡ word_of first → Some word ≡ word_of (first ++ rest)
-word_more first rest word e = grind (arith, common_steps)
-
-match_word : (ps : List PieceValue) (text : List ℕ) (spans : List (List ℕ)) (word : ℕ) → Matches ps text spans → Some word ≡ head_of ps → Some word ≡ word_of text
-match_word ps text spans word m e =
-    let a = match_begins ps text spans m in
-    word_more (first_literal ps) a.0 word e ∙ ap word_of (sym a.1)
-
--- entries that are passed over by their heads
-other_never : (o : Option ℕ) (heads : List HeadWord) (entries : List Entry) (position other : ℕ) (head : HeadWord) (entry : Entry) (word : Option ℕ) (text : List ℕ) → head.word ≡ o → word ≡ word_of text → AreHeads heads entries → StandsFor heads position other head → slice_get entries other ≡ Some entry → IsOther o word → MatchesNot (pattern_value entry.pattern) text
-other_never None heads entries position other head entry word text own e h for is never spans m = never
-other_never (Some w) heads entries position other head entry word text own e h for is never spans m = never (match_word (pattern_value entry.pattern) text spans w m (h position other w head entry for own is) ∙ sym e)
-
-pub heads_passed : (heads : List HeadWord) (entries : List Entry) (from middle result : ℕ) (word : Option ℕ) (text : List ℕ) → word ≡ word_of text → AreHeads heads entries → SkipsEntries entries from text middle → PassesHeads heads middle word result → SkipsEntries entries from text result
-heads_passed heads entries from middle result word text e h s p = record {
-  low = λ le. omega (arith, s.low le, p.low);
-  skipped = λ other entry is low under. elim (cases_lt other middle) [
-    | inl before ↦ s.skipped other entry is low before
-    | inr from ↦ let o = p.passed other from under in other_never o.1.word heads entries o.0 other o.1 entry word text refl e h o.2 is o.3
-  ];
-}
-
-pub other_none : (head : Option ℕ) → is_some head ≡ true → IsOther head None
-other_none None e = let bad : ⊥ = cc in bad
-other_none (Some word) e = λ same. let bad : ⊥ = cc in bad
-
-pub passes_more : (heads : List HeadWord) (from position next : ℕ) (word : Option ℕ) (head : HeadWord) → slice_get heads position ≡ Some head → IsOther head.word word → position < next → next ≤ position + 1 + head.more → PassesHeads heads from word position → PassesHeads heads from word next
-passes_more heads from position next word head is other later most h = record {
-  low = omega (arith, h.low, later);
-  passed = λ before low under. elim (cases_lt before position) [
-    | inl old ↦ h.passed before low old
-    | inr le ↦ (position, head, record { there = is; low = le; high = omega (arith, under, most) }, other)
-  ];
-}
-
--- the heads of entries
-pub heads_push : (old new : List HeadWord) (entries items : List Entry) (head : HeadWord) (x : Entry) → length old ≡ length entries → new ≡ old ++ head ∷ [] → items ≡ entries ++ x ∷ [] → head.word ≡ head_of (pattern_value x.pattern) → AreSingle new → AreHeads old entries → AreHeads new items
-heads_push old new entries items head x size same_heads same own single h position other word found entry for is_word is =
-    let here : other ≡ position = omega (arith, for.low, for.high, single position found for.there) in
-    elim (get_push old head position found (ap (λ hs. slice_get hs position) (sym same_heads) ∙ for.there)) [
-      | inl a ↦ elim (get_push entries x other entry (ap (λ es. slice_get es other) (sym same) ∙ is)) [
-        | inl b ↦ h position other word found entry (record { there = a; low = for.low; high = for.high }) is_word b
-        | inr b ↦ absurd (omega (arith, get_within old position found a, b.0, size, here))
-      ]
-      | inr a ↦ elim (get_push entries x other entry (ap (λ es. slice_get es other) (sym same) ∙ is)) [
-        | inl b ↦ absurd (omega (arith, get_within entries other entry b, a.0, size, here))
-        | inr b ↦ sym is_word ∙ ap (λ (f : HeadWord). f.word) (sym a.1) ∙ own ∙ ap (λ (v : Entry). head_of (pattern_value v.pattern)) b.1
-      ]
-    ]
-
-pub single_push : (old new : List HeadWord) (head : HeadWord) → new ≡ old ++ head ∷ [] → head.more ≡ 0 → AreSingle old → AreSingle new
-single_push old new head same none h position found there = grind (arith, common_steps, get_push)
-
-get_set : {X : Type 0} (xs : List X) (i : ℕ) (y : X) (k : ℕ) (z : X) → slice_get (slice_set xs i y) k ≡ Some z → (slice_get xs k ≡ Some z) ⊎ ((k ≡ i) × (y ≡ z))
-get_set [] i y k z e = inl e
-get_set (x ∷ xs) zero y zero z e = inr (refl, same_some y z e)
-get_set (x ∷ xs) zero y (suc k) z e = inl e
-get_set (x ∷ xs) (suc i) y zero z e = inl e
-get_set (x ∷ xs) (suc i) y (suc k) z e = elim (get_set xs i y k z e) [ inl a ↦ inl a | inr b ↦ inr (ap suc b.0, b.1) ]
-
--- a head that stands for the entries of an equal one after it, too
-pub heads_joined : (heads : List HeadWord) (position : ℕ) (own later new : HeadWord) → slice_get heads position ≡ Some own → slice_get heads (position + 1) ≡ Some later → own.word ≡ later.word → new.word ≡ later.word → new.more ≤ later.more + 1 → (entries : List Entry) → AreHeads heads entries → AreHeads (slice_set heads position new) entries
-heads_joined heads position own later new is_own is_later same kept most entries h k other word head entry for is_word is = elim (get_set heads position new k head for.there) [
-  | inl a ↦ h k other word head entry (record { there = a; low = for.low; high = for.high }) is_word is
-  | inr b ↦
-      let later_word : later.word ≡ Some word = sym kept ∙ ap (λ (f : HeadWord). f.word) b.1 ∙ is_word in
-      let reach : other ≤ position + new.more = omega (arith, for.high, ap (λ (f : HeadWord). f.more) b.1, b.0) in
-      elim (cases_lt position other) [
-        | inl after ↦ h (position + 1) other word later entry (record { there = is_later; low = omega (arith, after); high = omega (arith, reach, most) }) later_word is
-        | inr le ↦ h position other word own entry (record { there = is_own; low = omega (arith, for.low, b.0); high = omega (arith, le) }) (same ∙ later_word) is
-      ]
-]
-
-pub written_back : {X : Type 0} (n : ℕ) (new old : List X) → length new ≡ length old → n ≡ length old → take n (new ++ drop (length new) old) ≡ new
-written_back n new old same size = grind (arith, common_steps)
-
-pub heads_taken : (heads some : List HeadWord) (entries slice : List Entry) (n : ℕ) → some ≡ take n heads → slice ≡ take n entries → AreHeads heads entries → AreHeads some slice
-heads_taken heads some entries slice n same_heads same h position other word head entry for is_word is =
-    h position other word head entry (record { there = get_taken heads n position head (ap (λ hs. slice_get hs position) (sym same_heads) ∙ for.there); low = for.low; high = for.high }) is_word (get_taken entries n other entry (ap (λ es. slice_get es other) (sym same) ∙ is))
-
-pub heads_size : (old new : List HeadWord) (entries items : List Entry) (head : HeadWord) (x : Entry) → length old ≡ length entries → new ≡ old ++ head ∷ [] → items ≡ entries ++ x ∷ [] → length new ≡ length items
-heads_size old new entries items head x size same_heads same = grind (arith, common_steps)

@@ -28,7 +28,7 @@ left : (text x rest : List ℕ) → text ≡ x ++ rest → drop (length x) text 
 left text x rest e = ap (drop (length x)) e ∙ drop-append_seam x rest
 
 -- of two ways to cut a list, what stands after the longer prefix ends what stands after the other
-longer : (a r b t : List ℕ) → a ++ r ≡ b ++ t → length a ≤ length b → (w : List ℕ) × (r ≡ w ++ t)
+pub longer : (a r b t : List ℕ) → a ++ r ≡ b ++ t → length a ≤ length b → (w : List ℕ) × (r ≡ w ++ t)
 longer [] r b t e h = (b, e)
 longer (c ∷ a) r [] t e h = absurd (omega arith)
 longer (c ∷ a) r (d ∷ b) t e h = longer a r b t (ap (drop 1) e) (omega arith)

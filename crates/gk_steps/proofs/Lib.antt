@@ -1,5 +1,6 @@
 pub mod Common
 mod DecimalLemmas
+mod KeyedNumbersLemmas
 mod MatchingLemmas
 mod BestMatchLemmas
 mod CharBoundaryLemmas
@@ -22,6 +23,7 @@ pub mod DefaultFileLemmas
 mod DigitLemmas
 mod NumberLemmas
 mod LeftmostLemmas
+mod LiteralOrderLemmas
 mod LibraryLemmas
 mod EntryIndexLemmas
 mod CaptureLemmas

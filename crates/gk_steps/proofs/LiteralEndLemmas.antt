@@ -1,5 +1,5 @@
 -- The ends of a text that a pattern matches.
-use Rattle.gk_steps.proofs.Common.{◌≡◌, ℕ, zero, suc, ◌+◌, ◌-◌, ◌<◌, ◌≤◌, refl, get_or, Bool, true, false, List, [], ◌∷◌, ◌++◌, length, take, drop, map, nat_eq, Some, ap, sym, subst, ◌∙◌, arith, length-append, append_assoc, common_steps, slice_get, MatchBool, starts_with, ends_with, drop-append_seam, take-append-drop, append-nil, get_or-take, get_or-drop, bytes_eq-Decides, Piece, PieceValue, Literal, FieldPiece, piece_value, Matches, MatchesNot, EndsWithPiece, FitsEnd}
+use Rattle.gk_steps.proofs.Common.{◌≡◌, ℕ, zero, suc, ◌-◌, ◌<◌, ◌≤◌, refl, get_or, Bool, true, false, List, [], ◌∷◌, ◌++◌, length, take, drop, map, nat_eq, Some, ap, sym, subst, ◌∙◌, arith, length-append, append_assoc, common_steps, slice_get, MatchBool, starts_with, ends_with, drop-append_seam, take-append-drop, append-nil, get_or-take, get_or-drop, bytes_eq-Decides, Piece, PieceValue, Literal, FieldPiece, piece_value, Matches, MatchesNot, EndsWithPiece, FitsEnd}
 use Rattle.std.proofs.lemmas.List.{length-drop}
 use Rattle.gk_steps.proofs.MatchingLemmas.{split}
 use Rattle.gk_steps.proofs.BestMatchLemmas.{begins_so, begins_with_itself}

@@ -1,14 +1,10 @@
--- How an index lists the entries of a library by the literals at their patterns' ends, and which entries it passes over.
-use Rattle.std.specs.Prelude.{◌≡◌, ◌⊎◌, ◌+◌, ◌*◌, ◌%◌, ◌^◌, ◌<◌, ◌≤◌, nat_lt, nat_eq, ℕ, Bool, true, List, [], ◌∷◌, length, take, slice_get, Vec, Option, Some, None, if◌then◌else◌}
-use Rattle.std.specs.Option.{option_map_or}
-use Rattle.std.specs.HashMap.{HashMap, get}
-use Rattle.std.specs.Int.{w64, from_le_bytes}
-use Rattle.std.specs.declared.alloc.Global.{Global}
+-- How an index lists the entries of a library by the literals of their patterns, and which entries it passes over.
+use Rattle.std.specs.Prelude.{◌≡◌, ◌⊎◌, ◌+◌, ◌*◌, ◌%◌, ◌^◌, ◌<◌, ◌≤◌, nat_lt, ℕ, IsTrue, List, [], ◌∷◌, ◌++◌, length, take, drop, slice_get, Option, Some, None, if◌then◌else◌}
+use Rattle.std.specs.Int.{w32, w64, from_le_bytes}
 use Rattle.gk_steps.specs.declared.library.Entry.{Entry}
-use Rattle.gk_steps.specs.declared.library.LibraryBuilder.{LibraryBuilder}
 use Rattle.gk_steps.specs.declared.entry_index.Index.{Index}
-use Rattle.gk_steps.specs.declared.entry_index.HeadWord.{HeadWord}
-use Rattle.gk_steps.specs.declared.entry_index.IndexedEntries.{IndexedEntries}
+use Rattle.gk_steps.specs.declared.entry_index.Ends.{Ends}
+use Rattle.gk_steps.specs.KeyedNumbers.{IsUnder, NoneIsLess}
 use Rattle.gk_steps.specs.Pattern.{PieceValue, Literal, FieldPiece, pattern_value}
 use Rattle.gk_steps.specs.Matching.{MatchesNot}
 
@@ -28,52 +24,68 @@ last_literal [] = []
 last_literal (p ∷ []) = literal_of p
 last_literal (p ∷ q ∷ ps) = last_literal (q ∷ ps)
 
--- The length of the literal that a pattern begins with.
-abbrev pub first_length : List PieceValue → ℕ
-first_length ps = length (first_literal ps)
+-- The last of some bytes; 0 if there is none.
+abbrev pub last_byte : List ℕ → ℕ
+last_byte [] = 0
+last_byte (b ∷ []) = b
+last_byte (b ∷ c ∷ bs) = last_byte (c ∷ bs)
 
--- The length of the literal that a pattern ends with.
-abbrev pub last_length : List PieceValue → ℕ
-last_length ps = length (last_literal ps)
+-- The key of the ends of a text that begins with some bytes and ends with one: the first seven bytes and the last one as one number.
+abbrev pub ends_key : List ℕ → ℕ → ℕ
+ends_key bytes last = from_le_bytes w64 (take 7 bytes ++ last ∷ [])
 
--- The word of a text: its first 8 bytes as one number; none if it is shorter.
-abbrev pub word_of : List ℕ → Option ℕ
-word_of text = if nat_lt (length text) 8 then None else Some (from_le_bytes w64 (take 8 text))
-
--- The head of a pattern: the word of the literal that it begins with.
-abbrev pub head_of : List PieceValue → Option ℕ
-head_of ps = word_of (first_literal ps)
+-- The keys of a text's ends for patterns that end with a literal and for those that end with a field, where 0 is in place of the last byte; none if the text is too short.
+abbrev pub ends_of : List ℕ → Option Ends
+ends_of text = if nat_lt (length text) 7 then None else Some (record { by_literal = ends_key text (last_byte text); by_field = ends_key text 0 })
 
 -- A key extended by some bytes.
 abbrev pub key_over : ℕ → List ℕ → ℕ
 key_over key [] = key
-key_over key (b ∷ bs) = key_over ((key * 33 % 2 ^ 64 + b) % 2 ^ 64) bs
+key_over key (b ∷ bs) = key_over ((key * 11400714819323198485 % 2 ^ 64 + b) % 2 ^ 64) bs
 
--- The key of the literal that a pattern begins with.
-abbrev pub first_key : List PieceValue → ℕ
-first_key ps = key_over 0 (first_literal ps)
+-- The window of some bytes at a position: four bytes as one number.
+abbrev pub window_at : List ℕ → ℕ → ℕ
+window_at bytes start = from_le_bytes w32 (take 4 (drop start bytes))
 
--- The key of the literals at both ends.
-abbrev pub ends_key : List PieceValue → ℕ
-ends_key ps = key_over (first_key ps) (last_literal ps)
+-- A pattern has a literal that is long enough for a window.
+pub record HasLongLiteral (literal : List ℕ) (ps : List PieceValue) : Type 0 where
+  pub place : ℕ
+  pub piece : PieceValue
+  pub there : slice_get ps place ≡ Some piece
+  pub same : literal ≡ literal_of piece
+  pub long : 4 ≤ length literal
 
--- What a map has under a key; empty if it has nothing there.
-abbrev pub items_under : {X S : Type 0} → HashMap ℕ (Vec X Global) S → ℕ → List X
-items_under {X = X} map key = option_map_or (λ (v : Vec X Global). v.items) (get nat_eq map key) []
+-- A key is that of a pattern's ends. The pattern begins with a literal that is long enough.
+pub record IsEndsKey (key : ℕ) (ps : List PieceValue) : Type 0 where
+  pub long : 7 ≤ length (first_literal ps)
+  pub key_is : key ≡ ends_key (first_literal ps) (last_byte (last_literal ps))
 
--- A number is among some.
-abbrev pub IsAmong : ℕ → List ℕ → Type 0
-IsAmong n numbers = (k : ℕ) × (slice_get numbers k ≡ Some n)
+-- A key is that of a pattern that is one literal.
+abbrev pub IsWholeKey : ℕ → List PieceValue → Type 0
+IsWholeKey key ps = (literal : List ℕ) × (ps ≡ Literal literal ∷ []) × (key ≡ key_over 0 literal)
 
--- A length is marked.
-abbrev pub IsMarked : ℕ → List Bool → Type 0
-IsMarked size marks = slice_get marks size ≡ Some true
+-- A key is that of a literal of a pattern, whose length the index has under the literal's window.
+pub record IsLiteralKey (index : Index) (key : ℕ) (ps : List PieceValue) : Type 0 where
+  pub literal : List ℕ
+  pub has : HasLongLiteral literal ps
+  pub key_is : key ≡ key_over 0 literal
+  pub length_is : IsUnder index.lengths.buckets.items (window_at literal 0) (length literal)
 
--- An index lists a pattern at a position. It marks the length of the first literal, marks that of the last literal under the key of the first, and has the position under the key of both.
-pub record Lists (index : Index) (position : ℕ) (ps : List PieceValue) : Type 0 where
-  pub first : IsMarked (first_length ps) index.firsts.items
-  pub last : IsMarked (last_length ps) (items_under index.lasts (first_key ps))
-  pub listed : IsAmong position (items_under index.positions (ends_key ps))
+-- A key under which an index may list a pattern. The key of a whole or a literal is one only if the index looks inside.
+abbrev pub IsKeyOf : Index → ℕ → List PieceValue → Type 0
+IsKeyOf index key ps = (key ≡ 0) ⊎ (IsEndsKey key ps ⊎ (IsTrue index.looks_inside × (IsWholeKey key ps ⊎ IsLiteralKey index key ps)))
+
+-- An index lists a pattern at a position, under one of its keys.
+abbrev pub Lists : Index → ℕ → List PieceValue → Type 0
+Lists index position ps = (key : ℕ) × IsKeyOf index key ps × IsUnder index.positions.buckets.items key position
+
+-- Lengths may be added to an index, and nothing else changes, except that it may look inside from now on.
+pub record GrowsLengths (old new : Index) : Type 0 where
+  pub kept : (k n : ℕ) → IsUnder old.lengths.buckets.items k n → IsUnder new.lengths.buckets.items k n
+  pub count : length new.lengths.buckets.items ≡ length old.lengths.buckets.items
+  pub inside : IsTrue old.looks_inside → IsTrue new.looks_inside
+  pub positions : new.positions ≡ old.positions
+  pub listed : new.listed ≡ old.listed
 
 -- An index lists each of these entries whose position is below the number of entries that it lists. The statement is doubly negated, so that it is a fact that a type can keep.
 abbrev pub AreListed : Index → List Entry → Type 0
@@ -84,75 +96,42 @@ pub record IsIndexOf (index : Index) (entries : List Entry) : Type 0 where
   pub within : index.listed ≤ length entries
   pub listed : AreListed index entries
 
--- The least of these positions from `from` on, or `most` if none is less.
-pub record IsLeastFrom (positions : List ℕ) (from most result : ℕ) : Type 0 where
+-- No position from `from` on that is listed under a key is less.
+abbrev pub IsLeast : Index → ℕ → ℕ → ℕ → Type 0
+IsLeast index key from least = NoneIsLess index.positions.buckets.items key from least
+
+-- No position from `from` on that is listed under 0 or a text's ends is less.
+pub record SkipsByEnds (index : Index) (from most : ℕ) (ends : Option Ends) (result : ℕ) : Type 0 where
   pub low : from ≤ most → from ≤ result
   pub high : result ≤ most
-  pub least : (position : ℕ) → IsAmong position positions → from ≤ position → result ≤ position
+  pub other : IsLeast index 0 from result
+  pub by_literal : (e : Ends) → ends ≡ Some e → IsLeast index e.by_literal from result
+  pub by_field : (e : Ends) → ends ≡ Some e → IsLeast index e.by_field from result
 
--- No listed pattern of this kind matches at a position between two.
-pub record Skips (IsKind : List PieceValue → Type 0) (index : Index) (from most : ℕ) (text : List ℕ) (result : ℕ) : Type 0 where
+-- No position from `from` on that is listed under a literal at this place is less.
+abbrev pub NoneIsLessAt : Index → ℕ → ℕ → List ℕ → ℕ → Type 0
+NoneIsLessAt index start from bytes least = (size : ℕ) → IsUnder index.lengths.buckets.items (window_at bytes start) size → start + size ≤ length bytes → IsLeast index (key_over 0 (take size (drop start bytes))) from least
+
+-- The least position from `from` on that is listed under a literal at this place, or `most` if none is less.
+pub record SkipsAt (index : Index) (start from most : ℕ) (bytes : List ℕ) (result : ℕ) : Type 0 where
   pub low : from ≤ most → from ≤ result
   pub high : result ≤ most
-  pub skipped : (position : ℕ) (ps : List PieceValue) → IsKind ps → Lists index position ps → from ≤ position → position < result → MatchesNot ps text
+  pub least : NoneIsLessAt index start from bytes result
 
--- A text of this size has room for a first and a last literal of these lengths: they fit side by side, or the last one is the whole text.
-abbrev pub CanStand : ℕ → ℕ → ℕ → Type 0
-CanStand first last size = (first + last ≤ size) ⊎ (last ≡ size)
+-- No position from `from` on that is listed under a text's whole or one of its literals is less.
+pub record SkipsInside (index : Index) (from most : ℕ) (text : List ℕ) (result : ℕ) : Type 0 where
+  pub low : from ≤ most → from ≤ result
+  pub high : result ≤ most
+  pub whole : IsLeast index (key_over 0 text) from result
+  pub literals : (start : ℕ) → start + 4 ≤ length text → NoneIsLessAt index start from text result
 
--- Patterns whose first literal has this length and key.
-abbrev pub HasFirst : ℕ → ℕ → List PieceValue → Type 0
-HasFirst first key ps = (first ≡ first_length ps) × (key ≡ first_key ps)
-
--- Patterns whose first literal has this key, and whose last literal has this length.
-abbrev pub HasEnds : ℕ → ℕ → List PieceValue → Type 0
-HasEnds key last ps = (key ≡ first_key ps) × (last ≡ last_length ps)
-
--- Patterns of a kind for which some length is less than this one.
-abbrev pub IsShorter : (List PieceValue → Type 0) → (List PieceValue → ℕ) → ℕ → List PieceValue → Type 0
-IsShorter IsKind length_of size ps = IsKind ps × (length_of ps < size)
-
--- Every pattern.
-abbrev pub IsAny : List PieceValue → Type 0
-IsAny ps = Unit {0}
+-- No listed pattern matches at a position between two.
+pub record Skips (index : Index) (from most : ℕ) (text : List ℕ) (result : ℕ) : Type 0 where
+  pub low : from ≤ most → from ≤ result
+  pub high : result ≤ most
+  pub skipped : (position : ℕ) (ps : List PieceValue) → Lists index position ps → from ≤ position → position < result → MatchesNot ps text
 
 -- No entry matches at a position between two.
 pub record SkipsEntries (entries : List Entry) (from : ℕ) (text : List ℕ) (result : ℕ) : Type 0 where
   pub low : from ≤ length entries → from ≤ result
   pub skipped : (position : ℕ) (entry : Entry) → slice_get entries position ≡ Some entry → from ≤ position → position < result → MatchesNot (pattern_value entry.pattern) text
-
--- A head is another word than that of a text.
-abbrev pub IsOther : Option ℕ → Option ℕ → Type 0
-IsOther None word = ⊥
-IsOther (Some head) word = Some head ≡ word → ⊥
-
--- A head stands for the entry at this other position: the entry is at the head's position or among the `more` after it.
-pub record StandsFor (heads : List HeadWord) (position other : ℕ) (head : HeadWord) : Type 0 where
-  pub there : slice_get heads position ≡ Some head
-  pub low : position ≤ other
-  pub high : other ≤ position + head.more
-
--- The heads of the entries between two positions are other words than that of a text.
-pub record PassesHeads (heads : List HeadWord) (from : ℕ) (word : Option ℕ) (result : ℕ) : Type 0 where
-  pub low : from ≤ result
-  pub passed : (other : ℕ) → from ≤ other → other < result → (position : ℕ) × (head : HeadWord) × StandsFor heads position other head × IsOther head.word word
-
--- Each head that is a word is that of every entry that it stands for.
-abbrev pub AreHeads : List HeadWord → List Entry → Type 0
-AreHeads heads entries = (position other word : ℕ) (head : HeadWord) (entry : Entry) → StandsFor heads position other head → head.word ≡ Some word → slice_get entries other ≡ Some entry → Some word ≡ head_of (pattern_value entry.pattern)
-
--- Each head stands for one entry.
-abbrev pub AreSingle : List HeadWord → Type 0
-AreSingle heads = (position : ℕ) (head : HeadWord) → slice_get heads position ≡ Some head → head.more ≡ 0
-
--- The heads of these entries are theirs, and their index lists the first of them.
-pub record IsIndexed (indexed : IndexedEntries) : Type 0 where
-  pub heads : AreHeads indexed.heads.now indexed.entries.now
-  pub index : AreListed indexed.index.now indexed.entries.now
-
--- The entries read so far have their heads and their index.
-pub record HasIndex (builder : LibraryBuilder) : Type 0 where
-  pub size : length builder.heads.items ≡ length builder.entries.items
-  pub heads : AreHeads builder.heads.items builder.entries.items
-  pub single : AreSingle builder.heads.items
-  pub index : IsIndexOf builder.index builder.entries.items

@@ -20,7 +20,9 @@ pub mod CharBoundaries
 pub mod Advances
 pub mod TableRows
 pub mod Leftmost
+pub mod LiteralOrder
 pub mod Captures
 pub mod UsedFields
 pub mod Digits
+pub mod KeyedNumbers
 pub mod EntryIndex

@@ -1,5 +1,5 @@
 -- Texts that a pattern can't match because of the literals at its ends.
-use Rattle.std.specs.Prelude.{◌≡◌, ◌⊎◌, ℕ, List, [], ◌∷◌, ◌++◌}
+use Rattle.std.specs.Prelude.{◌≡◌, ℕ, List, [], ◌∷◌, ◌++◌}
 use Rattle.gk_steps.specs.Pattern.{PieceValue, Literal, FieldPiece}
 
 -- A text begins with another.

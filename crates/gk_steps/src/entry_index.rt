@@ -1,46 +1,50 @@
-//! An index over the literals at the ends of patterns.
-ghost use Rattle.std.specs.Prelude.{◌≡◌, ℕ, List, take, true, false, Option, Some, None, IsTrue, OnOk};
-ghost use Rattle.gk_steps.specs.Pattern.{PieceValue, piece_value, piece_values};
+//! An index over the literals of patterns.
+ghost use Rattle.std.specs.Prelude.{◌≡◌, ◌≤◌, ◌<◌, ◌+◌, ℕ, List, [], ◌∷◌, length, IfOk, IfSome, OnOk};
+ghost use Rattle.gk_steps.specs.Pattern.{PieceValue, Literal, piece_value, piece_values};
 ghost use Rattle.gk_steps.specs.EntryIndex as spec;
-ghost use Rattle.gk_steps.specs.EntryIndex.{IsAmong, IsMarked, items_under, Lists, IsIndexOf};
-ghost use Rattle.gk_steps.specs.EntryIndex.{IsLeastFrom, Skips, HasFirst, HasEnds};
-ghost use Rattle.gk_steps.specs.EntryIndex.{IsAny, CanStand, SkipsEntries, IsIndexed};
-ghost use Rattle.gk_steps.specs.EntryIndex.{IsOther, PassesHeads, AreHeads};
-ghost use Rattle.gk_steps.specs.declared.library.Entry.{Entry};
+ghost use Rattle.gk_steps.specs.EntryIndex.{HasLongLiteral, IsEndsKey, IsKeyOf, GrowsLengths};
+ghost use Rattle.gk_steps.specs.EntryIndex.{Lists, AreListed, IsIndexOf};
+ghost use Rattle.gk_steps.specs.EntryIndex.{SkipsByEnds, SkipsAt, SkipsInside, Skips, SkipsEntries};
 
+use crate::keyed_numbers::KeyedNumbers;
 use crate::library::Entry;
 use crate::pattern::Piece;
 use std::alloc::{AllocError, Global};
-use std::collections::HashMap;
-
-/// The number of entries up to which the index lists none.
-const UNLISTED: usize = 64;
 
 /// The number of tries after which a search no longer uses the index.
-const MOST_TRIES: usize = 8;
+const MOST_TRIES: usize = 16;
 
-/// The word at the head of an entry's pattern, if it has one, and the number of entries after it that are known to have
-/// the same. A search passes over all of these at once.
-#[derive(Clone, Copy, Debug)]
-pub(crate) struct HeadWord {
-    pub word: Option<u64>,
-    pub more: usize,
-}
+/// The number of entries that may be listed under the same ends.
+const MOST_ALIKE: usize = 8;
 
-/// The positions of a library's entries, by the literals at their patterns' ends. A text that a pattern matches begins
-/// and ends with these. So a lookup tries each beginning of the text that has the length of some first literal. Under
-/// the key of that beginning it tries each end of the text that has the length of some last literal and fits beside the
-/// first one.
+/// The number of bytes at the beginning of a text that its ends have.
+const FIRST: usize = 7;
+
+/// The number of bytes at the beginning of a literal by which it is found.
+const WINDOW: usize = 4;
+
+/// The positions of a library's entries, each under one key of its pattern. That is the key of the pattern's ends: the
+/// first bytes of the literal that it begins with, and the last byte of the one that it ends with. If many patterns have
+/// these ends, it is the key of the whole pattern, if that is one literal, or of a literal that few patterns have. A text
+/// that a pattern matches has the same ends, the same whole or the same literal, so a look-up tries the keys of its text.
+/// A literal is found by its window, which is its first four bytes, and its length.
 #[derive(Debug, Drop)]
 pub(crate) struct Index {
     /// The number of entries that are listed, which are the first ones.
     pub listed: usize,
-    /// For each length, whether a first literal has it.
-    pub firsts: Vec<bool>,
-    /// The same for the last literals, by the keys of their first literals.
-    pub lasts: HashMap<u64, Vec<bool>>,
-    /// The positions of entries, by the keys of both literals.
-    pub positions: HashMap<u64, Vec<usize>>,
+    /// Whether an entry is listed under its whole or a literal.
+    pub looks_inside: bool,
+    /// The lengths of literals, each once under the window of its literal.
+    pub lengths: KeyedNumbers,
+    /// The positions of entries.
+    pub positions: KeyedNumbers,
+}
+
+/// The keys of a text's ends: for patterns that end with a literal, and for those that end with a field.
+#[derive(Clone, Copy, Debug)]
+pub(crate) struct Ends {
+    pub by_literal: u64,
+    pub by_field: u64,
 }
 
 // Returns the text of a literal, or an empty text for a field.
@@ -74,113 +78,47 @@ fn last_literal(pieces: &[Piece]) -> &str
     }
 }
 
-/// Returns the word of a text: its first 8 bytes as one number, or `None` if it is shorter.
+// Returns the last of some bytes, or 0 if there is none.
 #[inline(always)]
-pub(crate) fn word_of(text: &str) -> Option<u64>
-    ensures { result ≡ spec.word_of text.now }
+#[tactic(auto, using(crate::proofs::EntryIndexLemmas::last_byte_is))]
+fn last_byte(bytes: &[u8]) -> u8
+    ensures { result ≡ spec.last_byte bytes.now }
+{
+    match bytes.last() {
+        Some(byte) => *byte,
+        None => 0,
+    }
+}
+
+// Returns the key of the ends of a text that begins with some bytes and ends with one.
+#[inline(always)]
+fn ends_key(bytes: &[u8], last: u8) -> u64
+    requires { 7 ≤ length bytes.now }
+    ensures { result ≡ spec.ends_key bytes.now last }
+{
+    let (first, _) = bytes.split_at(FIRST);
+    u64::from_le_bytes([
+        first[0], first[1], first[2], first[3], first[4], first[5], first[6], last,
+    ])
+}
+
+/// Returns the keys of a text's ends, or `None` if it is too short to have any.
+#[inline(always)]
+pub(crate) fn ends_of(text: &str) -> Option<Ends>
+    ensures { result ≡ spec.ends_of text.now }
 {
     let bytes = text.as_bytes();
-    if bytes.len() < 8 {
+    if bytes.len() < FIRST {
         return None;
     }
-    let (first, _) = bytes.split_at(8);
-    Some(u64::from_le_bytes([
-        first[0], first[1], first[2], first[3], first[4], first[5], first[6], first[7],
-    ]))
+    Some(Ends {
+        by_literal: ends_key(bytes, last_byte(bytes)),
+        by_field: ends_key(bytes, 0),
+    })
 }
 
-/// Returns the head of a pattern: the word of the literal that it begins with.
-pub(crate) fn head_of(pieces: &[Piece]) -> Option<u64>
-    ensures { result ≡ spec.head_of (piece_values pieces.now) }
-{
-    word_of(first_literal(pieces))
-}
-
-// Returns whether a head is another word than this one.
-#[inline(always)]
-fn is_other(head: Option<u64>, word: u64) -> bool
-    ensures { IsTrue result → IsOther head (Some word) }
-{
-    match head {
-        Some(head) => head != word,
-        None => false,
-    }
-}
-
-// Returns the first position at or after `from` whose head isn't another word than this one.
-#[inline(always)]
-fn next_other(heads: &[HeadWord], from: usize, word: u64) -> usize
-    ensures { PassesHeads heads.now from (Some word) result }
-{
-    let mut position = from;
-    while position < heads.len() && is_other(heads[position].word, word) {
-        position = (position + 1).saturating_add(heads[position].more);
-    }
-    position
-}
-
-// Returns the first position at or after `from` that has no head.
-fn next_without_head(heads: &[HeadWord], from: usize) -> usize
-    ensures { PassesHeads heads.now from None result }
-{
-    let mut position = from;
-    while position < heads.len() && heads[position].word.is_some() {
-        position += 1;
-    }
-    position
-}
-
-// Returns the first position at or after `from` whose head isn't another word than that of a text.
-#[inline(always)]
-fn next_head(heads: &[HeadWord], from: usize, word: Option<u64>) -> usize
-    ensures { PassesHeads heads.now from word result }
-{
-    match word {
-        Some(word) => next_other(heads, from, word),
-        None => next_without_head(heads, from),
-    }
-}
-
-/// Returns the heads before a position.
-#[tactic(auto, using(crate::proofs::EntryIndexLemmas::all_before))]
-pub(crate) fn heads_before(heads: &[HeadWord], size: usize) -> &[HeadWord]
-    ensures { result.now ≡ take size heads.now }
-{
-    if size < heads.len() {
-        &heads[..size]
-    } else {
-        heads
-    }
-}
-
-// Returns whether two heads are equal.
-fn is_same_word(a: Option<u64>, b: Option<u64>) -> bool
-    ensures { IsTrue result → a ≡ b }
-{
-    match a {
-        None => b.is_none(),
-        Some(a) => match b {
-            None => false,
-            Some(b) => a == b,
-        },
-    }
-}
-
-/// Counts at each head the equal ones after it.
-pub(crate) fn count_equal(heads: &mut [HeadWord])
-    ensures { (entries : List Entry) → AreHeads heads.old entries → AreHeads heads.new entries }
-{
-    for back in 1..heads.len() {
-        let position = heads.len() - 1 - back;
-        let later = heads[position + 1];
-        if is_same_word(heads[position].word, later.word) {
-            heads[position] = HeadWord {
-                word: later.word,
-                more: later.more.saturating_add(1),
-            };
-        }
-    }
-}
+/// The factor of a key: the golden ratio's part behind the point, in 64 bits. It spreads short texts over all keys.
+const FACTOR: u64 = 11_400_714_819_323_198_485;
 
 // Extends a key by some bytes.
 fn key_over(key: u64, bytes: &[u8]) -> u64
@@ -189,77 +127,33 @@ fn key_over(key: u64, bytes: &[u8]) -> u64
     let mut over = key;
     for position in 0..bytes.len() {
         let byte = u64::from(bytes[position]);
-        over = over.wrapping_mul(33).wrapping_add(byte);
+        over = over.wrapping_mul(FACTOR).wrapping_add(byte);
     }
     over
 }
 
-// Marks a length.
-fn mark(marks: &mut Vec<bool>, size: usize) -> Result<(), AllocError>
-    ensures kept { OnOk result ((k : ℕ)
-        → IsMarked k marks.old.items → IsMarked k marks.new.items) }
-    ensures added { OnOk result (IsMarked size marks.new.items) }
+// Returns the window of some bytes at a position: four bytes as one number.
+#[inline(always)]
+fn window_at(bytes: &[u8], start: usize) -> u64
+    requires { start + 4 ≤ length bytes.now }
+    ensures { result ≡ spec.window_at bytes.now start }
 {
-    while marks.len() <= size {
-        marks.push(false)?;
+    let (_, rest) = bytes.split_at(start);
+    let (four, _) = rest.split_at(WINDOW);
+    u64::from(u32::from_le_bytes([four[0], four[1], four[2], four[3]]))
+}
+
+// Returns the literal that is the whole pattern, if it has no other piece.
+fn whole_literal(pieces: &[Piece]) -> Option<&str>
+    ensures { IfSome result (λ text. piece_values pieces.now ≡ Literal text.now ∷ []) }
+{
+    match pieces {
+        [piece] => match piece {
+            Piece::Literal(text) => Some(text.as_str()),
+            Piece::Field { .. } => None,
+        },
+        _ => None,
     }
-    marks[size] = true;
-    Ok(())
-}
-
-// Marks a length under a key.
-fn mark_under(marks: &mut HashMap<u64, Vec<bool>>, key: u64, size: usize) -> Result<(), AllocError>
-    ensures kept { OnOk result ((k n : ℕ)
-        → IsMarked n (items_under marks.old k) → IsMarked n (items_under marks.new k)) }
-    ensures added { OnOk result (IsMarked size (items_under marks.new key)) }
-{
-    mark(marks.entry(key)?.or_default(), size)
-}
-
-// Adds a position under a key.
-fn push_under(
-    positions: &mut HashMap<u64, Vec<usize>>,
-    key: u64,
-    position: usize,
-) -> Result<(), AllocError>
-    ensures kept { OnOk result ((k n : ℕ)
-        → IsAmong n (items_under positions.old k) → IsAmong n (items_under positions.new k)) }
-    ensures added { OnOk result (IsAmong position (items_under positions.new key)) }
-{
-    positions.entry(key)?.or_default().push(position)?;
-    Ok(())
-}
-
-// Returns what a map has under a key; empty if it has nothing there.
-fn items_under<T>(map: &HashMap<u64, Vec<T>>, key: u64) -> &[T]
-    ensures { result.now ≡ spec.items_under map.now key }
-{
-    match map.get(&key) {
-        Some(items) => items.as_slice(),
-        None => &[],
-    }
-}
-
-// Returns the least of these positions from `from` on, or `most` if none is less.
-fn least_from(positions: &[usize], from: usize, most: usize) -> usize
-    ensures { IsLeastFrom positions.now from most result }
-{
-    let mut least = most;
-    for k in 0..positions.len() {
-        let position = positions[k];
-        if from <= position && position < least {
-            least = position;
-        }
-    }
-    least
-}
-
-// Returns whether the length of a last literal is marked, and a text of this size has room for it beside a first
-// literal of this length. There is no room if the two would overlap, unless the last literal is the whole text.
-fn can_end(marked: bool, first: usize, last: usize, size: usize) -> bool
-    ensures { result ≡ false → marked ≡ true → CanStand first last size → ⊥ }
-{
-    marked && (last == size || (last <= size && first <= size - last))
 }
 
 impl Index {
@@ -269,34 +163,104 @@ impl Index {
     {
         Index {
             listed: 0,
-            firsts: Vec::new(alloc),
-            lasts: HashMap::new(alloc),
-            positions: HashMap::new(alloc),
+            looks_inside: false,
+            lengths: KeyedNumbers::new(alloc),
+            positions: KeyedNumbers::new(alloc),
         }
+    }
+
+    // Returns whether fewer entries are listed under a literal than under another one, if there is another. Of two that
+    // are equally rare the longer one is rarer.
+    fn is_rarer(&self, literal: &str, than: Option<&str>) -> bool {
+        let Some(than) = than else {
+            return true;
+        };
+        let count = self.positions.count_under(key_over(0, literal.as_bytes()));
+        let other = self.positions.count_under(key_over(0, than.as_bytes()));
+        count < other || (count == other && than.len() < literal.len())
+    }
+
+    // Returns the rarest literal of a pattern that has a window, if there is one.
+    fn rarest_literal<'p>(&self, pieces: &'p [Piece]) -> Option<&'p str>
+        ensures { IfSome result (λ literal.
+            HasLongLiteral literal.now (piece_values pieces.entry.now)) }
+    {
+        let mut rarest: Option<&'p str> = None;
+        for k in 0..pieces.len() {
+            let literal = literal_of(&pieces[k]);
+            if WINDOW <= literal.len() && self.is_rarer(literal, rarest) {
+                rarest = Some(literal);
+            }
+        }
+        rarest
+    }
+
+    // Returns the key of a pattern's ends, if it begins with a literal that is long enough and if few patterns have it.
+    fn key_of_ends(&self, pieces: &[Piece]) -> Option<u64>
+        ensures { IfSome result (λ key. IsEndsKey key (piece_values pieces.now)) }
+    {
+        let first = first_literal(pieces).as_bytes();
+        if first.len() < FIRST {
+            return None;
+        }
+        let key = ends_key(first, last_byte(last_literal(pieces).as_bytes()));
+        if self.positions.count_under(key) < MOST_ALIKE {
+            Some(key)
+        } else {
+            None
+        }
+    }
+
+    // Returns the key under which a pattern is listed: that of its ends, else that of its whole or a literal, else 0. Adds
+    // the length of that literal.
+    fn key_for(&mut self, pieces: &[Piece]) -> Result<u64, AllocError>
+        requires { 0 < length self.old.lengths.buckets.items }
+        ensures key { OnOk result (IfOk result (λ key.
+            IsKeyOf self.new key (piece_values pieces.now))) }
+        ensures grows { OnOk result (GrowsLengths self.old self.new) }
+    {
+        if let Some(key) = self.key_of_ends(pieces) {
+            return Ok(key);
+        }
+        if let Some(text) = whole_literal(pieces) {
+            self.looks_inside = true;
+            return Ok(key_over(0, text.as_bytes()));
+        }
+        let Some(literal) = self.rarest_literal(pieces) else {
+            return Ok(0);
+        };
+        let bytes = literal.as_bytes();
+        self.looks_inside = true;
+        self.lengths.push_once(window_at(bytes, 0), bytes.len())?;
+        Ok(key_over(0, bytes))
     }
 
     // Lists a pattern at a position.
     fn add(&mut self, position: usize, pieces: &[Piece]) -> Result<(), AllocError>
+        requires lengths { 0 < length self.old.lengths.buckets.items }
+        requires positions { 0 < length self.old.positions.buckets.items }
         ensures kept { OnOk result ((p : ℕ) (ps : List PieceValue)
             → Lists self.old p ps → Lists self.new p ps) }
         ensures added { OnOk result (Lists self.new position (piece_values pieces.now)) }
+        ensures lengths { OnOk result (length self.new.lengths.buckets.items
+            ≡ length self.old.lengths.buckets.items) }
+        ensures positions { OnOk result (length self.new.positions.buckets.items
+            ≡ length self.old.positions.buckets.items) }
+        ensures listed { OnOk result (self.new.listed ≡ self.old.listed) }
     {
-        let first = first_literal(pieces);
-        let last = last_literal(pieces);
-        let key = key_over(0, first.as_bytes());
-        mark(&mut self.firsts, first.len())?;
-        mark_under(&mut self.lasts, key, last.len())?;
-        let ends = key_over(key, last.as_bytes());
-        push_under(&mut self.positions, ends, position)?;
+        let key = self.key_for(pieces)?;
+        self.positions.push(key, position)?;
         Ok(())
     }
 
-    /// Lists the entries that aren't listed yet, once there are more than `UNLISTED`.
-    pub(crate) fn grow(&mut self, entries: &[Entry]) -> Result<(), AllocError>
-        requires { IsIndexOf self.old entries.now }
+    // Lists the entries that aren't listed yet.
+    fn list(&mut self, entries: &[Entry]) -> Result<(), AllocError>
+        requires lengths { 0 < length self.old.lengths.buckets.items }
+        requires positions { 0 < length self.old.positions.buckets.items }
+        requires before { IsIndexOf self.old entries.now }
         ensures { OnOk result (IsIndexOf self.new entries.now) }
     {
-        while UNLISTED < entries.len() && self.listed < entries.len() {
+        while self.listed < entries.len() {
             let position = self.listed;
             self.add(position, &entries[position].pattern.pieces)?;
             self.listed = position + 1;
@@ -304,93 +268,111 @@ impl Index {
         Ok(())
     }
 
-    // Returns the least position from `from` on that the index lists for a text, or `most` if none is less. The first
-    // literal has this key, and the last literal has this length.
-    fn next_by_ends(&self, key: u64, last: usize, from: usize, most: usize, text: &str) -> usize
-        ensures { Skips (HasEnds key last) self.now from most text.now result }
+    /// Lists the entries that aren't listed yet. There are more buckets than entries, so few keys share one.
+    pub(crate) fn grow(&mut self, entries: &[Entry]) -> Result<(), AllocError>
+        requires { IsIndexOf self.old entries.now }
+        ensures { OnOk result (IsIndexOf self.new entries.now) }
     {
-        let bytes = text.as_bytes();
-        if bytes.len() < last {
-            return most;
+        if self.positions.buckets.len() <= entries.len() || self.lengths.buckets.is_empty() {
+            let alloc = *self.positions.buckets.allocator();
+            let count = entries.len().saturating_mul(2).saturating_add(1);
+            *self = Index {
+                listed: 0,
+                looks_inside: false,
+                lengths: KeyedNumbers::with_buckets(alloc, count)?,
+                positions: KeyedNumbers::with_buckets(alloc, count)?,
+            };
         }
-        let ends = key_over(key, &bytes[bytes.len() - last..]);
-        least_from(items_under(&self.positions, ends), from, most)
+        self.list(entries)
     }
 
-    // Returns the least position from `from` on that the index lists for a text, or `most` if none is less. The first
-    // literal has this length and key.
-    fn next_by_first(&self, first: usize, key: u64, from: usize, most: usize, text: &str) -> usize
-        ensures { Skips (HasFirst first key) self.now from most text.now result }
+    // Returns the least position from `from` on that is listed under a literal that a text has at a place, or `most` if
+    // none is less.
+    fn next_at(&self, start: usize, from: usize, most: usize, bytes: &[u8]) -> usize
+        requires { start + 4 ≤ length bytes.now }
+        ensures { SkipsAt self.now start from most bytes.now result }
     {
-        let size = text.as_bytes().len();
-        let lasts = items_under(&self.lasts, key);
+        let (_, rest) = bytes.split_at(start);
+        let window = window_at(bytes, start);
+        let lengths = self.lengths.bucket_of(window);
         let mut least = most;
-        for last in 0..lasts.len() {
-            if size < last {
-                return least;
-            }
-            if can_end(lasts[last], first, last, size) {
-                least = self.next_by_ends(key, last, from, least, text);
+        for k in 0..lengths.len() {
+            let item = lengths[k];
+            if item.key == window && item.number <= rest.len() {
+                let (literal, _) = rest.split_at(item.number);
+                least = self
+                    .positions
+                    .least_under(key_over(0, literal), from, least);
             }
         }
         least
     }
 
-    /// Returns the least position from `from` on that the index lists for a text, or `most` if none is less.
-    // Kept out of line, so that the search of a short library, whose index lists nothing, stays small.
+    // Returns the least position from `from` on that is listed under the whole or a literal of a text, or `most` if none
+    // is less.
     #[inline(never)]
-    pub(crate) fn next(&self, from: usize, most: usize, text: &str) -> usize
-        ensures { Skips IsAny self.now from most text.now result }
+    fn next_inside(&self, from: usize, most: usize, text: &str) -> usize
+        ensures { SkipsInside self.now from most text.now result }
     {
         let bytes = text.as_bytes();
-        let mut least = most;
-        let mut key: u64 = 0;
-        let mut size: usize = 0;
-        for first in 0..self.firsts.len() {
-            if bytes.len() < first {
-                return least;
-            }
-            if self.firsts[first] {
-                key = key_over(key, &bytes[size..first]);
-                size = first;
-                least = self.next_by_first(first, key, from, least, text);
-            }
+        let mut least = self.positions.least_under(key_over(0, bytes), from, most);
+        for start in 0..bytes.len().saturating_sub(WINDOW - 1) {
+            least = self.next_at(start, from, least, bytes);
         }
         least
+    }
+
+    // Returns the least position from `from` on that is listed under 0 or the ends of a text, or `most` if none is less.
+    #[inline(always)]
+    fn next_by_ends(&self, from: usize, most: usize, ends: Option<Ends>) -> usize
+        ensures { SkipsByEnds self.now from most ends result }
+    {
+        let least = self.positions.least_under(0, from, most);
+        match ends {
+            Some(ends) => {
+                let least = self.positions.least_under(ends.by_literal, from, least);
+                self.positions.least_under(ends.by_field, from, least)
+            }
+            None => least,
+        }
+    }
+
+    // Returns the least position from `from` on that the index lists for a text with these ends, or `most` if none is
+    // less.
+    #[inline(always)]
+    fn next(&self, from: usize, most: usize, ends: Option<Ends>, text: &str) -> usize
+        requires { ends ≡ spec.ends_of text.now }
+        ensures { Skips self.now from most text.now result }
+    {
+        let least = self.next_by_ends(from, most, ends);
+        if self.looks_inside {
+            self.next_inside(from, least, text)
+        } else {
+            least
+        }
     }
 }
 
-/// Entries, with their heads and with their index. An entry without a head is always tried.
+/// Entries with their index.
 #[derive(Clone, Copy, Debug)]
 pub(crate) struct IndexedEntries<'a> {
     pub entries: &'a [Entry],
-    pub heads: &'a [HeadWord],
     pub index: &'a Index,
 }
 
 impl IndexedEntries<'_> {
-    // Returns a position at or after `from`, by the index. No entry from `from` up to, but not including, that position
-    // matches a text. After `MOST_TRIES` the index isn't used, because a lookup would take longer.
+    /// Returns a position at or after `from`. No entry from `from` up to, but not including, that position matches a
+    /// text, which has these ends. After `MOST_TRIES` the index isn't used, because a look-up would take longer.
     #[inline(always)]
-    fn next_listed(&self, from: usize, tries: usize, text: &str) -> usize
-        requires { IsIndexed self.now }
+    pub(crate) fn next(&self, from: usize, tries: usize, ends: Option<Ends>, text: &str) -> usize
+        requires indexed { AreListed self.now.index.now self.now.entries.now }
+        requires ends { ends ≡ spec.ends_of text.now }
         ensures { SkipsEntries self.now.entries.now from text.now result }
     {
         if tries < MOST_TRIES && from < self.index.listed {
-            self.index.next(from, self.index.listed, text)
+            self.index.next(from, self.index.listed, ends, text)
         } else {
             from
         }
-    }
-
-    /// Returns a position at or after `from`. No entry from `from` up to, but not including, that position matches a
-    /// text, which has this word.
-    #[inline(always)]
-    pub(crate) fn next(&self, from: usize, tries: usize, word: Option<u64>, text: &str) -> usize
-        requires indexed { IsIndexed self.now }
-        requires word { word ≡ spec.word_of text.now }
-        ensures { SkipsEntries self.now.entries.now from text.now result }
-    {
-        next_head(self.heads, self.next_listed(from, tries, text), word)
     }
 }

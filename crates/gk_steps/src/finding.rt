@@ -7,11 +7,11 @@ ghost use Rattle.gk_steps.specs.Finding.{HasTableCandidate, HasTableCandidateFor
 ghost use Rattle.gk_steps.specs.Finding.{FoundValue, LibraryValue, entry_values, library_value, found_value};
 ghost use Rattle.gk_steps.specs.Captures.{IsHit, HitsWhatIsFound, hit_of};
 ghost use Rattle.gk_steps.specs.FilledCells.{cells_of_type, cells_of_step};
-ghost use Rattle.gk_steps.specs.EntryIndex.{IsIndexed};
+ghost use Rattle.gk_steps.specs.EntryIndex.{AreListed};
 
 use crate::action::Action;
 use crate::captures::{Captures, NoCaptures};
-use crate::entry_index::{IndexedEntries, word_of};
+use crate::entry_index::{IndexedEntries, ends_of};
 use crate::filled_cells::CellCounter;
 use crate::library::Library;
 use crate::matching::match_fitting;
@@ -51,7 +51,7 @@ pub(crate) fn find_of<'t, K: Captures<'t>>(
     step_type: Option<StepType>,
     text: &'t str,
 ) -> Result<Option<usize>, AllocError>
-    requires { IsIndexed indexed.now }
+    requires { AreListed indexed.now.index.now indexed.now.entries.now }
     ensures found { let entries = entry_values indexed.now.entries.now in IfOk result (λ entry.
         HitsWhatIsFound K.keeps entries step_type text.now (hit_of kept.new entry)) }
     ensures memory { IfErr result (λ e.
@@ -63,9 +63,9 @@ pub(crate) fn find_of<'t, K: Captures<'t>>(
     ensures least { cells.old.filled ≤ cells.new.filled }
 {
     let entries = indexed.entries;
-    let word = word_of(text);
+    let ends = ends_of(text);
     let mut tries: usize = 0;
-    let mut position = indexed.next(0, tries, word, text);
+    let mut position = indexed.next(0, tries, ends, text);
     while position < entries.len() {
         let entry = &entries[position];
         if is_same(entry.step_type, step_type)
@@ -75,7 +75,7 @@ pub(crate) fn find_of<'t, K: Captures<'t>>(
             return Ok(Some(position));
         }
         tries = tries.saturating_add(1);
-        position = indexed.next(position + 1, tries, word, text);
+        position = indexed.next(position + 1, tries, ends, text);
     }
     Ok(None)
 }

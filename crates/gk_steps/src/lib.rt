@@ -6,9 +6,10 @@
 mod pattern;
 mod spelling;
 
-// Numbers, and the ends of patterns.
+// Numbers, and the literals of patterns.
 mod decimal;
 mod literal_ends;
+mod literal_order;
 
 // Matching a text: from the left, or by a table.
 mod advances;
@@ -27,6 +28,7 @@ mod files_table;
 // A library, and finding an entry.
 mod entry_index;
 mod finding;
+mod keyed_numbers;
 mod library;
 mod used_fields;
 

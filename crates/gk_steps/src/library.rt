@@ -2,10 +2,10 @@
 ghost use Rattle.std.specs.Prelude.{◌≡◌, ◌≤◌, ◌++◌, ◌∷◌, [], length, take, IsTrue, OnOk};
 ghost use Rattle.std.proofs.Props.{props};
 ghost use Rattle.gk_steps.specs.Library.{IsTypedEnd, are_for_each_from, is_for_one_before};
-ghost use Rattle.gk_steps.specs.EntryIndex.{AreHeads, AreListed, HasIndex, IsIndexed};
+ghost use Rattle.gk_steps.specs.EntryIndex.{AreListed, IsIndexOf};
 
 use crate::action::Action;
-use crate::entry_index::{HeadWord, Index, IndexedEntries, count_equal, head_of, heads_before};
+use crate::entry_index::{Index, IndexedEntries};
 use crate::pattern::Pattern;
 use gk_gherkin::StepType;
 use std::alloc::{AllocError, Global};
@@ -26,13 +26,9 @@ pub struct Library {
     // The end of the entries for steps of one type. Those from here on are for steps of every type, so a search for one
     // type ends here.
     pub(crate) typed: usize,
-    // The heads of the first entries; none if the library was not read from lines. An entry whose head is another word
-    // than that of a text is passed over.
-    heads: Vec<HeadWord>,
-    // Which entries may match a text. It lists none if the library is short or was not read from lines.
+    // Which entries may match a text. It lists none if the library was not read from lines.
     index: Index,
     ghost typed_end: { IsTypedEnd typed entries.items } by { Prim.hlevel props },
-    ghost headed: { AreHeads heads.items entries.items } by { Prim.hlevel props },
     ghost listed: { AreListed index entries.items } by { Prim.hlevel props },
 }
 
@@ -49,11 +45,10 @@ fn typed_len(entries: &[Entry]) -> usize
     typed
 }
 
-/// The entries that were read so far, with their heads and their index.
+/// The entries that were read so far, with their index.
 #[derive(Debug, Drop)]
 pub(crate) struct LibraryBuilder {
     pub entries: Vec<Entry>,
-    pub heads: Vec<HeadWord>,
     pub index: Index,
 }
 
@@ -61,27 +56,21 @@ impl LibraryBuilder {
     /// Returns a builder without entries. Doesn't allocate.
     pub(crate) fn new(alloc: Global) -> LibraryBuilder
         ensures items { result.entries.items ≡ [] }
-        ensures indexed { HasIndex result }
+        ensures indexed { IsIndexOf result.index result.entries.items }
     {
         LibraryBuilder {
             entries: Vec::new(alloc),
-            heads: Vec::new(alloc),
             index: Index::new(alloc),
         }
     }
 
-    /// Appends an entry and its head, and lists it.
+    /// Appends an entry, and lists it.
     pub(crate) fn push(&mut self, entry: Entry) -> Result<(), AllocError>
-        requires { HasIndex self.old }
+        requires { IsIndexOf self.old.index self.old.entries.items }
         ensures items { OnOk result
             (self.new.entries.items ≡ self.old.entries.items ++ entry ∷ []) }
-        ensures indexed { OnOk result (HasIndex self.new) }
+        ensures indexed { OnOk result (IsIndexOf self.new.index self.new.entries.items) }
     {
-        let head = head_of(&entry.pattern.pieces);
-        self.heads.push(HeadWord {
-            word: head,
-            more: 0,
-        })?;
         self.entries.push(entry)?;
         self.index.grow(&self.entries)?;
         Ok(())
@@ -89,13 +78,12 @@ impl LibraryBuilder {
 
     /// Borrows the entries for a search.
     pub(crate) fn indexed(&self) -> IndexedEntries<'_>
-        requires { HasIndex self.now }
+        requires { IsIndexOf self.now.index self.now.entries.items }
         ensures entries { result.entries.now ≡ self.now.entries.items }
-        ensures listed { IsIndexed result }
+        ensures listed { AreListed result.index.now result.entries.now }
     {
         IndexedEntries {
             entries: &self.entries,
-            heads: &self.heads,
             index: &self.index,
         }
     }
@@ -109,7 +97,6 @@ impl Library {
     {
         let typed = typed_len(&entries);
         Library {
-            heads: Vec::new(*entries.allocator()),
             index: Index::new(*entries.allocator()),
             entries,
             typed,
@@ -118,16 +105,13 @@ impl Library {
 
     /// Returns the library of the entries that were read.
     pub(crate) fn built(builder: LibraryBuilder) -> Library
-        requires { HasIndex builder }
+        requires { IsIndexOf builder.index builder.entries.items }
         ensures { result.entries ≡ builder.entries }
     {
         let typed = typed_len(&builder.entries);
-        let mut heads = builder.heads;
-        count_equal(&mut heads);
         Library {
             entries: builder.entries,
             typed,
-            heads,
             index: builder.index,
         }
     }
@@ -135,11 +119,10 @@ impl Library {
     /// Borrows all entries for a search.
     pub(crate) fn whole(&self) -> IndexedEntries<'_>
         ensures entries { result.entries.now ≡ self.now.entries.items }
-        ensures listed { IsIndexed result }
+        ensures listed { AreListed result.index.now result.entries.now }
     {
         IndexedEntries {
             entries: &self.entries,
-            heads: &self.heads,
             index: &self.index,
         }
     }
@@ -148,11 +131,10 @@ impl Library {
     pub(crate) fn indexed(&self, size: usize) -> IndexedEntries<'_>
         requires { size ≤ length self.now.entries.items }
         ensures entries { result.entries.now ≡ take size self.now.entries.items }
-        ensures listed { IsIndexed result }
+        ensures listed { AreListed result.index.now result.entries.now }
     {
         IndexedEntries {
             entries: &self.entries[..size],
-            heads: heads_before(&self.heads, size),
             index: &self.index,
         }
     }

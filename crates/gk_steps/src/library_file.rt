@@ -4,7 +4,7 @@ ghost use Rattle.gk_gherkin.specs.ReadFault.{LinesFaultSays};
 ghost use Rattle.gk_gherkin.specs.declared.read_fault.ReadFault.TheVariants.{Memory as ReadMemory};
 ghost use Rattle.gk_gherkin.specs.Lines.{borrowed_value, numbered_from, lines_of, IsText};
 ghost use Rattle.std.specs.Str.Lines.{lines};
-ghost use Rattle.gk_steps.specs.EntryIndex.{HasIndex};
+ghost use Rattle.gk_steps.specs.EntryIndex.{IsIndexOf};
 ghost use Rattle.gk_steps.specs.Finding.{LibraryValue, entry_values, library_value};
 ghost use Rattle.gk_steps.specs.LibraryFile.{ReadsLibrary, AnswersLibrary};
 ghost use Rattle.gk_steps.specs.LibraryFault.{LibraryFaultSays, LibraryLinesFaultSays};
@@ -36,8 +36,8 @@ fn add_entry(
     alloc: Global,
     line: &BorrowedLine<'_>,
 ) -> Result<(), LibraryFault>
-    requires { HasIndex builder.old }
-    ensures indexed { OnOk result (HasIndex builder.new) }
+    requires { IsIndexOf builder.old.index builder.old.entries.items }
+    ensures indexed { OnOk result (IsIndexOf builder.new.index builder.new.entries.items) }
     ensures fault { IfErr result (λ f.
         EntryFaultSays f (entry_values builder.old.entries.items) (borrowed_value line.now)) }
     ensures added { OnOk result (AddsEntry (entry_values builder.old.entries.items)
@@ -54,8 +54,8 @@ fn add_line(
     alloc: Global,
     line: &BorrowedLine<'_>,
 ) -> Result<(), LibraryFault>
-    requires { HasIndex builder.old }
-    ensures indexed { OnOk result (HasIndex builder.new) }
+    requires { IsIndexOf builder.old.index builder.old.entries.items }
+    ensures indexed { OnOk result (IsIndexOf builder.new.index builder.new.entries.items) }
     ensures added { OnOk result (AddsLine (entry_values builder.old.entries.items)
         (borrowed_value line.now) (entry_values builder.new.entries.items)) }
     ensures fault { IfErr result (λ f.
@@ -70,7 +70,7 @@ fn add_line(
 // Reads the entries that the lines of a text spell.
 fn read_entries(alloc: Global, text: &str) -> Result<LibraryBuilder, LibraryFault>
     requires { length text.now ≤ LONGEST_FILE }
-    ensures indexed { IfOk result (λ g. HasIndex g) }
+    ensures indexed { IfOk result (λ g. IsIndexOf g.index g.entries.items) }
     ensures found { IfOk result (λ g.
         ReadsLibrary (numbered_from 1 (lines text.now)) (entry_values g.entries.items)) }
     ensures fault { IfErr result (λ f.

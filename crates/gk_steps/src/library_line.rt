@@ -5,7 +5,7 @@ ghost use Rattle.gk_gherkin.specs.Lines.{borrowed_value};
 ghost use Rattle.gk_steps.specs.Pattern.{pattern_value, piece_values, SpellsPattern};
 ghost use Rattle.gk_steps.specs.Pattern.{field_kind as field_kind_of};
 ghost use Rattle.gk_steps.specs.Finding.{entry_values, entry_value};
-ghost use Rattle.gk_steps.specs.EntryIndex.{IsIndexed};
+ghost use Rattle.gk_steps.specs.EntryIndex.{AreListed};
 ghost use Rattle.gk_steps.specs.LibraryFile as spec;
 ghost use Rattle.gk_steps.specs.LibraryFile.{SpellsEntry};
 ghost use Rattle.gk_steps.specs.Action as actions;
@@ -208,7 +208,7 @@ fn entry_from(
     line: &BorrowedLine<'_>,
     said: &EntryText<'_>,
 ) -> Result<Entry, LibraryFault>
-    requires indexed { IsIndexed earlier.now }
+    requires indexed { AreListed earlier.now.index.now earlier.now.entries.now }
     requires said { IsEntryText (borrowed_value line.now)
         said.now.step_type said.now.pattern.now said.now.action.now }
     ensures entry { IfOk result (λ e.
@@ -245,7 +245,7 @@ pub(crate) fn read_entry(
     earlier: &IndexedEntries<'_>,
     line: &BorrowedLine<'_>,
 ) -> Result<Entry, LibraryFault>
-    requires { IsIndexed earlier.now }
+    requires { AreListed earlier.now.index.now earlier.now.entries.now }
     ensures entry { IfOk result (λ e.
         SpellsEntry (entry_values earlier.now.entries.now)
         (borrowed_value line.now) (entry_value e)) }

@@ -18,6 +18,7 @@ use crate::char_boundaries::boundaries_of;
 use crate::filled_cells::CellCounter;
 use crate::leftmost::{PieceEnd, piece_end};
 use crate::literal_ends::after_start;
+use crate::literal_order::has_literals;
 use crate::pattern::{Field, Pattern, Piece};
 use crate::table_rows::{first_row, row_over};
 use std::alloc::{AllocError, Global};
@@ -168,7 +169,8 @@ fn match_rest<'t, K: Captures<'t>>(
 }
 
 // Matches pieces from the left, and adds to what is kept so far. A table is made for the pieces from the first one whose
-// share depends on the pieces after it. What is kept is unspecified if there is no match, or after an error.
+// share depends on the pieces after it, if the literals among them stand in the rest of the text in order. What is kept
+// is unspecified if there is no match, or after an error.
 // Kept out of line, so that an entry that is passed over costs little.
 #[inline(never)]
 fn match_from_left<'t, K: Captures<'t>>(
@@ -195,7 +197,12 @@ fn match_from_left<'t, K: Captures<'t>>(
                 rest = &rest[position..];
             }
             PieceEnd::Nowhere => return Ok(false),
-            PieceEnd::Unknown => return match_rest(cells, alloc, kept, left, rest),
+            PieceEnd::Unknown => {
+                if !has_literals(left, rest) {
+                    return Ok(false);
+                }
+                return match_rest(cells, alloc, kept, left, rest);
+            }
         }
     }
     Ok(rest.is_empty())

@@ -67,3 +67,9 @@ loop-position-preserved g c =
       cells_skipped entries position next c.args.step_type c.args.text.now c.args.cells.now.filled c.else-is_same.cells.filled later here.1,
       here.2,
     )
+
+pub returns-in_err-match_fitting-clause-most : goal.returns-in_err-match_fitting-clause-most
+returns-in_err-match_fitting-clause-most g c = omega (arith, asked c.args.indexed.now.entries.now c.loop-position.position c.index-entries-position.result c.args.step_type c.args.text.now c.deref.result.now c.args.cells.now.filled c.loop-position.cells.filled c.match_fitting.new.cells.filled c.loop-position-test.true c.index-entries-position.is c.if-is_same.ensures c.deref.ensures.value c.match_fitting.ensures.most c.loop-position.invariant.1)
+
+pub returns-then-branch-clause-most : goal.returns-then-branch-clause-most
+returns-then-branch-clause-most g c = omega (arith, asked c.args.indexed.now.entries.now c.loop-position.position c.index-entries-position.result c.args.step_type c.args.text.now c.deref.result.now c.args.cells.now.filled c.loop-position.cells.filled c.match_fitting.new.cells.filled c.loop-position-test.true c.index-entries-position.is c.if-is_same.ensures c.deref.ensures.value c.match_fitting.ensures.most c.loop-position.invariant.1)

@@ -1,4 +1,4 @@
-use Rattle.gk_steps.proofs.Common.{◌-◌, length, arith, common_steps}
+use Rattle.gk_steps.proofs.Common.{length, arith, common_steps}
 use Rattle.gk_steps.proofs.LibraryLineLemmas.{arrow_end, none_at, some_at, arrow_boundary, arrow_after, sides_from, whole_rest}
 use Rattle.gk_steps.proofs.library_line.last_arrow.Goals as goal
 

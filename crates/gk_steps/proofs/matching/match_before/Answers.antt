@@ -1,4 +1,4 @@
-use Rattle.gk_steps.proofs.Common.{◌≡◌, ℕ, ◌≤◌, ◌+◌, ◌-◌, ◌++◌, ◌∷◌, [], List, None, true, false, take, map, length, subst, arith, common_steps, take-append-drop, PieceValue, piece_value, values_of, KeepsRest, kept_if, table_cells, EndsWith}
+use Rattle.gk_steps.proofs.Common.{◌≡◌, ℕ, ◌≤◌, ◌+◌, ◌-◌, ◌++◌, ◌∷◌, [], List, None, take, map, length, subst, arith, common_steps, take-append-drop, PieceValue, piece_value, values_of, KeepsRest, kept_if, table_cells, EndsWith}
 use Rattle.std.specs.Str.{IsUtf8}
 use Rattle.gk_steps.proofs.LeftmostLemmas.{cut_before, last_too_long}
 use Rattle.gk_steps.proofs.CaptureLemmas.{rest_last, rest_last_none}

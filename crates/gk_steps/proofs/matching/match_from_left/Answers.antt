@@ -2,6 +2,7 @@ use Rattle.gk_steps.proofs.Common.{rules, ◌≡◌, ◌∷◌, ◌++◌, ◌-�
 use Rattle.std.proofs.lemmas.List.{append_assoc}
 use Rattle.gk_steps.proofs.FindingLemmas.{of_fault}
 use Rattle.gk_steps.proofs.LeftmostLemmas.{none_left, finds_more, table_after}
+use Rattle.gk_steps.proofs.LiteralOrderLemmas.{lacks}
 use Rattle.gk_steps.proofs.FilledCellsLemmas.{fewer_chars}
 use Rattle.gk_steps.proofs.CaptureLemmas.{done_more, done_all, rest_over}
 use Rattle.gk_steps.proofs.matching.match_from_left.Goals as goal
@@ -40,6 +41,12 @@ pub returns-in-Nowhere-clause-found : goal.returns-in-Nowhere-clause-found
 returns-in-Nowhere-clause-found g c = λ done before is.
     let so_far = c.pieces.invariant.1.2 done before is in
     let none = subst (λ ps. MatchesNot ps c.pieces.rest.now) (sym (ap (map piece_value) c.in-Some.ensures.cases.0)) c.in-Nowhere.ensures in
+    (None, tt, so_far.2 None (λ ps text known. known None none))
+
+pub returns-then-not-has_literals-clause-found : goal.returns-then-not-has_literals-clause-found
+returns-then-not-has_literals-clause-found g c = λ done before is.
+    let so_far = c.pieces.invariant.1.2 done before is in
+    let none = lacks (map piece_value c.pieces.left.now) c.pieces.rest.now c.if-not-has_literals.ensures in
     (None, tt, so_far.2 None (λ ps text known. known None none))
 
 pub returns-in-Unknown-clause-table : goal.returns-in-Unknown-clause-table

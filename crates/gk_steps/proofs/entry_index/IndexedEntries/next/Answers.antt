@@ -1,5 +1,5 @@
-use Rattle.gk_steps.proofs.EntryIndexLemmas.{heads_passed}
+use Rattle.gk_steps.proofs.EntryIndexLemmas.{skips_entries}
 use Rattle.gk_steps.proofs.entry_index.IndexedEntries.next.Goals as goal
 
-pub returns : goal.returns
-returns c = heads_passed c.args.self.now.heads.now c.args.self.now.entries.now c.args.from c.next_listed.result c.next_head.result c.args.word c.args.text.now c.requires.word c.requires.indexed.heads c.next_listed.ensures c.next_head.ensures
+pub returns-then-from-self : goal.returns-then-from-self
+returns-then-from-self c = skips_entries c.args.self.now.index.now c.args.self.now.entries.now c.args.from c.next.result c.args.text.now c.if-from-self.true c.requires.indexed c.next.ensures

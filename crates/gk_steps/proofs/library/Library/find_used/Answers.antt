@@ -1,5 +1,4 @@
 use Rattle.gk_steps.proofs.Common.{arith, common_steps}
-use Rattle.gk_steps.specs.Finding as spec
 use Rattle.gk_steps.proofs.UsedFieldsLemmas.{use_some}
 use Rattle.gk_steps.proofs.library.Library.find_used.Goals as goal
 
