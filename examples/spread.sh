@@ -4,14 +4,15 @@
 #
 # GNU parallel runs a job for each part: as many at a time as there are processors, or N with --jobs, on this machine or on those of
 # --sshlogin. These have the program and the files under the same paths, and base64 and xargs. MACHINES is a list with commas of
-# HOST, USER@HOST, HOST:PORT or `:` for this machine, each after `N/` to run N jobs at a time there. --files is the number of files
-# in a part; a part whose names are long has fewer. Without a FILE, the names are read from standard input, one a line.
+# HOST, USER@HOST, HOST:PORT or `:` for this machine, each after `N/` to run N jobs at a time there. A part has N files with --files;
+# otherwise the parts have about the same number of bytes. A part whose names are long has fewer files. Without a FILE, the names
+# are read from standard input, one a line.
 #
 # A scenario's verdict is the same alone and in a suite. So the reports of the parts, added up in their order, are the one report,
 # byte for byte, and the script exits with its status. A job that is lost is run again, three times in all. A part's report
 # counts once: it is that of the last try, which has to say how it ended. If a part stays lost, the script prints no report and exits
 # with 3, and so if it can't write. If a part has a fault, one run over all files finds the first fault. A run with --stop isn't the sum
-# of its parts, so it is refused, and so are other reports. The script needs GNU parallel and jq.
+# of its parts, so it is refused, and so are other reports. The script needs GNU parallel.
 set -euo pipefail
 
 here=$(dirname -- "$(readlink -f -- "$0")")
@@ -77,17 +78,21 @@ check_machines() {
 # Takes the options of this script, and leaves the other words in `rest`.
 take_own_options() {
     engine=(--retries 3)
-    each=
+    each='' jobs=$(nproc) machines=()
+    local own
     while [[ ${1:-} == --* && $1 != -- ]]; do
         [ "$#" -ge 2 ] || refuse "$1 has no value" 2
         case $1 in
         --jobs)
             check_number "$1" "$2"
             engine+=(--jobs "$2")
+            jobs=$2
             ;;
         --sshlogin)
             check_machines "$2"
             engine+=(--sshlogin "$2")
+            IFS=, read -r -a own <<< "$2"
+            machines+=("${own[@]}")
             ;;
         --files)
             check_number "$1" "$2"
@@ -115,21 +120,45 @@ take_run() {
     files=("$@")
     [ "$#" -gt 0 ] || mapfile -t files
     [ "${#files[@]}" -gt 0 ] || refuse "no file is given" 2
-    : "${each:=$((${#files[@]} / (4 * $(nproc)) + 1))}"
+}
+
+# Sets `weights` to what each file adds to its part, and `share` to what a part has. Without --files that are bytes, and one more
+# for each file, also if it isn't found here. There are two parts for each job that all machines together run at a time.
+weigh() {
+    local file found at=0 all=0 size machine slots=0
+    for machine in "${machines[@]:-:}"; do
+        [[ $machine == */* ]] || machine=$jobs/
+        machine=${machine%%/*}
+        slots=$((slots + (${#machine} < 7 ? machine : 1000000)))
+    done
+    weights=()
+    mapfile -d '' -t found < <(printf '%s\0' "${files[@]}" | xargs -0 stat -L --printf '%s %n\0' -- 2> /dev/null)
+    found+=('0 ')
+    for file in "${files[@]}"; do
+        size=0
+        if [[ -z $each && ${found[at]#* } == "$file" ]]; then
+            size=${found[at]%% *}
+            at=$((at + 1))
+        fi
+        weights+=("$((size + 1))")
+        all=$((all + size + 1))
+    done
+    share=${each:-$((all / (2 * slots) + 1))}
 }
 
 # Writes the word of each job to $room/words, one a line.
 write_parts() {
-    local LC_ALL=C file bytes=0
+    local LC_ALL=C file at=0 bytes=0 weight=0
     part=()
     firsts=()
     for file in "${files[@]}"; do
-        if ((${#part[@]} >= each || bytes + ${#file} > most)); then
+        if ((weight >= share || bytes + ${#file} > most)); then
             write_part
-            bytes=0
+            bytes=0 weight=0
         fi
         part+=("$file")
         bytes=$((bytes + ${#file} + 1))
+        weight=$((weight + weights[at++]))
     done
     write_part
 }
@@ -145,11 +174,12 @@ write_part() {
     part=()
 }
 
-# Runs all jobs. What part N prints is in $room/parts/N, and its faults in $room/parts/N.err. All paths here are below the folder.
+# Runs all jobs. What part N prints is in $room/parts/N, and its faults in $room/parts/N.err; the engine prints only the names of
+# these files. All paths here are below the folder.
 run_engine() {
     cd -- "$room"
     export USERS_TMPDIR="${TMPDIR-/tmp}" TMPDIR=. PARALLEL_HOME=. PARALLEL_SHELL=/bin/sh
-    exec parallel --plain "${engine[@]}" --results 'parts/{#}' "sh -c '$unpack' '$job' {}" < words > engine 2>&1
+    exec parallel --plain "${engine[@]}" --files --results 'parts/{#}' "sh -c '$unpack' '$job' {}" < words > engine 2>&1
 }
 
 # Prints the last line of a part's faults, or the engine's if there is none, without zero bytes, of which bash would warn.
@@ -163,17 +193,18 @@ end_lost() {
     refuse "part $number is lost, which begins with ${firsts[number - 1]}: $(said_last)" 3
 }
 
-# Makes the report of each part. Ends the script if a part is lost or has a fault. A report is one line, with its end.
+# Makes the report of each part, by cutting off how it ended. Ends the script if a part is lost or has a fault. A report is one
+# line, with its end.
 take_reports() {
     local last
     reports=()
     for ((number = 1; number <= ${#firsts[@]}; number++)); do
-        last=$(tail -n 1 "$room/parts/$number" 2> /dev/null) || true
-        [[ $last =~ ^status\ ([0-4])$ ]] || end_lost
-        [ "$(wc -l < "$room/parts/$number")" -eq 3 ] || end_with_fault "${BASH_REMATCH[1]}"
-        head -n 1 "$room/parts/$number" > "$room/report.$number" || refuse "cannot write" 3
-        reports+=("$room/report.$number")
+        last=$(tail -c 11 "$room/parts/$number" 2> /dev/null) || true
+        [[ $last =~ $'\n'status\ ([0-4])$ ]] || end_lost
+        [[ $last == $'\n\n'* ]] || end_with_fault "${BASH_REMATCH[1]}"
+        reports+=("$room/parts/$number")
     done
+    printf '%s\0' "${reports[@]}" | xargs -0 truncate -s -10 || refuse "cannot write" 3
 }
 
 # Exits as one run over all files does, which has a fault. If memory ran out, or there are too many files for one command,
@@ -189,9 +220,9 @@ end_with_fault() {
 }
 
 command -v parallel > /dev/null || refuse "GNU parallel is needed, and isn't installed" 2
-command -v jq > /dev/null || refuse "jq is needed, and isn't installed" 2
 take_own_options "$@"
 take_run "${rest[@]}"
+weigh
 write_parts
 run run_engine || true
 take_reports

@@ -60,7 +60,7 @@ class Place:
 
 @pages.tests("recipes/spread.md", "recipes/spread_jobs.md", "recipes/spread_runs.md")
 class Spread(Checks):
-    NEEDS = ("parallel", "jq", "bash")
+    NEEDS = ("parallel", "bash")
 
     @classmethod
     def setUpClass(cls):

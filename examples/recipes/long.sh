@@ -4,7 +4,7 @@
 # NAMES are the files, one a line. They are run in parts of at most N files, or of 1,000, each with the options, and the reports
 # are added up. What the script prints, and its status, are those of one run over all files. If a part has a fault, the script
 # prints no report and exits as that part did; if a part is killed or it can't write, it exits with 3, and without a name with 2.
-# --stop, --format, --explain, --lint, --help and --version are refused: a run with --stop isn't the sum of parts. It needs jq.
+# --stop, --format, --explain, --lint, --help and --version are refused: a run with --stop isn't the sum of parts.
 set -eu
 
 here=$(dirname -- "$(readlink -f -- "$0")")
@@ -31,7 +31,6 @@ for word do
     --stop | --format | --format=* | --explain | --lint | --help | --version | -[hV]*) refuse "$word isn't for a suite in parts" 2 ;;
     esac
 done
-command -v jq > /dev/null || refuse "jq is needed, and isn't installed" 2
 room=$(mktemp -d) && room=$(CDPATH='' cd -- "$room" && pwd) || exit 3
 trap 'rm -rf -- "$room"' EXIT
 trap 'stop 129' HUP
