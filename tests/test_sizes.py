@@ -10,11 +10,12 @@ longer one.
 A block has the size as `n`, and the functions of TEXTS. A mark may have several statuses, such as
 `passed; over 255 failed: bad name`. A line `n:` says which sizes are tried, if these aren't 0 to MOST.
 
-Of a growing run the larger of two sizes may take only so many times the processor time of the smaller. Runs at the
-limits are on the page sizes.md.
+Of a growing run each size has ten times the bytes of the one before it, and may take only so many times its processor
+time. It has two sizes, or those that its line `n:` lists. Runs at the limits are on the page sizes.md.
 """
 
 import functools
+import itertools
 import os
 import random
 import re
@@ -90,7 +91,29 @@ def pieces(count):
     return text
 
 
-TEXTS = {it.__name__: it for it in (letters, other, spaces, quoted, numbered, scenarios, rules, pieces)}
+def replaced(text, texts):
+    """A text for each of these texts, with it in place of its `#`."""
+    return "".join(text.replace("#", it) for it in texts)
+
+
+def phrases(text, count):
+    """A text for each of so many pairs of one of 20 verbs and a noun, with the pair in place of its `#`."""
+    return replaced(text, (f"verb{it % 20} the noun{it // 20}" for it in range(count)))
+
+
+def prefixes(text, count):
+    """A text for each of the first so many beginnings of a word of a's, with it in place of its `#`."""
+    return replaced(text, ("a" * it for it in range(1, count + 1)))
+
+
+def colliding(text, count):
+    """A text for each of so many words of `ab` and `bA`, with it in place of its `#`. All have one sum if each byte counts 33
+    times as much as the next one."""
+    words = itertools.product(("ab", "bA"), repeat=count.bit_length())
+    return replaced(text, ("".join(it) for it in itertools.islice(words, count)))
+
+
+TEXTS = {it.__name__: it for it in (letters, other, spaces, quoted, numbered, scenarios, rules, pieces, phrases, prefixes, colliding)}
 
 
 # ---- rows
@@ -151,8 +174,10 @@ def of_row(name):
 
 def of_growing(name):
     """The same of a growing run. Of three times the least counts."""
-    least, (size,) = [], sizes(name)
-    for own in (size, size * TIMES):
+    least, own_sizes = [], sizes(name)
+    if len(own_sizes) == 1:
+        own_sizes.append(own_sizes[0] * TIMES)
+    for own in own_sizes:
         run, times = ROWS[name][0](own), []
         for _ in range(3):
             before = driver.processor_time()
@@ -161,8 +186,8 @@ def of_growing(name):
             if found != [""]:
                 return found
         least.append(min(times))
-    return [driver.unless(f"{name}: {least[0]:.3f} s, and {TIMES} times as large {least[1]:.3f} s",
-                          least[1] <= MOST_TIMES * least[0])]
+    return [driver.unless(f"{name}: {before:.3f} s, and {TIMES} times as large {after:.3f} s", after <= MOST_TIMES * before)
+            for before, after in zip(least, least[1:])]
 
 
 @pages.tests("sizes.md", shows_statuses=True)
