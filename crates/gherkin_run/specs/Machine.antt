@@ -4,8 +4,8 @@ use Rattle.std.specs.declared.io.ErrorKind.{ErrorKind}
 use Rattle.std.specs.declared.io.ErrorKind.TheVariants.{OutOfMemory}
 use Rattle.gk_gherkin.specs.Lines.{limit}
 use Rattle.gk_cli.specs.Writing.{Device}
-use Rattle.gk_request.specs.declared.source.SourceFault.{SourceFault}
-use Rattle.gk_request.specs.declared.source.SourceFault.TheVariants as reading
+use Rattle.gk_io.specs.declared.whole_read.SourceFault.{SourceFault}
+use Rattle.gk_io.specs.declared.whole_read.SourceFault.TheVariants as reading
 use Rattle.gk_program.specs.Ended.{IsEnded}
 use Rattle.gk_program.specs.Files.{Reading}
 use Rattle.gk_program.specs.declared.asked.ArgumentsFault.{ArgumentsFault}

@@ -3,8 +3,8 @@ ghost use Rattle.std.specs.Prelude.{◌≡◌};
 ghost use Rattle.std.specs.Io.{WritesAtMost};
 ghost use Rattle.gherkin_run.specs.Machine as spec;
 
+use gk_io::{Counted, SourceFault, read_source};
 use gk_program::{ArgumentsFault, System};
-use gk_request::{Counted, SourceFault, read_source};
 use std::alloc::Global;
 use std::env::FillError;
 use std::rt::{Env, Files};

@@ -2,14 +2,14 @@
 #![tactic(auto)]
 
 ghost use Rattle.std.specs.Process.{exit_status};
-ghost use Rattle.gk_request.specs.Counted.{FailuresCanRise};
+ghost use Rattle.gk_io.specs.Counted.{FailuresCanRise};
 ghost use Rattle.gk_cli.specs.Writing.{device_of};
 ghost use Rattle.gherkin_run.specs.Machine.{IsRunOn, reads_some};
 
 mod machine;
 
+use gk_io::Counted;
 use gk_program::run;
-use gk_request::Counted;
 use machine::{Machine, program_arguments};
 use std::io::Write;
 use std::process::ExitCode;

@@ -7,8 +7,8 @@ use Rattle.std.specs.Ordering.{nat_cmp}
 use Rattle.std.specs.Str.{bytes_eq}
 use Rattle.gk_gherkin.specs.Lines.{limit}
 use Rattle.gk_request.specs.Source.{SourceValue}
-use Rattle.gk_request.specs.declared.source.SourceFault.{SourceFault}
-use Rattle.gk_request.specs.declared.source.SourceFault.TheVariants.{Device, TooLong, Memory}
+use Rattle.gk_io.specs.declared.whole_read.SourceFault.{SourceFault}
+use Rattle.gk_io.specs.declared.whole_read.SourceFault.TheVariants.{Device, TooLong, Memory}
 use Rattle.gk_program.specs.Files.{Reading}
 use Rattle.gk_c.specs.declared.caller_files.File.{File}
 

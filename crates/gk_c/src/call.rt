@@ -11,8 +11,8 @@ use crate::answer::Answer;
 use crate::caller_files::{File, InMemory};
 use crate::room::put_out;
 use crate::words::{Text, words_from};
+use gk_io::Counted;
 use gk_program::{ProgramEnd, files_asked, run};
-use gk_request::Counted;
 use std::alloc::{AllocError, Global};
 
 // Returns a buffer that takes a text as long as the caller's room without growing. If there is no memory for it, returns

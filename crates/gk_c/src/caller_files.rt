@@ -6,8 +6,8 @@ ghost use Rattle.gk_c.specs.CallerFiles as spec;
 ghost use Rattle.gk_c.specs.CallerFiles.{IsIndexOf, SaysCopy, bytes_of, file_value};
 
 use gk_gherkin::LONGEST_FILE;
+use gk_io::SourceFault;
 use gk_program::System;
-use gk_request::SourceFault;
 use std::alloc::{AllocError, Global};
 use std::collections::BTreeMap;
 use std::marker::Model;

@@ -55,7 +55,7 @@ pub use Rattle.gk_report.specs.Summary.{feature_statuses, scenario_statuses, sta
 pub use Rattle.gk_report.specs.declared.report.Style.{Style}
 pub use Rattle.gk_request.proofs.InputsLemmas.{OneRule, same_hooks, same_library, same_rules}
 pub use Rattle.gk_request.proofs.ResultLemmas.{if_err, if_ok, ok_known, on_ok, passed_on}
-pub use Rattle.gk_request.specs.Counted.{one_more}
+pub use Rattle.gk_io.specs.Counted.{one_more}
 pub use Rattle.gk_request.specs.Inputs.{AreHooks, AreInputs, AreRead, Inputs, InputsAreUnique, IsLibrary, chosen_of, head_of, inputs_value, member_by, with_reading}
 pub use Rattle.gk_request.specs.Request.{FilesValue, Request, asked, hooks_name, name_of, request_of_files, files_value}
 pub use Rattle.gk_request.specs.RunFault.{IsUnread}

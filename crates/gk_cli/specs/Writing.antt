@@ -1,7 +1,7 @@
 -- A writer, and what is written to it.
 use Rattle.std.specs.Prelude.{◌≡◌, ◌≤◌, ◌+◌, ℕ, List, [], length, Option, Result, Ok, Err}
 use Rattle.std.specs.Io.KnownBytes.{Appends}
-use Rattle.gk_request.specs.Counted.{CountedValue, one_more, IsPrefixWritten}
+use Rattle.gk_io.specs.Counted.{CountedValue, one_more, IsPrefixWritten}
 use Rattle.gk_request.specs.declared.run_fault.RunFault.{RunFault}
 use Rattle.gk_request.specs.declared.run_fault.RunFault.TheVariants.{Write, Memory}
 

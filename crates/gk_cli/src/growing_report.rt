@@ -8,8 +8,9 @@ ghost use Rattle.gk_cli.specs.Writing.{device_of, IsWritten, IsStopped};
 use crate::reporter::Reporter;
 use crate::writing::write_piece;
 use gk_gherkin::{Block, Step};
+use gk_io::Counted;
 use gk_report::{Style, Summary, head, pieces, tail};
-use gk_request::{Counted, RunFault};
+use gk_request::RunFault;
 use gk_run::{
     CaseResult, FeatureResult, Level, Mark, Observer, Outcome, RuleResult, Stage, Status,
 };

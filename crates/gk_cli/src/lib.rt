@@ -14,6 +14,7 @@ mod writing;
 mod written_run;
 
 pub use arguments::{Mode, Words, WordsFault, read_words};
-pub use gk_request::{Counted, Options, RunFault, Source, SourceFault, read_source};
+pub use gk_io::{Counted, SourceFault, read_source};
+pub use gk_request::{Options, RunFault, Source};
 pub use laws::{judged_rows_are_in_file_order, scenarios_come_to_the_same_in_each_run};
 pub use suite::{run_suite, write_suite};

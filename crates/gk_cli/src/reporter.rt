@@ -4,8 +4,9 @@ ghost use Rattle.gk_run.specs.Results.{FeatureRow, Results, feature_row};
 ghost use Rattle.gk_cli.specs.Reporter.{IsAdded, StopsAdding, ClosesWith};
 ghost use Rattle.gk_cli.specs.Writing.{device_of};
 
+use gk_io::Counted;
 use gk_report::Summary;
-use gk_request::{Counted, RunFault};
+use gk_request::RunFault;
 use gk_run::{FeatureResult, Observer, Status};
 use std::alloc::{AllocError, Global};
 use std::io::Write;

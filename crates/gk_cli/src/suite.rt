@@ -12,9 +12,9 @@ use crate::explained_run::write_explanation;
 use crate::writing::write_piece;
 use crate::written_run::write_run;
 use gk_findings::findings_text;
+use gk_io::Counted;
 use gk_request::{
-    Counted, Options, RunFault, Source, SuiteFiles, bytes_of, inputs_are_unique, name_of,
-    read_inputs,
+    Options, RunFault, Source, SuiteFiles, bytes_of, inputs_are_unique, name_of, read_inputs,
 };
 use gk_run::without_memory_there_is_one_list;
 use gk_world::Sandbox;

@@ -18,8 +18,9 @@ ghost use Rattle.gk_cli.specs.ToldRun.{TellsFeature, TellsDryFeature, IsNextResu
 use crate::reporter::Reporter;
 use crate::writing::write_piece;
 use gk_gherkin::HookTable;
+use gk_io::Counted;
 use gk_report::Summary;
-use gk_request::{Counted, RunFault};
+use gk_request::RunFault;
 use gk_run::{
     Chosen, FeatureResult, NoRoom, Status, Suite, dry_feature, finished_runs_are_judged,
     unfinished_runs_are_judged,

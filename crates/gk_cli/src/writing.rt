@@ -3,7 +3,8 @@ ghost use Rattle.std.specs.Prelude.{◌≡◌, OnOk, IfErr};
 ghost use Rattle.gk_cli.specs.Writing.{device_of, IsWritten, IsStopped};
 ghost use Rattle.gk_request.specs.declared.run_fault.RunFault.TheVariants as faults;
 
-use gk_request::{Counted, RunFault, write_whole};
+use gk_io::{Counted, write_whole};
+use gk_request::RunFault;
 use std::io::Write;
 
 /// Writes a piece of a text. The number of calls is at most the number of its bytes. `Write` comes if the writer

@@ -1,4 +1,4 @@
-use gk_request::{Counted, write_displayed, write_whole};
+use gk_io::{Counted, write_displayed, write_whole};
 use std::alloc::{AllocError, Global};
 use std::io;
 use std::io::Write as _;

@@ -1,5 +1,5 @@
 use gk_gherkin::LONGEST_FILE;
-use gk_request::{Counted, read_source};
+use gk_io::{Counted, read_source};
 use std::alloc::{AllocError, Global};
 use std::io;
 use std::test::Fail;

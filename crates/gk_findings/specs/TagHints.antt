@@ -3,9 +3,9 @@ use Rattle.std.specs.Prelude.{ℕ, ◌==◌, List, ◌++◌, length, codes, Opti
 use Rattle.gk_select.specs.declared.select_fault.SelectFault.TheVariants.{BadTagText}
 use Rattle.gk_select.specs.declared.tag_stops.Wanted.{Wanted}
 use Rattle.gk_select.specs.declared.tag_stops.Wanted.TheVariants.{Operand, Operator, Close, Alternative}
-use Rattle.gk_select.specs.SelectFault.{said_of_select_fault}
 use Rattle.gk_select.specs.TagStops.{StopValue}
 use Rattle.gk_explain.specs.Shown.{shown}
+use Rattle.gk_findings.specs.Hints.{select_hint}
 
 -- What is expected at the point at which a text of tags stops spelling a tag rule.
 unfoldable pub wanted_text : Wanted → List ℕ
@@ -29,5 +29,5 @@ stop_text stop = codes "it breaks at " ++ (stop_place_text stop.at ++ (codes ", 
 
 -- The hint for a text of tags that spells no rule.
 abbrev pub tags_hint : Option StopValue → List ℕ
-tags_hint None = (said_of_select_fault BadTagText).hint
+tags_hint None = select_hint BadTagText
 tags_hint (Some stop) = stop_text stop

@@ -4,6 +4,7 @@ ghost use Rattle.gk_report.specs.ReportTexts.{Pushes};
 ghost use Rattle.gk_select.specs.TagStops.{stop_value, tag_stop as stop_of};
 ghost use Rattle.gk_findings.specs.TagHints as spec;
 
+use crate::hints::select_hint;
 use gk_explain::push_shown;
 use gk_select::{SelectFault, TagStop, Wanted, tag_stop};
 use std::alloc::{AllocError, Global};
@@ -64,6 +65,6 @@ pub fn tags_hint(alloc: Global, text: &str) -> Result<String, AllocError>
 {
     match tag_stop(text) {
         Some(stop) => stop_hint(alloc, stop),
-        None => String::from_str(alloc, SelectFault::BadTagText.said().hint),
+        None => String::from_str(alloc, select_hint(SelectFault::BadTagText)),
     }
 }

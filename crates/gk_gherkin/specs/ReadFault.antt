@@ -218,37 +218,16 @@ abbrev pub AnswersOrLacksMemory : {X V : Type 0} → (X → V) → Result X Read
 AnswersOrLacksMemory value (Ok answer) said = value answer ≡ said
 AnswersOrLacksMemory value (Err fault) said = fault ≡ Memory
 
--- What is said of a fault: its text, without its line, and a hint on how to fix it.
-pub record FaultSaid : Type 0 where
-  pub text : List ℕ
-  pub hint : List ℕ
-
--- What is said of a file that is too long.
-abbrev pub said_too_long : FaultSaid
-said_too_long = record { text = codes "longer than 16777216 bytes"; hint = codes "divide the file" }
-
--- What is said of bytes that aren't UTF-8.
-abbrev pub said_not_utf8 : FaultSaid
-said_not_utf8 = record { text = codes "not UTF-8"; hint = codes "save the file as UTF-8" }
-
--- What is said if memory was refused.
-abbrev pub said_no_memory : FaultSaid
-said_no_memory = record { text = codes "out of memory"; hint = codes "divide the files, or spread them over several runs" }
-
--- What is said of each fault.
-abbrev pub said_of_fault : ReadFault → FaultSaid
-said_of_fault (NotUtf8 n) = said_not_utf8
-said_of_fault (Unexpected n) = record { text = codes "unexpected line"; hint = codes "look at the lines above, too" }
-said_of_fault (BadTag n) = record { text = codes "bad tag"; hint = codes "write an @ before each tag, and a # before remarks" }
-said_of_fault (CellCount n) = record { text = codes "row with another number of cells"; hint = codes "give each row as many cells as the first; write \\| for a bar inside a cell" }
-said_of_fault (UnclosedText n) = record { text = codes "doc string without end"; hint = codes "close it with a line of the same three characters alone" }
-said_of_fault (TagsAtEnd n) = record { text = codes "tags before nothing"; hint = codes "give the tags a scenario, or take them out" }
-said_of_fault (Language n) = record { text = codes "language not known"; hint = codes "write the keywords in English, and take this comment out" }
-said_of_fault TooLong = said_too_long
-said_of_fault Memory = said_no_memory
-said_of_fault (BadHook n) = record { text = codes "bad hook heading"; hint = codes "write before_ or after_, and then all:, feature:, rule:, scenario: or tag @NAME:, each heading once" }
-said_of_fault (BadRow n) = record { text = codes "row without closing bar"; hint = codes "close the row with a bar" }
-
--- The text of a fault, without its line.
+-- The text of a fault, without its line. (this project's profile)
 abbrev pub text_of_fault : ReadFault → List ℕ
-text_of_fault fault = (said_of_fault fault).text
+text_of_fault (NotUtf8 n) = codes "not UTF-8"
+text_of_fault (Unexpected n) = codes "unexpected line"
+text_of_fault (BadTag n) = codes "bad tag"
+text_of_fault (CellCount n) = codes "row with another number of cells"
+text_of_fault (UnclosedText n) = codes "doc string without end"
+text_of_fault (TagsAtEnd n) = codes "tags before nothing"
+text_of_fault (Language n) = codes "language not known"
+text_of_fault TooLong = codes "longer than 16777216 bytes"
+text_of_fault Memory = codes "out of memory"
+text_of_fault (BadHook n) = codes "bad hook heading"
+text_of_fault (BadRow n) = codes "row without closing bar"

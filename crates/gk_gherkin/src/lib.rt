@@ -53,4 +53,4 @@ pub use laws::{
 pub use lines::{
     BorrowedLine, Document, LONGEST_FILE, Line, Place, borrowed_line, read_lines, text_of,
 };
-pub use read_fault::{AllocationError, FaultText, ReadFault};
+pub use read_fault::{AllocationError, ReadFault};

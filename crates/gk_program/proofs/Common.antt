@@ -21,14 +21,14 @@ pub use Rattle.gk_cli.specs.declared.arguments.Words.{Words}
 pub use Rattle.gk_cli.specs.declared.arguments.WordsFault.{WordsFault}
 pub use Rattle.gk_findings.specs.declared.env_notes.EnvMistake.TheVariants.{NoEquals}
 pub use Rattle.gk_gherkin.specs.Feature.{texts}
-pub use Rattle.gk_request.specs.Counted.{one_more}
+pub use Rattle.gk_io.specs.Counted.{one_more}
 pub use Rattle.gk_request.specs.FaultLine.{name_at_fault}
 pub use Rattle.gk_request.specs.Request.{FilesValue, Request, request_of_files, files_value}
 pub use Rattle.gk_request.specs.Source.{SourceValue, source_value}
 pub use Rattle.gk_request.specs.declared.request.SuiteFiles.{SuiteFiles}
 pub use Rattle.gk_request.specs.declared.run_fault.RunFault.{RunFault}
 pub use Rattle.gk_request.specs.declared.source.Source.{Source}
-pub use Rattle.gk_request.specs.declared.source.SourceFault.{SourceFault}
+pub use Rattle.gk_io.specs.declared.whole_read.SourceFault.{SourceFault}
 pub use Rattle.gk_world.specs.Refusals.{IsFault, put_refusal}
 pub use Rattle.gk_world.specs.Sandbox.{SandboxValue, new_sandbox, with_env, with_file}
 pub use Rattle.gk_world.specs.State.{Contents}

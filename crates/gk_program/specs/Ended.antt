@@ -2,7 +2,7 @@
 use Rattle.std.specs.Prelude.{◌≡◌, ◌⊎◌, ℕ, List, Result, Ok, Err}
 use Rattle.std.specs.Io.KnownBytes.{Appends}
 use Rattle.clap.specs.Words.{Text}
-use Rattle.gk_request.specs.Counted.{one_more}
+use Rattle.gk_io.specs.Counted.{one_more}
 use Rattle.gk_cli.specs.Writing.{Device}
 use Rattle.gk_program.specs.Fault.{place_of, row_of, text_of}
 use Rattle.gk_program.specs.FaultPlace.{nowhere}

@@ -5,8 +5,8 @@ use Rattle.std.specs.declared.alloc.Global.{Global}
 use Rattle.gk_request.specs.Source.{SourceValue}
 use Rattle.gk_request.specs.Request.{FilesValue}
 use Rattle.gk_request.specs.declared.source.Source.{Source}
-use Rattle.gk_request.specs.declared.source.SourceFault.{SourceFault}
-use Rattle.gk_request.specs.declared.source.SourceFault.TheVariants as reading
+use Rattle.gk_io.specs.declared.whole_read.SourceFault.{SourceFault}
+use Rattle.gk_io.specs.declared.whole_read.SourceFault.TheVariants as reading
 use Rattle.gk_program.specs.declared.fault.Fault.{Fault}
 use Rattle.gk_program.specs.declared.fault.Fault.TheVariants.{CannotRead, TooLong, Memory}
 

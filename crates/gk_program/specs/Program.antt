@@ -7,7 +7,7 @@ use Rattle.gk_world.specs.State.{Contents, nothing_yet}
 use Rattle.gk_world.specs.Refusals.{put_refusal}
 use Rattle.gk_world.specs.Sandbox.{SandboxValue, with_env}
 use Rattle.gk_cli.specs.Arguments.{PairValue, is_lint, pair_value}
-use Rattle.gk_request.specs.Counted.{one_more}
+use Rattle.gk_io.specs.Counted.{one_more}
 use Rattle.gk_request.specs.Request.{Request, FilesValue, request_of_files}
 use Rattle.gk_cli.specs.Writing.{Device, IsUntouched, IsStopped, IsWritten}
 use Rattle.gk_cli.specs.Modes.{IsStoppedAs, IsWrittenAs, SaysFaultAs}

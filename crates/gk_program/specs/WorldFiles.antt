@@ -6,8 +6,8 @@ use Rattle.gk_world.specs.Refusals.{is_bad_name, is_too_long, put_refusal}
 use Rattle.gk_world.specs.Sandbox.{SandboxValue, with_file}
 use Rattle.gk_cli.specs.Arguments.{PairValue}
 use Rattle.gk_request.specs.Source.{SourceValue}
-use Rattle.gk_request.specs.declared.source.SourceFault.{SourceFault}
-use Rattle.gk_request.specs.declared.source.SourceFault.TheVariants as reading
+use Rattle.gk_io.specs.declared.whole_read.SourceFault.{SourceFault}
+use Rattle.gk_io.specs.declared.whole_read.SourceFault.TheVariants as reading
 use Rattle.gk_program.specs.Files.{AreRead, Reading}
 use Rattle.gk_program.specs.declared.fault.Fault.{Fault}
 use Rattle.gk_program.specs.declared.fault.Fault.TheVariants.{File, CannotRead, NotText, TextTooLong, Memory}

@@ -1,14 +1,14 @@
 //! How the program ended, and telling why.
 ghost use Rattle.std.specs.Prelude.{◌≡◌, OnErr, OnOk};
 ghost use Rattle.std.specs.Io.KnownBytes.{Appends};
-ghost use Rattle.gk_request.specs.Counted.{HasFailedOnce, HasNotFailed};
+ghost use Rattle.gk_io.specs.Counted.{HasFailedOnce, HasNotFailed};
 ghost use Rattle.gk_cli.specs.Writing.{device_of};
 ghost use Rattle.gk_program.specs.Ended.{IsTold, place_of_done, status_of};
 ghost use Rattle.gk_program.specs.Fault.{text_of};
 
 use crate::fault::Fault;
 use crate::fault_place::{FaultPlace, NOWHERE};
-use gk_request::{Counted, NotWritten, write_displayed, write_whole};
+use gk_io::{Counted, NotWritten, write_displayed, write_whole};
 use std::alloc::Global;
 use std::io::Write;
 

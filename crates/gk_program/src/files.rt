@@ -7,7 +7,8 @@ ghost use Rattle.gk_request.specs.Request.{files_value};
 
 use crate::fault::Fault;
 use gk_gherkin::LONGEST_FILE;
-use gk_request::{Source, SourceFault, SuiteFiles};
+use gk_io::SourceFault;
+use gk_request::{Source, SuiteFiles};
 use std::alloc::Global;
 
 /// A system that files are read from. What is proved over a `System` holds for each one: in which order it is asked for
@@ -15,7 +16,7 @@ use std::alloc::Global;
 /// systems.
 pub trait System {
     ghost use Rattle.std.specs.Prelude.{◌≤◌, ℕ, List, Result, IfOk, vec_len};
-    ghost use Rattle.gk_request.specs.declared.source.SourceFault.{SourceFault};
+    ghost use Rattle.gk_io.specs.declared.whole_read.SourceFault.{SourceFault};
     ghost use Rattle.gk_program.specs.Files.{bytes_or_fault};
 
     /// In the first state, reading the file of this name returns this result, and leaves the second state.

@@ -3,7 +3,7 @@ ghost use Rattle.std.specs.Prelude.{◌≡◌, map, IfOk, IfErr, OnOk, Some, opt
 ghost use Rattle.gk_gherkin.specs.Feature.{texts};
 ghost use Rattle.gk_world.specs.Sandbox.{depth, new_sandbox};
 ghost use Rattle.gk_cli.specs.Arguments.{pair_value};
-ghost use Rattle.gk_request.specs.Counted.{FailuresCanRise, one_more};
+ghost use Rattle.gk_io.specs.Counted.{FailuresCanRise, one_more};
 ghost use Rattle.gk_cli.specs.Writing.{device_of};
 ghost use Rattle.gk_request.specs.Source.{source_value};
 ghost use Rattle.gk_request.specs.Request.{files_value, request_of_files};
@@ -23,7 +23,8 @@ use crate::files::{System, read_run_files};
 use crate::shown_fault::fault_in;
 use crate::world_files::put_files;
 use gk_cli::{Mode, Words, write_suite};
-use gk_request::{Counted, Options, RunFault, Source, SuiteFiles, write_whole};
+use gk_io::{Counted, write_whole};
+use gk_request::{Options, RunFault, Source, SuiteFiles};
 use gk_world::Sandbox;
 use std::alloc::Global;
 use std::io::Write;

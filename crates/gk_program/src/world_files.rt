@@ -7,7 +7,7 @@ ghost use Rattle.gk_program.specs.WorldFiles.{ArePut, IsFaultOfPath, IsNotPut, I
 
 use crate::fault::Fault;
 use crate::files::System;
-use gk_request::SourceFault;
+use gk_io::SourceFault;
 use gk_world::{Sandbox, WorldFault, is_bad_name};
 use std::alloc::Global;
 use std::str;

@@ -41,7 +41,7 @@ pub use Rattle.gk_request.specs.AllFaults.{AllFaultsAreFound, AreAdded, AreFault
 pub use Rattle.gk_request.specs.Inputs.{AreHooks, AreRead, AreRowsIf, AreRowsOf, AreRowsReadOnto, AreRules, Inputs, InputsAreUnique, IsFirstBadText, IsLibrary, IsReadAs, IsReadOnto, IsReading, IsWithinLimit, chosen_of, head_of, member_by, with_reading, with_rows}
 pub use Rattle.gk_request.specs.Request.{Request, asked_of, bytes_of, request_of_files, files_value}
 pub use Rattle.gk_request.specs.RunFault.{IsUnread, IsUnreadBefore, SaysExpansion, SaysHooks, SaysLibrary, SaysSourceAt, SaysSources, SaysTags, SaysTooMany, hooks_fault, library_fault, select_fault_at, tags_fault}
-pub use Rattle.gk_request.specs.Source.{GivesAtMost, SourceValue, StopsAfter, source_value}
+pub use Rattle.gk_request.specs.Source.{SourceValue, source_value}
 pub use Rattle.gk_request.specs.declared.request.Options.{Options}
 pub use Rattle.gk_request.specs.declared.run_fault.RunFault.{RunFault}
 pub use Rattle.gk_request.specs.declared.run_fault.RunFault.TheVariants.{Hooks, Library, Memory, Read, Select, Write}

@@ -2,8 +2,8 @@
 use Rattle.std.specs.Prelude.{ℕ, List, ◌++◌, codes, slice_get, Option, Some, None, option_map}
 use Rattle.std.specs.Fmt.{decimal}
 use Rattle.gk_gherkin.specs.ReadFault.{line_of_fault, text_of_fault}
-use Rattle.gk_select.specs.SelectFault.{said_of_select_fault}
-use Rattle.gk_steps.specs.LibraryFault.{line_of_library_fault, said_of_library_fault}
+use Rattle.gk_select.specs.SelectFault.{text_of_select_fault}
+use Rattle.gk_steps.specs.LibraryFault.{line_of_library_fault, text_of_library_fault}
 use Rattle.gk_request.specs.declared.run_fault.RunFault.{RunFault}
 use Rattle.gk_request.specs.declared.run_fault.RunFault.TheVariants.{Read, Library, Hooks, Select, Write, Memory}
 use Rattle.gk_request.specs.Source.{SourceValue}
@@ -41,9 +41,9 @@ placed (Some name) (Some n) text = name ++ (codes ":" ++ (decimal n ++ (codes ":
 -- The line of a fault of a run, for a file with this name, without its line feed: the name and the line, if they are known, and the words of the crate that reads the file.
 abbrev pub fault_line : Option (List ℕ) → RunFault → List ℕ
 fault_line name (Read input fault) = placed name (line_of_fault fault) (text_of_fault fault)
-fault_line name (Library fault) = placed name (line_of_library_fault fault) (said_of_library_fault fault).text
+fault_line name (Library fault) = placed name (line_of_library_fault fault) (text_of_library_fault fault)
 fault_line name (Hooks fault) = placed name (line_of_fault fault) (text_of_fault fault)
-fault_line name (Select (Some input) fault) = placed name None (said_of_select_fault fault).text
-fault_line name (Select None fault) = (said_of_select_fault fault).text
+fault_line name (Select (Some input) fault) = placed name None (text_of_select_fault fault)
+fault_line name (Select None fault) = text_of_select_fault fault
 fault_line name Write = codes "cannot write"
 fault_line name Memory = codes "out of memory"

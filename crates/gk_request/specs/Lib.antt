@@ -1,5 +1,4 @@
 -- A request, and the inputs that it spells, in reading order. A definition whose comment names no source belongs to this project's profile, or is a term that the others use.
-pub mod Counted
 pub mod Source
 pub mod Request
 pub mod Inputs

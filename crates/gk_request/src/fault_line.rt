@@ -84,12 +84,7 @@ impl fmt::Display for NamedFault<'_> {
     fn fmt<W: fmt::Write>(&self, f: &mut fmt::Formatter<W>) -> fmt::Result {
         match &self.fault {
             RunFault::Read { fault, .. } => write_placed(f, self.name, fault.line(), fault),
-            RunFault::Library(fault) => write_placed(
-                f,
-                self.name,
-                fault.line(),
-                &fault.said().text,
-            ),
+            RunFault::Library(fault) => write_placed(f, self.name, fault.line(), fault),
             RunFault::Hooks(fault) => write_placed(f, self.name, fault.line(), fault),
             RunFault::Select {
                 input: Some(_),

@@ -1,9 +1,8 @@
-//! What a run is asked for: options, a step library, hooks and feature files. Reading them, the faults of those that don't
-//! read, and readers and writers whose calls are counted.
+//! What a run is asked for: options, a step library, hooks and feature files. Reading them, and the faults
+//! of those that don't read.
 #![tactic(auto)]
 
 mod all_faults;
-mod counted;
 mod fault_line;
 mod inputs;
 mod request;
@@ -11,7 +10,6 @@ mod run_fault;
 mod source;
 
 pub use all_faults::{all_faults_are_found, faults_after};
-pub use counted::{Counted, NotWritten, write_displayed, write_whole};
 pub use fault_line::{NamedFault, file_at_fault, line_at_fault, name_at_fault};
 pub use inputs::{
     ReadBefore, ReadInputs, first_bad_tags, inputs_are_unique, read_before, read_feature_at,
@@ -19,4 +17,4 @@ pub use inputs::{
 };
 pub use request::{Options, SuiteFiles, bytes_of, name_of};
 pub use run_fault::RunFault;
-pub use source::{Source, SourceFault, read_source};
+pub use source::Source;

@@ -19,7 +19,7 @@ pub enum RunFault {
         fault: ReadFault,
     },
     /// The library file doesn't read, for this reason. Nothing was written.
-    #[error("library: {}", .0.said().text)]
+    #[error("library: {0}")]
     Library(LibraryFault),
     /// The hooks file doesn't read, for this reason. Nothing was written.
     #[error("hooks: {0}")]

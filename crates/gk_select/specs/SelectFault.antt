@@ -1,6 +1,5 @@
 -- Results that may be refused, and the texts of the faults.
-use Rattle.std.specs.Prelude.{codes, ◌≡◌, Option, Some, None, IsSome, Result, Ok, Err}
-use Rattle.gk_gherkin.specs.ReadFault.{FaultSaid, said_no_memory}
+use Rattle.std.specs.Prelude.{codes, ◌≡◌, ℕ, List, Option, Some, None, IsSome, Result, Ok, Err}
 use Rattle.gk_select.specs.declared.select_fault.SelectFault.{SelectFault}
 use Rattle.gk_select.specs.declared.select_fault.SelectFault.TheVariants.{TooMany, BadTagText, Memory}
 
@@ -11,8 +10,8 @@ AnswersOrLacksMemory v (Err BadTagText) o = o ≡ None
 AnswersOrLacksMemory v (Err Memory) o = IsSome o
 AnswersOrLacksMemory v (Err TooMany) o = ⊥
 
--- What is said of each fault: its text, and a hint on how to fix it.
-abbrev pub said_of_select_fault : SelectFault → FaultSaid
-said_of_select_fault TooMany = record { text = codes "more than 1000000 steps"; hint = codes "divide the outline or the file" }
-said_of_select_fault BadTagText = record { text = codes "bad tag expression"; hint = codes "write it as '@a and not @b', or as @a,~@b" }
-said_of_select_fault Memory = said_no_memory
+-- The text of a fault. (this project's profile)
+abbrev pub text_of_select_fault : SelectFault → List ℕ
+text_of_select_fault TooMany = codes "more than 1000000 steps"
+text_of_select_fault BadTagText = codes "bad tag expression"
+text_of_select_fault Memory = codes "out of memory"

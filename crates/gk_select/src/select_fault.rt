@@ -1,9 +1,9 @@
 //! Reasons why a feature is not expanded or a text of tags is refused.
 ghost use Rattle.std.specs.Prelude.{◌≡◌, Some};
-ghost use Rattle.gk_select.specs.SelectFault.{said_of_select_fault};
+ghost use Rattle.gk_select.specs.SelectFault.{text_of_select_fault};
 ghost use Rattle.gk_select.specs.declared.select_fault.SelectFault.TheVariants.{Memory};
 
-use gk_gherkin::{AllocationError, FaultText};
+use gk_gherkin::AllocationError;
 use std::fmt;
 
 /// The reason why a feature is not expanded or a text of tags is refused.
@@ -25,32 +25,16 @@ impl<E: AllocationError> From<E> for SelectFault {
     }
 }
 
-impl SelectFault {
-    /// Returns the fault's text, and a hint on how to fix it.
-    pub fn said(&self) -> FaultText
-        ensures text { result.text.now ≡ (said_of_select_fault self.now).text }
-        ensures hint { result.hint.now ≡ (said_of_select_fault self.now).hint }
-    {
-        match self {
-            SelectFault::TooMany => FaultText {
-                text: "more than 1000000 steps",
-                hint: "divide the outline or the file",
-            },
-            SelectFault::BadTagText => FaultText {
-                text: "bad tag expression",
-                hint: "write it as '@a and not @b', or as @a,~@b",
-            },
-            SelectFault::Memory => FaultText::no_memory(),
-        }
-    }
-}
-
 // Writes the text of the fault.
 impl fmt::Display for SelectFault {
-    ghost output = { λ e. Some ((said_of_select_fault e).text) };
+    ghost output = { λ e. Some (text_of_select_fault e) };
 
     fn fmt<W: fmt::Write>(&self, f: &mut fmt::Formatter<W>) -> fmt::Result {
-        f.write_str(self.said().text)
+        f.write_str(match self {
+            SelectFault::TooMany => "more than 1000000 steps",
+            SelectFault::BadTagText => "bad tag expression",
+            SelectFault::Memory => "out of memory",
+        })
     }
 }
 

@@ -1,7 +1,6 @@
 -- The meaning of the faults of a library file.
 use Rattle.std.specs.Prelude.{codes, ◌≡◌, ◌≢◌, ℕ, List, Option, Some, None}
 use Rattle.gk_gherkin.specs.Lines.{Lines, lines_of, IsText, IsTooLong, IsNotUtf8At}
-use Rattle.gk_gherkin.specs.ReadFault.{FaultSaid, said_no_memory, said_not_utf8, said_too_long}
 use Rattle.gk_steps.specs.declared.library_fault.LibraryFault.{LibraryFault}
 use Rattle.gk_steps.specs.declared.library_fault.LibraryFault.TheVariants as faults
 use Rattle.gk_steps.specs.LibraryFile.{StopsLibraryAt, IsBadType, IsBadPattern, IsUnknownAction, IsMissingField, IsOtherKind, IsAmbiguous, LibraryNeedsMemory}
@@ -39,14 +38,14 @@ line_of_library_fault (faults.Ambiguous n) = Some n
 line_of_library_fault faults.TooLong = None
 line_of_library_fault faults.Memory = None
 
--- What is said of each fault: its text, as it is printed after the name and the line, and a hint on how to fix it.
-abbrev pub said_of_library_fault : LibraryFault → FaultSaid
-said_of_library_fault (faults.NotUtf8 n) = said_not_utf8
-said_of_library_fault (faults.BadType n) = record { text = codes "bad step type"; hint = codes "begin the line with given, when, then or step, in lower case" }
-said_of_library_fault (faults.BadPattern n) = record { text = codes "bad pattern"; hint = codes "write PATTERN => ACTION, with {{ and }} for braces, and a name of its own for each field" }
-said_of_library_fault (faults.UnknownAction n) = record { text = codes "unknown action"; hint = codes "take a name of the table of actions, in lower case" }
-said_of_library_fault (faults.MissingField n) = record { text = codes "missing field"; hint = codes "name the fields as the action does" }
-said_of_library_fault (faults.FieldKind n) = record { text = codes "wrong kind of field"; hint = codes "write {n:d} for the number; name, to, text and step are texts" }
-said_of_library_fault (faults.Ambiguous n) = record { text = codes "ambiguous with an earlier line"; hint = codes "put the special entry first, or make it differ" }
-said_of_library_fault faults.TooLong = said_too_long
-said_of_library_fault faults.Memory = said_no_memory
+-- The text of a fault, without its line. (this project's profile)
+abbrev pub text_of_library_fault : LibraryFault → List ℕ
+text_of_library_fault (faults.NotUtf8 n) = codes "not UTF-8"
+text_of_library_fault (faults.BadType n) = codes "bad step type"
+text_of_library_fault (faults.BadPattern n) = codes "bad pattern"
+text_of_library_fault (faults.UnknownAction n) = codes "unknown action"
+text_of_library_fault (faults.MissingField n) = codes "missing field"
+text_of_library_fault (faults.FieldKind n) = codes "wrong kind of field"
+text_of_library_fault (faults.Ambiguous n) = codes "ambiguous with an earlier line"
+text_of_library_fault faults.TooLong = codes "longer than 16777216 bytes"
+text_of_library_fault faults.Memory = codes "out of memory"

@@ -1,9 +1,10 @@
 //! Why a step library could not be read.
-ghost use Rattle.std.specs.Prelude.{◌≡◌};
-ghost use Rattle.gk_steps.specs.LibraryFault.{line_of_library_fault, said_of_library_fault};
+ghost use Rattle.std.specs.Prelude.{◌≡◌, Some};
+ghost use Rattle.gk_steps.specs.LibraryFault.{line_of_library_fault, text_of_library_fault};
 ghost use Rattle.gk_steps.specs.declared.library_fault.LibraryFault.TheVariants.{Memory};
 
-use gk_gherkin::{AllocationError, FaultText};
+use gk_gherkin::AllocationError;
+use std::fmt;
 
 /// Why a step library could not be read. Lines are counted from 1. If a line has more than one fault, the first of
 /// `BadType`, `BadPattern`, `UnknownAction`, `MissingField`, `FieldKind` and `Ambiguous` is reported. If more than one
@@ -47,42 +48,34 @@ impl LibraryFault {
         }
     }
 
-    /// Returns the fault's text, as it is printed after the file's name and the line, and a hint on how to fix it.
-    pub fn said(&self) -> FaultText
-        ensures text { result.text.now ≡ (said_of_library_fault self.now).text }
-        ensures hint { result.hint.now ≡ (said_of_library_fault self.now).hint }
+    // Returns the fault's text, without its line.
+    fn text(&self) -> &'static str
+        ensures { result.now ≡ text_of_library_fault self.now }
     {
         match self {
-            LibraryFault::TooLong => FaultText::too_long(),
-            LibraryFault::NotUtf8 { .. } => FaultText::not_utf8(),
-            LibraryFault::Memory => FaultText::no_memory(),
-            LibraryFault::BadType { .. } => FaultText {
-                text: "bad step type",
-                hint: "begin the line with given, when, then or step, in lower case",
-            },
-            LibraryFault::BadPattern { .. } => FaultText {
-                text: "bad pattern",
-                hint: "write PATTERN => ACTION, with {{ and }} for braces, and a name of its own for each field",
-            },
-            LibraryFault::UnknownAction { .. } => FaultText {
-                text: "unknown action",
-                hint: "take a name of the table of actions, in lower case",
-            },
-            LibraryFault::MissingField { .. } => FaultText {
-                text: "missing field",
-                hint: "name the fields as the action does",
-            },
-            LibraryFault::FieldKind { .. } => FaultText {
-                text: "wrong kind of field",
-                hint: "write {n:d} for the number; name, to, text and step are texts",
-            },
-            LibraryFault::Ambiguous { .. } => FaultText {
-                text: "ambiguous with an earlier line",
-                hint: "put the special entry first, or make it differ",
-            },
+            LibraryFault::TooLong => "longer than 16777216 bytes",
+            LibraryFault::NotUtf8 { .. } => "not UTF-8",
+            LibraryFault::Memory => "out of memory",
+            LibraryFault::BadType { .. } => "bad step type",
+            LibraryFault::BadPattern { .. } => "bad pattern",
+            LibraryFault::UnknownAction { .. } => "unknown action",
+            LibraryFault::MissingField { .. } => "missing field",
+            LibraryFault::FieldKind { .. } => "wrong kind of field",
+            LibraryFault::Ambiguous { .. } => "ambiguous with an earlier line",
         }
     }
 }
+
+// Writes the text of the fault, without its line.
+impl fmt::Display for LibraryFault {
+    ghost output = { λ e. Some (text_of_library_fault e) };
+
+    fn fmt<W: fmt::Write>(&self, f: &mut fmt::Formatter<W>) -> fmt::Result {
+        f.write_str(self.text())
+    }
+}
+
+impl std::error::Error for LibraryFault {}
 
 impl<E: AllocationError> From<E> for LibraryFault {
     ghost from_gives = { λ _ e. e ≡ Memory };

@@ -1,10 +1,11 @@
 use crate::checks::{equal, holds, same};
 use gk_gherkin::text::{begins, begins_word, contains, is_blank, split_word, trim};
 use gk_gherkin::{
-    Class, FaultText, Fence, HookKind, LONGEST_FILE, Place, ReadFault, borrowed_line,
-    class_of_line, closes, read_hooks, text_of,
+    Class, Fence, HookKind, LONGEST_FILE, Place, ReadFault, borrowed_line, class_of_line, closes,
+    read_hooks, text_of,
 };
 use gk_select::SelectFault;
+use gk_steps::LibraryFault;
 use std::test::Fail;
 
 #[test]
@@ -126,14 +127,12 @@ fn faults_name_their_lines(rt: HostRuntime) {
 }
 
 #[test]
-fn faults_say_what_to_fix(rt: HostRuntime) {
-    let row = ReadFault::said(&ReadFault::BadRow { line: 9 });
-    same(&rt, row.text, "row without closing bar");
-    same(&rt, row.hint, "close the row with a bar");
-    let tags = SelectFault::said(&SelectFault::BadTagText);
-    same(&rt, tags.text, "bad tag expression");
-    same(&rt, tags.hint, "write it as '@a and not @b', or as @a,~@b");
-    same(&rt, FaultText::too_long().hint, "divide the file");
-    same(&rt, FaultText::not_utf8().hint, "save the file as UTF-8");
-    same(&rt, FaultText::no_memory().text, "out of memory");
+fn faults_have_their_texts(rt: HostRuntime) -> Result<(), Fail> {
+    let row = format!(in rt.alloc(); "{}", ReadFault::BadRow { line: 9 })?;
+    same(&rt, row.as_str(), "row without closing bar");
+    let tags = format!(in rt.alloc(); "{}", SelectFault::BadTagText)?;
+    same(&rt, tags.as_str(), "bad tag expression");
+    let library = format!(in rt.alloc(); "{}", LibraryFault::TooLong)?;
+    same(&rt, library.as_str(), "longer than 16777216 bytes");
+    Ok(())
 }

@@ -1,5 +1,5 @@
-use Rattle.gk_request.proofs.Common.{◌≡◌, ◌≤◌, ◌+◌, ◌-◌, length, take, Appends}
-use Rattle.gk_request.proofs.counted.write_whole.Given as goal
+use Rattle.gk_io.proofs.Common.{◌≡◌, ◌≤◌, ◌+◌, ◌-◌, length, take, Appends}
+use Rattle.gk_io.proofs.counted.write_whole.Given as goal
 
 abbrev pub invariant-loop-done : goal.invariant-loop-done
 invariant-loop-done g l = record {

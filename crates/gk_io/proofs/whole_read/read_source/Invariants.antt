@@ -1,5 +1,5 @@
-use Rattle.gk_request.proofs.Common.{◌≡◌, ◌≤◌, ◌+◌, ◌-◌, vec_len, Consumes, LONGEST_FILE}
-use Rattle.gk_request.proofs.source.read_source.Given as goal
+use Rattle.gk_io.proofs.Common.{◌≡◌, ◌≤◌, ◌+◌, ◌-◌, vec_len, Consumes, LONGEST_FILE}
+use Rattle.gk_io.proofs.whole_read.read_source.Given as goal
 
 abbrev pub invariant-loop-piece : goal.invariant-loop-piece
 invariant-loop-piece g l = record {

@@ -1,7 +1,7 @@
 //! Readers and writers whose calls are counted, and writing bytes and texts whole.
 ghost use Rattle.std.specs.Prelude.{◌≡◌, ◌≤◌, ◌+◌, length, IfSome, OnOk, OnErr};
 ghost use Rattle.std.specs.Io.KnownBytes.{Appends};
-ghost use Rattle.gk_request.specs.Counted.{one_more, IsPrefixWritten, HasNotFailed, HasFailedOnce, IsUnflushed, IsNeverIdle, IsIdleOnce};
+ghost use Rattle.gk_io.specs.Counted.{one_more, IsPrefixWritten, HasNotFailed, HasFailedOnce, IsUnflushed, IsNeverIdle, IsIdleOnce};
 
 use std::fmt::Display;
 use std::io;
@@ -20,7 +20,7 @@ pub struct Counted<T> {
 }
 
 impl<T> Model for Counted<T> {
-    ghost use Rattle.gk_request.specs.Counted.{CountedValue};
+    ghost use Rattle.gk_io.specs.Counted.{CountedValue};
 
     ghost Value = { CountedValue T };
 
@@ -100,7 +100,7 @@ impl<W: Write> Write for Counted<W> {
     ghost use Rattle.std.specs.Prelude.{◌≡◌};
     ghost use Rattle.std.specs.Io.{WritesAtMost};
     ghost use Rattle.std.specs.Io.KnownBytes.{Keeps, WriteAppends};
-    ghost use Rattle.gk_request.specs.Counted.{one_more, counted_write, counted_flush, counted_idle, IsCalledOnce, IsUnflushed, IsNeverIdle};
+    ghost use Rattle.gk_io.specs.Counted.{one_more, counted_write, counted_flush, counted_idle, IsCalledOnce, IsUnflushed, IsNeverIdle};
 
     ghost contents = { λ c. W.contents c.inner };
 
@@ -152,7 +152,7 @@ impl<R: Read> Read for Counted<R> {
     ghost use Rattle.std.specs.Prelude.{◌≡◌};
     ghost use Rattle.std.specs.Io.{ReadsAtMost};
     ghost use Rattle.std.specs.Io.KnownBytes.{ReadConsumes};
-    ghost use Rattle.gk_request.specs.Counted.{counted_read, counted_idle, IsCalledOnce, IsUnflushed};
+    ghost use Rattle.gk_io.specs.Counted.{counted_read, counted_idle, IsCalledOnce, IsUnflushed};
 
     ghost remaining = { λ c. R.remaining c.inner };
 

@@ -1,5 +1,5 @@
 -- What a reader has left after the bytes that it gave.
-use Rattle.gk_request.proofs.Common.{◌≡◌, ◌≤◌, ℕ, ◌+◌, ◌++◌, List, length, take, Option, Some, None, arith, length-append, common_steps, Consumes, Consumes-trans, length-take, StopsAfter, GivesAtMost}
+use Rattle.gk_io.proofs.Common.{◌≡◌, ◌≤◌, ℕ, ◌+◌, ◌++◌, List, length, take, Option, Some, None, arith, length-append, common_steps, Consumes, Consumes-trans, length-take, StopsAfter, GivesAtMost}
 
 pub stops_after : (n : ℕ) (a b : Option (List ℕ)) (bytes : List ℕ) → Consumes a b bytes → length bytes ≡ n → StopsAfter n a b
 stops_after n None b bytes taken size = tt

@@ -1,6 +1,6 @@
-use Rattle.gk_request.proofs.Common.{arith, rules, common_steps}
-use Rattle.gk_request.proofs.SourceLemmas.{given_within, stops_after}
-use Rattle.gk_request.proofs.source.read_source.Goals as goal
+use Rattle.gk_io.proofs.Common.{arith, rules, common_steps}
+use Rattle.gk_io.proofs.WholeReadLemmas.{given_within, stops_after}
+use Rattle.gk_io.proofs.whole_read.read_source.Goals as goal
 
 pub returns-clause-long : goal.returns-clause-long
 returns-clause-long g c = grind (arith, common_steps, stops_after)

@@ -1,0 +1,3 @@
+pub mod Common
+pub mod CountedLemmas
+pub mod WholeReadLemmas
