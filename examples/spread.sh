@@ -12,7 +12,8 @@
 # byte for byte, and the script exits with its status. A job that is lost is run again, three times in all. A part's report
 # counts once: it is that of the last try, which has to say how it ended. If a part stays lost, the script prints no report and exits
 # with 3, and so if it can't write. If a part has a fault, one run over all files finds the first fault. A run with --stop isn't the sum
-# of its parts, so it is refused, and so are other reports. The script needs GNU parallel.
+# of its parts, so it is refused, and so are other reports. With one job at a time on this machine there is one part,
+# run as it is, unless --files is given or the names are too many for one command. Otherwise the script needs GNU parallel.
 set -euo pipefail
 
 here=$(dirname -- "$(readlink -f -- "$0")")
@@ -122,6 +123,15 @@ take_run() {
     [ "${#files[@]}" -gt 0 ] || refuse "no file is given" 2
 }
 
+# With one job at a time on this machine, exits as one run over all files does, if their names fit into one command.
+run_alone() {
+    local LC_ALL=C names="${files[*]}" status=0
+    [ "$jobs" -eq 1 ] && [ -z "$each" ] && [ "${#machines[@]}" -eq 0 ] || return 0
+    ((${#names} + 10 * ${#files[@]} < 1000000)) || return 0
+    run "${program[@]}" --format json -- "${files[@]}" || status=$?
+    exit "$status"
+}
+
 # Sets `weights` to what each file adds to its part, and `share` to what a part has. Without --files that are bytes, and one more
 # for each file, also if it isn't found here. There are two parts for each job that all machines together run at a time.
 weigh() {
@@ -219,9 +229,10 @@ end_with_fault() {
     exit "$1"
 }
 
-command -v parallel > /dev/null || refuse "GNU parallel is needed, and isn't installed" 2
 take_own_options "$@"
 take_run "${rest[@]}"
+run_alone
+command -v parallel > /dev/null || refuse "GNU parallel is needed, and isn't installed" 2
 weigh
 write_parts
 run run_engine || true
