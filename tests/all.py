@@ -66,6 +66,8 @@ def main():
     # The tests of the sources run no program, so none is built for them.
     if not names or any(it.split(".")[0] != "test_sources" for it in names):
         os.environ["GHERKIN_RUN"] = driver.program()
+    else:
+        os.environ.setdefault("GHERKIN_RUN", os.path.join(driver.HOME, "dist", "gherkin_run"))
     for number in (signal.SIGHUP, signal.SIGINT, signal.SIGTERM):
         signal.signal(number, end)
     modules = sorted(os.path.basename(it)[:-3] for it in glob.glob(os.path.join(TESTS, "test_*.py")))

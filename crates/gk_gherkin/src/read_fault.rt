@@ -63,12 +63,14 @@ impl ReadFault {
             ReadFault::BadRow { line } => Some(*line),
         }
     }
+}
 
-    // Returns the fault's text, without its line.
-    fn text(&self) -> &'static str
-        ensures { result.now ≡ text_of_fault self.now }
-    {
-        match self {
+// Writes the text of the fault, without its line.
+impl fmt::Display for ReadFault {
+    ghost output = { λ e. Some (text_of_fault e) };
+
+    fn fmt<W: fmt::Write>(&self, f: &mut fmt::Formatter<W>) -> fmt::Result {
+        f.write_str(match self {
             ReadFault::NotUtf8 { .. } => "not UTF-8",
             ReadFault::Unexpected { .. } => "unexpected line",
             ReadFault::BadTag { .. } => "bad tag",
@@ -80,16 +82,7 @@ impl ReadFault {
             ReadFault::Memory => "out of memory",
             ReadFault::BadHook { .. } => "bad hook heading",
             ReadFault::BadRow { .. } => "row without closing bar",
-        }
-    }
-}
-
-// Writes the text of the fault, without its line.
-impl fmt::Display for ReadFault {
-    ghost output = { λ e. Some (text_of_fault e) };
-
-    fn fmt<W: fmt::Write>(&self, f: &mut fmt::Formatter<W>) -> fmt::Result {
-        f.write_str(self.text())
+        })
     }
 }
 

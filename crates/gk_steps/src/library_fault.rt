@@ -47,12 +47,14 @@ impl LibraryFault {
             LibraryFault::TooLong | LibraryFault::Memory => None,
         }
     }
+}
 
-    // Returns the fault's text, without its line.
-    fn text(&self) -> &'static str
-        ensures { result.now ≡ text_of_library_fault self.now }
-    {
-        match self {
+// Writes the text of the fault, without its line.
+impl fmt::Display for LibraryFault {
+    ghost output = { λ e. Some (text_of_library_fault e) };
+
+    fn fmt<W: fmt::Write>(&self, f: &mut fmt::Formatter<W>) -> fmt::Result {
+        f.write_str(match self {
             LibraryFault::TooLong => "longer than 16777216 bytes",
             LibraryFault::NotUtf8 { .. } => "not UTF-8",
             LibraryFault::Memory => "out of memory",
@@ -62,16 +64,7 @@ impl LibraryFault {
             LibraryFault::MissingField { .. } => "missing field",
             LibraryFault::FieldKind { .. } => "wrong kind of field",
             LibraryFault::Ambiguous { .. } => "ambiguous with an earlier line",
-        }
-    }
-}
-
-// Writes the text of the fault, without its line.
-impl fmt::Display for LibraryFault {
-    ghost output = { λ e. Some (text_of_library_fault e) };
-
-    fn fmt<W: fmt::Write>(&self, f: &mut fmt::Formatter<W>) -> fmt::Result {
-        f.write_str(self.text())
+        })
     }
 }
 
