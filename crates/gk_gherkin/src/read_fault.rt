@@ -5,6 +5,7 @@ ghost use Rattle.gk_gherkin.specs.declared.read_fault.ReadFault.TheVariants.{Mem
 
 use std::alloc::{AllocError, AllocFailed};
 use std::fmt;
+use std::fmt::Display;
 
 /// An error of a refused growth of memory. With this trait, a fault type needs only one `From` for
 /// all of them.
@@ -66,7 +67,7 @@ impl ReadFault {
 }
 
 // Writes the text of the fault, without its line.
-impl fmt::Display for ReadFault {
+impl Display for ReadFault {
     ghost output = { λ e. Some (text_of_fault e) };
 
     fn fmt<W: fmt::Write>(&self, f: &mut fmt::Formatter<W>) -> fmt::Result {

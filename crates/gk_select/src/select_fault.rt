@@ -5,6 +5,7 @@ ghost use Rattle.gk_select.specs.declared.select_fault.SelectFault.TheVariants.{
 
 use gk_gherkin::AllocationError;
 use std::fmt;
+use std::fmt::Display;
 
 /// The reason why a feature is not expanded or a text of tags is refused.
 #[derive(Clone, Copy, Debug, PartialEq, Eq)]
@@ -26,7 +27,7 @@ impl<E: AllocationError> From<E> for SelectFault {
 }
 
 // Writes the text of the fault.
-impl fmt::Display for SelectFault {
+impl Display for SelectFault {
     ghost output = { λ e. Some (text_of_select_fault e) };
 
     fn fmt<W: fmt::Write>(&self, f: &mut fmt::Formatter<W>) -> fmt::Result {

@@ -5,6 +5,7 @@ ghost use Rattle.gk_steps.specs.declared.library_fault.LibraryFault.TheVariants.
 
 use gk_gherkin::AllocationError;
 use std::fmt;
+use std::fmt::Display;
 
 /// Why a step library could not be read. Lines are counted from 1. If a line has more than one fault, the first of
 /// `BadType`, `BadPattern`, `UnknownAction`, `MissingField`, `FieldKind` and `Ambiguous` is reported. If more than one
@@ -50,7 +51,7 @@ impl LibraryFault {
 }
 
 // Writes the text of the fault, without its line.
-impl fmt::Display for LibraryFault {
+impl Display for LibraryFault {
     ghost output = { λ e. Some (text_of_library_fault e) };
 
     fn fmt<W: fmt::Write>(&self, f: &mut fmt::Formatter<W>) -> fmt::Result {
