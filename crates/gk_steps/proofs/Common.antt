@@ -46,9 +46,9 @@ pub use Rattle.gk_steps.specs.Digits.{HasNumber, IsNumberRow, KnowsDigits}
 pub use Rattle.gk_steps.specs.EntryIndex.{AreListed, GrowsLengths, HasLongLiteral, IsEndsKey, IsIndexOf, IsKeyOf, IsLeast, IsLiteralKey, Lists, NoneIsLessAt, Skips, SkipsAt, SkipsByEnds, SkipsEntries, SkipsInside, ends_key, ends_of, first_literal, key_over, last_byte, last_literal, literal_of, window_at}
 pub use Rattle.gk_steps.specs.FilesTable.{are_pairs}
 pub use Rattle.gk_steps.specs.FilledCells.{GoesOnBy, cells_of_type, table_cells}
-pub use Rattle.gk_steps.specs.Finding.{EntryValue, FindsWhatIsFound, FitsLibrary, FoundValue, HasCandidate, HasTableCandidate, HasUsedFields, HaveKindsOf, IsFirstFound, IsFound, IsFoundAny, IsFoundOf, IsUseOf, LibraryValue, MayNeedTable, NoneBefore, NoneFound, action_of, entry_value, field_named, field_of, found_at, found_from, found_value, is_of_type, library_value, match_where}
+pub use Rattle.gk_steps.specs.Finding.{EntryValue, FindsWhatIsFound, FitsLibrary, FoundValue, HasCandidate, HasTableCandidate, HasUsedFields, HaveKindsOf, IsDigit, IsFirstFound, IsFound, IsFoundAny, IsFoundOf, IsUseOf, LibraryValue, MayNeedTable, MayTakeDigit, NoneBefore, NoneFound, action_of, entry_value, field_named, field_of, found_at, found_from, found_value, is_of_type, library_value, match_where}
 unfoldable pub use Rattle.gk_steps.specs.Finding.{found, found_any}
-pub use Rattle.gk_steps.specs.Leftmost.{CanStandAt, FindsRest, IsFirst, IsLeft, IsPieceEnd, StandsNowhereBefore, TakesUpTo}
+pub use Rattle.gk_steps.specs.Leftmost.{BeginWithoutDigit, CanStandAt, FindsRest, HasNumberTo, IsDigitsEnd, IsFirst, IsLeft, IsPieceEnd, StandsNowhereBefore, TakesUpTo}
 pub use Rattle.gk_steps.specs.Library.{are_for_each_from, is_for_one_before}
 pub use Rattle.gk_steps.specs.LibraryFault.{LibraryFaultIsUnique, LibraryFaultSays, LibraryLinesFaultSays}
 pub use Rattle.gk_steps.specs.LibraryFile.{EntryNeedsMemory, HasNeededFields, HasPattern, HasRightKinds, IsAmbiguous, IsBadPattern, IsBadType, IsMissingField, IsOtherKind, IsReadableLibrary, IsUnknownAction, LibraryNeedsMemory, LibraryReadingIsUnique, ReadsLibrary, Sides, SpellEntries, SpellsEntry, StopsLibraryAt, is_ignored}

@@ -1,5 +1,5 @@
 -- Texts that spell numbers, as a property and as a test.
-use Rattle.gk_steps.proofs.Common.{◌&&◌, nat_lt, FitsSigned, IsSome, Option, Some, None, Result, Ok, Err, if◌then◌else◌, is_digit, w64, list_all, result_ok, IsNumeral, AllDigits, ParsesSigned, without_leading_sign, signed_digits_value, ◌≡◌, ◌<◌, ℕ, ℤ, pos, negsuc, Bool, true, false, List, [], ◌∷◌, length, refl, sym, ap, ◌∙◌, arith, common_steps, nat_tests, is_i64, is_numeral, IsNumber, is_number, number_of}
+use Rattle.gk_steps.proofs.Common.{◌&&◌, nat_lt, FitsSigned, is_some, IsSome, Option, Some, None, Result, Ok, Err, if◌then◌else◌, is_digit, w64, list_all, result_ok, IsNumeral, AllDigits, ParsesSigned, without_leading_sign, signed_digits_value, ◌≡◌, ◌<◌, ℕ, ℤ, pos, negsuc, Bool, true, false, List, [], ◌∷◌, length, refl, sym, ap, ◌∙◌, arith, common_steps, nat_tests, is_i64, is_numeral, IsNumber, is_number, number_of}
 
 -- tests
 pub and_left : (a b : Bool) → (a && b) ≡ true → a ≡ true
@@ -59,6 +59,16 @@ number_none x false e never = refl
 pub some_number : (o : Option ℤ) (x : List ℕ) → o ≡ Some (signed_digits_value 10 x) → IsSome o
 some_number (Some n) x e = refl
 some_number None x e = let bad : ⊥ = cc in absurd bad
+
+some_is : (x : List ℕ) (b : Bool) → is_number x ≡ b → is_some (if b then Some (signed_digits_value 10 x) else None) ≡ true → IsNumber x
+some_is x true e some = number_so x e
+some_is x false e some = let bad : ⊥ = cc in absurd bad
+
+pub is_number_some : (x : List ℕ) → is_some (number_of x) ≡ true → IsNumber x
+is_number_some x some = some_is x (is_number x) refl some
+
+pub is_number_none : (x : List ℕ) → is_some (number_of x) ≡ false → IsNumber x → ⊥
+is_number_none x none h = let some : is_some (number_of x) ≡ true = ap is_some (number_some x h) in let bad : ⊥ = cc in bad
 
 -- what `parse` reads
 pub number_parsed : {E : Type 0} (x : List ℕ) (r : Result ℤ E) → ParsesSigned w64 10 x r → result_ok r ≡ number_of x

@@ -1,9 +1,12 @@
 -- What the first piece of a pattern takes, and how a match goes on after it.
-use Rattle.gk_steps.proofs.Common.{◌≡◌, ℕ, ◌+◌, ◌-◌, ◌<◌, ◌≤◌, ◌⊎◌, inl, inr, Bool, true, false, List, [], ◌∷◌, ◌++◌, length, take, drop, map, get_or, nat_eq, Option, Some, None, option_map, refl, ap, sym, subst, ◌∙◌, arith, append_assoc, length-append, common_steps, IsCharBoundary, MatchBool, IsTrue, ◌↔◌, starts_with, IsUtf8-append, IsUtf8-drop, IsUtf8-take, IsCharBoundary-from_take, IsCharBoundary-from_drop, append-nil, take-append-drop, length-take-le, cases_lt, eq-or-lt_of_le, take-append_seam, drop-append_seam, Plain, Piece, PieceValue, Literal, FieldPiece, piece_value, AreSpans, IsSpan, Matches, MatchesNot, IsPreferred, IsBestMatch, IsMatchResult, FieldValue, TextField, span_value, span_values, woven, values_of, MayNeedTable, CanStandAt, StandsNowhereBefore, IsFirst, TakesUpTo, IsLeft, FindsRest, EndsWith, FitsEnd, IsAfterStart}
+use Rattle.gk_steps.proofs.Common.{◌≡◌, ℕ, ◌+◌, ◌-◌, ◌<◌, ◌≤◌, ◌⊎◌, inl, inr, Bool, true, false, List, [], ◌∷◌, ◌++◌, length, take, drop, map, get_or, nat_eq, Option, Some, None, option_map, refl, ap, sym, subst, ◌∙◌, arith, append_assoc, length-append, common_steps, IsCharBoundary, MatchBool, IsTrue, ◌↔◌, starts_with, IsUtf8-append, IsUtf8-drop, IsUtf8-take, IsCharBoundary-from_take, IsCharBoundary-from_drop, append-nil, take-append-drop, length-take-le, cases_lt, eq-or-lt_of_le, take-append_seam, drop-append_seam, drop-drop, get_or-drop, get_or_append_left, AllDigits, is_some, number_of, without_leading_sign, Plain, Decimal, FieldKind, IsDigit, BeginWithoutDigit, HasNumberTo, IsDigitsEnd, Piece, PieceValue, Literal, FieldPiece, piece_value, AreSpans, IsSpan, Matches, MatchesNot, IsPreferred, IsBestMatch, IsMatchResult, FieldValue, TextField, span_value, span_values, woven, values_of, MayNeedTable, CanStandAt, StandsNowhereBefore, IsFirst, TakesUpTo, IsLeft, FindsRest, EndsWith, FitsEnd, IsAfterStart}
 use Rattle.std.specs.Str.{IsUtf8}
 use Rattle.std.proofs.lemmas.List.{length-drop}
 use Rattle.gk_steps.proofs.MatchingLemmas.{same_prefix, same_back, split, join, nothing_left, best_nothing}
 use Rattle.gk_steps.proofs.BestMatchLemmas.{after_literal, begins_so, begins_with_itself}
+use Rattle.gk_steps.proofs.DecimalLemmas.{is_number_some, is_number_none}
+use Rattle.gk_steps.proofs.TableLemmas.{decimal_utf8}
+use Rattle.gk_steps.proofs.AdvanceLemmas.{digits_range, decimal_some}
 
 -- a text is cut where one part of it is a text
 utf8_back : (front back : List ℕ) → IsUtf8 (front ++ back) → IsUtf8 front → IsUtf8 back
@@ -147,6 +150,121 @@ field_nowhere name literal ps text whole none = λ spans m.
     let s = split (FieldPiece name Plain) (Literal literal ∷ ps) text spans m in
     let within : length s.x < length text + 1 = omega (arith, ap length s.whole, length-append s.x s.rest) in
     none (length s.x) s.takes.1 within (stands_after literal text s.x s.rest ps s.xs whole s.whole s.takes.0 s.after)
+
+-- a field that can take nothing else
+abbrev IsOnly : FieldKind → List PieceValue → List ℕ → List ℕ → Type 0
+IsOnly kind ps text x = (y other : List ℕ) (ys : List (List ℕ)) → IsSpan kind y → text ≡ y ++ other → Matches ps other ys → length y ≡ length x
+
+only_is_best : (name : List ℕ) (kind : FieldKind) (ps : List PieceValue) (text x rest : List ℕ) (xs : List (List ℕ)) → text ≡ x ++ rest → IsOnly kind ps text x → IsBestMatch ps rest xs
+    → (others : List (List ℕ)) → Matches (FieldPiece name kind ∷ ps) text others → (others ≡ x ∷ xs) ⊎ IsPreferred (FieldPiece name kind ∷ ps) (x ∷ xs) others
+only_is_best name kind ps text x rest xs e only best others m =
+    let s = split (FieldPiece name kind) ps text others m in
+    let same : length x ≡ length s.x = sym (only s.x s.rest s.xs s.takes s.whole s.after) in
+    let cut : x ++ rest ≡ s.x ++ s.rest = sym e ∙ s.whole in
+    let first : s.x ≡ x = sym (same_prefix x s.x rest s.rest cut same) in
+    elim (best.best s.xs (subst (λ r. Matches ps r s.xs) (sym (same_back x s.x rest s.rest cut same)) s.after)) [
+      | inl equal ↦ inl (s.spans_are ∙ ap (λ (y : List ℕ). y ∷ s.xs) first ∙ ap (λ (ys : List (List ℕ)). x ∷ ys) equal)
+      | inr p ↦ inr (subst (IsPreferred (FieldPiece name kind ∷ ps) (x ∷ xs)) (sym s.spans_are) (inr (same, p)))
+    ]
+
+only_goes_on : (name : List ℕ) (kind : FieldKind) (ps : List PieceValue) (text x rest : List ℕ) → text ≡ x ++ rest → IsSpan kind x → IsOnly kind ps text x → (found : Option (List FieldValue)) → IsMatchResult ps rest found
+    → IsMatchResult (FieldPiece name kind ∷ ps) text (option_map (λ (fields : List FieldValue). values_of (FieldPiece name kind) x ++ fields) found)
+only_goes_on name kind ps text x rest e fit only None h = λ spans m.
+    let s = split (FieldPiece name kind) ps text spans m in
+    let same : length x ≡ length s.x = sym (only s.x s.rest s.xs s.takes s.whole s.after) in
+    h s.xs (subst (λ r. Matches ps r s.xs) (sym (same_back x s.x rest s.rest (sym e ∙ s.whole) same)) s.after)
+only_goes_on name kind ps text x rest e fit only (Some fields) h =
+    let both : IsBestMatch (FieldPiece name kind ∷ ps) text (x ∷ h.0) = record {
+      matches = join (FieldPiece name kind) ps text x rest h.0 fit e h.1.matches;
+      best = only_is_best name kind ps text x rest h.0 e only h.1;
+    } in
+    (x ∷ h.0, both, ap (λ (v : List FieldValue). span_value kind x ∷ v) h.2)
+
+only_end : (name : List ℕ) (kind : FieldKind) (ps : List PieceValue) (text : List ℕ) (position : ℕ) → IsCharBoundary text position → IsSpan kind (take position text) → IsOnly kind ps text (take position text) → TakesUpTo (FieldPiece name kind) ps text position
+only_end name kind ps text position boundary fit only = record {
+  boundary = boundary;
+  takes = fit;
+  goes_on = only_goes_on name kind ps text (take position text) (drop position text) (sym (take-append-drop position text)) fit only;
+}
+
+-- before a literal that occurs once
+occurs_later : (literal text : List ℕ) (position later : ℕ) → IsUtf8 text → position ≤ later → CanStandAt literal text later → CanStandAt literal (drop position text) (later - position)
+occurs_later literal text position later whole le here =
+    let there : drop (later - position) (drop position text) ≡ drop later text = drop-drop (later - position) position text ∙ ap (λ n. drop n text) (let sum : position + (later - position) ≡ later = omega arith in sum) in
+    let within : later ≤ length text = here.boundary.0 in
+    record {
+      boundary = IsCharBoundary-from_drop (drop position text) (later - position) (omega (arith, length-drop position text, within)) (subst IsUtf8 (sym there) (IsUtf8-drop text later whole here.boundary));
+      rest = here.rest;
+      stands = there ∙ here.stands;
+    }
+
+once_only : (literal : List ℕ) (ps : List PieceValue) (text : List ℕ) (position : ℕ) → IsUtf8 text → IsFirst literal text position → StandsNowhereBefore literal (drop position text) (length (drop position text) + 1) → IsOnly Plain (Literal literal ∷ ps) text (take position text)
+once_only literal ps text position whole h once y other ys fit e m =
+    let here = stands_after literal text y other ps ys whole e fit.0 m in
+    let within : position ≤ length text = h.here.boundary.0 in
+    let size : length (take position text) ≡ position = length-take-le position text within in
+    elim (cases_lt (length y) position) [
+      | inl less ↦ absurd (h.first (length y) fit.1 less here)
+      | inr le ↦ elim (eq-or-lt_of_le le) [
+        | inl same ↦ sym same ∙ sym size
+        | inr past ↦
+            let most : length y ≤ length text = here.boundary.0 in
+            absurd (once (length y - position) (omega (arith, past)) (omega (arith, most, past, length-drop position text)) (occurs_later literal text position (length y) whole le here))
+      ]
+    ]
+
+pub once_end : (name literal : List ℕ) (ps : List PieceValue) (text : List ℕ) (position : ℕ) → IsUtf8 text → IsFirst literal text position → StandsNowhereBefore literal (drop position text) (length (drop position text) + 1) → TakesUpTo (FieldPiece name Plain) (Literal literal ∷ ps) text position
+once_end name literal ps text position whole h once =
+    let size : length (take position text) ≡ position = length-take-le position text h.here.boundary.0 in
+    only_end name Plain (Literal literal ∷ ps) text position h.here.boundary (IsUtf8-take text position whole h.here.boundary, subst (λ n. 0 < n) (sym size) h.after) (once_only literal ps text position whole h once)
+
+-- a number
+pub literal_digit : (byte : ℕ) (bytes : List ℕ) (ps : List PieceValue) → (IsDigit byte → ⊥) → BeginWithoutDigit (Literal (byte ∷ bytes) ∷ ps)
+literal_digit byte bytes ps never text spans m digit = never (subst IsDigit (ap (λ t. get_or t 0 0) m.whole) digit)
+
+pub nothing_digit : BeginWithoutDigit []
+nothing_digit text spans m digit = let none : get_or text 0 0 ≡ 0 = ap (λ t. get_or t 0 0) (nothing_left text spans m) in absurd (omega (arith, digit.0, none))
+
+sign_dropped : (x : List ℕ) → (without_leading_sign x ≡ x) ⊎ (without_leading_sign x ≡ drop 1 x)
+sign_dropped x = grind (arith, common_steps)
+
+number_digits : (y : List ℕ) → IsSpan Decimal y → (position : ℕ) → 0 < position → position < length y → IsDigit (get_or y position 0)
+number_digits y fit position some less = elim (sign_dropped y) [
+  | inl same ↦ digits_range y (subst (AllDigits 10) same fit.0.1) position less
+  | inr rest ↦
+      let digit = digits_range (drop 1 y) (subst (AllDigits 10) rest fit.0.1) (position - 1) (omega (arith, some, less, length-drop 1 y)) in
+      subst IsDigit (get_or-drop 1 y (position - 1) 0 ∙ ap (λ k. get_or y k 0) (let sum : 1 + (position - 1) ≡ position = omega (arith, some) in sum)) digit
+]
+
+pub number_tested : (b : Bool) (text : List ℕ) (end : ℕ) → IsCharBoundary text end → b ≡ is_some (number_of (take end text)) → MatchBool b (HasNumberTo text end) (HasNumberTo text end → ⊥)
+number_tested true text end boundary e = (boundary, is_number_some (take end text) (sym e))
+number_tested false text end boundary e = λ has. is_number_none (take end text) (sym e) has.1
+
+get_after : (y other : List ℕ) → get_or (y ++ other) (length y) 0 ≡ get_or other 0 0
+get_after [] other = refl
+get_after (b ∷ y) other = get_after y other
+
+number_size : (ps : List PieceValue) (text : List ℕ) (end : ℕ) → BeginWithoutDigit ps → IsDigitsEnd text end → (y other : List ℕ) (ys : List (List ℕ)) → IsSpan Decimal y → text ≡ y ++ other → Matches ps other ys → length y ≡ end
+number_size ps text end none h y other ys fit e m =
+    elim (cases_lt (length y) end) [
+      | inl less ↦ absurd (none other ys m (subst IsDigit (ap (λ t. get_or t (length y) 0) e ∙ get_after y other) (h.digits (length y) (decimal_some y fit) less)))
+      | inr le ↦ elim (eq-or-lt_of_le le) [
+        | inl same ↦ sym same
+        | inr past ↦ absurd (h.other (subst IsDigit (sym (get_or_append_left y other 0 end past) ∙ ap (λ t. get_or t end 0) (sym e)) (number_digits y fit end h.after past)))
+      ]
+    ]
+
+pub number_end : (name : List ℕ) (ps : List PieceValue) (text : List ℕ) (end : ℕ) → HasNumberTo text end → BeginWithoutDigit ps → IsDigitsEnd text end → TakesUpTo (FieldPiece name Decimal) ps text end
+number_end name ps text end has none h = only_end name Decimal ps text end has.0 has.1 (λ y other ys takes e m. number_size ps text end none h y other ys takes e m ∙ sym (length-take-le end text has.0.0))
+
+pub number_nowhere : (name : List ℕ) (ps : List PieceValue) (text : List ℕ) (end : ℕ) → IsUtf8 text → (HasNumberTo text end → ⊥) → BeginWithoutDigit ps → IsDigitsEnd text end → MatchesNot (FieldPiece name Decimal ∷ ps) text
+number_nowhere name ps text end whole never none h = λ spans m.
+    let s = split (FieldPiece name Decimal) ps text spans m in
+    let size : length s.x ≡ end = number_size ps text end none h s.x s.rest s.xs s.takes s.whole s.after in
+    never (
+      subst (IsCharBoundary text) size (boundary_after text s.x s.rest whole s.whole (decimal_utf8 s.x s.takes)),
+      subst (IsSpan Decimal) (sym (taken text s.x s.rest s.whole) ∙ ap (λ n. take n text) size) s.takes,
+    )
 
 pub first_more : (literal text : List ℕ) (position : ℕ) → StandsNowhereBefore literal text position → (CanStandAt literal text position → ⊥) → StandsNowhereBefore literal text (position + 1)
 first_more literal text position before never = λ other some less here. elim (cases_lt other position) [

@@ -28,7 +28,7 @@ minus_ascii x false e h i = plus_ascii x (get_or x 0 0 == 43) refl h i
 signed_ascii : (x : List ℕ) → IsNumeral 10 (without_leading_sign x) → (i : ℕ) → get_or x i 0 < 128
 signed_ascii x h i = minus_ascii x (get_or x 0 0 == 45) refl h.1 i
 
-decimal_utf8 : (x : List ℕ) → IsSpan Decimal x → IsUtf8 x
+pub decimal_utf8 : (x : List ℕ) → IsSpan Decimal x → IsUtf8 x
 decimal_utf8 x h = IsUtf8-from_ascii x (signed_ascii x h.0)
 
 taken_utf8 : (piece : PieceValue) (x : List ℕ) → IsTextPiece piece → CanTake piece x → IsUtf8 x

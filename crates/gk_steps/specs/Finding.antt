@@ -1,6 +1,6 @@
 -- The entry of a library that a step's text finds.
 use denote.Ref.{Bor}
-use Rattle.std.specs.Prelude.{codes, option_map, ◌≡◌, ◌<◌, ◌⊎◌, ℕ, suc, ℤ, Bool, true, false, List, [], ◌∷◌, if◌then◌else◌, map, slice_get, Option, Some, None, option_and_then}
+use Rattle.std.specs.Prelude.{codes, option_map, ◌≡◌, ◌<◌, ◌≤◌, ◌⊎◌, ℕ, suc, ℤ, Bool, true, false, List, [], ◌∷◌, if◌then◌else◌, map, slice_get, Option, Some, None, option_and_then}
 use Rattle.std.specs.Option.{option_or, option_map_or}
 use Rattle.std.specs.Str.{bytes_eq}
 use Rattle.gk_gherkin.specs.declared.feature.StepType.{StepType}
@@ -61,10 +61,21 @@ pub record HasCandidate (entries : LibraryValue) (step_type : Option StepType) (
 abbrev pub HasCandidateFor : LibraryValue → StepType → List ℕ → Type 0
 HasCandidateFor entries step_type text = HasCandidate entries (Some step_type) text ⊎ HasCandidate entries None text
 
--- What the first piece takes depends on more than a literal and a plain field after it. The piece is a number, or a plain field before another field or before a literal that a number or another literal follows.
+-- An ASCII digit.
+abbrev pub IsDigit : ℕ → Type 0
+IsDigit byte = (48 ≤ byte) × (byte < 58)
+
+-- Pieces that may take a digit first: they begin with a field, or with a literal that begins with a digit or is empty.
+abbrev pub MayTakeDigit : List PieceValue → Type 0
+MayTakeDigit [] = ⊥
+MayTakeDigit (FieldPiece name kind ∷ ps) = Unit {0}
+MayTakeDigit (Literal [] ∷ ps) = Unit {0}
+MayTakeDigit (Literal (byte ∷ bytes) ∷ ps) = IsDigit byte
+
+-- What the first piece takes depends on more than a literal and a plain field after it. The piece is a number before pieces that may take a digit, or a plain field before another field or before a literal that a number or another literal follows.
 abbrev pub DependsOnMore : PieceValue → List PieceValue → Type 0
 DependsOnMore (Literal literal) ps = ⊥
-DependsOnMore (FieldPiece name Decimal) ps = Unit {0}
+DependsOnMore (FieldPiece name Decimal) ps = MayTakeDigit ps
 DependsOnMore (FieldPiece name Plain) [] = ⊥
 DependsOnMore (FieldPiece name Plain) (FieldPiece other kind ∷ ps) = Unit {0}
 DependsOnMore (FieldPiece name Plain) (Literal literal ∷ []) = ⊥

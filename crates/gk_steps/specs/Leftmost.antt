@@ -1,12 +1,13 @@
 -- Proof machinery: how much of a text the first piece of a pattern takes, if the pieces after it leave no choice.
-use Rattle.std.specs.Prelude.{◌≡◌, ◌<◌, ◌+◌, ◌++◌, ◌∷◌, ℕ, List, length, take, drop, Option, Some, None, option_map}
+use Rattle.std.specs.Prelude.{◌≡◌, ◌<◌, ◌+◌, ◌++◌, ◌∷◌, ℕ, List, length, take, drop, slice_index_or, Option, Some, None, option_map}
 use Rattle.std.specs.Str.{IsCharBoundary}
 use Rattle.gk_steps.specs.declared.leftmost.PieceEnd.{PieceEnd}
 use Rattle.gk_steps.specs.declared.leftmost.PieceEnd.TheVariants.{At, Nowhere, Unknown}
 use Rattle.gk_steps.specs.declared.pattern.FieldKind.TheVariants.{Plain}
+use Rattle.gk_steps.specs.Decimal.{IsNumber}
 use Rattle.gk_steps.specs.Pattern.{PieceValue, Literal, FieldPiece}
-use Rattle.gk_steps.specs.Matching.{MatchesNot, IsMatchResult, FieldValue}
-use Rattle.gk_steps.specs.Finding.{DependsOnMore}
+use Rattle.gk_steps.specs.Matching.{Matches, MatchesNot, IsMatchResult, FieldValue}
+use Rattle.gk_steps.specs.Finding.{DependsOnMore, IsDigit}
 use Rattle.gk_steps.specs.Advances.{CanTake, values_of}
 
 -- A literal occurs in a text at a position that is a character boundary.
@@ -29,6 +30,20 @@ pub record IsFirst (literal : List ℕ) (text : List ℕ) (position : ℕ) : Typ
 abbrev pub IsFirstPosition : List ℕ → List ℕ → Option ℕ → Type 0
 IsFirstPosition literal text None = StandsNowhereBefore literal text (length text + 1)
 IsFirstPosition literal text (Some position) = IsFirst literal text position
+
+-- No text that these pieces match begins with a digit.
+abbrev pub BeginWithoutDigit : List PieceValue → Type 0
+BeginWithoutDigit ps = (text : List ℕ) (spans : List (List ℕ)) → Matches ps text spans → IsDigit (slice_index_or text 0 0) → ⊥
+
+-- The first position after the beginning at which a text has no digit.
+pub record IsDigitsEnd (text : List ℕ) (end : ℕ) : Type 0 where
+  pub after : 0 < end
+  pub digits : (position : ℕ) → 0 < position → position < end → IsDigit (slice_index_or text position 0)
+  pub other : IsDigit (slice_index_or text end 0) → ⊥
+
+-- A text has a number before a position.
+abbrev pub HasNumberTo : List ℕ → ℕ → Type 0
+HasNumberTo text end = IsCharBoundary text end × IsNumber (take end text)
 
 -- A piece takes the text before a position. What the whole pattern finds is the value of the piece, followed by what the rest of the pattern finds after the position.
 pub record TakesUpTo (piece : PieceValue) (ps : List PieceValue) (text : List ℕ) (position : ℕ) : Type 0 where

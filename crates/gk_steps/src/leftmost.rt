@@ -1,9 +1,12 @@
 //! What the first pieces of a pattern take from the left, if the pieces after them leave no choice.
-ghost use Rattle.std.specs.Prelude.{◌≡◌, ◌≤◌, [], ◌∷◌, ℕ, List, length, MatchBool};
+ghost use Rattle.std.specs.Prelude.{◌≡◌, ◌≤◌, [], ◌∷◌, ℕ, List, length, false, IsTrue, MatchBool};
 ghost use Rattle.gk_steps.specs.declared.pattern.FieldKind.TheVariants as kinds;
 ghost use Rattle.gk_steps.specs.Pattern.{Literal, FieldPiece, piece_value, piece_values};
+ghost use Rattle.gk_steps.specs.Finding.{MayTakeDigit};
 ghost use Rattle.gk_steps.specs.Leftmost.{CanStandAt, IsFirstPosition, IsPieceEnd, IsEndBefore};
+ghost use Rattle.gk_steps.specs.Leftmost.{BeginWithoutDigit, HasNumberTo, IsDigitsEnd};
 
+use crate::decimal::number_of;
 use crate::literal_ends::{begins_with, begins_with_bytes, ends_with};
 use crate::pattern::{FieldKind, Piece};
 
@@ -103,6 +106,20 @@ fn end_before_field(literal: &str, other: &str, after: &[Piece], text: &str) -> 
     }
 }
 
+// Returns what a plain field takes before a literal that a number follows, if the literal occurs at most once.
+fn end_before_number(literal: &str, other: &str, after: &[Piece], text: &str) -> PieceEnd
+    ensures { let left = FieldPiece other.now kinds.Decimal ∷ piece_values after.now in
+        IsEndBefore literal.now left text.now result }
+{
+    let Some(position) = first_position(literal, text) else {
+        return PieceEnd::Nowhere;
+    };
+    match first_position(literal, &text[position..]) {
+        Some(_) => PieceEnd::Unknown,
+        None => PieceEnd::At(position),
+    }
+}
+
 // Returns what a plain field takes before a literal.
 #[inline(always)]
 fn end_before(literal: &str, after: &[Piece], text: &str) -> PieceEnd
@@ -113,7 +130,7 @@ fn end_before(literal: &str, after: &[Piece], text: &str) -> PieceEnd
         Some((piece, later)) => match piece {
             Piece::Field { name, kind } => match kind {
                 FieldKind::Plain => end_before_field(literal, name, later, text),
-                FieldKind::Decimal => PieceEnd::Unknown,
+                FieldKind::Decimal => end_before_number(literal, name, later, text),
             },
             Piece::Literal(_) => PieceEnd::Unknown,
         },
@@ -141,6 +158,58 @@ fn plain_end(after: &[Piece], text: &str) -> PieceEnd
     }
 }
 
+// Returns whether pieces begin with a literal whose first byte is no digit, or whether there are no pieces.
+fn begin_without_digit(pieces: &[Piece]) -> bool
+    ensures none { IsTrue result → BeginWithoutDigit (piece_values pieces.now) }
+    ensures other { result ≡ false → MayTakeDigit (piece_values pieces.now) }
+{
+    let Some(piece) = pieces.first() else {
+        return true;
+    };
+    match piece {
+        Piece::Literal(literal) => match literal.as_bytes().first() {
+            Some(byte) => !byte.is_ascii_digit(),
+            None => false,
+        },
+        Piece::Field { .. } => false,
+    }
+}
+
+// Returns the first position after the beginning of some bytes at which no digit is.
+fn digits_end(bytes: &[u8]) -> usize
+    ensures { IsDigitsEnd bytes.now result }
+{
+    let mut end = 1;
+    while end < bytes.len() && bytes[end].is_ascii_digit() {
+        end += 1;
+    }
+    end
+}
+
+// Returns whether a text has a number before a position.
+#[tactic(auto, using(std::proofs::lemmas::Grind::common_steps, crate::proofs::LeftmostLemmas::number_tested))]
+fn has_number_to(text: &str, end: usize) -> bool
+    ensures { MatchBool result (HasNumberTo text.now end) (HasNumberTo text.now end → ⊥) }
+{
+    text.is_char_boundary(end) && number_of(&text[..end]).is_some()
+}
+
+// Returns what a number takes. It takes all digits, unless the pieces after it may take a digit first.
+fn decimal_end(after: &[Piece], text: &str) -> PieceEnd
+    ensures { (name : List ℕ)
+        → IsPieceEnd (FieldPiece name kinds.Decimal) (piece_values after.now) text.now result }
+{
+    if !begin_without_digit(after) {
+        return PieceEnd::Unknown;
+    }
+    let end = digits_end(text.as_bytes());
+    if has_number_to(text, end) {
+        PieceEnd::At(end)
+    } else {
+        PieceEnd::Nowhere
+    }
+}
+
 /// Returns what the first piece of a pattern takes, if that is known without a table.
 #[inline(always)]
 pub(crate) fn piece_end(piece: &Piece, after: &[Piece], text: &str) -> PieceEnd
@@ -150,7 +219,7 @@ pub(crate) fn piece_end(piece: &Piece, after: &[Piece], text: &str) -> PieceEnd
         Piece::Literal(literal) => literal_end(literal, after, text),
         Piece::Field { kind, .. } => match kind {
             FieldKind::Plain => plain_end(after, text),
-            FieldKind::Decimal => PieceEnd::Unknown,
+            FieldKind::Decimal => decimal_end(after, text),
         },
     }
 }

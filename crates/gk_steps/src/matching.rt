@@ -271,9 +271,9 @@ pub(crate) fn match_fitting<'t, K: Captures<'t>>(
 
 impl Pattern {
     /// Returns the fields of the preferred match of a text, if there is one. A text that doesn't fit the ends of the
-    /// pattern is passed over. A table is made only for the pieces from the first field whose share depends on more
-    /// than the literal and the plain field after it. At most one whole table is filled: (pieces + 1) times
-    /// (characters + 1) cells. An error comes only if memory was refused, and never for a text that is passed over.
+    /// pattern is passed over. A table is made only for the pieces from the first field whose share the literal and
+    /// the field after it leave open. At most one whole table is filled: (pieces + 1) times (characters + 1) cells. An
+    /// error comes only if memory was refused, and never for a text that is passed over.
     pub fn matches(&self, alloc: Global, text: &str) -> Result<Option<Vec<Field>>, AllocError>
         ensures found { IfOk result (λ found.
             IsMatchResult (pattern_value self.now) text.now (field_values found)) }
