@@ -1,6 +1,7 @@
 -- An index over the literals at the ends of patterns.
-use Rattle.gk_steps.proofs.Common.{◌≡◌, ℕ, zero, suc, ◌+◌, ◌-◌, ◌<◌, ◌≤◌, ◌⊎◌, inl, inr, List, [], ◌∷◌, ◌++◌, length, take, drop, map, get_or, Option, Some, None, refl, ap, sym, subst, ◌∙◌, arith, length-append, common_steps, slice_get, false, eq-or-lt_of_le, cases_lt, append-nil, take_all, take-append-drop, Entry, Piece, Index, Ends, PieceValue, Literal, FieldPiece, piece_value, pattern_value, Matches, MatchesNot, woven, FitsEnd, StepType, EntryValue, entry_value, NoneBefore, cells_of_type, HasLiterals, IsTrue, literal_of, first_literal, last_literal, last_byte, ends_key, ends_of, key_over, window_at, IsEndsKey, IsKeyOf, Lists, AreListed, IsIndexOf, IsLeast, NoneIsLessAt, SkipsAt, SkipsByEnds, SkipsInside, Skips, SkipsEntries}
-use Rattle.std.specs.Int.{w32, w64, from_le_bytes}
+use Rattle.gk_steps.proofs.Common.{◌≡◌, ℕ, zero, suc, ◌*◌, ◌^◌, ◌+◌, ◌-◌, ◌<◌, ◌≤◌, ◌⊎◌, inl, inr, List, [], ◌∷◌, ◌++◌, length, take, drop, map, get_or, Option, Some, None, refl, ap, sym, subst, ◌∙◌, arith, length-append, common_steps, slice_get, false, eq-or-lt_of_le, cases_lt, append-nil, take_all, take-append-drop, Entry, Piece, Index, Ends, PieceValue, Literal, FieldPiece, piece_value, pattern_value, Matches, MatchesNot, woven, FitsEnd, StepType, EntryValue, entry_value, NoneBefore, cells_of_type, HasLiterals, IsTrue, literal_of, first_literal, last_literal, last_byte, ends_key, ends_of, key_over, window_at, IsEndsKey, IsKeyOf, Lists, AreListed, IsIndexOf, IsLeast, NoneIsLessAt, SkipsAt, SkipsByEnds, SkipsInside, Skips, SkipsEntries}
+use Rattle.std.specs.Int.{w32, from_le_bytes}
+use Rattle.std.specs.Prelude.{◌/◌}
 use Rattle.gk_steps.specs.declared.keyed_numbers.Keyed.{Keyed}
 use Rattle.gk_steps.specs.KeyedNumbers.{bucket_of, IsUnder}
 use Rattle.gk_steps.proofs.LiteralEndLemmas.{match_fits}
@@ -80,12 +81,24 @@ take_before zero xs ys le = refl
 take_before (suc n) [] ys le = absurd (omega (arith, le))
 take_before (suc n) (x ∷ xs) ys le = ap (λ zs. x ∷ zs) (take_before n xs ys (omega (arith, le)))
 
+part_longer : (x rest : List ℕ) (start n : ℕ) → start + n ≤ length x → take n (drop start (x ++ rest)) ≡ take n (drop start x)
+part_longer x rest zero n le = take_before n x rest (omega (arith, le))
+part_longer [] rest (suc start) n le = absurd (omega (arith, le))
+part_longer (a ∷ xs) rest (suc start) n le = part_longer xs rest start n (omega (arith, le))
+
+same_window_at : (x rest text : List ℕ) (start : ℕ) → text ≡ x ++ rest → start + 4 ≤ length x → window_at x start ≡ window_at text start
+same_window_at x rest text start e le = ap (from_le_bytes w32) (sym (ap (λ t. take 4 (drop start t)) e ∙ part_longer x rest start 4 le))
+
 ends_there : (ps : List PieceValue) (text : List ℕ) (spans : List (List ℕ)) (key : ℕ) → Matches ps text spans → IsEndsKey key ps → (7 ≤ length text) × ((key ≡ ends_key text (last_byte text)) ⊎ (key ≡ ends_key text 0))
 ends_there ps text spans key m is =
     let a = match_begins ps text spans m in
     let b = match_ends ps text spans m in
-    let first : take 7 (first_literal ps) ≡ take 7 text = sym (ap (take 7) a.1 ∙ take_before 7 (first_literal ps) a.0 is.long) in
-    let key_now : key ≡ from_le_bytes w64 (take 7 text ++ last_byte (last_literal ps) ∷ []) = is.key_is ∙ ap (λ bs. from_le_bytes w64 (bs ++ last_byte (last_literal ps) ∷ [])) first in (
+    let last = last_byte (last_literal ps) in
+    let first = same_window_at (first_literal ps) a.0 text 0 a.1 (omega (arith, is.long)) in
+    let rest = same_window_at (first_literal ps) a.0 text 3 a.1 (omega (arith, is.long)) in
+    let key_now : key ≡ ends_key text last =
+    is.key_is ∙ ap (λ n. n + (window_at (first_literal ps) 3 / 2 ^ 8) * 2 ^ 32 + last * 2 ^ 56) first
+    ∙ ap (λ n. window_at text 0 + (n / 2 ^ 8) * 2 ^ 32 + last * 2 ^ 56) rest in (
       omega (arith, is.long, ap length a.1, length-append (first_literal ps) a.0),
       elim (last_cases (last_literal ps) b.0 text b.1) [
         | inl same ↦ inl (key_now ∙ ap (ends_key text) same)
@@ -101,11 +114,6 @@ later_at : (before x : List ℕ) (n start : ℕ) → n ≡ start + length before
 later_at [] x n start e = ap (λ m. drop m x) (let same : n ≡ start = omega (arith, e) in same)
 later_at (b ∷ bs) x zero start e = absurd (omega (arith, e))
 later_at (b ∷ bs) x (suc n) start e = later_at bs x n start (omega (arith, e))
-
-part_longer : (x rest : List ℕ) (start n : ℕ) → start + n ≤ length x → take n (drop start (x ++ rest)) ≡ take n (drop start x)
-part_longer x rest zero n le = take_before n x rest (omega (arith, le))
-part_longer [] rest (suc start) n le = absurd (omega (arith, le))
-part_longer (a ∷ xs) rest (suc start) n le = part_longer xs rest start n (omega (arith, le))
 
 abbrev pub IsPart : List ℕ → List ℕ → Type 0
 IsPart part text = (start : ℕ) × (start + length part ≤ length text) × (take (length part) (drop start text) ≡ part)

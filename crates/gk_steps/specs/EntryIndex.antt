@@ -1,6 +1,6 @@
 -- How an index lists the entries of a library by the literals of their patterns, and which entries it passes over.
-use Rattle.std.specs.Prelude.{◌≡◌, ◌⊎◌, ◌+◌, ◌*◌, ◌%◌, ◌^◌, ◌<◌, ◌≤◌, nat_lt, ℕ, IsTrue, List, [], ◌∷◌, ◌++◌, length, take, drop, slice_get, Option, Some, None, if◌then◌else◌}
-use Rattle.std.specs.Int.{w32, w64, from_le_bytes}
+use Rattle.std.specs.Prelude.{◌≡◌, ◌⊎◌, ◌+◌, ◌*◌, ◌/◌, ◌%◌, ◌^◌, ◌<◌, ◌≤◌, nat_lt, ℕ, IsTrue, List, [], ◌∷◌, ◌++◌, length, take, drop, slice_get, Option, Some, None, if◌then◌else◌}
+use Rattle.std.specs.Int.{w32, from_le_bytes}
 use Rattle.gk_steps.specs.declared.library.Entry.{Entry}
 use Rattle.gk_steps.specs.declared.entry_index.Index.{Index}
 use Rattle.gk_steps.specs.declared.entry_index.Ends.{Ends}
@@ -30,9 +30,13 @@ last_byte [] = 0
 last_byte (b ∷ []) = b
 last_byte (b ∷ c ∷ bs) = last_byte (c ∷ bs)
 
--- The key of the ends of a text that begins with some bytes and ends with one: the first seven bytes and the last one as one number.
+-- The window of some bytes at a position: four bytes as one number.
+abbrev pub window_at : List ℕ → ℕ → ℕ
+window_at bytes start = from_le_bytes w32 (take 4 (drop start bytes))
+
+-- The key of the ends of a text that begins with some bytes and ends with one: the first four bytes, the three after them and the last one as one number.
 abbrev pub ends_key : List ℕ → ℕ → ℕ
-ends_key bytes last = from_le_bytes w64 (take 7 bytes ++ last ∷ [])
+ends_key bytes last = window_at bytes 0 + (window_at bytes 3 / 2 ^ 8) * 2 ^ 32 + last * 2 ^ 56
 
 -- The keys of a text's ends for patterns that end with a literal and for those that end with a field, where 0 is in place of the last byte; none if the text is too short.
 abbrev pub ends_of : List ℕ → Option Ends
@@ -42,10 +46,6 @@ ends_of text = if nat_lt (length text) 7 then None else Some (record { by_litera
 abbrev pub key_over : ℕ → List ℕ → ℕ
 key_over key [] = key
 key_over key (b ∷ bs) = key_over ((key * 11400714819323198485 % 2 ^ 64 + b) % 2 ^ 64) bs
-
--- The window of some bytes at a position: four bytes as one number.
-abbrev pub window_at : List ℕ → ℕ → ℕ
-window_at bytes start = from_le_bytes w32 (take 4 (drop start bytes))
 
 -- A pattern has a literal that is long enough for a window.
 pub record HasLongLiteral (literal : List ℕ) (ps : List PieceValue) : Type 0 where

@@ -1,5 +1,5 @@
 //! An index over the literals of patterns.
-ghost use Rattle.std.specs.Prelude.{◌≡◌, ◌≤◌, ◌<◌, ◌+◌, ℕ, List, [], ◌∷◌, length, IfOk, IfSome, OnOk};
+ghost use Rattle.std.specs.Prelude.{◌≡◌, ◌≤◌, ◌<◌, ◌+◌, ◌^◌, ℕ, List, [], ◌∷◌, length, IfOk, IfSome, OnOk};
 ghost use Rattle.gk_steps.specs.Pattern.{PieceValue, Literal, piece_value, piece_values};
 ghost use Rattle.gk_steps.specs.EntryIndex as spec;
 ghost use Rattle.gk_steps.specs.EntryIndex.{HasLongLiteral, IsEndsKey, IsKeyOf, GrowsLengths};
@@ -90,16 +90,27 @@ fn last_byte(bytes: &[u8]) -> u8
     }
 }
 
+// Returns the window of some bytes at a position: four bytes as one number.
+#[inline(always)]
+fn window_at(bytes: &[u8], start: usize) -> u64
+    requires { start + 4 ≤ length bytes.now }
+    ensures value { result ≡ spec.window_at bytes.now start }
+    ensures below { result < 2 ^ 32 }
+{
+    let (_, rest) = bytes.split_at(start);
+    let (four, _) = rest.split_at(WINDOW);
+    u64::from(u32::from_le_bytes([four[0], four[1], four[2], four[3]]))
+}
+
 // Returns the key of the ends of a text that begins with some bytes and ends with one.
 #[inline(always)]
 fn ends_key(bytes: &[u8], last: u8) -> u64
     requires { 7 ≤ length bytes.now }
     ensures { result ≡ spec.ends_key bytes.now last }
 {
-    let (first, _) = bytes.split_at(FIRST);
-    u64::from_le_bytes([
-        first[0], first[1], first[2], first[3], first[4], first[5], first[6], last,
-    ])
+    let first = window_at(bytes, 0);
+    let rest = window_at(bytes, FIRST - WINDOW) / (1 << 8);
+    first + rest * (1 << 32) + u64::from(last) * (1 << 56)
 }
 
 /// Returns the keys of a text's ends, or `None` if it is too short to have any.
@@ -130,17 +141,6 @@ fn key_over(key: u64, bytes: &[u8]) -> u64
         over = over.wrapping_mul(FACTOR).wrapping_add(byte);
     }
     over
-}
-
-// Returns the window of some bytes at a position: four bytes as one number.
-#[inline(always)]
-fn window_at(bytes: &[u8], start: usize) -> u64
-    requires { start + 4 ≤ length bytes.now }
-    ensures { result ≡ spec.window_at bytes.now start }
-{
-    let (_, rest) = bytes.split_at(start);
-    let (four, _) = rest.split_at(WINDOW);
-    u64::from(u32::from_le_bytes([four[0], four[1], four[2], four[3]]))
 }
 
 // Returns the literal that is the whole pattern, if it has no other piece.

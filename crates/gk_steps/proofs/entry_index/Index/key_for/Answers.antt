@@ -13,6 +13,6 @@ returns-clause-key c =
         has = c.in-Some-rarest_literal.ensures;
         key_is = c.key_over-2.ensures ∙ ap (key_over 0) bytes;
         length_is = subst (λ (b : List ℕ). IsUnder lengths (window_at b 0) (length b)) bytes
-            (subst (λ (w : ℕ). IsUnder lengths w (length c.as_bytes-bytes.result.now)) c.window_at.ensures c.in_ok-push_once.ensures.added);
+            (subst (λ (w : ℕ). IsUnder lengths w (length c.as_bytes-bytes.result.now)) c.window_at.ensures.value c.in_ok-push_once.ensures.added);
       }),
     ))

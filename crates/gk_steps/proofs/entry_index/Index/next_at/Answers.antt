@@ -33,10 +33,10 @@ loop-k-preserved c =
         high = rw w.least-is c.loop-k.invariant.high;
         least = subst Next (sym w.least-is) (elim w.else-item-window.branch [
           | else-item-window-via-then-item-window+else-item-rest v ↦ lengths_more index start from old old k bytes items item there (omega arith) c.loop-k.invariant.least (λ same fits. absurd (omega (arith, v.if-item-rest.false, fits, c.split_at.ensures.back_len)))
-          | else-item-window-via-else-item-window v ↦ lengths_more index start from old old k bytes items item there (omega arith) c.loop-k.invariant.least (λ same fits. absurd (v.if-item-window.false (same ∙ sym c.window_at-window.ensures)))
+          | else-item-window-via-else-item-window v ↦ lengths_more index start from old old k bytes items item there (omega arith) c.loop-k.invariant.least (λ same fits. absurd (v.if-item-window.false (same ∙ sym c.window_at-window.ensures.value)))
         ]);
       }
     ]
 
 pub returns : goal.returns
-returns c = lengths_all c.args.self.now c.args.start c.args.from c.args.most c.loop-k.least c.loop-k.k c.args.bytes.now c.bucket_of-lengths.result.now (c.bucket_of-lengths.ensures ∙ ap (bucket_of c.args.self.now.lengths.buckets.items) c.window_at-window.ensures) (omega (arith, c.loop-k-test.false)) c.loop-k.invariant.low c.loop-k.invariant.high c.loop-k.invariant.least
+returns c = lengths_all c.args.self.now c.args.start c.args.from c.args.most c.loop-k.least c.loop-k.k c.args.bytes.now c.bucket_of-lengths.result.now (c.bucket_of-lengths.ensures ∙ ap (bucket_of c.args.self.now.lengths.buckets.items) c.window_at-window.ensures.value) (omega (arith, c.loop-k-test.false)) c.loop-k.invariant.low c.loop-k.invariant.high c.loop-k.invariant.least
