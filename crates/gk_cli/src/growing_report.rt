@@ -7,14 +7,14 @@ ghost use Rattle.gk_cli.specs.Writing.{device_of, IsWritten, IsStopped};
 
 use crate::reporter::Reporter;
 use crate::writing::write_piece;
-use gk_gherkin::{Block, Step};
+use gk_gherkin::Step;
 use gk_io::Counted;
 use gk_report::{Style, Summary, head, pieces, tail};
 use gk_request::RunFault;
 use gk_run::{
-    CaseResult, FeatureResult, Level, Mark, Observer, Outcome, RuleResult, Stage, Status,
+    CaseResult, Cleanup, FeatureResult, Level, Observer, Outcome, RuleResult, Stage, Status,
+    StepDone,
 };
-use gk_steps::Found;
 use gk_world::Sandbox;
 use std::alloc::{AllocError, Global};
 use std::io::Write;
@@ -97,13 +97,12 @@ impl Observer for GrowingReport {
 
     fn rule_ended(&mut self, _row: &RuleResult) {}
 
-    fn step(&mut self, _stage: Stage, _step: &Step, _mark: Mark, _sandbox: &Sandbox) {}
+    fn step(&mut self, _stage: Stage, _step: &Step, _done: &StepDone<'_>, _sandbox: &Sandbox) {}
 
     fn cleanup(
         &mut self,
         _level: Level,
-        _found: &Found,
-        _block: &Block,
+        _cleanup: &Cleanup,
         _outcome: Outcome,
         _sandbox: &Sandbox,
     ) {}

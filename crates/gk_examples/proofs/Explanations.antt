@@ -1,5 +1,5 @@
 -- Worked explanations, by computation.
-use Rattle.std.specs.Prelude.{◌≡◌, ℕ, List, [], ◌∷◌, None, codes, refl}
+use Rattle.std.specs.Prelude.{◌≡◌, ℕ, List, [], ◌∷◌, None, Some, codes, pos, refl}
 use Rattle.std.specs.Fmt.{digits}
 use Rattle.std.specs.Str.{chars, is_utf8}
 use lib.Utf8
@@ -14,7 +14,8 @@ use Rattle.gk_run.specs.declared.results.Status.{Status}
 use Rattle.gk_run.specs.declared.results.Status.TheVariants as statuses
 use Rattle.gk_run.specs.declared.section.Level.TheVariants as levels
 use Rattle.gk_run.specs.declared.section.Part.TheVariants as parts
-use Rattle.gk_run.specs.Acting.{CleanupValue}
+use Rattle.gk_run.specs.declared.section.Part.{Part}
+use Rattle.gk_run.specs.Acting.{CleanupValue, UseValue}
 use Rattle.gk_run.specs.Results.{CaseRow, FeatureRow}
 use Rattle.gk_run.specs.Events.{Event as RunEvent, of_step, of_cleanup}
 use Rattle.gk_report.specs.ReportTexts.{status_text, reason_text}
@@ -54,21 +55,25 @@ begun = with_source (codes "f") (nothing_said [] (codes "h") [])
 -- Events, one after another.
 abbrev after_events : List RunEvent → ExplanationValue → ExplanationValue
 after_events [] e = e
-after_events (told ∷ others) e = after_events others (with_event told e)
+after_events (event ∷ others) e = after_events others (with_event event e)
+
+-- A cleanup that was registered at a place.
+abbrev registered_at : Part → ℕ → CleanupValue → CleanupValue
+registered_at part line cleanup = record cleanup { at = record { part = part; line = line } }
 
 -- A scenario between two hooks, with a cleanup, whose second step failed.
 abbrev of_scenario : State → CleanupValue → ExplanationValue
 of_scenario s cleanup =
-    after_events (of_step (record { level = levels.Scenario; part = parts.Before }) (step (codes "Given") (codes "a") 2) (marks.Acted outcomes.Passed) [] s
-    ∷ of_step (record { level = levels.Scenario; part = parts.Steps }) (step (codes "When") (codes "b\nc") 7) (marks.Acted outcomes.Passed) [] s
-    ∷ of_step (record { level = levels.Scenario; part = parts.Steps }) (step (codes "Then") (codes "d") 8) (marks.Acted (outcomes.Failed reasons.Differs)) [] s
-    ∷ of_step (record { level = levels.Scenario; part = parts.Steps }) (step (codes "And") (codes "e") 10) marks.Skipped [] s
-    ∷ of_step (record { level = levels.Scenario; part = parts.After }) (step (codes "When") (codes "g") 4) marks.Undefined [] s
-    ∷ of_cleanup levels.Scenario cleanup outcomes.Memory s ∷ []) begun
+    after_events (of_step (record { level = levels.Scenario; part = parts.Before }) (step (codes "Given") (codes "a") 2) (marks.Acted outcomes.Passed) None [] s
+    ∷ of_step (record { level = levels.Scenario; part = parts.Steps }) (step (codes "When") (codes "b\nc") 7) (marks.Acted outcomes.Passed) None [] s
+    ∷ of_step (record { level = levels.Scenario; part = parts.Steps }) (step (codes "Then") (codes "d") 8) (marks.Acted (outcomes.Failed reasons.Differs)) None [] s
+    ∷ of_step (record { level = levels.Scenario; part = parts.Steps }) (step (codes "And") (codes "e") 10) marks.Skipped None [] s
+    ∷ of_step (record { level = levels.Scenario; part = parts.After }) (step (codes "When") (codes "g") 4) marks.Undefined None [] s
+    ∷ of_cleanup levels.Scenario (registered_at parts.Before 2 cleanup) outcomes.Memory s ∷ []) begun
 
 -- Where it failed it is explained.
 failed_is_explained : (s : State) (cleanup : CleanupValue) → (with_case (scenario statuses.Failed) (of_scenario s cleanup)).ready
-    ≡ codes "f:6: Scenario: s ... failed\n  h:2: before: Given a ... passed\n  f:7: When b\\nc ... passed\n  f:8: Then d ... failed: differs\n  f:10: And e ... skipped\n  h:4: after: When g ... undefined\n  cleanup ... memory\n\n"
+    ≡ codes "f:6: Scenario: s ... failed\n  h:2: before: Given a ... passed\n  f:7: When b\\nc ... passed\n  f:8: Then d ... failed: differs\n  f:10: And e ... skipped\n  h:4: after: When g ... undefined\n  h:2: cleanup ... memory\n\n"
 unfolding found chars lib.Utf8.encode event_details digits status_text reason_text escaped file_shown status_line line_of_step line_of_cleanup place_text case_heading explanation_text
 failed_is_explained s cleanup = refl
 
@@ -97,17 +102,21 @@ rows_end_with_their_feature = refl
 abbrev later_library : LibraryValue
 later_library = record { step_type = None; pattern = Literal (codes "later ") ∷ FieldPiece (codes "step") kinds.Plain ∷ []; action = actions.AtCleanup } ∷ record { step_type = None; pattern = Literal (codes "ok") ∷ []; action = actions.Pass } ∷ []
 
+-- The action that registers a cleanup, for a text that finds no entry.
+abbrev registering : UseValue
+registering = record { action = actions.AtCleanup; arguments = record { name = []; to = []; step = codes "no"; number = pos 0; text = None; block = Empty } }
+
 -- A scenario whose hook and first step register a cleanup, and whose second step can't.
 abbrev with_cleanups : State → CleanupValue → ExplanationValue
 with_cleanups s cleanup =
-    after_events (of_step (record { level = levels.Scenario; part = parts.Before }) (step (codes "Given") (codes "later ok") 2) (marks.Acted outcomes.Passed) [] s
-    ∷ of_step (record { level = levels.Scenario; part = parts.Steps }) (step (codes "Given") (codes "later ok") 7) (marks.Acted outcomes.Passed) [] s
-    ∷ of_step (record { level = levels.Scenario; part = parts.Steps }) (step (codes "Given") (codes "later no") 8) (marks.Acted (outcomes.Failed reasons.NoStep)) [] s
-    ∷ of_step (record { level = levels.Scenario; part = parts.Steps }) (step (codes "Given") (codes "ok") 9) marks.Skipped [] s
-    ∷ of_cleanup levels.Scenario cleanup outcomes.Passed s
-    ∷ of_cleanup levels.Scenario cleanup (outcomes.Failed reasons.Asked) s ∷ []) (with_source (codes "f") (nothing_said later_library (codes "h") []))
+    after_events (of_step (record { level = levels.Scenario; part = parts.Before }) (step (codes "Given") (codes "later ok") 2) (marks.Acted outcomes.Passed) None [] s
+    ∷ of_step (record { level = levels.Scenario; part = parts.Steps }) (step (codes "Given") (codes "later ok") 7) (marks.Acted outcomes.Passed) None [] s
+    ∷ of_step (record { level = levels.Scenario; part = parts.Steps }) (step (codes "Given") (codes "later no") 8) (marks.Acted (outcomes.Failed reasons.NoStep)) (Some registering) [] s
+    ∷ of_step (record { level = levels.Scenario; part = parts.Steps }) (step (codes "Given") (codes "ok") 9) marks.Skipped None [] s
+    ∷ of_cleanup levels.Scenario (registered_at parts.Steps 7 cleanup) outcomes.Passed s
+    ∷ of_cleanup levels.Scenario (registered_at parts.Before 2 cleanup) (outcomes.Failed reasons.Asked) s ∷ []) (with_source (codes "f") (nothing_said later_library (codes "h") []))
 
--- Its cleanups have the places of the steps that registered them, the last first.
+-- Its cleanups are shown with the places of the steps that registered them.
 cleanups_have_places : (s : State) (cleanup : CleanupValue) → (with_case (scenario statuses.Failed) (with_cleanups s cleanup)).ready
     ≡ codes "f:6: Scenario: s ... failed\n  h:2: before: Given later ok ... passed\n  f:7: Given later ok ... passed\n  f:8: Given later no ... failed: no such step\n  f:9: Given ok ... skipped\n  f:7: cleanup ... passed\n  h:2: cleanup ... failed: fail step\n\n"
 unfolding found match_of is_utf8 same_letters is_one_off common_len differ_at_first chars lib.Utf8.encode event_details digits status_text reason_text escaped file_shown status_line line_of_step line_of_cleanup place_text case_heading explanation_text
@@ -116,9 +125,9 @@ cleanups_have_places s cleanup = refl
 -- Hooks and cleanups of a rule, a feature and a run, with one event in each, of which the rule's passed.
 abbrev of_sections : State → ExplanationValue
 of_sections s =
-    after_events (of_step (record { level = levels.Run; part = parts.Before }) (step (codes "Given") (codes "a") 1) (marks.Acted outcomes.Passed) [] s
-    ∷ of_step (record { level = levels.Feature; part = parts.Before }) (step (codes "Given") (codes "b") 2) (marks.Acted outcomes.Passed) [] s
-    ∷ of_step (record { level = levels.Rule; part = parts.Before }) (step (codes "Given") (codes "c") 3) (marks.Acted outcomes.Passed) [] s ∷ []) begun
+    after_events (of_step (record { level = levels.Run; part = parts.Before }) (step (codes "Given") (codes "a") 1) (marks.Acted outcomes.Passed) None [] s
+    ∷ of_step (record { level = levels.Feature; part = parts.Before }) (step (codes "Given") (codes "b") 2) (marks.Acted outcomes.Passed) None [] s
+    ∷ of_step (record { level = levels.Rule; part = parts.Before }) (step (codes "Given") (codes "c") 3) (marks.Acted outcomes.Passed) None [] s ∷ []) begun
 
 -- What ended badly is explained and listed.
 abbrev ended : State → Status → ExplanationValue

@@ -1,5 +1,5 @@
 -- The names from elsewhere that the proofs of this crate cite, passed on from one place. Declares nothing.
-pub use Rattle.std.proofs.Common.{Bool, IfSome, IsUtf8, List, None, Option, Some, String, [], ap, append-nil, append_assoc, ap₂, arith, chars, codes, cond, drop, encode_utf8, encode_utf8_all, false, flat_map, inl, inr, is_some, length, length-take, map, nat_lt, refl, reverse, rules, string_bytes, subst, suc, sym, take, take_all, true, zero, ℕ, ℤ, ⊎_elim, ◌&&◌, ◌++◌, ◌+◌, ◌-◌, ◌/◌, ◌<◌, ◌==◌, ◌||◌, ◌∙◌, ◌∷◌, ◌≡◌, ◌≢◌, ◌≤◌, ◌⊎◌}
+pub use Rattle.std.proofs.Common.{Bool, IfSome, IsUtf8, List, None, Option, Some, String, [], ap, append-nil, append_assoc, ap₂, arith, chars, codes, cond, drop, encode_utf8, encode_utf8_all, false, flat_map, inl, inr, length, length-take, map, nat_lt, refl, reverse, rules, string_bytes, subst, suc, sym, take, true, zero, ℕ, ℤ, ⊎_elim, ◌++◌, ◌+◌, ◌-◌, ◌/◌, ◌<◌, ◌==◌, ◌∙◌, ◌∷◌, ◌≡◌, ◌≢◌, ◌≤◌, ◌⊎◌}
 pub use Rattle.std.proofs.Math.Facts.{to_z-of_z}
 pub use Rattle.std.proofs.lemmas.Bool.{and_cases, and_left, and_parts, and_right, cases_eq, cases_lt, cond-false, cond-true, eq-eqb, eqb-false, eqb-true, le-ltb, lt-ltb, ltb-false, ltb-true, ne_eqb, not_from_true, or_from, or_parts}
 pub use Rattle.std.proofs.lemmas.Grind.{common_steps}
@@ -7,7 +7,7 @@ pub use Rattle.std.proofs.lemmas.Iterator.{YieldsList-from_chars, YieldsList-fro
 pub use Rattle.std.proofs.lemmas.Iterator.Adapters.{YieldsList-from_skip}
 pub use Rattle.std.proofs.lemmas.Iterator.Consumers.{map_from_collect}
 pub use Rattle.std.proofs.lemmas.Iterator.Splits.{YieldsList-from_str_split}
-pub use Rattle.std.proofs.lemmas.List.{drop-drop, drop-map, drop-take, length-append, length-map, length_push, map-append, reverse-append, reverse-reverse, take-append-drop, take-map, take_at}
+pub use Rattle.std.proofs.lemmas.List.{drop-drop, drop-map, drop-take, length-append, length-map, take-append-drop, take-map}
 pub use Rattle.std.proofs.lemmas.List.Concat.{flat_map-append}
 pub use Rattle.std.proofs.lemmas.List.Folds.{list_any-append}
 pub use Rattle.std.proofs.lemmas.List.Splits.{length-slice_split}
@@ -18,7 +18,7 @@ pub use Rattle.std.proofs.lemmas.Slice.{pushed}
 pub use Rattle.std.proofs.lemmas.Slice.Eq.{bytes_eq-Decides}
 pub use Rattle.std.proofs.lemmas.Str.{IsUtf8-past_char, chars-encodes, chars-nil, chars_from_encodes, chars_past_char, encode_ascii, encodes-chars, len_utf8_bounds, length-encode}
 pub use Rattle.std.specs.HashMap.{HashMap, get_by_text}
-pub use Rattle.std.specs.List.{FoldsTo, enumerate_from, find, list_any, slice_get, slice_index}
+pub use Rattle.std.specs.List.{FoldsTo, enumerate_from, find, list_any, slice_index}
 pub use Rattle.std.specs.List.Sorted.{IsStrictlyIncreasing}
 pub use Rattle.std.specs.Map.{update}
 pub use Rattle.std.specs.Prelude.{OnOk, Result, sum_by}
@@ -26,52 +26,46 @@ pub use Rattle.std.specs.Str.{bytes_eq}
 pub use Rattle.std.specs.Str.Iter.{chars_rest}
 pub use lib.Utf8.{encodes, next}
 unfoldable pub use lib.Utf8.{encode}
-pub use Rattle.gk_gherkin.specs.Feature.{BlockValue, StepValue, step_value, texts}
+pub use Rattle.gk_gherkin.specs.Feature.{StepValue, step_value, texts}
 pub use Rattle.gk_report.specs.ReportTexts.{line_feed}
-pub use Rattle.gk_run.specs.Acting.{ArgumentsValue, CleanupValue, arguments_of, does_at_site, done_of, fails, is_pass, may_register, skip_outcome, table, without_cleanups}
+pub use Rattle.gk_run.specs.Acting.{UseValue, CleanupValue, done_of}
 unfoldable pub use Rattle.gk_run.specs.Acting.{act}
 pub use Rattle.gk_run.specs.Ending.{ending_of, has_passed}
-pub use Rattle.gk_run.specs.Events.{SectionNow, cut_at, ended_in, left_by, of_cleanup, of_step, refused}
+pub use Rattle.gk_run.specs.Events.{SectionNow, cut_at, ended_in, left_by, of_cleanup, of_step, refused, used_in}
 pub use Rattle.gk_run.specs.OpenSection.{Run}
 pub use Rattle.gk_run.specs.Running.{alone}
-pub use Rattle.gk_run.specs.Section.{Cut, Events, after_of, before_of, happened, has_event, in_after, in_before, in_cleanups, in_order, in_steps, nowhere, site_of, steps_of_case}
+pub use Rattle.gk_run.specs.Section.{Cut, Events, after_of, before_of, happened, has_event, in_after, in_before, in_cleanups, in_order, in_steps, nowhere, steps_of_case}
 pub use Rattle.gk_run.specs.SectionHooks.{after_lists, before_list, clean_each, entered, walk_each}
-pub use Rattle.gk_run.specs.Walk.{looked_up, one_step, stepped, steps_from, walk}
+pub use Rattle.gk_run.specs.Walk.{one_step, steps_from, walk}
 pub use Rattle.gk_run.specs.declared.acting.Site.{Site}
 pub use Rattle.gk_run.specs.declared.ending.Ending.{Ending}
 pub use Rattle.gk_run.specs.declared.results.Mark.{Mark}
-pub use Rattle.gk_run.specs.declared.results.Mark.TheVariants.{Skipped, Undefined}
-pub use Rattle.gk_run.specs.declared.results.Outcome.{Outcome}
+pub use Rattle.gk_run.specs.declared.results.Mark.TheVariants.{Skipped}
 pub use Rattle.gk_run.specs.declared.section.Level.{Level}
 pub use Rattle.gk_run.specs.declared.section.Stage.{Stage}
 pub use Rattle.gk_select.specs.Case.{CaseValue}
 pub use Rattle.gk_select.specs.ExampleRows.{ExampleRowValue, cell_value, example_row_value, row_lines}
-pub use Rattle.gk_steps.specs.Action.{row_of}
-pub use Rattle.gk_steps.specs.Finding.{FoundValue, LibraryValue, action_of, found, found_any, library_value}
+pub use Rattle.gk_steps.specs.Finding.{LibraryValue, found, library_value}
 pub use Rattle.gk_steps.specs.Pattern.{piece_values}
-pub use Rattle.gk_steps.specs.declared.action.Action.{Action}
-pub use Rattle.gk_steps.specs.declared.action.Does.{Does}
-pub use Rattle.gk_steps.specs.declared.action.Does.TheVariants.{Changes, Checks, Registers, Skips}
 pub use Rattle.gk_world.specs.State.{State, enter, state_of}
 pub use Rattle.gk_explain.specs.Details.{difference_line}
 unfoldable pub use Rattle.gk_explain.specs.Details.{added_number, compared, event_details, expected_number}
 pub use Rattle.gk_explain.specs.Differences.{common_start, first_difference, first_position, position_after, position_past}
 pub use Rattle.gk_explain.specs.DifferingLines.{DifferingLinesAreShown, IsLine}
-pub use Rattle.gk_explain.specs.Event.{event_told, level_of}
+pub use Rattle.gk_explain.specs.Event.{event_value, level_of}
 pub use Rattle.gk_explain.specs.Explainer.{CasesAreExplained, Hears, is_cut, said}
 pub use Rattle.gk_explain.specs.Explanation.{ExplanationValue, explanation_value, with_case, with_case_of, with_event, with_section}
 pub use Rattle.gk_explain.specs.Nearest.{nearest_told, pattern_shown}
 pub use Rattle.gk_explain.specs.NearestLines.{AreNearest}
-pub use Rattle.gk_explain.specs.Registrations.{CleanupsAreOfTheirSteps, PlacedCleanup, all_but_last, found_registers, is_passed, is_registering, last_of, placed_by, placed_cleanups, registered_by}
 pub use Rattle.gk_explain.specs.RowLines.{RowsAreFound, cell_text, cells_text, is_at, row_at, rows_from}
-pub use Rattle.gk_explain.specs.SectionLines.{SectionValue, after_event, after_events}
+pub use Rattle.gk_explain.specs.EventLines.{event_lines, kept_of, kept_value, names_value}
+pub use Rattle.gk_explain.specs.SectionEvents.{SectionValue, after_event, after_events, section_lines}
 pub use Rattle.gk_explain.specs.Shown.{char_after, char_in, chars_after, cut_line, escaped_char, few_lines, is_commanding, is_control, is_left_out, is_suspect, is_within, left_out, lines_round, marked_lines, past_char, row, text_as, text_lines}
 unfoldable pub use Rattle.gk_explain.specs.Shown.{escaped, file_shown, marked_text_with}
 pub use Rattle.gk_explain.specs.Tables.{first_refused, found_header, quoted_cells}
 unfoldable pub use Rattle.gk_explain.specs.Tables.{header_line}
 pub use Rattle.gk_explain.specs.declared.differences.Position.{Position}
 pub use Rattle.gk_explain.specs.declared.explainer.Explainer.{Explainer}
-pub use Rattle.gk_explain.specs.declared.registrations.Registration.{Registration}
 pub use Rattle.gk_explain.specs.declared.shown.Before.{Before}
 pub use Rattle.gk_explain.specs.declared.shown.Before.TheVariants as befores
 pub use Rattle.gk_explain.specs.declared.shown.Form.{Form}

@@ -1,5 +1,5 @@
--- What an explainer says of a case that it was told.
-use Rattle.gk_explain.proofs.Common.{FoldsTo, ◌≡◌, ◌∙◌, ℕ, zero, suc, Bool, true, false, cond, List, [], ◌∷◌, ◌++◌, reverse, refl, ap, sym, subst, StepValue, CaseValue, LibraryValue, State, enter, Ending, Level, Stage, CleanupValue, act, done_of, clean_each, after_lists, before_list, entered, walk_each, ending_of, has_passed, of_step, of_cleanup, SectionNow, cut_at, ended_in, left_by, refused, Run, alone, Cut, nowhere, in_before, in_steps, in_after, in_cleanups, Events, after_of, before_of, happened, in_order, has_event, site_of, one_step, steps_from, walk, Explainer, SectionValue, after_event, after_events, level_of, ExplanationValue, with_section, with_case, with_case_of, is_cut, said, Hears, CasesAreExplained}
+-- What an explainer says of a case that it received.
+use Rattle.gk_explain.proofs.Common.{FoldsTo, ◌≡◌, ◌∙◌, ℕ, zero, suc, Bool, true, false, cond, List, [], ◌∷◌, ◌++◌, reverse, refl, ap, sym, subst, StepValue, CaseValue, LibraryValue, State, enter, Ending, Level, Stage, CleanupValue, act, done_of, clean_each, after_lists, before_list, entered, walk_each, ending_of, has_passed, of_step, of_cleanup, SectionNow, cut_at, ended_in, left_by, refused, Run, alone, Cut, nowhere, in_before, in_steps, in_after, in_cleanups, Events, after_of, before_of, happened, in_order, has_event, steps_of_case, one_step, steps_from, walk, Explainer, SectionValue, after_event, after_events, level_of, ExplanationValue, with_section, with_case, with_case_of, is_cut, said, Hears, CasesAreExplained, map, append-nil, append_assoc, kept_of, section_lines}
 use Rattle.gk_run.specs.declared.ending.Ending.TheVariants as endings
 use Rattle.gk_run.specs.declared.acting.Site.TheVariants as sites
 use Rattle.gk_run.specs.declared.section.Level.TheVariants as levels
@@ -21,12 +21,12 @@ at_if level false xs a = tt
 at_walk : (library : LibraryValue) (stage : Stage) (s : State) (steps : List StepValue) → AllAt stage.level (walk library stage s steps)
 at_walk library stage s [] = tt
 at_walk library stage s (step ∷ steps) =
-    let this = one_step library (site_of stage) s step in
+    let this = one_step library stage s step in
     (refl, at_if _ (has_passed (ending_of this.mark)) _ (at_walk library stage this.state steps))
 
 at_steps : (library : LibraryValue) (stood : Ending) (s : State) (steps : List StepValue) → AllAt levels.Scenario (steps_from library stood s steps)
 at_steps library stood s [] = tt
-at_steps library endings.Passed s (step ∷ steps) = let this = one_step library sites.Step s step in (refl, at_steps library (ending_of this.mark) this.state steps)
+at_steps library endings.Passed s (step ∷ steps) = let this = one_step library steps_of_case s step in (refl, at_steps library (ending_of this.mark) this.state steps)
 at_steps library endings.Failed s (step ∷ steps) = (refl, at_steps library endings.Failed s steps)
 at_steps library endings.Skipped s (step ∷ steps) = (refl, at_steps library endings.Skipped s steps)
 at_steps library endings.Memory s (step ∷ steps) = (refl, at_steps library endings.Memory s steps)
@@ -42,7 +42,7 @@ at_in_turn library level s [] = tt
 at_in_turn library level s (c ∷ cs) = let done = done_of (act library sites.Cleanup c.found c.block s) in (refl, at_in_turn library level done.state cs)
 
 at_refused : {level : Level} (s : State) (t : RunEvent) → level_of t ≡ level → level_of (refused s t) ≡ level
-at_refused s (of_step stage step mark cleanups s') a = a
+at_refused s (of_step stage step mark used registered s') a = a
 at_refused s (of_cleanup level cleanup outcome s') a = a
 
 at_cut : (level : Level) (n : ℕ) (s : State) (ts : List RunEvent) → AllAt level ts → AllAt level (cut_at n s ts)
@@ -84,18 +84,19 @@ at_order level t a = at_both _ t.before _ a.0 (at_both _ t.steps _ a.1 (at_both 
 abbrev with_scenario : SectionValue → ExplanationValue → ExplanationValue
 with_scenario scenario e = record e { scenario = scenario }
 
--- An explainer that isn't cut keeps of a scenario what all its events make, which it was told.
+-- An explainer that isn't cut keeps of a scenario all its events, which it received.
 hears_all : (ts : List RunEvent) (old new : Explainer) → AllAt levels.Scenario ts → FoldsTo Hears old ts new → is_cut new ≡ false →
-    (is_cut old ≡ false) × (said new ≡ with_scenario (after_events (said old).library (said old).names ts (said old).scenario) (said old))
+    (is_cut old ≡ false) × (said new ≡ with_scenario (after_events (said old).library ts (said old).scenario) (said old))
 hears_all [] old new a h uncut =
-    subst (λ (e : Explainer). (is_cut e ≡ false) × (said new ≡ with_scenario (said e).scenario (said e))) (sym h) (uncut, refl)
+    subst (λ (e : Explainer). (is_cut e ≡ false) × (said new ≡ with_scenario ((said e).scenario ++ []) (said e))) (sym h) (uncut, ap (λ (kept : SectionValue). with_scenario kept (said new)) (sym (append-nil (said new).scenario)))
 hears_all (t ∷ ts) old new a h uncut =
     let rest = hears_all ts h.0 new a.1 h.2 uncut in
     let first = h.1 rest.0 in
     let e = said old in
-    let next : said h.0 ≡ with_scenario (after_event e.library e.names t e.scenario) e = first.1 ∙ ap (λ (level : Level). with_section level (after_event e.library e.names t) e) a.0 in (
+    let next : said h.0 ≡ with_scenario (after_event e.library t e.scenario) e = first.1 ∙ ap (λ (level : Level). with_section level (after_event e.library t) e) a.0 in (
       first.0,
-      rest.1 ∙ ap (λ (e : ExplanationValue). with_scenario (after_events e.library e.names ts e.scenario) e) next,
+      rest.1 ∙ ap (λ (e : ExplanationValue). with_scenario (after_events e.library ts e.scenario) e) next
+          ∙ ap (λ (kept : SectionValue). with_scenario kept e) (append_assoc e.scenario (kept_of e.library t ∷ []) (map (kept_of e.library) ts)),
     )
 
 pub explained_by_its_events : CasesAreExplained
@@ -109,5 +110,5 @@ explained_by_its_events run section c row old new told uncut none =
       events.cut,
       events.is,
       all.0,
-      ended.1 ∙ ap (with_case row) all.1 ∙ ap (λ (before : SectionValue). with_case_of (after_events e.library e.names ts before).lines row e) none,
+      ended.1 ∙ ap (with_case row) all.1 ∙ ap (λ (before : SectionValue). with_case_of (section_lines e.names (after_events e.library ts before)) row e) none,
     )

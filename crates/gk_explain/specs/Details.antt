@@ -1,13 +1,13 @@
 -- Details below an event that failed: what its reason means there.
 use Rattle.std.specs.Prelude.{ℕ, ℤ, List, [], ◌++◌, Option, Some, None, unwrap_or, codes, length}
 use Rattle.std.specs.Fmt.{decimal, signed_decimal}
-use Rattle.gk_gherkin.specs.Feature.{BlockValue, StepValue}
+use Rattle.gk_gherkin.specs.Feature.{StepValue}
 use Rattle.gk_steps.specs.declared.action.Action.{Action}
 use Rattle.gk_steps.specs.declared.action.Action.TheVariants as actions
 use Rattle.gk_steps.specs.declared.action.ActsOn.{ActsOn}
 use Rattle.gk_steps.specs.declared.action.ActsOn.TheVariants.{File, Variable, Value}
 use Rattle.gk_steps.specs.Action.{row_of}
-use Rattle.gk_steps.specs.Finding.{LibraryValue, FoundValue, action_of, found}
+use Rattle.gk_steps.specs.Finding.{LibraryValue}
 use Rattle.gk_world.specs.State.{State, see}
 use Rattle.gk_world.specs.Refusals.{joined}
 use Rattle.gk_run.specs.declared.results.Mark.{Mark}
@@ -16,7 +16,7 @@ use Rattle.gk_run.specs.declared.results.Outcome.{Outcome}
 use Rattle.gk_run.specs.declared.results.Outcome.TheVariants.{Failed}
 use Rattle.gk_run.specs.declared.results.Reason.{Reason}
 use Rattle.gk_run.specs.declared.results.Reason.TheVariants as reasons
-use Rattle.gk_run.specs.Acting.{ArgumentsValue, arguments_of}
+use Rattle.gk_run.specs.Acting.{ArgumentsValue, UseValue, use_of}
 use Rattle.gk_run.specs.Events.{Event as RunEvent, of_step, of_cleanup}
 use Rattle.gk_report.specs.ReportTexts.{line_feed}
 use Rattle.gk_explain.specs.declared.differences.Position.{Position}
@@ -115,37 +115,41 @@ new_text action g s = unwrap_or g.text []
 unfoldable pub text_length : ℕ → List ℕ
 text_length count = codes "      the text has " ++ (decimal count ++ codes " bytes; at most 1048576 are allowed\n")
 
--- What a reason means for an action at a state. If the text of a step that is to be run at the end finds no entry, the one that may be meant is named.
-abbrev pub details : LibraryValue → Action → ArgumentsValue → Reason → State → List ℕ
-details library action g reasons.Differs s = difference action g (found_text action g s)
-details library action g reasons.Absent s = absent_line (row_of action).acts_on g.name
-details library action g reasons.Present s = found_below (found_text action g s)
-details library action g reasons.NotNumber s = found_below (found_text action g s)
-details library action g reasons.OutOfRange s = sum_out_of_range (found_text action g s) g.number
-details library action g reasons.OtherLayer s = in_outer_layer (found_text action g s)
-details library action g reasons.BadTable s = other_table g.block
-details library action g reasons.BadName s = name_length (length (given_name action g))
-details library action g reasons.TextTooLong s = text_length (length (new_text action g s))
-details library action g reasons.NoStep s = nearest_told library g.step
-details library action g _ s = []
+-- What a reason means for the given arguments of an action at a state. If the text of a step that is to be run at the end finds no entry, the one that may be meant is named.
+abbrev pub reason_details : LibraryValue → Action → ArgumentsValue → Reason → State → List ℕ
+reason_details library action g reasons.Differs s = difference action g (found_text action g s)
+reason_details library action g reasons.Absent s = absent_line (row_of action).acts_on g.name
+reason_details library action g reasons.Present s = found_below (found_text action g s)
+reason_details library action g reasons.NotNumber s = found_below (found_text action g s)
+reason_details library action g reasons.OutOfRange s = sum_out_of_range (found_text action g s) g.number
+reason_details library action g reasons.OtherLayer s = in_outer_layer (found_text action g s)
+reason_details library action g reasons.BadTable s = other_table g.block
+reason_details library action g reasons.BadName s = name_length (length (given_name action g))
+reason_details library action g reasons.TextTooLong s = text_length (length (new_text action g s))
+reason_details library action g reasons.NoStep s = nearest_told library g.step
+reason_details library action g _ s = []
 
--- What an outcome means for what was found, with a step's block.
-abbrev pub outcome_details : LibraryValue → FoundValue → BlockValue → Outcome → State → List ℕ
-outcome_details library f block (Failed why) s = details library (action_of library f) (arguments_of library f block) why s
-outcome_details library f block outcome s = []
+-- What a reason means for an action that was carried out.
+abbrev pub details : LibraryValue → UseValue → Reason → State → List ℕ
+details library used why s = reason_details library used.action used.arguments why s
 
--- The same for the result of a look-up.
-abbrev pub details_if_found : LibraryValue → Option FoundValue → BlockValue → Outcome → State → List ℕ
-details_if_found library None block outcome s = []
-details_if_found library (Some f) block outcome s = outcome_details library f block outcome s
+-- What an outcome means for an action that was carried out.
+abbrev pub outcome_details : LibraryValue → UseValue → Outcome → State → List ℕ
+outcome_details library used (Failed why) s = details library used why s
+outcome_details library used outcome s = []
+
+-- The same for an action, if one was carried out.
+abbrev pub details_if_used : LibraryValue → Option UseValue → Outcome → State → List ℕ
+details_if_used library None outcome s = []
+details_if_used library (Some used) outcome s = outcome_details library used outcome s
 
 -- What a step's mark means. For an undefined step, the entry that may be meant is named.
-abbrev pub mark_details : LibraryValue → StepValue → Mark → State → List ℕ
-mark_details library step (Acted outcome) s = details_if_found library (found library step.step_type step.text) step.block outcome s
-mark_details library step Undefined s = nearest_told library step.text
-mark_details library step mark s = []
+abbrev pub mark_details : LibraryValue → StepValue → Mark → Option UseValue → State → List ℕ
+mark_details library step (Acted outcome) used s = details_if_used library used outcome s
+mark_details library step Undefined used s = nearest_told library step.text
+mark_details library step mark used s = []
 
--- The text below the line of an event. The library finds the action of a step; that of a cleanup was found before. The state is the one that the event left. A check, or a change that is refused, leaves what it found.
+-- The text below the line of an event. The state is the one that the event left. A check, or a change that is refused, leaves what it found.
 unfoldable pub event_details : LibraryValue → RunEvent → List ℕ
-event_details library (of_step stage step mark cleanups s) = mark_details library step mark s
-event_details library (of_cleanup level cleanup outcome s) = outcome_details library cleanup.found cleanup.block outcome s
+event_details library (of_step stage step mark used registered s) = mark_details library step mark used s
+event_details library (of_cleanup level cleanup outcome s) = outcome_details library (use_of library cleanup.found cleanup.block) outcome s

@@ -7,10 +7,11 @@ use Rattle.gk_run.specs.declared.section.Level.{Level}
 use Rattle.gk_run.specs.declared.section.Level.TheVariants as levels
 use Rattle.gk_run.specs.Results.{CaseRow, RuleRow, FeatureRow}
 use Rattle.gk_run.specs.Events.{Event as RunEvent, EndTold, of_case, of_rule}
+use Rattle.gk_explain.specs.declared.explanation.Explained.{Explained}
 use Rattle.gk_explain.specs.declared.explanation.Explanation.{Explanation}
 use Rattle.gk_explain.specs.Event.{level_of}
 use Rattle.gk_explain.specs.EventLines.{NamesValue}
-use Rattle.gk_explain.specs.SectionLines.{SectionValue, section_value, untold, after_event}
+use Rattle.gk_explain.specs.SectionEvents.{SectionValue, section_value, section_lines, no_event, after_event}
 use Rattle.gk_explain.specs.RowLines.{rows_from, row_at, named_row}
 use Rattle.gk_explain.specs.Headings.{case_heading, rule_heading, feature_heading, run_heading, explained, listed}
 
@@ -27,11 +28,15 @@ pub record ExplanationValue : Type 0 where
   pub ready : List ℕ
   pub failures : List ℕ
 
+-- The names of the files, with this one of the feature.
+abbrev pub names_with : Explained → List ℕ → NamesValue
+names_with explained source = record { hooks = explained.hooks.now; source = source }
+
 -- The value of an `Explanation`.
 abbrev pub explanation_value : Explanation → ExplanationValue
 explanation_value e = record {
   library = e.nearest;
-  names = record { hooks = e.hooks.now; source = string_bytes e.source };
+  names = names_with e.explained (string_bytes e.source);
   rows = map example_row_value e.rows.now;
   coming = row_lists e.coming.now;
   run = section_value e.run;
@@ -46,9 +51,9 @@ explanation_value e = record {
 abbrev pub name_room : Explanation → ℕ
 name_room e = string_capacity e.source
 
--- Nothing was told yet, and no feature was begun. Each feature has a list of rows, in the order of the features.
+-- Nothing happened yet, and no feature was begun. Each feature has a list of rows, in the order of the features.
 abbrev pub nothing_said : LibraryValue → List ℕ → List (List ExampleRowValue) → ExplanationValue
-nothing_said library hooks rows = record { library = library; names = record { hooks = hooks; source = [] }; rows = []; coming = rows; run = untold; feature = untold; rule = untold; scenario = untold; ready = []; failures = [] }
+nothing_said library hooks rows = record { library = library; names = record { hooks = hooks; source = [] }; rows = []; coming = rows; run = no_event; feature = no_event; rule = no_event; scenario = no_event; ready = []; failures = [] }
 
 -- A change of the section of a level.
 abbrev pub with_section : Level → (SectionValue → SectionValue) → ExplanationValue → ExplanationValue
@@ -59,7 +64,7 @@ with_section levels.Scenario change e = record e { scenario = change e.scenario 
 
 -- One more event, added to its section.
 abbrev pub with_event : RunEvent → ExplanationValue → ExplanationValue
-with_event told e = with_section (level_of told) (after_event e.library e.names told) e
+with_event event e = with_section (level_of event) (after_event e.library event) e
 
 -- Something has ended with a status, under a heading and with the lines of its events. It is ready, and in the list, if it failed or was refused memory.
 abbrev pub with_end : List ℕ → Status → List ℕ → ExplanationValue → ExplanationValue
@@ -67,17 +72,17 @@ with_end heading status lines e = record e { ready = e.ready ++ explained headin
 
 -- A scenario with these lines has ended with a result, and nothing is kept of it. If it is the case of a row, its explanation names the row below the heading. The rows above it are dropped.
 abbrev pub with_case_of : List ℕ → CaseRow → ExplanationValue → ExplanationValue
-with_case_of lines c e = let rows = rows_from c.line e.rows in let ended = with_end (case_heading e.names.source c) c.status (named_row (row_at c.line rows) ++ lines) e in record ended { scenario = untold; rows = rows }
+with_case_of lines c e = let rows = rows_from c.line e.rows in let ended = with_end (case_heading e.names.source c) c.status (named_row (row_at c.line rows) ++ lines) e in record ended { scenario = no_event; rows = rows }
 
 -- The open scenario has ended with a result.
 abbrev pub with_case : CaseRow → ExplanationValue → ExplanationValue
-with_case c e = with_case_of e.scenario.lines c e
+with_case c e = with_case_of (section_lines e.names e.scenario) c e
 
 -- The open rule has ended with a result.
 abbrev pub with_rule : RuleRow → ExplanationValue → ExplanationValue
-with_rule r e = let ended = with_end (rule_heading e.names.source r) r.around e.rule.lines e in record ended { rule = untold }
+with_rule r e = let ended = with_end (rule_heading e.names.source r) r.around (section_lines e.names e.rule) e in record ended { rule = no_event }
 
--- The end of a scenario or a rule was told.
+-- A scenario or a rule has ended.
 abbrev pub with_ended : EndTold → ExplanationValue → ExplanationValue
 with_ended (of_case c) e = with_case c e
 with_ended (of_rule r) e = with_rule r e
@@ -93,11 +98,11 @@ with_source source e = let begun = with_rows e.coming e in record begun { names 
 
 -- The open feature has ended with a result.
 abbrev pub with_feature : FeatureRow → ExplanationValue → ExplanationValue
-with_feature f e = let ended = with_end (feature_heading e.names.source f) f.around e.feature.lines e in record ended { feature = untold }
+with_feature f e = let ended = with_end (feature_heading e.names.source f) f.around (section_lines e.names e.feature) e in record ended { feature = no_event }
 
 -- The run has ended; the status is that of its hooks and cleanups.
 abbrev pub with_run : Status → ExplanationValue → ExplanationValue
-with_run around e = let ended = with_end run_heading around e.run.lines e in record ended { run = untold }
+with_run around e = let ended = with_end run_heading around (section_lines e.names e.run) e in record ended { run = no_event }
 
 -- What was ready was taken.
 abbrev pub with_taken : ExplanationValue → ExplanationValue

@@ -7,9 +7,8 @@ pub mod Nearest
 pub mod NearestLines
 pub mod Details
 pub mod DifferingLines
-pub mod Registrations
 pub mod EventLines
-pub mod SectionLines
+pub mod SectionEvents
 pub mod RowLines
 pub mod Headings
 pub mod Explanation

@@ -1,20 +1,21 @@
 //! Details below the line of an event that failed.
-ghost use Rattle.std.specs.Prelude.{◌≡◌, ◌++◌, length, option_copied, string_bytes};
+ghost use Rattle.std.specs.Prelude.{◌≡◌, ◌++◌, length, option_copied};
 ghost use Rattle.gk_gherkin.specs.Feature.{block_value};
-ghost use Rattle.gk_steps.specs.Finding.{found_value, found};
+ghost use Rattle.gk_steps.specs.Finding.{found_value};
 ghost use Rattle.gk_world.specs.State.{state_of};
-ghost use Rattle.gk_run.specs.Acting.{arguments_value};
+ghost use Rattle.gk_run.specs.Acting.{arguments_value, use_of, use_value};
+ghost use Rattle.gk_run.specs.Events.{used_in};
 ghost use Rattle.gk_run.specs.declared.results.Outcome.TheVariants.{Failed};
 ghost use Rattle.gk_report.specs.ReportTexts.{Pushes};
 ghost use Rattle.gk_explain.specs.Details as spec;
-ghost use Rattle.gk_explain.specs.Event.{event_told};
+ghost use Rattle.gk_explain.specs.Event.{event_value};
 
 use crate::differences::{Position, first_difference};
 use crate::event::{CleanupEvent, Event, StepEvent};
 use crate::nearest_lines::NearestLines;
 use crate::shown::{push_shown, push_text, push_text_with};
 use crate::tables::{push_table, refused_file};
-use gk_run::{Arguments, Mark, Outcome, Reason, arguments_of};
+use gk_run::{Arguments, Mark, Outcome, Reason, Used, used_of};
 use gk_steps::{Action, ActsOn};
 use gk_world::Sandbox;
 use std::alloc::{AllocError, Global};
@@ -234,32 +235,23 @@ fn push_text_length(out: &mut String, count: u128) -> Result<(), AllocError>
     Ok(())
 }
 
-// An action that failed, its arguments, the reason, and the sandbox that it left.
-#[derive(Clone, Copy)]
-struct Failure<'a> {
-    action: Action,
-    given: Arguments<'a>,
-    reason: Reason,
-    sandbox: &'a Sandbox,
-}
-
-// Appends what the reason of a failure means.
+// Appends what the reason of a failed action means, from the sandbox that it left.
 fn push_details(
     alloc: Global,
     out: &mut String,
     nearest: &mut NearestLines<'_>,
-    failure: &Failure<'_>,
+    used: &Used<'_>,
+    reason: Reason,
+    sandbox: &Sandbox,
 ) -> Result<(), AllocError>
-    ensures pushed { let given = failure.now.given in Pushes out.old
-        (spec.details nearest.old failure.now.action (arguments_value given) failure.now.reason
-        (state_of failure.now.sandbox.now.now)) result out.new }
+    ensures pushed { Pushes out.old (spec.details nearest.old (use_value used.now) reason
+        (state_of sandbox.now.now)) result out.new }
     ensures kept { nearest.new ≡ nearest.old }
 {
-    let action = failure.action;
-    let given = &failure.given;
-    let sandbox = failure.sandbox;
+    let action = used.action;
+    let given = &used.arguments;
     let found = found_text(action, given, sandbox);
-    match failure.reason {
+    match reason {
         Reason::Differs => push_difference(alloc, out, action, given, found),
         Reason::Absent => push_absent(out, action.row().acts_on, given.name),
         Reason::Present | Reason::NotNumber => push_text(alloc, out, "found   ", found),
@@ -273,7 +265,7 @@ fn push_details(
     }
 }
 
-// Appends what a reason means for a step. The library finds the step's action.
+// Appends what a reason means for the action of a step, if one was carried out.
 fn push_reason(
     alloc: Global,
     out: &mut String,
@@ -281,24 +273,13 @@ fn push_reason(
     event: &StepEvent<'_>,
     reason: Reason,
 ) -> Result<(), AllocError>
-    ensures pushed { Pushes out.old (spec.details_if_found nearest.old
-        (found nearest.old event.now.step.now.step_type (string_bytes event.now.step.now.text))
-        (block_value event.now.step.now.block) (Failed reason)
+    ensures pushed { Pushes out.old (spec.details_if_used nearest.old
+        (used_in event.now.done.now) (Failed reason)
         (state_of event.now.sandbox.now.now)) result out.new }
     ensures kept { nearest.new ≡ nearest.old }
 {
-    let library = nearest.library();
-    let step = event.step;
-    match library.find(alloc, step.step_type, step.text.as_str())? {
-        Some(found) => {
-            let failure = Failure {
-                action: library.action(&found),
-                given: arguments_of(library, &found, &step.block),
-                reason,
-                sandbox: event.sandbox,
-            };
-            push_details(alloc, out, nearest, &failure)
-        }
+    match event.done.used {
+        Some(used) => push_details(alloc, out, nearest, used, reason, event.sandbox),
         None => Ok(()),
     }
 }
@@ -312,18 +293,14 @@ fn push_cleanup_reason(
     reason: Reason,
 ) -> Result<(), AllocError>
     ensures pushed { Pushes out.old (spec.outcome_details nearest.old
-        (found_value event.now.found.now) (block_value event.now.block.now) (Failed reason)
+        (use_of nearest.old (found_value event.now.cleanup.now.found)
+        (block_value event.now.cleanup.now.block)) (Failed reason)
         (state_of event.now.sandbox.now.now)) result out.new }
     ensures kept { nearest.new ≡ nearest.old }
 {
-    let library = nearest.library();
-    let failure = Failure {
-        action: library.action(event.found),
-        given: arguments_of(library, event.found, event.block),
-        reason,
-        sandbox: event.sandbox,
-    };
-    push_details(alloc, out, nearest, &failure)
+    let cleanup = event.cleanup;
+    let used = used_of(nearest.library(), &cleanup.found, &cleanup.block);
+    push_details(alloc, out, nearest, &used, reason, event.sandbox)
 }
 
 /// Appends the text below the line of an event: what the reason means if its action failed, or the nearest
@@ -337,11 +314,11 @@ pub fn push_event_details(
     event: Event<'_>,
 ) -> Result<(), AllocError>
     ensures pushed { Pushes out.old
-        (spec.event_details nearest.old (event_told event.entry)) result out.new }
+        (spec.event_details nearest.old (event_value event.entry)) result out.new }
     ensures kept { nearest.new ≡ nearest.old }
 {
     match event {
-        Event::Step(step) => match step.mark {
+        Event::Step(step) => match step.done.mark {
             Mark::Acted(Outcome::Failed(why)) => push_reason(alloc, out, nearest, &step, why),
             Mark::Undefined => nearest.push(alloc, out, step.step.text.as_str()),
             _ => Ok(()),

@@ -1,18 +1,17 @@
-//! Events of a run, as an explainer is told them.
+//! Events of a run, as an explainer receives them.
 ghost use Rattle.std.specs.Prelude.{◌≡◌};
 ghost use Rattle.gk_explain.specs.Event as spec;
 
-use gk_gherkin::{Block, Step};
-use gk_run::{Level, Mark, Outcome, Stage};
-use gk_steps::Found;
+use gk_gherkin::Step;
+use gk_run::{Cleanup, Level, Outcome, Stage, StepDone};
 use gk_world::Sandbox;
 
-/// What happened to a step: its stage, its mark, and the sandbox that it left.
+/// What happened to a step: its stage, what was done for it, and the sandbox that it left.
 #[derive(Clone, Copy)]
 pub struct StepEvent<'a> {
     pub stage: Stage,
     pub step: &'a Step,
-    pub mark: Mark,
+    pub done: &'a StepDone<'a>,
     pub sandbox: &'a Sandbox,
 }
 
@@ -20,8 +19,7 @@ pub struct StepEvent<'a> {
 #[derive(Clone, Copy)]
 pub struct CleanupEvent<'a> {
     pub level: Level,
-    pub found: &'a Found,
-    pub block: &'a Block,
+    pub cleanup: &'a Cleanup,
     pub outcome: Outcome,
     pub sandbox: &'a Sandbox,
 }
@@ -35,7 +33,7 @@ pub enum Event<'a> {
 
 /// Returns the level of the section that an event belongs to. Doesn't allocate.
 pub fn level_of(event: Event<'_>) -> Level
-    ensures { result ≡ spec.level_of (spec.event_told event.entry) }
+    ensures { result ≡ spec.level_of (spec.event_value event.entry) }
 {
     match event {
         Event::Step(step) => step.stage.level,

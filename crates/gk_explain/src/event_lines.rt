@@ -1,19 +1,19 @@
-//! The lines of an event of a run.
-ghost use Rattle.std.specs.Prelude.{◌≡◌, ◌++◌, codes};
-ghost use Rattle.gk_gherkin.specs.Feature.{step_value};
+//! What is kept of an event of a run, and its lines.
+ghost use Rattle.std.specs.Prelude.{◌≡◌, ◌++◌, codes, IfOk};
 ghost use Rattle.gk_report.specs.ReportTexts.{line_feed, Pushes};
-ghost use Rattle.gk_explain.specs.Event.{event_told};
+ghost use Rattle.gk_explain.specs.Event.{event_value};
 ghost use Rattle.gk_explain.specs.EventLines as spec;
-ghost use Rattle.gk_explain.specs.EventLines.{names_value, mark_text};
+ghost use Rattle.gk_explain.specs.EventLines.{names_value, mark_text, step_words, kept_value};
 ghost use Rattle.gk_explain.specs.Shown.{escaped};
 
+use crate::details::push_event_details;
 use crate::event::Event;
-use crate::registrations::Registration;
+use crate::nearest_lines::NearestLines;
 use crate::shown::{push_escaped, push_file};
-use gk_gherkin::Step;
+use gk_gherkin::Keyword;
 use gk_report::push_ending;
-use gk_run::{Mark, Outcome, Part, Stage, reason_of, status_of};
-use std::alloc::AllocError;
+use gk_run::{Mark, Part, Registration, reason_of, status_of};
+use std::alloc::{AllocError, Global};
 
 /// The names of the hooks file and of the feature file that contain the steps.
 #[derive(Clone, Copy, Debug)]
@@ -69,74 +69,116 @@ fn push_words(out: &mut String, keyword: &str, text: &str) -> Result<(), AllocEr
     push_escaped(out, text)
 }
 
+/// The keyword and the text of a step.
+#[derive(Debug, Drop)]
+struct KeptStep {
+    keyword: Keyword,
+    text: String,
+}
+
+/// What is kept of an event until its lines are made: the place of the step, or of the step that registered
+/// the cleanup; the step, unless it is a cleanup; its mark; and the text below its line.
+#[derive(Debug, Drop)]
+pub struct KeptEvent {
+    at: Registration,
+    step: Option<KeptStep>,
+    mark: Mark,
+    details: String,
+}
+
+/// Returns what is kept of an event. Text is made only of one that failed. An error comes only if a growth was
+/// refused.
+pub fn kept_of(
+    alloc: Global,
+    nearest: &mut NearestLines<'_>,
+    event: Event<'_>,
+) -> Result<KeptEvent, AllocError>
+    ensures kept { IfOk result (λ kept. kept_value kept
+        ≡ spec.kept_of nearest.old (event_value event.entry)) }
+    ensures library { nearest.new ≡ nearest.old }
+{
+    let mut details = String::new(alloc);
+    push_event_details(alloc, &mut details, nearest, event)?;
+    match event {
+        Event::Step(event) => Ok(KeptEvent {
+            at: Registration {
+                part: event.stage.part,
+                line: event.step.line,
+            },
+            step: Some(KeptStep {
+                keyword: event.step.keyword,
+                text: String::from_str(alloc, event.step.text.as_str())?,
+            }),
+            mark: event.done.mark,
+            details,
+        }),
+        Event::Cleanup(event) => Ok(KeptEvent {
+            at: event.cleanup.at,
+            step: None,
+            mark: Mark::Acted(event.outcome),
+            details,
+        }),
+    }
+}
+
 // Appends the line of a step and its mark.
 #[tactic(auto, unfolding(crate::specs::EventLines::line_of_step, gk_report::specs::PlainReport::status_line))]
 fn push_step_line(
     out: &mut String,
     names: Names<'_>,
-    stage: Stage,
-    step: &Step,
+    at: Registration,
+    step: &KeptStep,
     mark: Mark,
 ) -> Result<(), AllocError>
     ensures { Pushes out.old
-        (spec.line_of_step (names_value names.entry) stage (step_value step.now) mark)
+        (spec.line_of_step (names_value names.entry) at (step_words step.now) mark)
         result out.new }
 {
     out.push_str("  ")?;
-    push_place(out, file_of(names, stage.part), step.line)?;
-    out.push_str(part_text(stage.part))?;
+    push_place(out, file_of(names, at.part), at.line)?;
+    out.push_str(part_text(at.part))?;
     push_words(out, step.keyword.as_str(), step.text.as_str())?;
     push_mark(out, mark)
 }
 
-// Appends the place where a cleanup was registered, if there is one.
-fn push_registration(
-    out: &mut String,
-    names: Names<'_>,
-    registered: Option<Registration>,
-) -> Result<(), AllocError>
-    ensures { Pushes out.old (spec.registered_text (names_value names.entry) registered)
-        result out.new }
-{
-    match registered {
-        Some(at) => push_place(out, file_of(names, at.part), at.line),
-        None => Ok(()),
-    }
-}
-
-// Appends the line of a cleanup: the place where it was registered, and its outcome.
+// Appends the line of a cleanup: the place where it was registered, and its mark.
 #[tactic(auto, unfolding(crate::specs::EventLines::line_of_cleanup, gk_report::specs::PlainReport::status_line))]
 fn push_cleanup_line(
     out: &mut String,
     names: Names<'_>,
-    registered: Option<Registration>,
-    outcome: Outcome,
+    at: Registration,
+    mark: Mark,
 ) -> Result<(), AllocError>
     ensures { Pushes out.old
-        (spec.line_of_cleanup (names_value names.entry) registered outcome) result out.new }
+        (spec.line_of_cleanup (names_value names.entry) at mark) result out.new }
 {
     out.push_str("  ")?;
-    push_registration(out, names, registered)?;
+    push_place(out, file_of(names, at.part), at.line)?;
     out.push_str("cleanup")?;
-    push_mark(out, Mark::Acted(outcome))
+    push_mark(out, mark)
 }
 
-/// Appends the line of an event of a section. `registered` has the places of the section's cleanups that are
-/// still to run. An error comes only if a growth was refused; a part of the line may have been appended then.
-pub fn push_event_line(
+// Appends the line of an event.
+fn push_event_line(out: &mut String, names: Names<'_>, event: &KeptEvent) -> Result<(), AllocError>
+    ensures { Pushes out.old
+        (spec.event_line (names_value names.entry) (kept_value event.now)) result out.new }
+{
+    match &event.step {
+        Some(step) => push_step_line(out, names, event.at, step, event.mark),
+        None => push_cleanup_line(out, names, event.at, event.mark),
+    }
+}
+
+/// Appends the lines of an event: its own, and the text below it. An error comes only if a growth was refused;
+/// a part of the lines may have been appended then.
+pub fn push_event_lines(
     out: &mut String,
     names: Names<'_>,
-    registered: &[Registration],
-    event: Event<'_>,
+    event: &KeptEvent,
 ) -> Result<(), AllocError>
     ensures { Pushes out.old
-        (spec.event_line (names_value names.entry) registered.now (event_told event.entry))
-        result out.new }
+        (spec.event_lines (names_value names.entry) (kept_value event.now)) result out.new }
 {
-    match event {
-        Event::Step(step) => push_step_line(out, names, step.stage, step.step, step.mark),
-        Event::Cleanup(cleanup) => {
-            push_cleanup_line(out, names, registered.last().copied(), cleanup.outcome)
-        }
-    }
+    push_event_line(out, names, event)?;
+    out.push_str(event.details.as_str())
 }

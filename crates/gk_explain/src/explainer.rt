@@ -3,7 +3,6 @@ ghost use Rattle.std.specs.Prelude.{◌≡◌, true, false, IfOk, OnOk, OnErr, s
 ghost use Rattle.gk_select.specs.ExampleRows.{row_lists};
 ghost use Rattle.gk_steps.specs.Finding.{library_value};
 ghost use Rattle.gk_run.specs.Results.{feature_row};
-ghost use Rattle.gk_explain.specs.Registrations.{CleanupsAreOfTheirSteps};
 ghost use Rattle.gk_explain.specs.Headings.{failures_text};
 ghost use Rattle.gk_explain.specs.Explanation.{nothing_said, with_source, with_feature, with_run, with_taken};
 ghost use Rattle.gk_explain.specs.Explainer as spec;
@@ -11,12 +10,13 @@ ghost use Rattle.gk_explain.specs.Explainer.{said, Becomes, Hears, HearsEnd, Cas
 
 use crate::event::{CleanupEvent, Event, StepEvent};
 use crate::explanation::Explanation;
-use gk_gherkin::{Block, Step};
+use gk_gherkin::Step;
 use gk_run::{
-    CaseResult, FeatureResult, Level, Mark, Observer, Outcome, RuleResult, Stage, Status,
+    CaseResult, Cleanup, FeatureResult, Level, Observer, Outcome, RuleResult, Stage, Status,
+    StepDone,
 };
 use gk_select::ExampleRow;
-use gk_steps::{Found, Library};
+use gk_steps::Library;
 use gk_world::Sandbox;
 use std::alloc::{AllocError, Global};
 
@@ -38,7 +38,7 @@ pub struct Explainer<'a> {
 }
 
 impl<'a> Explainer<'a> {
-    /// Returns an explainer that was told nothing. `library` is the library in which the run finds its steps,
+    /// Returns an explainer before any event. `library` is the library in which the run finds its steps,
     /// and `hooks` is the run's name for the hooks file. `rows` has the rows of each feature's outlines, in the
     /// order of the features; a feature without a list there has no rows. Doesn't allocate.
     pub fn new(
@@ -155,35 +155,27 @@ impl Observer for Explainer<'_> {
 
     ghost ends = { HearsEnd };
 
-    fn step(&mut self, stage: Stage, step: &Step, mark: Mark, sandbox: &Sandbox) {
+    fn step(&mut self, stage: Stage, step: &Step, done: &StepDone<'_>, sandbox: &Sandbox) {
         if self.cut {
             return;
         }
         let event = Event::Step(StepEvent {
             stage,
             step,
-            mark,
+            done,
             sandbox,
         });
         let added = self.explanation.add(self.alloc, event);
         self.cut_after(added);
     }
 
-    fn cleanup(
-        &mut self,
-        level: Level,
-        found: &Found,
-        block: &Block,
-        outcome: Outcome,
-        sandbox: &Sandbox,
-    ) {
+    fn cleanup(&mut self, level: Level, cleanup: &Cleanup, outcome: Outcome, sandbox: &Sandbox) {
         if self.cut {
             return;
         }
         let event = Event::Cleanup(CleanupEvent {
             level,
-            found,
-            block,
+            cleanup,
             outcome,
             sandbox,
         });
@@ -208,17 +200,9 @@ impl Observer for Explainer<'_> {
     }
 }
 
-/// A case that was told to an explainer that kept nothing before and isn't cut is explained if it failed or
-/// was refused memory. The explanation has the lines of all its events in order, with the text below those that
+/// A case is explained by an explainer that kept nothing before and isn't cut, if it failed or was refused
+/// memory. The explanation has the lines of all its events in order, with the text below those that
 /// failed. Nothing is said about any other case.
-#[tactic(auto, using(crate::proofs::ExplainerLemmas::explained_by_its_events))]
 pub fn cases_are_explained()
     ensures { CasesAreExplained }
-{}
-
-/// If memory is refused nowhere, the cleanups of a case that run are those that its hooks and steps registered,
-/// the last first. The place given for each is that of the step that registered it.
-#[tactic(auto, using(crate::proofs::RegistrationLemmas::placed_by_their_steps))]
-pub fn cleanups_are_of_their_steps()
-    ensures { CleanupsAreOfTheirSteps }
 {}

@@ -1,18 +1,18 @@
-//! The state that explains a run: the lines of its events and the places where cleanups were registered, but no
-//! event.
+//! The state that explains a run: what is kept of its events until their lines are wanted.
 ghost use Rattle.std.specs.Prelude.{◌≡◌, ◌++◌, true, false, IfOk, OnOk, OnErr, string_bytes};
 ghost use Rattle.gk_run.specs.Running as cases;
 ghost use Rattle.gk_report.specs.ReportTexts.{line_feed, Pushes};
 ghost use Rattle.gk_explain.specs.RowLines.{named_row, borrowed_row};
 ghost use Rattle.gk_explain.specs.Headings as headings;
-ghost use Rattle.gk_explain.specs.SectionLines.{section_value, untold};
+ghost use Rattle.gk_explain.specs.SectionEvents.{section_value, section_lines, no_event};
+ghost use Rattle.gk_explain.specs.Explanation.{names_with};
 
 use crate::event::{Event, level_of};
 use crate::event_lines::Names;
 use crate::headings::{ExplainedEnd, ended_status, push_explanation, push_heading};
 use crate::nearest_lines::NearestLines;
 use crate::row_lines::{row_at, rows_from};
-use crate::section_lines::SectionLines;
+use crate::section_events::SectionEvents;
 use gk_run::{CaseResult, FeatureResult, Level, RuleResult, Status, is_failed_or_memory};
 use gk_select::ExampleRow;
 use gk_steps::Library;
@@ -24,41 +24,47 @@ use std::mem;
 #[derive(Debug, Drop)]
 pub struct Explanation<'a> {
     nearest: NearestLines<'a>,
-    hooks: &'a str,
     source: String,
     rows: &'a [ExampleRow],
     coming: &'a [Vec<ExampleRow>],
-    run: SectionLines,
-    feature: SectionLines,
-    rule: SectionLines,
-    scenario: SectionLines,
-    explained: Explained,
+    run: SectionEvents,
+    feature: SectionEvents,
+    rule: SectionEvents,
+    scenario: SectionEvents,
+    explained: Explained<'a>,
 }
 
-/// The explanations that are ready to be written, and the list of what failed.
+/// The name of the hooks file, the explanations that are ready to be written, and the list of what failed.
 #[derive(Debug, Drop)]
-struct Explained {
+struct Explained<'a> {
+    hooks: &'a str,
     ready: String,
     failures: String,
 }
 
-impl Explained {
+impl Explained<'_> {
     // Adds the explanation of what failed, and its line in the list.
     fn add(
         &mut self,
         source: &str,
         ended: ExplainedEnd<'_>,
         row: Option<&ExampleRow>,
-        lines: &str,
+        section: &SectionEvents,
     ) -> Result<(), AllocError>
         ensures ready { Pushes self.old.ready
             (headings.explanation_text (headings.heading_of source.now ended.entry)
-            (headings.ended_status ended.entry) (named_row (borrowed_row row.entry) ++ lines.now))
+            (headings.ended_status ended.entry) (named_row (borrowed_row row.entry) ++
+            section_lines (names_with self.old source.now) (section_value section.now)))
             result self.new.ready }
         ensures failures { Pushes self.old.failures
             (headings.heading_of source.now ended.entry ++ line_feed) result self.new.failures }
+        ensures hooks { self.new.hooks ≡ self.old.hooks }
     {
-        push_explanation(&mut self.ready, source, ended, row, lines)?;
+        let names = Names {
+            hooks: self.hooks,
+            source,
+        };
+        push_explanation(&mut self.ready, names, ended, row, section)?;
         push_heading(&mut self.failures, source, ended)?;
         self.failures.push_str("\n")
     }
@@ -70,21 +76,23 @@ impl Explained {
         source: &str,
         ended: ExplainedEnd<'_>,
         row: Option<&ExampleRow>,
-        section: &mut SectionLines,
+        section: &mut SectionEvents,
     ) -> Result<(), AllocError>
-        ensures ready { let old = section_value section.old in Pushes self.old.ready
+        ensures ready { Pushes self.old.ready
             (headings.explained (headings.heading_of source.now ended.entry)
-            (headings.ended_status ended.entry) (named_row (borrowed_row row.entry) ++ old.lines))
+            (headings.ended_status ended.entry) (named_row (borrowed_row row.entry) ++
+            section_lines (names_with self.old source.now) (section_value section.old)))
             result self.new.ready }
         ensures failures { Pushes self.old.failures
             (headings.listed (headings.heading_of source.now ended.entry)
             (headings.ended_status ended.entry)) result self.new.failures }
-        ensures section { OnOk result (section_value section.new ≡ untold) }
+        ensures hooks { self.new.hooks ≡ self.old.hooks }
+        ensures section { OnOk result (section_value section.new ≡ no_event) }
         ensures free { cases.is_failed_or_memory (headings.ended_status ended.entry) ≡ false →
             OnErr result ⊥ }
     {
         if is_failed_or_memory(ended_status(ended)) {
-            self.add(source, ended, row, section.lines())?;
+            self.add(source, ended, row, section)?;
         }
         section.clear();
         Ok(())
@@ -96,12 +104,11 @@ impl<'a> Explanation<'a> {
     ghost use Rattle.gk_select.specs.ExampleRows.{row_lists};
     ghost use Rattle.gk_steps.specs.Finding.{library_value};
     ghost use Rattle.gk_run.specs.Results.{case_row, rule_row, feature_row};
-    ghost use Rattle.gk_explain.specs.Event.{event_told};
+    ghost use Rattle.gk_explain.specs.Event.{event_value};
     ghost use Rattle.gk_explain.specs.Headings.{failures_text};
     ghost use Rattle.gk_explain.specs.Explanation.{explanation_value, name_room, nothing_said, with_event, with_case, with_rule, with_rows, with_source, with_feature, with_run, with_taken};
 
-    /// Returns an explanation that was told nothing, before any feature has begun. The run finds its steps in
-    /// `library`, and `hooks` is the name of the hooks file. `rows` has the rows of each feature's outlines, in
+    /// Returns an explanation of nothing, before any feature has begun. The run finds its steps in `library`, and `hooks` is the name of the hooks file. `rows` has the rows of each feature's outlines, in
     /// the order of the features. Doesn't allocate.
     pub fn new(
         alloc: Global,
@@ -115,15 +122,15 @@ impl<'a> Explanation<'a> {
     {
         Explanation {
             nearest: NearestLines::new(alloc, library),
-            hooks,
             source: String::new(alloc),
             rows: &[],
             coming: rows,
-            run: SectionLines::new(alloc),
-            feature: SectionLines::new(alloc),
-            rule: SectionLines::new(alloc),
-            scenario: SectionLines::new(alloc),
+            run: SectionEvents::new(alloc),
+            feature: SectionEvents::new(alloc),
+            rule: SectionEvents::new(alloc),
+            scenario: SectionEvents::new(alloc),
             explained: Explained {
+                hooks,
                 ready: String::new(alloc),
                 failures: String::new(alloc),
             },
@@ -172,27 +179,22 @@ impl<'a> Explanation<'a> {
         )
     }
 
-    /// Adds an event to what is kept of its section. An error comes only if a growth was refused; the section
-    /// may have a part of the event's lines then.
+    /// Adds an event to what is kept of its section. An error comes only if a growth was refused.
     pub fn add(&mut self, alloc: Global, event: Event<'_>) -> Result<(), AllocError>
         ensures { OnOk result (explanation_value self.new
-            ≡ with_event (event_told event.entry) (explanation_value self.old)) }
+            ≡ with_event (event_value event.entry) (explanation_value self.old)) }
     {
         let nearest = &mut self.nearest;
-        let names = Names {
-            hooks: self.hooks,
-            source: self.source.as_str(),
-        };
         match level_of(event) {
-            Level::Run => self.run.add(alloc, nearest, names, event),
-            Level::Feature => self.feature.add(alloc, nearest, names, event),
-            Level::Rule => self.rule.add(alloc, nearest, names, event),
-            Level::Scenario => self.scenario.add(alloc, nearest, names, event),
+            Level::Run => self.run.add(alloc, nearest, event),
+            Level::Feature => self.feature.add(alloc, nearest, event),
+            Level::Rule => self.rule.add(alloc, nearest, event),
+            Level::Scenario => self.scenario.add(alloc, nearest, event),
         }
     }
 
     /// Ends the open scenario with this result. If it is the case of a row, its explanation names the row. Each
-    /// case must be told before those on later lines, or its row isn't found. An error comes only if a growth
+    /// case must end before those on later lines, or its row isn't found. An error comes only if a growth
     /// was refused; a part of its explanation may be ready then.
     pub fn end_case(&mut self, case: &CaseResult) -> Result<(), AllocError>
         ensures ended { OnOk result (explanation_value self.new

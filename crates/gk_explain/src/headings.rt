@@ -3,10 +3,13 @@ ghost use Rattle.std.specs.Prelude.{◌≡◌, ◌++◌};
 ghost use Rattle.gk_run.specs.Results.{case_row, rule_row, feature_row};
 ghost use Rattle.gk_report.specs.ReportTexts.{Pushes};
 ghost use Rattle.gk_explain.specs.RowLines.{named_row, borrowed_row};
+ghost use Rattle.gk_explain.specs.EventLines.{names_value};
+ghost use Rattle.gk_explain.specs.SectionEvents.{section_lines, section_value};
 ghost use Rattle.gk_explain.specs.Headings as spec;
 
-use crate::event_lines::push_place;
+use crate::event_lines::{Names, push_place};
 use crate::row_lines::push_named_row;
+use crate::section_events::SectionEvents;
 use crate::shown::push_escaped;
 use gk_report::push_ending;
 use gk_run::{CaseResult, FeatureResult, RuleResult, Status};
@@ -110,18 +113,19 @@ pub fn push_heading(
 #[tactic(auto, unfolding(crate::specs::Headings::explanation_text, gk_report::specs::PlainReport::status_line))]
 pub fn push_explanation(
     out: &mut String,
-    source: &str,
+    names: Names<'_>,
     ended: ExplainedEnd<'_>,
     row: Option<&ExampleRow>,
-    lines: &str,
+    section: &SectionEvents,
 ) -> Result<(), AllocError>
-    ensures { Pushes out.old (spec.explanation_text (spec.heading_of source.now ended.entry)
-        (spec.ended_status ended.entry) (named_row (borrowed_row row.entry) ++ lines.now))
-        result out.new }
+    ensures { Pushes out.old (spec.explanation_text
+        (spec.heading_of names.entry.source.now ended.entry)
+        (spec.ended_status ended.entry) (named_row (borrowed_row row.entry) ++
+        section_lines (names_value names.entry) (section_value section.now))) result out.new }
 {
-    push_heading(out, source, ended)?;
+    push_heading(out, names.source, ended)?;
     push_ending(out, ended_status(ended), None)?;
     push_named_row(out, row)?;
-    out.push_str(lines)?;
+    section.push_lines(out, names)?;
     out.push_str("\n")
 }

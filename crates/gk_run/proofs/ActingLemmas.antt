@@ -1,5 +1,5 @@
 -- What the world's changes and answers are to the table of actions.
-use Rattle.gk_run.proofs.Common.{⊤, ◌||◌, unwrap_or, bytes_eq, bytes_eq-Decides, ℤ, pos, negsuc, ◌+ℤ◌, String, FitsSigned, cond, option_map, Option, Some, None, Result, Ok, Err, OnOk, OnErr, map, is_none, get-insert, get-remove, signed_decimal, inl, inr, ◌≤◌, Vec, Global, get_or, w64, ◌≡◌, ℕ, ◌+◌, ◌<◌, Bool, true, false, List, [], ◌∷◌, length, drop, refl, sym, ap, subst, ◌∙◌, arith, leb-true, le-leb, common_steps, Decides-ltb, length_signed_le, nat_list_cmp_total, is_eq-slice_cmp, WorldFault, Texts, Contents, State, Map, with_text, without, laid, see, state_of, first_true, IsAnswer, IsFault, joined, is_bad_name, is_too_long, rename_refusal, SandboxValue, Becomes, Outcome, Site, Reason, number_of, is_i64, Action, Does, Changes, Checks, Registers, Skips, UsedFields, HasUsedFields, LibraryValue, FoundValue, action_of, BlockValue, texts, Arguments, WritesFirst, WritesFile, row_file, ArgumentsValue, arguments_of, arguments_by_uses, arguments_value, table, act, at_site, does_at_site, without_cleanups, CleanupValue, HasRegistered, write_row, write_rows, Done, add_number, is_pass, and_then, moved, rename_file, put, passes, stays, unless, outcome_of, IsDone, IsActed, Performs, exists, is_absent, agrees, skip_outcome, with_file, without_file, with_env, without_env, with_own, without_own}
+use Rattle.gk_run.proofs.Common.{⊤, ◌||◌, unwrap_or, bytes_eq, bytes_eq-Decides, ℤ, pos, negsuc, ◌+ℤ◌, String, FitsSigned, cond, option_map, Option, Some, None, Result, Ok, Err, OnOk, OnErr, map, is_none, get-insert, get-remove, signed_decimal, inl, inr, ◌≤◌, Vec, Global, get_or, w64, ◌≡◌, ℕ, ◌+◌, ◌<◌, Bool, true, false, List, [], ◌∷◌, length, drop, refl, sym, ap, subst, ◌∙◌, arith, leb-true, le-leb, common_steps, Decides-ltb, length_signed_le, nat_list_cmp_total, is_eq-slice_cmp, WorldFault, Texts, Contents, State, Map, with_text, without, laid, see, state_of, first_true, IsAnswer, IsFault, joined, is_bad_name, is_too_long, rename_refusal, SandboxValue, Becomes, Outcome, Site, Reason, number_of, is_i64, Action, Does, Changes, Checks, Registers, Skips, UsedFields, HasUsedFields, LibraryValue, FoundValue, action_of, BlockValue, texts, Arguments, WritesFirst, WritesFile, row_file, ArgumentsValue, arguments_of, arguments_by_uses, arguments_value, table, act, at_site, does_at_site, without_cleanups, CleanupValue, HasRegistered, write_row, write_rows, Done, add_number, is_pass, and_then, moved, rename_file, put, passes, stays, unless, outcome_of, IsDone, IsActed, Performs, exists, is_absent, agrees, skip_outcome, with_file, without_file, with_env, without_env, with_own, without_own, Registration, UseValue, use_of, used_at}
 use Rattle.std.specs.FinMap as finite
 use Rattle.std.proofs.lemmas.List.{append-nil}
 use Rattle.gk_world.specs.declared.refusals.WorldFault.TheVariants as faults
@@ -304,17 +304,17 @@ row_at Registers action site library g s n m = absurd (n refl)
 row_at Skips action site library g s n m = absurd (m refl)
 
 -- a cleanup that is registered where that is allowed
-pub none_registered : (done : Done) (cleanups : List CleanupValue) (o : Outcome) → HasRegistered (without_cleanups done) cleanups o cleanups
-none_registered done cleanups outcomes.Memory = refl
-none_registered done cleanups outcomes.Passed = sym (append-nil cleanups)
-none_registered done cleanups outcomes.Skip = sym (append-nil cleanups)
-none_registered done cleanups (outcomes.Failed why) = sym (append-nil cleanups)
+pub none_registered : (done : Done) (at : Registration) (cleanups : List CleanupValue) (o : Outcome) → HasRegistered (without_cleanups done) at cleanups o cleanups
+none_registered done at cleanups outcomes.Memory = refl
+none_registered done at cleanups outcomes.Passed = sym (append-nil cleanups)
+none_registered done at cleanups outcomes.Skip = sym (append-nil cleanups)
+none_registered done at cleanups (outcomes.Failed why) = sym (append-nil cleanups)
 
 -- what the used fields of what was found give
 pub used_given : (library : LibraryValue) (f : FoundValue) (u : UsedFields) (block : BlockValue) → HasUsedFields library f u → arguments_by_uses u block ≡ arguments_of library f block
 used_given library f u block h = grind (arith, common_steps)
 
 -- the action of a found step as it is called
-pub called_is : (library : LibraryValue) (site : Site) (f : FoundValue) (block : BlockValue) (s : State) (action : Action) (g : ArgumentsValue) → action ≡ action_of library f → g ≡ arguments_of library f block → at_site action site library g s ≡ act library site f block s
+pub called_is : (library : LibraryValue) (site : Site) (f : FoundValue) (block : BlockValue) (s : State) (used : UseValue) → used ≡ use_of library f block → used_at site library used s ≡ act library site f block s
 unfolding act
-called_is library site f block s action g e h = ap (λ a. at_site a site library g s) e ∙ ap (λ x. at_site (action_of library f) site library x s) h
+called_is library site f block s used e = ap (λ x. used_at site library x s) e

@@ -29,7 +29,7 @@ pub use Rattle.gk_select.specs.declared.case.Case.{Case}
 pub use Rattle.gk_steps.specs.Action.{ActionRowValue}
 pub use Rattle.gk_steps.specs.Decimal.{is_i64, number_of}
 pub use Rattle.gk_steps.specs.FilesTable.{files_below}
-pub use Rattle.gk_steps.specs.Finding.{FoundValue, HasCandidateFor, HasUsedFields, IsUseOf, LibraryValue, action_of, found, library_value}
+pub use Rattle.gk_steps.specs.Finding.{FoundValue, HasCandidateFor, HasUsedFields, IsUseOf, LibraryValue, action_of, found, found_value, library_value}
 pub use Rattle.gk_steps.specs.declared.action.Action.{Action}
 pub use Rattle.gk_steps.specs.declared.action.Does.{Does}
 pub use Rattle.gk_steps.specs.declared.action.Does.TheVariants.{Changes, Checks, Registers, Skips}
@@ -40,29 +40,32 @@ pub use Rattle.gk_world.specs.Refusals.{IsAnswer, IsFault, first_true, is_bad_na
 pub use Rattle.gk_world.specs.Sandbox.{Becomes, IsSame, KeepsLayers, SandboxValue}
 pub use Rattle.gk_world.specs.State.{Contents, Map, State, Texts, enter, laid, nothing_yet, see, state_of, with_text, without}
 pub use Rattle.gk_world.specs.declared.refusals.WorldFault.{WorldFault}
-pub use Rattle.gk_run.specs.Acting.{ArgumentsValue, CleanupValue, Done, HasRegistered, IsActed, IsDone, Performs, WritesFile, WritesFirst, add_number, agrees, and_then, arguments_by_uses, arguments_of, arguments_value, at_site, cleanup_value, does_at_site, done_of, exists, fails, is_absent, is_pass, moved, outcome_of, passes, put, rename_file, row_file, skip_outcome, stays, table, unless, with_env, with_file, with_own, without_cleanups, without_env, without_file, without_own, write_below, write_row, write_rows, write_table}
+pub use Rattle.gk_run.specs.Acting.{ActionEffect, ArgumentsValue, CleanupValue, Done, HasRegistered, Registered, UseValue, IsActed, IsDone, Performs, WritesFile, WritesFirst, add_number, agrees, and_then, called, arguments_by_uses, arguments_of, arguments_value, at_site, cleanup_value, cleanups_at, does_at_site, done_of, exists, fails, is_absent, is_pass, moved, outcome_of, passes, put, rename_file, row_file, skip_outcome, stays, table, unless, use_of, use_value, used_at, with_env, with_file, with_own, without_cleanups, without_env, without_file, without_own, write_below, write_row, write_rows, write_table}
 unfoldable pub use Rattle.gk_run.specs.Acting.{act}
 pub use Rattle.gk_run.specs.Chosen.{CasesFallIntoRules, ChosenValue, FormedCasesFallIntoRules, Group, GroupsAreAll, HeadValue, MemberValue, chosen_value, falls_from, groups_from, has_selected, head_value, member_of, members_of, members_of_rank, own_members, rule_groups}
 pub use Rattle.gk_run.specs.DryRun.{AreDrySteps, IsDryStep, dry_case_of, dry_cases_of, dry_events, dry_feature_of, dry_features_of, dry_row, dry_rules_of, dry_step, dry_verdict}
 pub use Rattle.gk_run.specs.Ending.{around_status, ending_of, has_passed, is_memory_ending, is_memory_mark, verdict_status, worse}
-pub use Rattle.gk_run.specs.Events.{EndTold, Event, IsCutOff, IsRan, Ran, SectionNow, SoFar, Told, after_event, cut_at, ended_in, event_marks, happens, has_ended, left_by, mark_of, of_case, of_cleanup, of_rule, of_step, outcomes_of, refused, result_of, section_now, tells}
+pub use Rattle.gk_run.specs.Events.{EndTold, Event, IsCutOff, IsRan, Ran, SectionNow, SoFar, Told, after_event, cut_at, ended_in, event_marks, happens, has_cleanup, has_ended, left_by, mark_of, of_case, of_cleanup, of_rule, of_step, outcomes_of, refused, result_of, section_now, tells, used_in}
 pub use Rattle.gk_run.specs.Features.{FeatureCuts, FeaturesWithoutRulesHaveTheirCases, Inside, IsFeatureResult, IsToldInPart, PrecedesCase, ResultsStandInFileOrder, RuleCuts, StopsBeforeCase, feature_of, feature_row_of, feature_verdict, features_of, inside_by, inside_of, rule_of, rule_statuses, rule_stays_open, rules_of, uncut_feature, uncut_rule, verdict_by}
 pub use Rattle.gk_run.specs.Judged.{Cuts, DryRunsAreJudged, Each, IsGoodCase, IsGoodFeature, IsGoodRule, IsHeaded, Judged, JudgedCase, JudgedCases, JudgedDryCase, JudgedDryFeature, JudgedDryRun, JudgedFeature, JudgedFeatures, JudgedHoldPartByPart, JudgedInside, JudgedPartByPart, JudgedRule, JudgedSection, OneList, StepsHaveTheirResults, UnfinishedDryRunsAreJudged, dry_results, has_memory, is_memory_case, is_memory_feature, is_memory_rule, results_from, results_of, rule_rows, uncut}
 pub use Rattle.gk_run.specs.OpenRun.{FinishedRunsAreJudged, SuiteValue, UnfinishedRunsAreJudged, opens_features}
 pub use Rattle.gk_run.specs.OpenSection.{EndsAround, IsBegun, IsOpened, IsSectionEnd, Run, SectionRow, closing_events, happened_in, no_events, run_of, run_value, section_events, section_of, section_state}
-pub use Rattle.gk_run.specs.PrivateContracts.{AreCases, AreCasesInPart, AreRulesInPart, Goes, Happens, IsClosing, IsFeatureEnd, IsFeatureEndInPart, IsInside, IsInsideInPart, IsMember, IsNext, IsRule, IsRuleInPart, IsStepRun, RunsCases, RunsFeature, RunsRule, RunsRules, StopsFeature, TakesMember, inside_value, members_in, told_next}
+pub use Rattle.gk_run.specs.PrivateContracts.{AreCases, AreCasesInPart, AreRulesInPart, Goes, Happens, IsClosing, IsDoneBy, IsFeatureEnd, IsFeatureEndInPart, IsInside, IsInsideInPart, IsMember, IsNext, IsRule, IsRuleInPart, IsStepRun, RunsCases, RunsFeature, RunsRule, RunsRules, StopsFeature, TakesMember, happened_as, inside_value, members_in, next_event}
 pub use Rattle.gk_run.specs.Results.{CaseRow, FeatureRow, Results, RuleRow, StepRow, case_row, feature_row, is_failed, is_memory, is_passed, is_status, is_untested, rule_row, step_row}
 pub use Rattle.gk_run.specs.Running.{AreEventsTold, all_stay_open, alone, case_events, case_of, case_statuses, cases_of, first_or, is_failed_or_memory, reached_row, row_of_case, same_marks, stays_open, stays_open_by, unreached_row, unrun_row, unselected_row, verdict_of, without_first}
 pub use Rattle.gk_run.specs.Section.{Cut, Events, after_of, around_events, around_of, before_of, before_passed, happened, has_event, in_after, in_before, in_cleanups, in_order, in_steps, nowhere, site_of, steps_of_case}
 pub use Rattle.gk_run.specs.SectionHooks.{after_lists, before_events, before_kind, before_list, clean_each, cleaned, cleanup_done, entered, hook_steps, tag_lists, walk_each}
-pub use Rattle.gk_run.specs.Walk.{CarriesOut, EndsAt, EndsAtTheLeastStop, HasNoStop, IsLookedUp, IsStop, LaterSteps, Stepped, StepsEndAtTheLeastStop, StoppedCasesRunNoStep, Stops, StopsAt, WalksEndAtTheLeastStop, after, carried_on, event_at, event_of, looked_up, one_step, outcome_from, row_of_step, rows_of_steps, stepped, steps_from, unrun_step, unrun_steps, walk}
+pub use Rattle.gk_run.specs.Walk.{CarriesOut, EndsAt, EndsAtTheLeastStop, HasNoStop, IsLookedUp, IsStop, LaterSteps, Stepped, StepsEndAtTheLeastStop, StoppedCasesRunNoStep, Stops, StopsAt, WalksEndAtTheLeastStop, after, carried_on, event_at, event_of, looked_up, one_step, outcome_from, place_of, row_of_step, rows_of_steps, stepped, steps_from, unrun_step, unrun_steps, walk}
 pub use Rattle.gk_run.specs.declared.acting.Arguments.{Arguments}
 pub use Rattle.gk_run.specs.declared.acting.Site.{Site}
+pub use Rattle.gk_run.specs.declared.acting.Used.{Used}
 pub use Rattle.gk_run.specs.declared.cases.Cases.{Cases}
 pub use Rattle.gk_run.specs.declared.cases.Member.{Member}
 pub use Rattle.gk_run.specs.declared.chosen.RuleHead.{RuleHead}
 pub use Rattle.gk_run.specs.declared.cleanups.Cleanup.{Cleanup}
+pub use Rattle.gk_run.specs.declared.cleanups.Registration.{Registration}
 pub use Rattle.gk_run.specs.declared.ending.Ending.{Ending}
+pub use Rattle.gk_run.specs.declared.observer.StepDone.{StepDone}
 pub use Rattle.gk_run.specs.declared.results.CaseResult.{CaseResult}
 pub use Rattle.gk_run.specs.declared.results.FeatureResult.{FeatureResult}
 pub use Rattle.gk_run.specs.declared.results.Mark.{Mark}

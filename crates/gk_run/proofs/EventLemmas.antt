@@ -14,7 +14,7 @@ later_refused xs ys h = grind (arith, common_steps, ended_both)
 
 pub outcomes_append : (xs ys : List Event) → outcomes_of (xs ++ ys) ≡ outcomes_of xs ++ outcomes_of ys
 outcomes_append [] ys = refl
-outcomes_append (of_step stage step mark registered s ∷ xs) ys = outcomes_append xs ys
+outcomes_append (of_step stage step mark used registered s ∷ xs) ys = outcomes_append xs ys
 outcomes_append (of_cleanup level cleanup outcome s ∷ xs) ys = ap (λ os. outcome ∷ os) (outcomes_append xs ys)
 
 pub left_both : (section : SectionNow) (xs ys : List Event) → left_by section (xs ++ ys) ≡ left_by (left_by section xs) ys

@@ -1,12 +1,12 @@
 -- Each scenario whose result is settled has its own result.
-use Rattle.gk_run.proofs.Common.{AllZip, Bool, List, Option, Some, None, [], ap, cond, false, flat_map, length, map, not, option_map, refl, slice_get, subst, suc, sym, true, zero, ℕ, ◌&&◌, ◌||◌, ◌+◌, ◌++◌, ◌∙◌, ◌∷◌, ◌≡◌, inl, inr, true≢false, nat_eq, none-some, same_Some, eqb-true, arith, list_any, list_any-append, rank, FallFrom, CaseValue, LibraryValue, Contents, State, StepValue, enter, state_of, Status, Level, before_of, entered, left_by, walk, event_marks, is_memory_mark, dry_events, ⊤, case_of, cases_of, first_or, without_first, is_failed_or_memory, stays_open, all_stay_open, reached_row, unreached_row, unselected_row, CasesFallIntoRules, ChosenValue, HeadValue, MemberValue, has_selected, Group, groups_from, members_of_rank, own_members, rule_groups, dry_cases_of, dry_features_of, dry_row, FeatureCuts, feature_of, features_of, case_statuses, rule_statuses, verdict_by, uncut_feature, RuleCuts, rule_of, rule_stays_open, rules_of, uncut_rule, Cuts, Judged, uncut, dry_results, results_from, result_of, SectionRow, around_of, happened_in, no_events, section_events, section_state, Run, CaseRow, FeatureRow, Results, is_failed, is_memory, is_passed, is_untested, Cut, Events, before_passed, happened, in_after, in_before, in_cleanups, in_steps, has_event, nowhere, cut_at, ended_in, has_passed, before_list, HookValue, Ending, Mark, SectionNow, Skipped, StepRow, Untested, after_event, after_lists, before_events, cleaned, ending_of, event_of, looked_up, one_step, outcomes_of, row_of_case, row_of_step, rows_of_steps, steps_from, steps_of_case, unrun_step, verdict_of, verdict_status, walk_each, worse, Event}
+use Rattle.gk_run.proofs.Common.{AllZip, Bool, List, Option, Some, None, [], ap, cond, false, flat_map, length, map, not, option_map, refl, slice_get, subst, suc, sym, true, zero, ℕ, ◌&&◌, ◌||◌, ◌+◌, ◌++◌, ◌∙◌, ◌∷◌, ◌≡◌, inl, inr, true≢false, nat_eq, none-some, same_Some, eqb-true, arith, list_any, list_any-append, rank, FallFrom, CaseValue, LibraryValue, Contents, State, StepValue, enter, state_of, Status, Level, before_of, entered, left_by, walk, event_marks, is_memory_mark, dry_events, ⊤, case_of, cases_of, first_or, without_first, is_failed_or_memory, stays_open, all_stay_open, reached_row, unreached_row, unselected_row, CasesFallIntoRules, ChosenValue, HeadValue, MemberValue, has_selected, Group, groups_from, members_of_rank, own_members, rule_groups, dry_cases_of, dry_features_of, dry_row, FeatureCuts, feature_of, features_of, case_statuses, rule_statuses, verdict_by, uncut_feature, RuleCuts, rule_of, rule_stays_open, rules_of, uncut_rule, Cuts, Judged, uncut, dry_results, results_from, result_of, SectionRow, around_of, happened_in, no_events, section_events, section_state, Run, CaseRow, FeatureRow, Results, is_failed, is_memory, is_passed, is_untested, Cut, Events, before_passed, happened, in_after, in_before, in_cleanups, in_steps, has_event, nowhere, cut_at, ended_in, has_passed, before_list, HookValue, Ending, Mark, SectionNow, Skipped, StepRow, Untested, after_event, after_lists, before_events, cleaned, ending_of, event_of, looked_up, one_step, outcomes_of, row_of_case, row_of_step, rows_of_steps, steps_from, steps_of_case, unrun_step, verdict_of, verdict_status, walk_each, worse, Event, map-append, reverse, reverse-append, mark_of, CleanupValue, Registered, Registration, cleanups_at, place_of, Stepped, stepped, FoundValue, of_step, of_cleanup, found, clean_each, cleanup_done, Outcome, Acted, around_status, after_of}
 use Rattle.gk_run.specs.Ending.{ended_of}
 use Rattle.gk_run.specs.OwnResult.{Above, BeginsLike, HasResult, ScenariosComeToTheSameAlone, MovedScenariosComeToTheSame, anywhere, row_anywhere, step_anywhere, step_row_anywhere, deselected, IsLike, IsSameScenario, none_in, only, only_case, only_in, IsSettled, Place, ResultsAreTheSameInEachRun, ScenariosHaveTheirOwnResults, Start, above, go_inside, go_inside_rule, own_row, ran_whole, start_of, tags_of_rule}
 use Rattle.gk_run.specs.declared.ending.Ending.TheVariants as endings
-use Rattle.gk_run.specs.declared.acting.Site.TheVariants as sites
+use Rattle.gk_run.specs.declared.section.Part.TheVariants as parts
 use Rattle.gk_run.specs.declared.results.Status.TheVariants as statuses
 use Rattle.gk_run.specs.declared.section.Level.TheVariants as levels
-use Rattle.gk_run.proofs.EventLemmas.{cut_ends, ended_both}
+use Rattle.gk_run.proofs.EventLemmas.{cut_ends}
 use Rattle.gk_run.proofs.CasesLemmas.{and_true}
 use Rattle.gk_run.proofs.GroupingLemmas.{and_left, groups_all}
 use Rattle.gk_run.proofs.JudgedLemmas.{results_by}
@@ -560,53 +560,146 @@ same_in_each run other_run contents other_contents features other_features resul
 
 -- ---- a scenario at other lines
 
+-- a cleanup, wherever it was registered
+abbrev cleanup_anywhere : CleanupValue → CleanupValue
+cleanup_anywhere c = record c { at = record { part = parts.Steps; line = 0 } }
+
+-- two sections that differ at most in where their cleanups were registered
+record IsLikewise (a b : SectionNow) : Type 0 where
+  state : a.state ≡ b.state
+  cleanups : map cleanup_anywhere a.cleanups ≡ map cleanup_anywhere b.cleanups
+
+likewise_both : (xs ys us vs : List CleanupValue) → map cleanup_anywhere xs ≡ map cleanup_anywhere us → map cleanup_anywhere ys ≡ map cleanup_anywhere vs → map cleanup_anywhere (xs ++ ys) ≡ map cleanup_anywhere (us ++ vs)
+likewise_both xs ys us vs p q =
+    map-append cleanup_anywhere xs ys ∙ ap (λ (cs : List CleanupValue). cs ++ map cleanup_anywhere ys) p ∙ ap (λ (cs : List CleanupValue). map cleanup_anywhere us ++ cs) q ∙ sym (map-append cleanup_anywhere us vs)
+
+likewise_left : (a b : SectionNow) (events : List Event) → IsLikewise a b → IsLikewise (left_by a events) (left_by b events)
+likewise_left a b [] h = h
+likewise_left a b (of_step stage step mark used registered s ∷ events) h =
+    likewise_left (after_event a (of_step stage step mark used registered s)) (after_event b (of_step stage step mark used registered s)) events
+    (record { state = refl; cleanups = likewise_both a.cleanups registered b.cleanups registered h.cleanups refl })
+likewise_left a b (of_cleanup level cleanup outcome s ∷ events) h =
+    likewise_left (after_event a (of_cleanup level cleanup outcome s)) (after_event b (of_cleanup level cleanup outcome s)) events (record { state = refl; cleanups = h.cleanups })
+
+at_any_place : (here there : Registration) (registered : List Registered) → map cleanup_anywhere (cleanups_at here registered) ≡ map cleanup_anywhere (cleanups_at there registered)
+at_any_place here there [] = refl
+at_any_place here there (r ∷ registered) = ap (λ (cs : List CleanupValue). cleanup_anywhere (record { found = r.found; block = r.block; at = here }) ∷ cs) (at_any_place here there registered)
+
+-- a step at another line does the same
+record IsSameStep (moved this : Stepped) : Type 0 where
+  mark : moved.mark ≡ this.mark
+  state : moved.state ≡ this.state
+  registered : map cleanup_anywhere moved.registered ≡ map cleanup_anywhere this.registered
+
+same_step : (library : LibraryValue) (s : State) (step : StepValue) (x : Option FoundValue) → IsSameStep (stepped library steps_of_case s (step_anywhere step) x) (stepped library steps_of_case s step x)
+same_step library s step None = record { mark = refl; state = refl; registered = refl }
+same_step library s step (Some f) = record { mark = refl; state = refl; registered = at_any_place (place_of steps_of_case (step_anywhere step)) (place_of steps_of_case step) _ }
+
 marks_anywhere : (library : LibraryValue) (ended : Ending) (s : State) (steps : List StepValue) → event_marks (steps_from library ended s (map step_anywhere steps)) ≡ event_marks (steps_from library ended s steps)
 marks_anywhere library ended s [] = refl
 marks_anywhere library endings.Passed s (step ∷ steps) =
-    let this = one_step library sites.Step s step in ap (λ (marks : List Mark). this.mark ∷ marks) (marks_anywhere library (ending_of this.mark) this.state steps)
+    let this = one_step library steps_of_case s step in
+    let moved = one_step library steps_of_case s (step_anywhere step) in
+    let same = same_step library s step (found library step.step_type step.text) in
+    let later : Mark → State → List Mark = λ mark state. mark ∷ event_marks (steps_from library (ending_of mark) state (map step_anywhere steps)) in
+    ap (λ (mark : Mark). later mark moved.state) same.mark ∙ ap (later this.mark) same.state ∙ ap (λ (marks : List Mark). this.mark ∷ marks) (marks_anywhere library (ending_of this.mark) this.state steps)
 marks_anywhere library endings.Failed s (step ∷ steps) = ap (λ (marks : List Mark). looked_up library Skipped step ∷ marks) (marks_anywhere library endings.Failed s steps)
 marks_anywhere library endings.Skipped s (step ∷ steps) = ap (λ (marks : List Mark). Skipped ∷ marks) (marks_anywhere library endings.Skipped s steps)
 marks_anywhere library endings.Memory s (step ∷ steps) = ap (λ (marks : List Mark). looked_up library Skipped step ∷ marks) (marks_anywhere library endings.Memory s steps)
 
-left_anywhere : (library : LibraryValue) (ended : Ending) (s : State) (section : SectionNow) (steps : List StepValue) → left_by section (steps_from library ended s (map step_anywhere steps)) ≡ left_by section (steps_from library ended s steps)
-left_anywhere library ended s section [] = refl
-left_anywhere library endings.Passed s section (step ∷ steps) =
-    let this = one_step library sites.Step s step in left_anywhere library (ending_of this.mark) this.state (after_event section (event_of steps_of_case step this)) steps
-left_anywhere library endings.Failed s section (step ∷ steps) = left_anywhere library endings.Failed s (after_event section (unrun_step step (looked_up library Skipped step) s)) steps
-left_anywhere library endings.Skipped s section (step ∷ steps) = left_anywhere library endings.Skipped s (after_event section (unrun_step step Skipped s)) steps
-left_anywhere library endings.Memory s section (step ∷ steps) = left_anywhere library endings.Memory s (after_event section (unrun_step step (looked_up library Skipped step) s)) steps
+unrun_likewise : (a b : SectionNow) (s : State) → IsLikewise a b → IsLikewise (record { state = s; cleanups = a.cleanups ++ [] }) (record { state = s; cleanups = b.cleanups ++ [] })
+unrun_likewise a b s h = record { state = refl; cleanups = likewise_both a.cleanups [] b.cleanups [] h.cleanups refl }
+
+left_anywhere : (library : LibraryValue) (ended : Ending) (s : State) (a b : SectionNow) (steps : List StepValue) → IsLikewise a b → IsLikewise (left_by a (steps_from library ended s (map step_anywhere steps))) (left_by b (steps_from library ended s steps))
+left_anywhere library ended s a b [] h = h
+left_anywhere library endings.Passed s a b (step ∷ steps) h =
+    let this = one_step library steps_of_case s step in
+    let moved = one_step library steps_of_case s (step_anywhere step) in
+    let same = same_step library s step (found library step.step_type step.text) in
+    let first = after_event a (event_of steps_of_case (step_anywhere step) moved) in
+    let second = after_event b (event_of steps_of_case step this) in
+    let later : Mark → State → List Event = λ mark state. steps_from library (ending_of mark) state (map step_anywhere steps) in
+    subst (λ (events : List Event). IsLikewise (left_by first events) (left_by second (steps_from library (ending_of this.mark) this.state steps))) (sym (ap (λ (mark : Mark). later mark moved.state) same.mark ∙ ap (later this.mark) same.state))
+    (left_anywhere library (ending_of this.mark) this.state first second steps (record { state = same.state; cleanups = likewise_both a.cleanups moved.registered b.cleanups this.registered h.cleanups same.registered }))
+left_anywhere library endings.Failed s a b (step ∷ steps) h = left_anywhere library endings.Failed s _ _ steps (unrun_likewise a b s h)
+left_anywhere library endings.Skipped s a b (step ∷ steps) h = left_anywhere library endings.Skipped s _ _ steps (unrun_likewise a b s h)
+left_anywhere library endings.Memory s a b (step ∷ steps) h = left_anywhere library endings.Memory s _ _ steps (unrun_likewise a b s h)
+
+-- after lists are walked from the state alone
+each_likewise : (library : LibraryValue) (level : Level) (a b : SectionNow) (lists : List (List StepValue)) → IsLikewise a b → walk_each library level a lists ≡ walk_each library level b lists
+each_likewise library level a b [] h = refl
+each_likewise library level a b (steps ∷ others) h =
+    let from : List Event → List Event = λ this. this ++ walk_each library level (left_by a this) others in
+    ap (λ (s : State). from (walk library (after_of level) s steps)) h.state
+    ∙ ap (λ (events : List Event). walk library (after_of level) b.state steps ++ events) (each_likewise library level (left_by a (walk library (after_of level) b.state steps)) (left_by b (walk library (after_of level) b.state steps)) others (likewise_left a b (walk library (after_of level) b.state steps) h))
+
+reverse_map : {A B : Type 0} (f : A → B) (xs : List A) → reverse (map f xs) ≡ map f (reverse xs)
+reverse_map f [] = refl
+reverse_map {A} {B} f (x ∷ xs) =
+    reverse-append (f x ∷ []) (map f xs) ∙ ap (λ (ys : List B). ys ++ f x ∷ []) (reverse_map f xs) ∙ sym (ap (map f) (reverse-append (x ∷ []) xs) ∙ map-append f (reverse xs) (x ∷ []))
+
+-- cleanups end the same, wherever they were registered
+clean_anywhere : (library : LibraryValue) (level : Level) (s : State) (cs : List CleanupValue) → outcomes_of (clean_each library level s cs) ≡ outcomes_of (clean_each library level s (map cleanup_anywhere cs))
+clean_anywhere library level s [] = refl
+clean_anywhere library level s (c ∷ cs) = let done = cleanup_done library c s in ap (λ (outcomes : List Outcome). done.outcome ∷ outcomes) (clean_anywhere library level done.state cs)
+
+cleaned_likewise : (library : LibraryValue) (level : Level) (a b : SectionNow) → IsLikewise a b → outcomes_of (cleaned library level a) ≡ outcomes_of (cleaned library level b)
+cleaned_likewise library level a b h =
+    let ran : State → List CleanupValue → List Outcome = λ s cs. outcomes_of (clean_each library level s cs) in
+    clean_anywhere library level a.state (reverse a.cleanups)
+    ∙ ap (ran a.state) (sym (reverse_map cleanup_anywhere a.cleanups) ∙ ap reverse h.cleanups ∙ reverse_map cleanup_anywhere b.cleanups)
+    ∙ ap (λ (s : State). ran s (map cleanup_anywhere (reverse b.cleanups))) h.state
+    ∙ sym (clean_anywhere library level b.state (reverse b.cleanups))
+
+marks_by_outcomes : (library : LibraryValue) (level : Level) (s : State) (cs : List CleanupValue) → event_marks (clean_each library level s cs) ≡ map (λ (o : Outcome). Acted o) (outcomes_of (clean_each library level s cs))
+marks_by_outcomes library level s [] = refl
+marks_by_outcomes library level s (c ∷ cs) = let done = cleanup_done library c s in ap (λ (marks : List Mark). Acted done.outcome ∷ marks) (marks_by_outcomes library level done.state cs)
+
+marks_likewise : (library : LibraryValue) (level : Level) (a b : SectionNow) → IsLikewise a b → event_marks (cleaned library level a) ≡ event_marks (cleaned library level b)
+marks_likewise library level a b h =
+    marks_by_outcomes library level a.state (reverse a.cleanups) ∙ ap (λ (outcomes : List Outcome). map (λ (o : Outcome). Acted o) outcomes) (cleaned_likewise library level a b h) ∙ sym (marks_by_outcomes library level b.state (reverse b.cleanups))
 
 rows_anywhere : (steps : List StepValue) (marks : List Mark) → rows_of_steps (map step_anywhere steps) marks ≡ map step_row_anywhere (rows_of_steps steps marks)
 rows_anywhere [] marks = refl
 rows_anywhere (step ∷ steps) [] = ap (λ (rows : List StepRow). step_row_anywhere (row_of_step step Untested) ∷ rows) (rows_anywhere steps [])
 rows_anywhere (step ∷ steps) (mark ∷ marks) = ap (λ (rows : List StepRow). step_row_anywhere (row_of_step step mark) ∷ rows) (rows_anywhere steps marks)
 
--- how a case ends depends only on the marks of its steps
-ends_by_marks : (before steps others rest : List Event) → event_marks others ≡ event_marks steps → ended_in (before ++ (others ++ rest)) ≡ ended_in (before ++ (steps ++ rest))
-ends_by_marks before steps others rest same =
-    ended_both before (others ++ rest)
-    ∙ ap (λ (e : Ending). worse (ended_in before) e) (ended_both others rest ∙ ap (λ (marks : List Mark). worse (ended_of marks) (ended_in rest)) same ∙ sym (ended_both steps rest))
-    ∙ sym (ended_both before (steps ++ rest))
+marks_both : (xs ys us vs : List Event) → event_marks xs ≡ event_marks us → event_marks ys ≡ event_marks vs → event_marks (xs ++ ys) ≡ event_marks (us ++ vs)
+marks_both xs ys us vs p q =
+    map-append mark_of xs ys ∙ ap (λ (marks : List Mark). marks ++ event_marks ys) p ∙ ap (λ (marks : List Mark). event_marks us ++ marks) q ∙ sym (map-append mark_of us vs)
 
 reached_anywhere : (run : Run) (s : State) (c : CaseValue) → row_anywhere (reached_row run s nowhere c) ≡ reached_row run s nowhere (anywhere c)
 reached_anywhere run s c =
     let library = run.library in
+    let lists = after_lists run.hooks levels.Scenario c.own_tags in
     let before = before_events library run.hooks levels.Scenario c.own_tags s in
     let opened = left_by (entered s) before in
     let steps = steps_from library (ended_in before) opened.state c.steps in
     let others = steps_from library (ended_in before) opened.state (map step_anywhere c.steps) in
-    let by : List Event → SectionNow → Events =
-    λ events stepped. (let after = walk_each library levels.Scenario stepped (after_lists run.hooks levels.Scenario c.own_tags) in record { before = before; steps = events; after = after; cleanups = cleaned library levels.Scenario (left_by stepped after) })
-    in
-    let mine = by steps (left_by opened steps) in
-    let theirs = by others (left_by opened steps) in
-    let with_parts : Status → List StepRow → CaseRow = λ verdict rows. record { keyword = c.keyword; name = c.name; line = 0; status = verdict; around = around_of mine; cleanups = outcomes_of mine.cleanups; steps = rows } in
+    let stepped = left_by opened steps in
+    let moved = left_by opened others in
+    let after = walk_each library levels.Scenario stepped lists in
+    let moved_after = walk_each library levels.Scenario moved lists in
+    let cleanups = cleaned library levels.Scenario (left_by stepped after) in
+    let moved_cleanups = cleaned library levels.Scenario (left_by moved moved_after) in
     let marks = marks_anywhere library (ended_in before) opened.state c.steps in
+    let like = left_anywhere library (ended_in before) opened.state opened opened c.steps (record { state = refl; cleanups = refl }) in
+    let same_after = each_likewise library levels.Scenario moved stepped lists like in
+    let left : IsLikewise (left_by moved moved_after) (left_by stepped after) =
+    subst (λ (events : List Event). IsLikewise (left_by moved events) (left_by stepped after)) (sym same_after) (likewise_left moved stepped after like) in
+    let closing = marks_both moved_after moved_cleanups after cleanups (ap event_marks same_after) (marks_likewise library levels.Scenario (left_by moved moved_after) (left_by stepped after) left) in
+    let all = marks_both before (others ++ (moved_after ++ moved_cleanups)) before (steps ++ (after ++ cleanups)) refl (marks_both others (moved_after ++ moved_cleanups) steps (after ++ cleanups) marks closing) in
+    let row : List Mark → List Mark → List Outcome → List StepRow → CaseRow =
+    λ all around outcomes rows. record { keyword = c.keyword; name = c.name; line = 0; status = verdict_status (ended_of all); around = around_status (ended_of around); cleanups = outcomes; steps = rows } in
+    let rows = rows_of_steps (map step_anywhere c.steps) (event_marks others) in
+    let around = event_marks (before ++ (moved_after ++ moved_cleanups)) in
+    let mine = event_marks (before ++ (steps ++ (after ++ cleanups))) in
+    let mine_around = event_marks (before ++ (after ++ cleanups)) in
     sym
-    (ap (λ (e : Events). row_of_case (anywhere c) (verdict_of e) e) (ap (by others) (left_anywhere library (ended_in before) opened.state opened c.steps))
-    ∙ ap (λ (verdict : Status). with_parts verdict (rows_of_steps (map step_anywhere c.steps) (event_marks others))) (ap verdict_status (ends_by_marks before steps others (mine.after ++ mine.cleanups) marks))
-    ∙ ap (λ (ms : List Mark). with_parts (verdict_of mine) (rows_of_steps (map step_anywhere c.steps) ms)) marks
-    ∙ ap (with_parts (verdict_of mine)) (rows_anywhere c.steps (event_marks steps)))
+    (ap (λ (ms : List Mark). row ms around (outcomes_of moved_cleanups) rows) all
+    ∙ ap (λ (ms : List Mark). row mine ms (outcomes_of moved_cleanups) rows) (marks_both before (moved_after ++ moved_cleanups) before (after ++ cleanups) refl closing)
+    ∙ ap (λ (os : List Outcome). row mine mine_around os rows) (cleaned_likewise library levels.Scenario (left_by moved moved_after) (left_by stepped after) left)
+    ∙ ap (row mine mine_around (outcomes_of cleanups)) (ap (rows_of_steps (map step_anywhere c.steps)) marks ∙ rows_anywhere c.steps (event_marks steps)))
 
 unreached_anywhere : (c : CaseValue) → row_anywhere (unreached_row c) ≡ unreached_row (anywhere c)
 unreached_anywhere c =

@@ -41,7 +41,7 @@ stops_if false events h = tt
 stops_walk : (library : LibraryValue) (stage : Stage) (s : State) (steps : List StepValue) → OpensCases stage → events_stop (walk library stage s steps)
 stops_walk library stage s [] o = tt
 stops_walk library stage s (step ∷ steps) o =
-    let this = one_step library (site_of stage) s step in
+    let this = one_step library stage s step in
     let rest = walk library stage this.state steps in
     let passes = has_passed (ending_of this.mark) in
     stops_on (happens (event_of stage step this)) (map happens (cond passes rest [])) o (stops_if passes rest (stops_walk library stage this.state steps o))
@@ -56,7 +56,7 @@ stops_cut library stage s [] zero left o = tt
 stops_cut library stage s [] (suc n) left o = tt
 stops_cut library stage s (step ∷ steps) zero left o = o
 stops_cut library stage s (step ∷ steps) (suc n) left o =
-    let this = one_step library (site_of stage) s step in
+    let this = one_step library stage s step in
     let rest = walk library stage this.state steps in
     let passes = has_passed (ending_of this.mark) in
     stops_on (happens (event_of stage step this)) (map happens (cut_at n left (cond passes rest []))) o (cut_if passes n left rest (stops_cut library stage this.state steps n left o))

@@ -1,7 +1,6 @@
 -- What the code's steps make of a walk.
-use Rattle.gk_run.proofs.Common.{Bool, List, None, Some, [], ap, cond, drop, false, get_or, inl, inr, is_some, length, map, refl, subst, sym, true, ℕ, ◌++◌, ◌+◌, ◌<◌, ◌∙◌, ◌∷◌, ◌≡◌, ◌≤◌, Option, find, true≢false, arith, common_steps, FoldsTo, option_map_or, at_drop_all, at_drop_more, map-append, StepValue, HookKind, HookValue, is_for, FoundUse, FoundValue, HasCandidateFor, IsUseOf, LibraryValue, found, SandboxValue, State, state_of, Site, Ending, Mark, Acted, Skipped, Undefined, Untested, Outcome, Level, Stage, CleanupValue, ArgumentsValue, arguments_by_uses, at_site, done_of, IsDone, HasRegistered, WritesFirst, ending_of, has_passed, is_memory_ending, worse, Event, SoFar, SectionNow, ended_in, event_marks, left_by, mark_of, of_step, StepRow, after_of, site_of, steps_of_case, hook_steps, walk_each, IsLookedUp, Stepped, event_of, looked_up, one_step, row_of_step, rows_of_steps, stepped, steps_from, unrun_step, walk, Goes, Happens, IsNext, IsStepRun, told_next}
+use Rattle.gk_run.proofs.Common.{Bool, List, None, Some, [], ap, cond, drop, false, get_or, inl, inr, is_some, length, map, refl, subst, sym, true, ℕ, ◌++◌, ◌+◌, ◌<◌, ◌∙◌, ◌∷◌, ◌≡◌, ◌≤◌, Option, find, true≢false, arith, common_steps, FoldsTo, option_map_or, at_drop_all, at_drop_more, map-append, StepValue, HookKind, HookValue, is_for, FoundUse, FoundValue, HasCandidateFor, IsUseOf, LibraryValue, found, SandboxValue, State, state_of, Ending, Mark, Acted, Skipped, Undefined, Untested, Outcome, Level, Stage, CleanupValue, ArgumentsValue, arguments_by_uses, done_of, IsDone, HasRegistered, WritesFirst, ending_of, has_passed, is_memory_ending, worse, Event, SoFar, SectionNow, ended_in, event_marks, left_by, mark_of, of_step, StepRow, after_of, site_of, steps_of_case, hook_steps, walk_each, IsLookedUp, Stepped, event_of, looked_up, one_step, row_of_step, rows_of_steps, stepped, steps_from, unrun_step, walk, Goes, Happens, IsNext, IsStepRun, not, nat_eq, UseValue, Used, StepDone, Registration, use_of, used_at, use_value, used_in, has_cleanup, IsDoneBy, happened_as, next_event, place_of, cleanups_at, arguments_value}
 use Rattle.std.proofs.lemmas.List.{append-nil}
-use Rattle.gk_run.specs.declared.acting.Site.TheVariants as sites
 use Rattle.gk_run.specs.declared.ending.Ending.TheVariants as endings
 use Rattle.gk_run.specs.declared.results.Outcome.TheVariants as outcomes
 use Rattle.gk_run.proofs.ActingLemmas.{called_is, used_given}
@@ -31,12 +30,12 @@ told_exactly : (m : Mark) (event told : Event) → is_memory_ending (ending_of m
 told_exactly m event told n is = subst (λ b. SoFar false b (event ∷ []) [] (told ∷ [])) (sym n) (ap (λ x. x ∷ []) is)
 
 exact_goes : {S : Type 0} (hears : S → Event → S → Type 0) (stage : Stage) (step : StepValue) (this : Stepped) (s new : State) (cs left : List CleanupValue) (m : Mark) (first last : S) → is_memory_ending (ending_of m) ≡ false →
-    (m ≡ this.mark) × (new ≡ this.state) × (left ≡ cs ++ this.registered) → FoldsTo hears first (of_step stage step m this.registered new ∷ []) last → OneEvent hears endings.Passed (event_of stage step this) m (at s cs) (at new left) (ending_of m) first last
+    (m ≡ this.mark) × (new ≡ this.state) × (left ≡ cs ++ this.registered) → FoldsTo hears first (of_step stage step m this.used this.registered new ∷ []) last → OneEvent hears endings.Passed (event_of stage step this) m (at s cs) (at new left) (ending_of m) first last
 exact_goes hears stage step this s new cs left m first last n t h = (
   record {
-    told = of_step stage step m this.registered new ∷ [];
+    told = of_step stage step m this.used this.registered new ∷ [];
     heard = h;
-    so_far = told_exactly m (event_of stage step this) (of_step stage step m this.registered new) n (sym (ap (λ x. of_step stage step x this.registered new) t.0 ∙ ap (λ x. of_step stage step this.mark this.registered x) t.1));
+    so_far = told_exactly m (event_of stage step this) (of_step stage step m this.used this.registered new) n (sym (ap (λ x. of_step stage step x this.used this.registered new) t.0 ∙ ap (λ x. of_step stage step this.mark this.used this.registered x) t.1));
     ends = refl;
     leaves = ap (at new) t.2;
   },
@@ -45,56 +44,56 @@ exact_goes hears stage step this s new cs left m first last n t h = (
 
 -- a step was carried out
 pub step_goes : {S : Type 0} (hears : S → Event → S → Type 0) (stage : Stage) (step : StepValue) (this : Stepped) (s new : State) (cs left : List CleanupValue) (m : Mark) (first last : S) → IsStepRun this cs m new left →
-    ((registered : List CleanupValue) → FoldsTo hears first (of_step stage step m registered new ∷ []) last) → OneEvent hears endings.Passed (event_of stage step this) m (at s cs) (at new left) (ending_of m) first last
+    FoldsTo hears first (happened_as stage step this m new ∷ []) last → OneEvent hears endings.Passed (event_of stage step this) m (at s cs) (at new left) (ending_of m) first last
 step_goes hears stage step this s new cs left (Acted outcomes.Memory) first last t h = (
   record {
-    told = of_step stage step (Acted outcomes.Memory) [] new ∷ [];
-    heard = h [];
+    told = of_step stage step (Acted outcomes.Memory) None [] new ∷ [];
+    heard = h;
     so_far = record { front = []; event = event_of stage step this; rest = []; left = new; whole = refl; cut = refl };
     ends = refl;
     leaves = ap (at new) (t ∙ sym (append-nil cs));
   },
   refl,
 )
-step_goes hears stage step this s new cs left (Acted outcomes.Passed) first last t h = exact_goes hears stage step this s new cs left (Acted outcomes.Passed) first last refl t (h this.registered)
-step_goes hears stage step this s new cs left (Acted (outcomes.Failed why)) first last t h = exact_goes hears stage step this s new cs left (Acted (outcomes.Failed why)) first last refl t (h this.registered)
-step_goes hears stage step this s new cs left (Acted outcomes.Skip) first last t h = exact_goes hears stage step this s new cs left (Acted outcomes.Skip) first last refl t (h this.registered)
-step_goes hears stage step this s new cs left Undefined first last t h = exact_goes hears stage step this s new cs left Undefined first last refl t (h this.registered)
-step_goes hears stage step this s new cs left Skipped first last t h = exact_goes hears stage step this s new cs left Skipped first last refl t (h this.registered)
-step_goes hears stage step this s new cs left Untested first last t h = exact_goes hears stage step this s new cs left Untested first last refl t (h this.registered)
+step_goes hears stage step this s new cs left (Acted outcomes.Passed) first last t h = exact_goes hears stage step this s new cs left (Acted outcomes.Passed) first last refl t h
+step_goes hears stage step this s new cs left (Acted (outcomes.Failed why)) first last t h = exact_goes hears stage step this s new cs left (Acted (outcomes.Failed why)) first last refl t h
+step_goes hears stage step this s new cs left (Acted outcomes.Skip) first last t h = exact_goes hears stage step this s new cs left (Acted outcomes.Skip) first last refl t h
+step_goes hears stage step this s new cs left Undefined first last t h = exact_goes hears stage step this s new cs left Undefined first last refl t h
+step_goes hears stage step this s new cs left Skipped first last t h = exact_goes hears stage step this s new cs left Skipped first last refl t h
+step_goes hears stage step this s new cs left Untested first last t h = exact_goes hears stage step this s new cs left Untested first last refl t h
 
 -- ---- a walk
 
 -- one step more of a walk
 pub walk_on : {S : Type 0} (hears : S → Event → S → Type 0) (library : LibraryValue) (stage : Stage) (step : StepValue) (steps : List StepValue) (s new : State) (cs left : List CleanupValue) (m : Mark) (all : List Event) (start : SectionNow) (first here last : S) →
-    Goes hears endings.Passed all (walk library stage s (step ∷ steps)) start (at s cs) endings.Passed first here → IsStepRun (one_step library (site_of stage) s step) cs m new left →
-    ((registered : List CleanupValue) → FoldsTo hears here (of_step stage step m registered new ∷ []) last) → Goes hears endings.Passed all (cond (has_passed (ending_of m)) (walk library stage new steps) []) start (at new left) (ending_of m) first last
+    Goes hears endings.Passed all (walk library stage s (step ∷ steps)) start (at s cs) endings.Passed first here → IsStepRun (one_step library stage s step) cs m new left →
+    FoldsTo hears here (happened_as stage step (one_step library stage s step) m new ∷ []) last → Goes hears endings.Passed all (cond (has_passed (ending_of m)) (walk library stage new steps) []) start (at new left) (ending_of m) first last
 walk_on hears library stage step steps s new cs left m all start first here last g t h =
-    let this = one_step library (site_of stage) s step in
+    let this = one_step library stage s step in
     let rest : Mark → State → List Event = λ x n. cond (has_passed (ending_of x)) (walk library stage n steps) [] in
     with_rest (rest m new) (chain (rest this.mark this.state) g (λ _. refl) (step_goes hears stage step this s new cs left m here last t h).0)
     (λ n. let known = exact_step this cs m new left n t in sym (ap (λ x. rest x new) known.0 ∙ ap (rest this.mark) known.1))
 
 -- a walk whose first step becomes this, through one list and then another
-after_step : (stage : Stage) (step : StepValue) (registered : List CleanupValue) (s new : State) (cs : List CleanupValue) (m : Mark) (later : SectionNow → List Event) (xs both : List Event) →
+after_step : (stage : Stage) (step : StepValue) (used : Option UseValue) (registered : List CleanupValue) (s new : State) (cs : List CleanupValue) (m : Mark) (later : SectionNow → List Event) (xs both : List Event) →
     both ≡ xs ++ cond (has_passed (ended_in xs)) (later (left_by (at new (cs ++ registered)) xs)) [] →
-    of_step stage step m registered new ∷ cond (has_passed (ending_of m)) both [] ≡
-    (let w = of_step stage step m registered new ∷ cond (has_passed (ending_of m)) xs [] in w ++ cond (has_passed (ended_in w)) (later (left_by (at s cs) w)) [])
-after_step stage step registered s new cs (Acted outcomes.Passed) later xs both h = ap (λ ys. of_step stage step (Acted outcomes.Passed) registered new ∷ ys) h
-after_step stage step registered s new cs Skipped later xs both h = ap (λ ys. of_step stage step Skipped registered new ∷ ys) h
-after_step stage step registered s new cs Untested later xs both h = ap (λ ys. of_step stage step Untested registered new ∷ ys) h
-after_step stage step registered s new cs Undefined later xs both h = refl
-after_step stage step registered s new cs (Acted (outcomes.Failed why)) later xs both h = refl
-after_step stage step registered s new cs (Acted outcomes.Skip) later xs both h = refl
-after_step stage step registered s new cs (Acted outcomes.Memory) later xs both h = refl
+    of_step stage step m used registered new ∷ cond (has_passed (ending_of m)) both [] ≡
+    (let w = of_step stage step m used registered new ∷ cond (has_passed (ending_of m)) xs [] in w ++ cond (has_passed (ended_in w)) (later (left_by (at s cs) w)) [])
+after_step stage step used registered s new cs (Acted outcomes.Passed) later xs both h = ap (λ ys. of_step stage step (Acted outcomes.Passed) used registered new ∷ ys) h
+after_step stage step used registered s new cs Skipped later xs both h = ap (λ ys. of_step stage step Skipped used registered new ∷ ys) h
+after_step stage step used registered s new cs Untested later xs both h = ap (λ ys. of_step stage step Untested used registered new ∷ ys) h
+after_step stage step used registered s new cs Undefined later xs both h = refl
+after_step stage step used registered s new cs (Acted (outcomes.Failed why)) later xs both h = refl
+after_step stage step used registered s new cs (Acted outcomes.Skip) later xs both h = refl
+after_step stage step used registered s new cs (Acted outcomes.Memory) later xs both h = refl
 
 -- a walk through one list, and then through another where it passed
 walk_append : (library : LibraryValue) (stage : Stage) (s : State) (cs : List CleanupValue) (xs ys : List StepValue) →
     walk library stage s (xs ++ ys) ≡ (let w = walk library stage s xs in w ++ cond (has_passed (ended_in w)) (let left = left_by (at s cs) w in walk library stage left.state ys) [])
 walk_append library stage s cs [] ys = refl
 walk_append library stage s cs (x ∷ xs) ys =
-    let this = one_step library (site_of stage) s x in
-    after_step stage x this.registered s this.state cs this.mark (λ left. walk library stage left.state ys) (walk library stage this.state xs) (walk library stage this.state (xs ++ ys)) (walk_append library stage this.state (cs ++ this.registered) xs ys)
+    let this = one_step library stage s x in
+    after_step stage x this.used this.registered s this.state cs this.mark (λ left. walk library stage left.state ys) (walk library stage this.state xs) (walk library stage this.state (xs ++ ys)) (walk_append library stage this.state (cs ++ this.registered) xs ys)
 
 -- one list more of a list that is walked as one
 pub list_on : {S : Type 0} (hears : S → Event → S → Type 0) (library : LibraryValue) (stage : Stage) (xs ys : List StepValue) (s : State) (cs : List CleanupValue) (now : SectionNow) (e : Ending) (all : List Event) (start : SectionNow) (first here last : S) →
@@ -140,13 +139,13 @@ unchanged s new cs left p q = ap (λ n. at n left) p ∙ ap (at s) (q ∙ sym (a
 
 -- a step that isn't carried out
 unrun_goes : {S : Type 0} (hears : S → Event → S → Type 0) (stood : Ending) (s new : State) (cs left : List CleanupValue) (step : StepValue) (m planned : Mark) (first last : S) → is_memory_ending stood ≡ false → worse stood (ending_of m) ≡ stood → m ≡ planned → new ≡ s → left ≡ cs →
-    FoldsTo hears first (of_step steps_of_case step m [] new ∷ []) last → OneEvent hears stood (unrun_step step planned s) m (at s cs) (at new left) (worse stood (ending_of m)) first last
+    FoldsTo hears first (of_step steps_of_case step m None [] new ∷ []) last → OneEvent hears stood (unrun_step step planned s) m (at s cs) (at new left) (worse stood (ending_of m)) first last
 unrun_goes hears stood s new cs left step m planned first last n stays is p q h = (
   record {
-    told = of_step steps_of_case step m [] new ∷ [];
+    told = of_step steps_of_case step m None [] new ∷ [];
     heard = h;
-    so_far = subst (λ b. SoFar b (is_memory_ending (worse stood (ending_of m))) (unrun_step step planned s ∷ []) [] (of_step steps_of_case step m [] new ∷ [])) (sym n)
-        (subst (λ b. SoFar false b (unrun_step step planned s ∷ []) [] (of_step steps_of_case step m [] new ∷ [])) (sym (ap is_memory_ending stays ∙ n))
+    so_far = subst (λ b. SoFar b (is_memory_ending (worse stood (ending_of m))) (unrun_step step planned s ∷ []) [] (of_step steps_of_case step m None [] new ∷ [])) (sym n)
+        (subst (λ b. SoFar false b (unrun_step step planned s ∷ []) [] (of_step steps_of_case step m None [] new ∷ [])) (sym (ap is_memory_ending stays ∙ n))
         (sym (ap (λ x. unrun_step step x new ∷ []) is ∙ ap (λ x. unrun_step step planned x ∷ []) p)));
     ends = refl;
     leaves = unchanged s new cs left p q ∙ ap (λ x. at x (cs ++ [])) (sym p);
@@ -164,12 +163,12 @@ unrun_later library stood e s new steps is p = sym (ap (λ x. steps_from library
 
 -- memory was refused while a step was looked up
 refused_goes : {S : Type 0} (hears : S → Event → S → Type 0) (s new : State) (cs left : List CleanupValue) (step : StepValue) (m planned : Mark) (first last : S) → m ≡ Acted outcomes.Memory → new ≡ s → left ≡ cs →
-    FoldsTo hears first (of_step steps_of_case step m [] new ∷ []) last → OneEvent hears endings.Failed (unrun_step step planned s) m (at s cs) (at new left) (worse endings.Failed (ending_of m)) first last
+    FoldsTo hears first (of_step steps_of_case step m None [] new ∷ []) last → OneEvent hears endings.Failed (unrun_step step planned s) m (at s cs) (at new left) (worse endings.Failed (ending_of m)) first last
 refused_goes hears s new cs left step m planned first last is p q h =
     subst (λ x. OneEvent hears endings.Failed (unrun_step step planned s) x (at s cs) (at new left) (worse endings.Failed (ending_of x)) first last) (sym is) (
       record {
-        told = of_step steps_of_case step (Acted outcomes.Memory) [] new ∷ [];
-        heard = subst (λ x. FoldsTo hears first (of_step steps_of_case step x [] new ∷ []) last) is h;
+        told = of_step steps_of_case step (Acted outcomes.Memory) None [] new ∷ [];
+        heard = subst (λ x. FoldsTo hears first (of_step steps_of_case step x None [] new ∷ []) last) is h;
         so_far = record { front = []; event = unrun_step step planned s; rest = []; left = new; whole = refl; cut = refl };
         ends = refl;
         leaves = unchanged s new cs left p q ∙ ap (λ x. at x (cs ++ [])) (sym p);
@@ -178,17 +177,17 @@ refused_goes hears s new cs left step m planned first last is p q h =
     )
 
 pub next_goes : {S : Type 0} (hears : S → Event → S → Type 0) (library : LibraryValue) (stood : Ending) (s new : State) (cs left : List CleanupValue) (step : StepValue) (steps : List StepValue) (m : Mark) (first last : S) → IsNext library stood s cs step m new left →
-    ((registered : List CleanupValue) → FoldsTo hears first (told_next stood (of_step steps_of_case step m registered new)) last) → Next hears library stood s new cs left step steps m first last
+    FoldsTo hears first (next_event library stood s step m new) last → Next hears library stood s new cs left step steps m first last
 next_goes hears library endings.Memory s new cs left step steps m first last t h = record {
   part = steps_from library endings.Memory s (step ∷ steps);
   more = [];
   splits = sym (append-nil (steps_from library endings.Memory s (step ∷ steps)));
-  goes = record { told = []; heard = h []; so_far = refl; ends = refl; leaves = ap (λ x. at x left) t.1 ∙ ap (at s) t.2 };
+  goes = record { told = []; heard = h; so_far = refl; ends = refl; leaves = ap (λ x. at x left) t.1 ∙ ap (at s) t.2 };
   marks = refl;
   later = λ n. absurd (true≢false n);
 }
 next_goes hears library endings.Passed s new cs left step steps m first last t h =
-    let this = one_step library sites.Step s step in
+    let this = one_step library steps_of_case s step in
     let one = step_goes hears steps_of_case step this s new cs left m first last t h in
     record {
       part = event_of steps_of_case step this ∷ [];
@@ -199,7 +198,7 @@ next_goes hears library endings.Passed s new cs left step steps m first last t h
       later = λ n. let known = exact_step this cs m new left n t in sym (ap (λ x. steps_from library (ending_of x) new steps) known.0 ∙ ap (λ x. steps_from library (ending_of this.mark) x steps) known.1);
     }
 next_goes hears library endings.Failed s new cs left step steps m first last (inl t, p, q) h =
-    let one = refused_goes hears s new cs left step m (looked_up library Skipped step) first last t.0 p q (h []) in
+    let one = refused_goes hears s new cs left step m (looked_up library Skipped step) first last t.0 p q h in
     record {
       part = unrun_step step (looked_up library Skipped step) s ∷ [];
       more = steps_from library endings.Failed s steps;
@@ -210,7 +209,7 @@ next_goes hears library endings.Failed s new cs left step steps m first last (in
     }
 next_goes hears library endings.Failed s new cs left step steps m first last (inr t, p, q) h =
     let stays : worse endings.Failed (ending_of m) ≡ endings.Failed = ap (λ x. worse endings.Failed (ending_of x)) t ∙ failed_stays (is_some (found library step.step_type step.text)) in
-    let one = unrun_goes hears endings.Failed s new cs left step m (looked_up library Skipped step) first last refl stays t p q (h []) in
+    let one = unrun_goes hears endings.Failed s new cs left step m (looked_up library Skipped step) first last refl stays t p q h in
     record {
       part = unrun_step step (looked_up library Skipped step) s ∷ [];
       more = steps_from library endings.Failed s steps;
@@ -221,7 +220,7 @@ next_goes hears library endings.Failed s new cs left step steps m first last (in
     }
 next_goes hears library endings.Skipped s new cs left step steps m first last t h =
     let stays : worse endings.Skipped (ending_of m) ≡ endings.Skipped = ap (λ x. worse endings.Skipped (ending_of x)) t.0 in
-    let one = unrun_goes hears endings.Skipped s new cs left step m Skipped first last refl stays t.0 t.1 t.2 (h []) in
+    let one = unrun_goes hears endings.Skipped s new cs left step m Skipped first last refl stays t.0 t.1 t.2 h in
     record {
       part = unrun_step step Skipped s ∷ [];
       more = steps_from library endings.Skipped s steps;
@@ -265,7 +264,7 @@ steps_first hears library before start all first =
     record { goes = begin hears before (steps_from library before start.state all) start first; shown = shown_any before all [] all [] (λ more. refl) }
 
 pub steps_on : {S : Type 0} (hears : S → Event → S → Type 0) (library : LibraryValue) (before : Ending) (start : SectionNow) (all : List StepValue) (stood next : Ending) (s new : State) (cs left : List CleanupValue) (step : StepValue) (steps : List StepValue) (m : Mark) (rows more : List StepRow) (first here last : S) →
-    IsNext library stood s cs step m new left → ((registered : List CleanupValue) → FoldsTo hears here (told_next stood (of_step steps_of_case step m registered new)) last) → next ≡ worse stood (ending_of m) → more ≡ rows ++ row_of_step step m ∷ [] →
+    IsNext library stood s cs step m new left → FoldsTo hears here (next_event library stood s step m new) last → next ≡ worse stood (ending_of m) → more ≡ rows ++ row_of_step step m ∷ [] →
     StepsSoFar hears library before start all stood (at s cs) (step ∷ steps) rows first here → StepsSoFar hears library before start all next (at new left) steps more first last
 steps_on hears library before start all stood next s new cs left step steps m rows more first here last t h ends pushed so_far =
     let one = next_goes hears library stood s new cs left step steps m here last t h in
@@ -305,19 +304,67 @@ steps_found [] kind tag = refl
 steps_found (hook ∷ hooks) kind tag = grind (arith, common_steps, steps_found hooks kind tag)
 
 -- a step of which the action and what its fields took were found
-pub used_step : (library : LibraryValue) (site : Site) (s new : State) (cleanups new_cleanups : List CleanupValue) (step : StepValue) (x : Option FoundValue) (u : FoundUse) (g : ArgumentsValue) (o : Outcome)
-    → IsUseOf library x (Some u) → g ≡ arguments_by_uses u.fields step.block
-    → IsDone (done_of (at_site u.action site library g s)) o new → HasRegistered (at_site u.action site library g s) cleanups o new_cleanups
-    → IsStepRun (stepped library site s step x) cleanups (Acted o) new new_cleanups
-used_step library site s new cleanups new_cleanups step None u g o looked h done registered = absurd looked
-used_step library site s new cleanups new_cleanups step (Some f) u g o looked h done registered = grind (arith, common_steps, called_is, used_given)
+pub used_step : (library : LibraryValue) (stage : Stage) (s new : State) (cleanups new_cleanups : List CleanupValue) (step : StepValue) (x : Option FoundValue) (u : FoundUse) (used : UseValue) (o : Outcome)
+    → IsUseOf library x (Some u) → used.action ≡ u.action → used.arguments ≡ arguments_by_uses u.fields step.block
+    → IsDone (done_of (used_at (site_of stage) library used s)) o new → HasRegistered (used_at (site_of stage) library used s) (place_of stage step) cleanups o new_cleanups
+    → IsStepRun (stepped library stage s step x) cleanups (Acted o) new new_cleanups
+used_step library stage s new cleanups new_cleanups step None u used o looked a g done registered = absurd looked
+used_step library stage s new cleanups new_cleanups step (Some f) u used o looked a g done registered = grind (arith, common_steps, called_is, used_given)
 
 -- what such a step wrote where memory was refused in its action
-pub used_kept : (library : LibraryValue) (site : Site) (old new : SandboxValue) (step : StepValue) (x : Option FoundValue) (u : FoundUse) (g : ArgumentsValue)
-    → IsUseOf library x (Some u) → g ≡ arguments_by_uses u.fields step.block
-    → WritesFirst (done_of (at_site u.action site library g (state_of old.now))).files old new → WritesFirst (stepped library site (state_of old.now) step x).files old new
-used_kept library site old new step None u g looked h kept = absurd looked
-used_kept library site old new step (Some f) u g looked h kept = grind (arith, common_steps, called_is, used_given)
+pub used_kept : (library : LibraryValue) (stage : Stage) (old new : SandboxValue) (step : StepValue) (x : Option FoundValue) (u : FoundUse) (used : UseValue)
+    → IsUseOf library x (Some u) → used.action ≡ u.action → used.arguments ≡ arguments_by_uses u.fields step.block
+    → WritesFirst (done_of (used_at (site_of stage) library used (state_of old.now))).files old new → WritesFirst (stepped library stage (state_of old.now) step x).files old new
+used_kept library stage old new step None u used looked a g kept = absurd looked
+used_kept library stage old new step (Some f) u used looked a g kept = grind (arith, common_steps, called_is, used_given)
+
+-- ---- what an observer receives of a step
+
+-- more cleanups are registered where some were
+any_more : (cs registered : List CleanupValue) → has_cleanup registered ≡ not (nat_eq (length (cs ++ registered)) (length cs))
+any_more cs [] = grind (arith, common_steps)
+any_more cs (c ∷ registered) = grind (arith, common_steps)
+
+-- what an observer may become, whatever was registered
+abbrev pub Received : {S : Type 0} → (S → Event → S → Type 0) → Stage → StepValue → StepDone → State → S → S → Type 0
+Received hears stage step done new first last = (registered : List CleanupValue) → has_cleanup registered ≡ done.registered → hears first (of_step stage step done.mark (used_in done) registered new) last
+
+exact_event : {S : Type 0} (hears : S → Event → S → Type 0) (stage : Stage) (step : StepValue) (this : Stepped) (new : State) (cs left : List CleanupValue) (done : StepDone) (first last : S) → left ≡ cs ++ this.registered →
+    used_in done ≡ this.used → done.registered ≡ not (nat_eq (length left) (length cs)) → Received hears stage step done new first last → hears first (of_step stage step done.mark this.used this.registered new) last
+exact_event hears stage step this new cs left done first last is used registered h =
+    subst (λ (x : Option UseValue). hears first (of_step stage step done.mark x this.registered new) last) used
+    (h this.registered (any_more cs this.registered ∙ ap (λ (all : List CleanupValue). not (nat_eq (length all) (length cs))) (sym is) ∙ sym registered))
+
+acted_event : {S : Type 0} (hears : S → Event → S → Type 0) (stage : Stage) (step : StepValue) (this : Stepped) (new : State) (cs left : List CleanupValue) (used : Used) (o : Outcome) (done : StepDone) (first last : S) → IsStepRun this cs (Acted o) new left →
+    this.used ≡ Some (use_value used) → IsDoneBy used o (not (nat_eq (length left) (length cs))) done → Received hears stage step (record done { mark = Acted o }) new first last → hears first (happened_as stage step this (Acted o) new) last
+acted_event hears stage step this new cs left used outcomes.Memory done first last ran is by h =
+    subst (λ (x : Option UseValue). hears first (of_step stage step (Acted outcomes.Memory) x [] new) last) by.0 (h [] (sym by.1))
+acted_event hears stage step this new cs left used outcomes.Passed done first last ran is by h = exact_event hears stage step this new cs left (record done { mark = Acted outcomes.Passed }) first last ran.2 (by.0 ∙ sym is) by.1 h
+acted_event hears stage step this new cs left used outcomes.Skip done first last ran is by h = exact_event hears stage step this new cs left (record done { mark = Acted outcomes.Skip }) first last ran.2 (by.0 ∙ sym is) by.1 h
+acted_event hears stage step this new cs left used (outcomes.Failed why) done first last ran is by h = exact_event hears stage step this new cs left (record done { mark = Acted (outcomes.Failed why) }) first last ran.2 (by.0 ∙ sym is) by.1 h
+
+-- the action that was found is the one that is used
+used_is : (library : LibraryValue) (stage : Stage) (s : State) (step : StepValue) (x : Option FoundValue) (u : FoundUse) (used : UseValue) → IsUseOf library x (Some u) → used.action ≡ u.action → used.arguments ≡ arguments_by_uses u.fields step.block →
+    (stepped library stage s step x).used ≡ Some used
+used_is library stage s step None u used looked a g = absurd looked
+used_is library stage s step (Some f) u used looked a g = grind (arith, common_steps, used_given)
+
+-- a step whose action was carried out
+pub used_event : {S : Type 0} (hears : S → Event → S → Type 0) (library : LibraryValue) (stage : Stage) (s new : State) (cs left : List CleanupValue) (step : StepValue) (x : Option FoundValue) (u : FoundUse) (used : Used) (o : Outcome) (done : StepDone) (first last : S) →
+    IsUseOf library x (Some u) → used.action ≡ u.action → arguments_value used.arguments ≡ arguments_by_uses u.fields step.block → IsStepRun (stepped library stage s step x) cs (Acted o) new left →
+    IsDoneBy used o (not (nat_eq (length left) (length cs))) done → done.mark ≡ Acted o → Received hears stage step done new first last → hears first (happened_as stage step (stepped library stage s step x) done.mark new) last
+used_event {S} hears library stage s new cs left step x u used o done first last looked a g ran by is h =
+    let this = stepped library stage s step x in
+    let marked : Mark → StepDone = λ m. record done { mark = m } in
+    subst (λ (m : Mark). hears first (happened_as stage step this m new) last) (sym is)
+    (acted_event hears stage step this new cs left used o done first last ran (used_is library stage s step x u (use_value used) looked a g) by
+    (subst (λ (m : Mark). Received hears stage step (marked m) new first last) is h))
+
+-- a step that no entry matches
+pub undefined_event : {S : Type 0} (hears : S → Event → S → Type 0) (library : LibraryValue) (stage : Stage) (s new : State) (step : StepValue) (x : Option FoundValue) (first last : S) → IsUseOf library x None →
+    hears first (of_step stage step Undefined None [] new) last → hears first (happened_as stage step (stepped library stage s step x) Undefined new) last
+undefined_event hears library stage s new step None first last looked h = h
+undefined_event hears library stage s new step (Some f) first last looked h = absurd looked
 
 -- memory is refused while a step is looked up only where its text has the ends of an entry
 pub look_needs : (library : LibraryValue) (step : StepValue) (m : Mark) → IsLookedUp library Skipped step m → m ≡ Acted outcomes.Memory → HasCandidateFor library step.step_type step.text

@@ -1,5 +1,5 @@
 -- What an action does to the plain state, what it registers, and its outcome.
-use Rattle.std.specs.Prelude.{◌≡◌, ◌⊎◌, Result, Ok, Err, option_copied, ℕ, ℤ, pos, ◌+ℤ◌, Bool, true, false, cond, not, ◌||◌, List, [], ◌∷◌, ◌++◌, Option, Some, None, codes, bytes_eq, is_none, unwrap_or}
+use Rattle.std.specs.Prelude.{◌≡◌, ◌⊎◌, Result, Ok, Err, option_copied, ℕ, ℤ, pos, ◌+ℤ◌, Bool, true, false, cond, not, ◌||◌, List, [], ◌∷◌, ◌++◌, map, Option, Some, None, codes, bytes_eq, is_none, unwrap_or}
 use Rattle.std.specs.Ordering.{int_eq}
 use Rattle.std.specs.Fmt.{signed_decimal}
 use Rattle.std.specs.Option.{option_or}
@@ -12,18 +12,18 @@ use Rattle.gk_steps.specs.declared.action.Does.{Does}
 use Rattle.gk_steps.specs.declared.action.Does.TheVariants.{Registers, Skips}
 use Rattle.gk_steps.specs.Action.{row_of}
 use Rattle.gk_steps.specs.FilesTable.{files_below}
-use Rattle.gk_gherkin.specs.declared.feature.Block.{Block}
-use Rattle.gk_steps.specs.declared.finding.Found.{Found}
 use Rattle.gk_steps.specs.declared.library.Library.{Library}
 use Rattle.gk_steps.specs.declared.used_fields.UsedFields.{UsedFields}
-use Rattle.gk_steps.specs.Finding.{LibraryValue, FoundValue, library_value, found_value, action_of, text_field, number_field, found_any, lent_text, HasCandidate}
+use Rattle.gk_steps.specs.Finding.{LibraryValue, FoundValue, library_value, action_of, found_value, text_field, number_field, found_any, lent_text, HasCandidate}
 use Rattle.gk_world.specs.declared.refusals.WorldFault.{WorldFault}
 use Rattle.gk_world.specs.declared.refusals.WorldFault.TheVariants as faults
 use Rattle.gk_world.specs.State.{State, with_text, without, see, state_of}
 use Rattle.gk_world.specs.Refusals.{first_true, is_bad_name, is_too_long, joined}
 use Rattle.gk_world.specs.Sandbox.{SandboxValue, PutsFile, KeepsLayers}
 use Rattle.gk_run.specs.declared.acting.Arguments.{Arguments}
+use Rattle.gk_run.specs.declared.acting.Used.{Used}
 use Rattle.gk_run.specs.declared.cleanups.Cleanup.{Cleanup}
+use Rattle.gk_run.specs.declared.cleanups.Registration.{Registration}
 use Rattle.gk_run.specs.declared.acting.Site.{Site}
 use Rattle.gk_run.specs.declared.acting.Site.TheVariants as sites
 use Rattle.gk_run.specs.declared.results.Reason.{Reason}
@@ -250,19 +250,29 @@ table actions.SkipScenario g s = fails s reasons.NotHere
 table actions.Pass g s = stays s outcomes.Passed
 table actions.Fail g s = fails s reasons.Asked
 
--- A registered cleanup: what the look-up of its text found, and the block of the step that registered it. (behave's documentation: cleanups)
+-- A registered cleanup: what the look-up of its text found, the block of the step that registered it, and the place of that step. (behave's documentation: cleanups)
 pub record CleanupValue : Type 0 where
   pub found : FoundValue
   pub block : BlockValue
+  pub at : Registration
 
 -- The value of a `Cleanup`.
 abbrev pub cleanup_value : Cleanup → CleanupValue
-cleanup_value c = record { found = found_value c.found; block = block_value c.block }
+cleanup_value c = record { found = found_value c.found; block = block_value c.block; at = c.at }
 
--- What an action leaves, and the cleanups that it registers.
+-- What an action registers as a cleanup: what a look-up found, and a block.
+pub record Registered : Type 0 where
+  pub found : FoundValue
+  pub block : BlockValue
+
+-- The cleanups that are registered at a place.
+abbrev pub cleanups_at : Registration → List Registered → List CleanupValue
+cleanups_at at registered = map (λ r. record { found = r.found; block = r.block; at = at }) registered
+
+-- What an action leaves, and what it registers.
 pub record ActionEffect : Type 0 where
   pub done : Done
-  pub registered : List CleanupValue
+  pub registered : List Registered
 
 -- What an action leaves, without what it registers.
 abbrev pub done_of : ActionEffect → Done
@@ -302,34 +312,40 @@ does_at_site _ action site library g s = without_cleanups (table action g s)
 abbrev pub at_site : Action → Site → LibraryValue → ArgumentsValue → State → ActionEffect
 at_site action = does_at_site (row_of action).does action
 
+-- An action and its arguments.
+pub record UseValue : Type 0 where
+  pub action : Action
+  pub arguments : ArgumentsValue
+
+-- The value of a `Used`.
+abbrev pub use_value : Used → UseValue
+use_value used = record { action = used.action; arguments = arguments_value used.arguments }
+
+-- The action of a found step, with its arguments.
+abbrev pub use_of : LibraryValue → FoundValue → BlockValue → UseValue
+use_of library found block = record { action = action_of library found; arguments = arguments_of library found block }
+
+-- What an action with these arguments leaves and registers at a site.
+abbrev pub used_at : Site → LibraryValue → UseValue → State → ActionEffect
+used_at site library used s = at_site used.action site library used.arguments s
+
 -- What the action of a found step leaves and registers.
 unfoldable pub act : LibraryValue → Site → FoundValue → BlockValue → State → ActionEffect
-act library site found block s = at_site (action_of library found) site library (arguments_of library found block) s
+act library site found block s = used_at site library (use_of library found block) s
 
 -- An action was carried out, or memory was refused in it, which requires `takes_memory`.
 abbrev pub IsDone : Done → Outcome → State → Type 0
 IsDone done outcomes.Memory new = done.takes_memory ≡ true
 IsDone done outcome new = (outcome ≡ done.outcome) × (new ≡ done.state)
 
--- What the action of a found step leaves and registers, for the program's `Library`, `Found` and `Block`.
-abbrev pub act_of : Library → Site → Found → Block → State → ActionEffect
-act_of library site found block s = act (library_value library) site (found_value found) (block_value block) s
-
--- The cleanups after an action: those before it, and then what it registers. If memory was refused, they are only those before it.
-abbrev pub HasRegistered : ActionEffect → List CleanupValue → Outcome → List CleanupValue → Type 0
-HasRegistered acted before outcomes.Memory after = after ≡ before
-HasRegistered acted before outcome after = after ≡ before ++ acted.registered
+-- The cleanups after an action: those before it, and then what it registers, at the place of its step. If memory was refused, they are only those before it.
+abbrev pub HasRegistered : ActionEffect → Registration → List CleanupValue → Outcome → List CleanupValue → Type 0
+HasRegistered acted at before outcomes.Memory after = after ≡ before
+HasRegistered acted at before outcome after = after ≡ before ++ cleanups_at at acted.registered
 
 -- If no entry of type `step` matches a text, memory is refused only if the text has the ends of such an entry.
 abbrev pub NeedsCandidate : LibraryValue → List ℕ → Outcome → Type 0
 NeedsCandidate library text outcome = found_any library text ≡ None → outcome ≡ outcomes.Memory → HasCandidate library None text
-
--- If no entry of type `step` matches the step that at_cleanup registers, memory is refused only if that step has the ends of such an entry.
-abbrev pub CleanupNeedsCandidate : Library → Found → Block → Outcome → Type 0
-CleanupNeedsCandidate library found block outcome =
-    let f = found_value found in
-    let g = arguments_of (library_value library) f (block_value block) in
-    action_of (library_value library) f ≡ actions.AtCleanup → NeedsCandidate (library_value library) g.step outcome
 
 -- Some number of these files, from the first on, were written one after another, and nothing else changed.
 abbrev pub WritesFirst : List (List ℕ × List ℕ) → SandboxValue → SandboxValue → Type 0
@@ -365,6 +381,6 @@ Performs action arguments old outcome new = IsActed (table action (arguments_val
 abbrev pub arguments_by_uses : UsedFields → BlockValue → ArgumentsValue
 arguments_by_uses used = arguments_with (lent_text used.name) (lent_text used.to) (lent_text used.step) used.number (lent_text used.text)
 
--- What an action leaves and registers at a site with these arguments.
-abbrev pub called : Library → Site → Action → Arguments → State → ActionEffect
-called library site action arguments s = at_site action site (library_value library) (arguments_value arguments) s
+-- What a `Used` leaves and registers at a site.
+abbrev pub called : Library → Site → Used → State → ActionEffect
+called library site used s = used_at site (library_value library) (use_value used) s

@@ -1,29 +1,41 @@
 -- The events of a run: what happens in it, one after another, what each leaves, and what an observer is told.
-use Rattle.std.specs.Prelude.{zero, suc, Bool, true, false, List, [], ◌∷◌, ◌++◌, map, ℕ, ◌≡◌}
+use denote.Ref.{Bor}
+use Rattle.std.specs.Prelude.{zero, suc, Bool, true, false, List, [], ◌∷◌, ◌++◌, map, Option, None, option_map, ℕ, ◌≡◌}
 use Rattle.gk_gherkin.specs.Feature.{StepValue}
 use Rattle.gk_world.specs.Sandbox.{SandboxValue}
 use Rattle.gk_world.specs.State.{State, state_of}
+use Rattle.gk_run.specs.declared.acting.Used.{Used}
 use Rattle.gk_run.specs.declared.ending.Ending.{Ending}
+use Rattle.gk_run.specs.declared.observer.StepDone.{StepDone}
 use Rattle.gk_run.specs.declared.results.Mark.{Mark}
 use Rattle.gk_run.specs.declared.results.Mark.TheVariants.{Acted}
 use Rattle.gk_run.specs.declared.results.Outcome.{Outcome}
 use Rattle.gk_run.specs.declared.results.Outcome.TheVariants as outcomes
 use Rattle.gk_run.specs.declared.section.Level.{Level}
 use Rattle.gk_run.specs.declared.section.Stage.{Stage}
-use Rattle.gk_run.specs.Acting.{CleanupValue}
+use Rattle.gk_run.specs.Acting.{CleanupValue, UseValue, use_value}
 use Rattle.gk_run.specs.Ending.{ended_of}
 use Rattle.std.specs.List.{FoldsTo}
 use Rattle.gk_run.specs.Results.{CaseRow, RuleRow}
 
--- An event. `of_step` is a step: its stage, its mark, the cleanups that it registered, and the state that it left. `of_cleanup` is a cleanup of a section of this level: its outcome, and the state that it left.
+-- An event. `of_step` is a step: its stage, its mark, the action that was carried out, if there was one, the cleanups that it registered, and the state that it left. `of_cleanup` is a cleanup of a section of this level: its outcome, and the state that it left.
 pub data Event : Type 0 where
-  of_step : Stage → StepValue → Mark → List CleanupValue → State → Event
+  of_step : Stage → StepValue → Mark → Option UseValue → List CleanupValue → State → Event
   of_cleanup : Level → CleanupValue → Outcome → State → Event
 
 -- The mark of an event.
 abbrev pub mark_of : Event → Mark
-mark_of (of_step stage step mark registered s) = mark
+mark_of (of_step stage step mark used registered s) = mark
 mark_of (of_cleanup level cleanup outcome s) = Acted outcome
+
+-- Whether a list has a cleanup.
+abbrev pub has_cleanup : List CleanupValue → Bool
+has_cleanup [] = false
+has_cleanup (cleanup ∷ cleanups) = true
+
+-- Proof machinery: the action in a `StepDone`.
+abbrev pub used_in : StepDone → Option UseValue
+used_in done = option_map (λ (used : Bor Used). use_value used.now) done.used
 
 -- The marks of events.
 abbrev pub event_marks : List Event → List Mark
@@ -36,7 +48,7 @@ ended_in events = ended_of (event_marks events)
 -- The outcomes of the cleanups among events.
 abbrev pub outcomes_of : List Event → List Outcome
 outcomes_of [] = []
-outcomes_of (of_step stage step mark registered s ∷ events) = outcomes_of events
+outcomes_of (of_step stage step mark used registered s ∷ events) = outcomes_of events
 outcomes_of (of_cleanup level cleanup outcome s ∷ events) = outcome ∷ outcomes_of events
 
 -- The plain state of a section, and the cleanups that are registered in it.
@@ -50,7 +62,7 @@ section_now sandbox cleanups = record { state = state_of sandbox.now; cleanups =
 
 -- The state and the cleanups of a section after an event.
 abbrev pub after_event : SectionNow → Event → SectionNow
-after_event section (of_step stage step mark registered s) = record { state = s; cleanups = section.cleanups ++ registered }
+after_event section (of_step stage step mark used registered s) = record { state = s; cleanups = section.cleanups ++ registered }
 after_event section (of_cleanup level cleanup outcome s) = record { state = s; cleanups = section.cleanups }
 
 -- The state and the cleanups of a section after events, in order.
@@ -58,9 +70,9 @@ abbrev pub left_by : SectionNow → List Event → SectionNow
 left_by section [] = section
 left_by section (event ∷ events) = left_by (after_event section event) events
 
--- An event in which memory was refused: it registered nothing, and left this state.
+-- An event in which memory was refused: no action counts as carried out, nothing was registered, and it left this state.
 abbrev pub refused : State → Event → Event
-refused s (of_step stage step mark registered _) = of_step stage step (Acted outcomes.Memory) [] s
+refused s (of_step stage step mark used registered _) = of_step stage step (Acted outcomes.Memory) None [] s
 refused s (of_cleanup level cleanup outcome _) = of_cleanup level cleanup outcomes.Memory s
 
 -- Events that are cut at event n, counted from 0. Those before it stay. Memory was refused in it, and it left this state. Those after it didn't happen.

@@ -110,7 +110,7 @@ IsFeatureTold hears ends run outside is_open f row old new = (cuts : FeatureCuts
 
 -- What is told last before a case begins: a step of the before hooks of a feature or a rule, or the end of a case or a rule. (Which of these steps is the last isn't said.)
 abbrev pub PrecedesCase : Told → Type 0
-PrecedesCase (happens (of_step stage step mark registered s)) = (stage ≡ before_of levels.Feature) ⊎ (stage ≡ before_of levels.Rule)
+PrecedesCase (happens (of_step stage step mark used registered s)) = (stage ≡ before_of levels.Feature) ⊎ (stage ≡ before_of levels.Rule)
 PrecedesCase (happens (of_cleanup level cleanup outcome s)) = ⊥
 PrecedesCase (has_ended ended) = ⊤
 

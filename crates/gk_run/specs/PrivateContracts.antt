@@ -1,14 +1,14 @@
 -- Proof machinery: definitions for the contracts of the private functions that walk through a section and that run cases, rules and features.
 use Rattle.std.specs.List.{FoldsTo}
-use Rattle.std.specs.Prelude.{List, [], ◌∷◌, ◌++◌, map, ◌≡◌, Option, Some, None, ℕ, suc, length, Bool, true, String, ◌<◌}
+use Rattle.std.specs.Prelude.{List, [], ◌∷◌, ◌++◌, map, ◌≡◌, Option, Some, None, ℕ, suc, length, Bool, true, false, String, ◌<◌}
 use Rattle.gk_gherkin.specs.Feature.{StepValue, step_value, texts}
 use Rattle.gk_gherkin.specs.Hooks.{hooks_value}
 use Rattle.gk_gherkin.specs.declared.feature.Step.{Step}
 use Rattle.gk_steps.specs.Finding.{LibraryValue, library_value, found, HasCandidateFor}
 use Rattle.gk_world.specs.Sandbox.{SandboxValue}
 use Rattle.gk_world.specs.State.{State, state_of}
-use Rattle.gk_run.specs.declared.acting.Site.{Site}
-use Rattle.gk_run.specs.declared.acting.Site.TheVariants as sites
+use Rattle.gk_run.specs.declared.acting.Used.{Used}
+use Rattle.gk_run.specs.declared.observer.StepDone.{StepDone}
 use Rattle.gk_run.specs.declared.section_end.Closed.{Closed}
 use Rattle.gk_run.specs.declared.ending.Ending.{Ending}
 use Rattle.gk_run.specs.declared.ending.Ending.TheVariants as endings
@@ -24,10 +24,10 @@ use Rattle.gk_run.specs.declared.section.Level.{Level}
 use Rattle.gk_run.specs.declared.section.Stage.{Stage}
 use Rattle.gk_run.specs.declared.section.Section.{Section}
 use Rattle.gk_run.specs.declared.walk.StepsEnd.{StepsEnd}
-use Rattle.gk_run.specs.Acting.{CleanupValue, WritesFirst}
+use Rattle.gk_run.specs.Acting.{CleanupValue, WritesFirst, use_value}
 use Rattle.gk_run.specs.SectionHooks.{cleaned, after_lists, before_list, walk_each}
 use Rattle.gk_run.specs.Ending.{is_memory_ending, worse}
-use Rattle.gk_run.specs.Events.{Event, SoFar, of_step, SectionNow, ended_in, event_marks, left_by, outcomes_of, section_now, EndTold, IsRan, Told, tells}
+use Rattle.gk_run.specs.Events.{Event, SoFar, of_step, SectionNow, ended_in, event_marks, left_by, outcomes_of, section_now, used_in, EndTold, IsRan, Told, tells}
 use Rattle.gk_run.specs.OpenSection.{IsOpened, SectionRow, section_of, run_value, Run}
 use Rattle.gk_run.specs.Results.{step_row, CaseRow, FeatureRow, case_row, rule_row}
 use Rattle.gk_run.specs.Section.{steps_of_case, before_of, Cut}
@@ -67,15 +67,31 @@ IsStepRun this cleanups mark new new_cleanups = (mark ≡ this.mark) × (new ≡
 
 -- The next step of a case that has ended so far with this ending.
 abbrev pub IsNext : LibraryValue → Ending → State → List CleanupValue → StepValue → Mark → State → List CleanupValue → Type 0
-IsNext library endings.Passed s cleanups step mark new new_cleanups = IsStepRun (one_step library sites.Step s step) cleanups mark new new_cleanups
+IsNext library endings.Passed s cleanups step mark new new_cleanups = IsStepRun (one_step library steps_of_case s step) cleanups mark new new_cleanups
 IsNext library endings.Failed s cleanups step mark new new_cleanups = IsLookedUp library Skipped step mark × (new ≡ s) × (new_cleanups ≡ cleanups)
 IsNext library endings.Skipped s cleanups step mark new new_cleanups = (mark ≡ Skipped) × (new ≡ s) × (new_cleanups ≡ cleanups)
 IsNext library endings.Memory s cleanups step mark new new_cleanups = (mark ≡ Untested) × (new ≡ s) × (new_cleanups ≡ cleanups)
 
--- A step was carried out at a site.
-abbrev pub RunsStep : shared.Run → Site → Step → SandboxValue → List CleanupValue → Mark → SandboxValue → List CleanupValue → Type 0
-RunsStep run site step old cleanups mark new new_cleanups =
-    IsStepRun (one_step (library_value run.library.now) site (state_of old.now) (step_value step)) cleanups mark (state_of new.now) new_cleanups
+-- A step was carried out at a stage.
+abbrev pub RunsStep : shared.Run → Stage → Step → SandboxValue → List CleanupValue → Mark → SandboxValue → List CleanupValue → Type 0
+RunsStep run stage step old cleanups mark new new_cleanups =
+    IsStepRun (one_step (library_value run.library.now) stage (state_of old.now) (step_value step)) cleanups mark (state_of new.now) new_cleanups
+
+-- What was done for a step whose action had this outcome. If memory was refused in it, no action counts as carried out, and no cleanup was registered.
+abbrev pub IsDoneBy : Used → Outcome → Bool → StepDone → Type 0
+IsDoneBy used outcomes.Memory registered done = (used_in done ≡ None) × (done.registered ≡ false)
+IsDoneBy used outcome registered done = (used_in done ≡ Some (use_value used)) × (done.registered ≡ registered)
+
+-- The event of a step that was carried out at a stage with this mark, and left this state.
+abbrev pub happened_as : Stage → StepValue → Stepped → Mark → State → Event
+happened_as stage step this (Acted outcomes.Memory) new = of_step stage step (Acted outcomes.Memory) None [] new
+happened_as stage step this mark new = of_step stage step mark this.used this.registered new
+
+-- An observer was notified of a step that was carried out at a stage.
+abbrev pub NotifiesStep : {S : Type 0} → (S → Event → S → Type 0) → shared.Run → Stage → Step → SandboxValue → Mark → SandboxValue → S → S → Type 0
+NotifiesStep hears run stage step old mark new first last =
+    let this = step_value step in
+    hears first (happened_as stage this (one_step (library_value run.library.now) stage (state_of old.now) this) mark (state_of new.now)) last
 
 -- If no entry matches a step, memory is refused in it only if its text has the ends of an entry.
 abbrev pub StepNeedsCandidate : shared.Run → Step → Mark → Type 0
@@ -85,9 +101,9 @@ StepNeedsCandidate run step mark =
     found library this.step_type this.text ≡ None → mark ≡ Acted outcomes.Memory → HasCandidateFor library this.step_type this.text
 
 -- If memory was refused in a step, its action made some number of its changes, from the first on, and no others.
-abbrev pub StepKeepsAtMemory : shared.Run → Site → Step → SandboxValue → Mark → SandboxValue → Type 0
-StepKeepsAtMemory run site step old mark new =
-    let this = one_step (library_value run.library.now) site (state_of old.now) (step_value step) in
+abbrev pub StepKeepsAtMemory : shared.Run → Stage → Step → SandboxValue → Mark → SandboxValue → Type 0
+StepKeepsAtMemory run stage step old mark new =
+    let this = one_step (library_value run.library.now) stage (state_of old.now) (step_value step) in
     mark ≡ Acted outcomes.Memory → WritesFirst this.files old new
 
 -- The steps of a hook were walked through at a stage.
@@ -100,14 +116,16 @@ abbrev pub TakesNext : shared.Run → Ending → Step → SandboxValue → List 
 TakesNext run ending step old cleanups mark new new_cleanups =
     IsNext (library_value run.library.now) ending (state_of old.now) cleanups (step_value step) mark (state_of new.now) new_cleanups
 
--- What is told of a step of a case, by how the case had ended before it: nothing if memory was refused before.
-abbrev pub told_next : Ending → Event → List Event
-told_next endings.Memory event = []
-told_next _ event = event ∷ []
+-- The event of the next step of a case that has ended so far with this ending. Nothing happens if memory was refused before.
+abbrev pub next_event : LibraryValue → Ending → State → StepValue → Mark → State → List Event
+next_event library endings.Memory s step mark new = []
+next_event library endings.Passed s step mark new = happened_as steps_of_case step (one_step library steps_of_case s step) mark new ∷ []
+next_event library _ s step mark new = of_step steps_of_case step mark None [] new ∷ []
 
--- The next step of a case was told, whatever it registered. The case had ended so far with `stood`.
-abbrev pub TellsNext : {S : Type 0} → (S → Event → S → Type 0) → Ending → Step → Mark → SandboxValue → S → S → Type 0
-TellsNext hears stood step mark now first last = (registered : List CleanupValue) → FoldsTo hears first (told_next stood (of_step steps_of_case (step_value step) mark registered (state_of now.now))) last
+-- An observer was notified of the next step of a case that had ended so far with `ending`.
+abbrev pub NotifiesNext : {S : Type 0} → (S → Event → S → Type 0) → shared.Run → Ending → Step → SandboxValue → Mark → SandboxValue → S → S → Type 0
+NotifiesNext hears run ending step old mark new first last =
+    FoldsTo hears first (next_event (library_value run.library.now) ending (state_of old.now) (step_value step) mark (state_of new.now)) last
 
 -- The steps of a case whose before list ended with `before` were run, and their results are those of the events that were told.
 pub record RunsSteps {S : Type 0} (hears : S → Event → S → Type 0) (run : shared.Run) (before : Ending) (steps : Reserved Step StepResult) (old : SandboxValue) (cleanups : List CleanupValue) (end : StepsEnd) (new : SandboxValue) (new_cleanups : List CleanupValue) (first last : S) : Type 0 where

@@ -7,12 +7,12 @@ ghost use Rattle.gk_steps.specs.Finding.{library_value, found_value};
 ghost use Rattle.gk_world.specs.State.{State, state_of};
 ghost use Rattle.gk_world.specs.Sandbox.{depth};
 ghost use Rattle.gk_run.specs.Acting as words;
-ghost use Rattle.gk_run.specs.Acting.{arguments_by_uses, arguments_value, act_of, agrees, called, Performs, IsActed, IsDone, HasRegistered, NeedsCandidate, CleanupNeedsCandidate};
+ghost use Rattle.gk_run.specs.Acting.{arguments_by_uses, arguments_value, agrees, called, use_of, use_value, Performs, IsActed, IsDone, HasRegistered, NeedsCandidate};
 
 mod file_actions;
 mod value_actions;
 
-use crate::cleanups::Cleanups;
+use crate::cleanups::{Cleanups, Registration};
 use crate::results::{Outcome, Reason};
 use file_actions::{append_file, remove_file, rename_file, write_file, write_files};
 use gk_gherkin::Block;
@@ -51,6 +51,13 @@ pub struct Arguments<'a> {
     pub text: Option<&'a str>,
     /// The step's block: a doc string, a table or nothing.
     pub block: &'a Block,
+}
+
+/// An action that is carried out, and its arguments.
+#[derive(Clone, Copy)]
+pub struct Used<'a> {
+    pub action: Action,
+    pub arguments: Arguments<'a>,
 }
 
 // Returns the outcome for what a change of the world returned.
@@ -157,14 +164,16 @@ pub(crate) fn arguments_by<'a>(used: UsedFields<'a>, block: &'a Block) -> Argume
     }
 }
 
-/// Returns the arguments of the action of a step that was found in a library, with the step's block. Doesn't allocate.
-#[inline(always)]
+/// Returns the action of a step that was found in a library and its arguments, with the step's block. Doesn't allocate.
 #[tactic(auto, using(crate::proofs::ActingLemmas::used_given))]
-pub fn arguments_of<'a>(library: &Library, found: &'a Found, block: &'a Block) -> Arguments<'a>
-    ensures { arguments_value result ≡ words.arguments_of
+pub fn used_of<'a>(library: &Library, found: &'a Found, block: &'a Block) -> Used<'a>
+    ensures { use_value result ≡ use_of
         (library_value library.now) (found_value found.now) (block_value block.now) }
 {
-    arguments_by(library.used_fields(found), block)
+    Used {
+        action: library.action(found),
+        arguments: arguments_by(library.used_fields(found), block),
+    }
 }
 
 #[inline(always)]
@@ -227,12 +236,13 @@ fn at_cleanup(
     cleanups: &mut Cleanups,
     library: &Library,
     site: Site,
+    at: Registration,
     arguments: &Arguments<'_>,
 ) -> Outcome
     ensures done { (s : State) → IsDone (words.done_of (words.registers_at
         site s (library_value library.now) (arguments_value arguments.now))) result s }
     ensures registered { (s : State) → HasRegistered (words.registers_at
-        site s (library_value library.now) (arguments_value arguments.now))
+        site s (library_value library.now) (arguments_value arguments.now)) at
         cleanups.old result cleanups.new }
     ensures memory { NeedsCandidate (library_value library.now) arguments.now.step.now result }
 {
@@ -242,43 +252,15 @@ fn at_cleanup(
     match library.find_any(alloc, arguments.step) {
         Err(AllocError) => Outcome::Memory,
         Ok(None) => Outcome::Failed(Reason::NoStep),
-        Ok(Some(found)) => match cleanups.add(found, arguments.block) {
+        Ok(Some(found)) => match cleanups.add(found, arguments.block, at) {
             Ok(()) => Outcome::Passed,
             Err(AllocError) => Outcome::Memory,
         },
     }
 }
 
-/// Carries out an action at a site, as `act` does.
-#[inline(always)]
-pub(crate) fn act_by(
-    alloc: Global,
-    sandbox: &mut Sandbox,
-    cleanups: &mut Cleanups,
-    library: &Library,
-    site: Site,
-    action: Action,
-    arguments: &Arguments<'_>,
-) -> Outcome
-    requires in_layer { 0 < depth sandbox.old }
-    ensures acted { IsActed (words.done_of
-        (called library.now site action arguments.now (state_of sandbox.old.now)))
-        sandbox.old result sandbox.new }
-    ensures registered { HasRegistered
-        (called library.now site action arguments.now (state_of sandbox.old.now))
-        cleanups.old result cleanups.new }
-    ensures memory { action ≡ actions.AtCleanup →
-        NeedsCandidate (library_value library.now) arguments.now.step.now result }
-{
-    match action.row().does {
-        Does::Registers => at_cleanup(alloc, cleanups, library, site, arguments),
-        Does::Skips => skip(site),
-        Does::Changes | Does::Checks => perform(alloc, sandbox, action, arguments),
-    }
-}
-
-/// Carries out the action of a step that was found in a library, with the step's block. A layer of the
-/// sandbox is open.
+/// Carries out an action at a site. `at` is the place of its step, which is that of a cleanup that it
+/// registers. A layer of the sandbox is open.
 ///
 /// The outcome is `Passed`, `Failed` with the first of the action's reasons that holds, `Skip`, or
 /// `Memory`. `Memory` comes only if a growth was refused. It never comes for an action that only
@@ -288,26 +270,30 @@ pub(crate) fn act_by(
 /// midway keeps what it did before: rows of `write_files` before the refused one stay. At `Memory` the
 /// sandbox and the cleanups are as they were, except for what `write_files` changed before; the end of
 /// the layer restores what the sandbox held when the layer began. (behave's documentation: cleanups)
-#[tactic(auto, using(crate::proofs::ActingLemmas::called_is))]
+#[inline(always)]
 pub fn act(
     alloc: Global,
     sandbox: &mut Sandbox,
     cleanups: &mut Cleanups,
     library: &Library,
     site: Site,
-    found: &Found,
-    block: &Block,
+    at: Registration,
+    used: &Used<'_>,
 ) -> Outcome
     requires in_layer { 0 < depth sandbox.old }
     ensures acted { IsActed (words.done_of
-        (act_of library.now site found.now block.now (state_of sandbox.old.now)))
+        (called library.now site used.now (state_of sandbox.old.now)))
         sandbox.old result sandbox.new }
     ensures registered { HasRegistered
-        (act_of library.now site found.now block.now (state_of sandbox.old.now))
+        (called library.now site used.now (state_of sandbox.old.now)) at
         cleanups.old result cleanups.new }
-    ensures memory { CleanupNeedsCandidate library.now found.now block.now result }
+    ensures memory { used.now.action ≡ actions.AtCleanup →
+        NeedsCandidate (library_value library.now) used.now.arguments.step.now result }
 {
-    let arguments = arguments_of(library, found, block);
-    let action = library.action(found);
-    act_by(alloc, sandbox, cleanups, library, site, action, &arguments)
+    let arguments = &used.arguments;
+    match used.action.row().does {
+        Does::Registers => at_cleanup(alloc, cleanups, library, site, at, arguments),
+        Does::Skips => skip(site),
+        Does::Changes | Does::Checks => perform(alloc, sandbox, used.action, arguments),
+    }
 }

@@ -1,20 +1,30 @@
 //! Cleanups that steps register.
-ghost use Rattle.std.specs.Prelude.{◌≡◌, [], ◌∷◌, ◌++◌, IfOk, OnOk, OnErr};
+ghost use Rattle.std.specs.Prelude.{◌≡◌, [], ◌∷◌, ◌++◌, length, IfOk, OnOk, OnErr};
 ghost use Rattle.gk_gherkin.specs.Feature.{block_value};
 ghost use Rattle.gk_steps.specs.Finding.{found_value};
 
 use crate::results::Outcome;
+use crate::section::Part;
 use gk_gherkin::Block;
 use gk_steps::Found;
 use std::alloc::{AllocError, Global};
 use std::marker::Model;
 
-/// A registered cleanup: what the look-up of its text found, and the block of the step that registered
-/// it. (behave's documentation: cleanups)
+/// The place where a cleanup is registered: the part of its section that contains the step, and the
+/// step's line.
+#[derive(Clone, Copy, Debug, PartialEq, Eq)]
+pub struct Registration {
+    pub part: Part,
+    pub line: u32,
+}
+
+/// A registered cleanup: what the look-up of its text found, the block of the step that registered it,
+/// and the place of that step. (behave's documentation: cleanups)
 #[derive(Debug, Drop)]
 pub struct Cleanup {
     pub found: Found,
     pub block: Block,
+    pub at: Registration,
 }
 
 /// The cleanups that are registered in a layer, in the order of their registration.
@@ -59,17 +69,29 @@ impl Cleanups {
         }
     }
 
+    /// Returns the number of cleanups that are registered.
+    pub(crate) fn len(&self) -> usize
+        ensures { result ≡ length self.now }
+    {
+        self.list.len()
+    }
+
     /// Registers a cleanup after the others, with a copy of the block, and reserves room for its
     /// outcome. A refusal changes nothing. (behave's documentation: cleanups)
-    pub(crate) fn add(&mut self, found: Found, block: &Block) -> Result<(), AllocError>
-        ensures ok { OnOk result (self.new ≡ self.old
-            ++ record { found = found_value found; block = block_value block.now } ∷ []) }
+    pub(crate) fn add(
+        &mut self,
+        found: Found,
+        block: &Block,
+        at: Registration,
+    ) -> Result<(), AllocError>
+        ensures ok { OnOk result (self.new ≡ self.old ++
+            record { found = found_value found; block = block_value block.now; at = at } ∷ []) }
         ensures err { OnErr result (self.new ≡ self.old) }
     {
         self.outcomes.reserve(self.list.len() + 1)?;
         self.list.reserve(1)?;
         let block = copy_block(block)?;
-        self.list.push_reserved(Cleanup { found, block });
+        self.list.push_reserved(Cleanup { found, block, at });
         Ok(())
     }
 

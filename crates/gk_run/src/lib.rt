@@ -41,9 +41,9 @@ mod dry_run;
 mod laws;
 mod open_run;
 
-pub use acting::{Arguments, Site, act, arguments_of};
+pub use acting::{Arguments, Site, Used, act, used_of};
 pub use chosen::{Chosen, RuleHead};
-pub use cleanups::Cleanups;
+pub use cleanups::{Cleanup, Cleanups, Registration};
 pub use dry_run::dry_feature;
 pub use ending::{Ending, is_failed_or_memory, reason_of, status_of};
 pub use features::run_feature;
@@ -56,7 +56,7 @@ pub use laws::{
     stopped_cases_run_no_step, unfinished_dry_runs_are_judged, unfinished_runs_are_judged,
     walks_end_at_the_least_stop, without_memory_there_is_one_list,
 };
-pub use observer::{Observer, Unwatched};
+pub use observer::{Observer, StepDone, Unwatched};
 pub use open_run::Suite;
 pub use results::{
     CaseResult, FeatureResult, Mark, NoRoom, Outcome, Reason, RuleResult, Status, StepResult,

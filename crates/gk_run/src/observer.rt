@@ -1,46 +1,48 @@
 //! Observers of a run.
-ghost use Rattle.std.specs.Prelude.{List};
-ghost use Rattle.gk_gherkin.specs.Feature.{step_value, block_value};
-ghost use Rattle.gk_steps.specs.Finding.{found_value};
+ghost use Rattle.std.specs.Prelude.{◌≡◌, List};
+ghost use Rattle.gk_gherkin.specs.Feature.{step_value};
 ghost use Rattle.gk_world.specs.State.{state_of};
-ghost use Rattle.gk_run.specs.Acting.{CleanupValue};
+ghost use Rattle.gk_run.specs.Acting.{CleanupValue, cleanup_value};
 ghost use Rattle.gk_run.specs.Results.{case_row, rule_row};
-ghost use Rattle.gk_run.specs.Events.{Event, of_step, of_cleanup, EndTold, of_case, of_rule};
+ghost use Rattle.gk_run.specs.Events.{Event, of_step, of_cleanup, has_cleanup, used_in, EndTold, of_case, of_rule};
 
+use crate::acting::Used;
+use crate::cleanups::Cleanup;
 use crate::results::{CaseResult, Mark, Outcome, RuleResult};
 use crate::section::{Level, Stage};
-use gk_gherkin::{Block, Step};
-use gk_steps::Found;
+use gk_gherkin::Step;
 use gk_world::Sandbox;
 
-/// An observer of a run. It is told the run's events in order, each once it has happened. It sees the
+/// What was done for a step.
+#[derive(Clone, Copy)]
+pub struct StepDone<'a> {
+    pub mark: Mark,
+    /// The action that was carried out, if there was one and memory wasn't refused in it.
+    pub used: Option<&'a Used<'a>>,
+    /// Whether a cleanup was registered.
+    pub registered: bool,
+}
+
+/// An observer of a run. It receives the run's events in order, each once it has happened. It sees the
 /// sandbox as the event left it, which after a failed check is what the check found. It can't change
 /// the sandbox. Its methods return nothing, so memory that is refused to an observer is no event of the
 /// run.
 pub trait Observer {
-    /// What it may become when it is told an event.
+    /// What it may become when it receives an event.
     ghost hears: { Self → Event → Self → Type 0 };
 
-    /// What it may become when it is told that a scenario or a rule has ended.
+    /// What it may become when a scenario or a rule has ended.
     ghost ends: { Self → EndTold → Self → Type 0 };
 
-    /// Receives a step of a scenario or of a hook, with its stage and its mark. The cleanups that the
-    /// step registered aren't told.
-    fn step(&mut self, stage: Stage, step: &Step, mark: Mark, sandbox: &Sandbox)
-        ensures { (registered : List CleanupValue) → hears self.old (of_step stage
-            (step_value step.now) mark registered (state_of sandbox.now.now)) self.new };
+    /// Receives a step of a scenario or of a hook, with its stage and what was done for it.
+    fn step(&mut self, stage: Stage, step: &Step, done: &StepDone<'_>, sandbox: &Sandbox)
+        ensures { (registered : List CleanupValue) → has_cleanup registered ≡ done.now.registered →
+            hears self.old (of_step stage (step_value step.now) done.now.mark (used_in done.now)
+            registered (state_of sandbox.now.now)) self.new };
 
-    /// Receives a registered cleanup of a section of this level, and its outcome.
-    fn cleanup(
-        &mut self,
-        level: Level,
-        found: &Found,
-        block: &Block,
-        outcome: Outcome,
-        sandbox: &Sandbox,
-    )
-        ensures { hears self.old (of_cleanup level
-            (record { found = found_value found.now; block = block_value block.now }) outcome
+    /// Receives a cleanup of a section of this level, and its outcome.
+    fn cleanup(&mut self, level: Level, cleanup: &Cleanup, outcome: Outcome, sandbox: &Sandbox)
+        ensures { hears self.old (of_cleanup level (cleanup_value cleanup.now) outcome
             (state_of sandbox.now.now)) self.new };
 
     /// Receives the result of a scenario that has ended, after its events. A scenario that isn't run
@@ -53,7 +55,7 @@ pub trait Observer {
         ensures { ends self.old (of_rule (rule_row row.now)) self.new };
 }
 
-/// An observer that ignores what it is told.
+/// An observer that ignores what it receives.
 #[derive(Drop)]
 pub struct Unwatched;
 
@@ -62,13 +64,12 @@ impl Observer for Unwatched {
 
     ghost ends = { λ old ended new. Unit {0} };
 
-    fn step(&mut self, _stage: Stage, _step: &Step, _mark: Mark, _sandbox: &Sandbox) {}
+    fn step(&mut self, _stage: Stage, _step: &Step, _done: &StepDone<'_>, _sandbox: &Sandbox) {}
 
     fn cleanup(
         &mut self,
         _level: Level,
-        _found: &Found,
-        _block: &Block,
+        _cleanup: &Cleanup,
         _outcome: Outcome,
         _sandbox: &Sandbox,
     ) {}

@@ -135,14 +135,14 @@ impl Suite {
         self.feature_watched(alloc, sandbox, library, &hooks, chosen, &mut Unwatched)
     }
 
-    /// Runs a feature of the run as `feature` does, and tells an observer what happens: the events of
-    /// the feature's before hooks, then each of its scenarios without a rule, then each rule, and then
-    /// the events of its after hooks and its cleanups. Of a scenario it tells the events and then the
-    /// result; of a rule its hooks, its scenarios and its cleanups and then the result. If memory is
-    /// refused in the hooks or the cleanups of a scenario, a rule or the feature, these are told up to
-    /// that event. After `NoRoom` a beginning of this was told, up to the end of a scenario or a rule,
-    /// or into a list of before hooks: each scenario was told whole, and no after hook or cleanup of a
-    /// rule or a feature that hasn't ended was told. The run's layer is the innermost open one.
+    /// Runs a feature of the run as `feature` does, and notifies an observer of what happens: the events
+    /// of the feature's before hooks, then each of its scenarios without a rule, then each rule, and then
+    /// the events of its after hooks and its cleanups. For a scenario it gets the events and then the
+    /// result; for a rule its hooks, its scenarios and its cleanups and then the result. If memory is
+    /// refused in the hooks or the cleanups of a scenario, a rule or the feature, it gets these up to
+    /// that event. After `NoRoom` it got a beginning of this, up to the end of a scenario or a rule, or
+    /// into a list of before hooks: each scenario whole, and no after hook or cleanup of a rule or a
+    /// feature that hasn't ended. The run's layer is the innermost open one.
     pub fn feature_watched<O: Observer>(
         &mut self,
         alloc: Global,
@@ -201,8 +201,8 @@ impl Suite {
         self.finish_watched(alloc, sandbox, library, &hooks, &mut Unwatched)
     }
 
-    /// Ends the run as `finish` does, and tells an observer the events of the `after_all` hook and of
-    /// the run's cleanups. If memory is refused in one, it tells those up to that one. The run's layer
+    /// Ends the run as `finish` does, and notifies an observer of the events of the `after_all` hook and
+    /// of the run's cleanups. If memory is refused in one, it gets those up to that one. The run's layer
     /// is the innermost open one.
     pub fn finish_watched<O: Observer>(
         self,

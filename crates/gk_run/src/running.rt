@@ -21,7 +21,7 @@ use gk_steps::Library;
 use gk_world::Sandbox;
 use std::alloc::Global;
 
-/// Runs a case of a run in its own layer, and tells an observer its events.
+/// Runs a case of a run in its own layer, and notifies an observer of its events.
 pub(crate) fn case_in<O: Observer>(
     run: &Run<'_>,
     sandbox: &mut Sandbox,
@@ -85,10 +85,10 @@ pub fn run_case(
     run_case_watched(alloc, sandbox, library, hooks, case, &mut Unwatched)
 }
 
-/// Runs a case as `run_case` does, and tells an observer its events in order, each once it has
-/// happened, and then its result. The observer is told all events of the case, or, if memory is refused
-/// in one, those up to that one. They are the events from which the result comes. Nothing is told if
-/// `NoRoom` is returned. What is told changes nothing in the run. The sandbox has fewer than
+/// Runs a case as `run_case` does, and notifies an observer of its events in order, each once it has
+/// happened, and then of its result. The observer gets all events of the case, or, if memory is refused
+/// in one, those up to that one. They are the events from which the result comes. It gets none if
+/// `NoRoom` is returned. An observer changes nothing in the run. The sandbox has fewer than
 /// `gk_world::LAYERS` open layers.
 #[tactic(auto, using(std::proofs::lemmas::Grind::common_steps))]
 pub fn run_case_watched<O: Observer>(

@@ -8,7 +8,7 @@ ghost use Rattle.gk_run.specs.SectionHooks.{cleanup_done};
 ghost use Rattle.gk_run.specs.Events.{of_cleanup};
 ghost use Rattle.gk_run.specs.PrivateContracts.{Cleans, Closes};
 
-use crate::acting::{Site, act};
+use crate::acting::{Site, act, used_of};
 use crate::cleanups::{Cleanup, Cleanups};
 use crate::ending::{Ending, ending_of, is_memory, worse};
 use crate::observer::Observer;
@@ -36,21 +36,22 @@ fn clean_one<O: Observer>(
     requires in_layer { 0 < depth sandbox.old }
     ensures acted { IsActed (cleanup_done (library_value run.now.library.now)
         (cleanup_value cleanup) (state_of sandbox.old.now)) sandbox.old result sandbox.new }
-    ensures told { O.hears observer.old (of_cleanup level (cleanup_value cleanup)
+    ensures notified { O.hears observer.old (of_cleanup level (cleanup_value cleanup)
         result (state_of sandbox.new.now)) observer.new }
 {
     // A cleanup registers no cleanups.
     let mut none = Cleanups::new(run.alloc);
+    let used = used_of(run.library, &cleanup.found, &cleanup.block);
     let outcome = act(
         run.alloc,
         sandbox,
         &mut none,
         run.library,
         Site::Cleanup,
-        &cleanup.found,
-        &cleanup.block,
+        cleanup.at,
+        &used,
     );
-    observer.cleanup(level, &cleanup.found, &cleanup.block, outcome, sandbox);
+    observer.cleanup(level, &cleanup, outcome, sandbox);
     outcome
 }
 

@@ -4,7 +4,7 @@ ghost use Rattle.gk_world.specs.Sandbox.{depth, KeepsLayers};
 use crate::checks::{equal, same};
 use crate::run_tests::cases_of;
 use gk_gherkin::{Block, Step};
-use gk_run::{Cleanups, Outcome, Reason, Site, act, arguments_of};
+use gk_run::{Cleanups, Outcome, Part, Reason, Registration, Site, act, used_of};
 use gk_steps::{Library, default_library, files_below};
 use gk_world::Sandbox;
 use std::alloc::Global;
@@ -22,8 +22,15 @@ fn acted(
     requires { 0 < depth sandbox.old }
     ensures { KeepsLayers sandbox.old sandbox.new }
 {
+    let at = Registration {
+        part: Part::Steps,
+        line: step.line,
+    };
     match library.find(alloc, step.step_type, step.text.as_str())? {
-        Some(found) => Ok(act(alloc, sandbox, cleanups, library, site, &found, &step.block)),
+        Some(found) => {
+            let used = used_of(library, &found, &step.block);
+            Ok(act(alloc, sandbox, cleanups, library, site, at, &used))
+        }
         None => Err("no such step".into()),
     }
 }
@@ -423,7 +430,8 @@ fn arguments_are_those_of_a_step(rt: HostRuntime) -> Result<(), Fail> {
     for step in steps_of(rt.alloc(), lines)? {
         match library.find(rt.alloc(), step.step_type, step.text.as_str())? {
             Some(found) => {
-                let given = arguments_of(&library, &found, &step.block);
+                let used = used_of(&library, &found, &step.block);
+                let given = used.arguments;
                 same(&rt, given.name, "a");
                 equal(&rt, &given.text, &Some("b"));
                 equal(&rt, &given.number, &0);

@@ -3,14 +3,15 @@ ghost use Rattle.gk_run.specs.Chosen.{IsFormed};
 
 use crate::checks::{equal, holds, same};
 use crate::run_tests::{cases_of, chosen_of, feature_of, run_chosen};
-use gk_gherkin::{Block, HookFile, HookTable, Step, read_hooks};
+use gk_gherkin::{HookFile, HookTable, Step, read_hooks};
 use gk_report::{Format, Style, part};
 use gk_run::{
-    CaseResult, Chosen, FeatureResult, Level, Mark, NoRoom, Observer, Outcome, Reason, RuleResult,
-    Stage, Status, Suite, dry_feature, is_failed_or_memory, reason_of, run_case_watched, status_of,
+    CaseResult, Chosen, Cleanup, FeatureResult, Level, Mark, NoRoom, Observer, Outcome, Reason,
+    RuleResult, Stage, Status, StepDone, Suite, dry_feature, is_failed_or_memory, reason_of,
+    run_case_watched, status_of,
 };
 use gk_select::Case;
-use gk_steps::{Found, Library, default_library};
+use gk_steps::{Library, default_library};
 use gk_world::Sandbox;
 use std::alloc::Global;
 use std::test::Fail;
@@ -103,9 +104,10 @@ impl Observer for Teller {
 
     ghost ends = { λ old ended new. Unit {0} };
 
-    fn step(&mut self, stage: Stage, step: &Step, mark: Mark, sandbox: &Sandbox) {
+    fn step(&mut self, stage: Stage, step: &Step, done: &StepDone<'_>, sandbox: &Sandbox) {
         let value = sandbox.value("n");
         let Stage { level, part } = stage;
+        let mark = done.mark;
         let _ = write!(
             self.told,
             "{level:?} {part:?} {} {mark:?} {value:?}\n",
@@ -113,19 +115,12 @@ impl Observer for Teller {
         );
     }
 
-    fn cleanup(
-        &mut self,
-        level: Level,
-        found: &Found,
-        _block: &Block,
-        outcome: Outcome,
-        sandbox: &Sandbox,
-    ) {
+    fn cleanup(&mut self, level: Level, cleanup: &Cleanup, outcome: Outcome, sandbox: &Sandbox) {
         let value = sandbox.value("n");
         let _ = write!(
             self.told,
             "{level:?} cleanup {:?} {outcome:?} {value:?}\n",
-            found.fields
+            cleanup.found.fields
         );
     }
 

@@ -46,7 +46,7 @@ loop-cleanup-preserved g c =
     let is : reverse (map cleanup_value c.loop-cleanup.list.items) ≡ this ∷ reverse left = ap reverse (popped c.loop-cleanup.list.items c.pop.new.self.items c.in-Some.cleanup c.in-Some.ensures.items) ∙ reverse-append left (this ∷ []) in
     let here = subst (λ (cs : List CleanupValue). CleansSoFar hears all (clean_each library level s cs) start (at s registered) e c.loop-cleanup.outcomes.items first c.loop-cleanup.observer) is c.loop-cleanup.invariant.goes in
     let gone = cleans_on hears library level this (reverse left) o s new registered all start e c.loop-cleanup.outcomes.items c.push_reserved.new.self.items first c.loop-cleanup.observer last (sym c.is_memory.ensures ∙ c.if-is_memory.false)
-    c.clean_one-outcome.ensures.acted.carried_out c.clean_one-outcome.ensures.told c.push_reserved.ensures.items here in
+    c.clean_one-outcome.ensures.acted.carried_out c.clean_one-outcome.ensures.notified c.push_reserved.ensures.items here in
     let ended : c.worse-ending.result ≡ worse e (ending_of (Acted o)) = c.worse-ending.ensures ∙ ap (worse e) c.ending_of.ensures in
     record {
       goes = subst (λ (x : Ending). CleansSoFar hears all (clean_each library level new (reverse left)) start (at new registered) x c.push_reserved.new.self.items first last) (sym ended) gone;

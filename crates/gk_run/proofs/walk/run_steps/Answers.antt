@@ -46,7 +46,7 @@ loop-step-preserved g c =
     ap (map step_row) c.push_reserved.ensures.items ∙ map_push step_row c.loop-step.results.items c.row_of.result ∙ ap (λ (row : StepRow). rows ++ row ∷ []) c.row_of.ensures in
     let whole = subst (λ (xs : List StepValue). StepsSoFar hears library before start all c.loop-step.ending (at now cs) xs rows first c.loop-step.observer) (ap (map step_value) s.0) c.loop-step.invariant.goes in
     record {
-      goes = steps_on hears library before start all c.loop-step.ending c.worse-ending.result now new cs ls step left mark rows (map step_row c.push_reserved.new.self.items) first c.loop-step.observer c.tell.new.observer c.next_step-mark.ensures.next c.tell.ensures ends more whole;
+      goes = steps_on hears library before start all c.loop-step.ending c.worse-ending.result now new cs ls step left mark rows (map step_row c.push_reserved.new.self.items) first c.loop-step.observer c.next_step-mark.new.observer c.next_step-mark.ensures.next c.next_step-mark.ensures.notified ends more whole;
       layers = record { layers = c.next_step-mark.ensures.layers.layers ∙ c.loop-step.invariant.layers.layers; starts = c.next_step-mark.ensures.layers.starts ∙ c.loop-step.invariant.layers.starts };
       room = omega arith;
       counted = omega arith;
