@@ -1,3 +1,4 @@
 pub mod Common
 pub mod LintedSourcesLemmas
 pub mod LintedSuiteLemmas
+pub mod LintedStepsLemmas

@@ -3,6 +3,7 @@ pub mod Notes
 pub mod FindingLines
 pub mod LintedSources
 pub mod LintedSuite
+pub mod LintedSteps
 pub mod Hints
 pub mod TagHints
 pub mod FaultNotes
