@@ -1,5 +1,7 @@
 -- What is found of steps, libraries, names, hooks and lines, worked by computation.
 use Rattle.std.proofs.Common.{codes, ◌≡◌, ℕ, true, false, List, [], ◌∷◌, Option, Some, None, refl}
+use Rattle.std.specs.Str.{chars, is_utf8}
+use lib.Utf8
 use Rattle.gk_gherkin.specs.declared.feature.StepType.TheVariants.{Given}
 use Rattle.gk_gherkin.specs.declared.hooks.HookKind.TheVariants.{BeforeTag, AfterTag}
 use Rattle.gk_gherkin.specs.Feature.{Empty, Text, Table, StepValue, ExamplesValue, ScenarioValue, FeatureValue}
@@ -8,14 +10,26 @@ use Rattle.gk_gherkin.specs.Lines.{Lines, line_at}
 use Rattle.gk_select.specs.TagGrammar.{one_term, or_terms, one_factor, and_factors, tagged, negated}
 use Rattle.gk_select.specs.Filling.{filled, filled_from, cell_of}
 use Rattle.gk_steps.specs.declared.action.Action.TheVariants.{FileIs, WriteFiles, FileExists, SetValue, AtCleanup, SkipScenario}
+use Rattle.gk_steps.specs.declared.pattern.FieldKind.TheVariants.{Plain}
 use Rattle.gk_steps.specs.Action.{row_of}
+use Rattle.gk_steps.specs.Pattern.{Literal, FieldPiece}
+use Rattle.gk_steps.specs.Matching.{match_of}
+use Rattle.gk_steps.specs.Finding.{LibraryValue, found, found_any}
+use Rattle.gk_world.specs.State.{State}
+use Rattle.gk_run.specs.declared.acting.Site.TheVariants as sites
+use Rattle.gk_run.specs.declared.results.Mark.TheVariants.{Acted}
+use Rattle.gk_run.specs.declared.results.Outcome.TheVariants.{Passed, Failed}
+use Rattle.gk_run.specs.declared.results.Reason.TheVariants.{NotHere}
+use Rattle.gk_run.specs.Acting.{CleanupValue, act}
+use Rattle.gk_run.specs.SectionHooks.{cleanup_done}
+use Rattle.gk_run.specs.Walk.{one_step}
 use Rattle.gk_lint.specs.declared.findings.FindingKind.TheVariants.{NameTwice, OfStep, UnusedEntry, HookOfNoTag}
 use Rattle.gk_lint.specs.declared.step_faults.StepFault.TheVariants.{NotAllowed, NoText, NoTable, BadTable, IgnoredText, IgnoredTable}
 use Rattle.gk_lint.specs.Findings.{at_line, named_once}
 use Rattle.gk_lint.specs.StepFaults.{step_faults}
-use Rattle.gk_lint.specs.declared.step_sites.StepSite.TheVariants.{Cleanup}
+use Rattle.gk_lint.specs.declared.step_sites.StepSite.TheVariants.{Scenario, Cleanup}
 use Rattle.gk_lint.specs.StepSites.{site_of_hook}
-use Rattle.gk_lint.specs.Lookups.{site_faults}
+use Rattle.gk_lint.specs.Lookups.{site_faults, faults_of}
 use Rattle.gk_lint.specs.Blocks.{block_faults}
 use Rattle.gk_lint.specs.WrittenSteps.{runs_in}
 use Rattle.gk_lint.specs.LibraryUse.{unused_entries}
@@ -56,6 +70,31 @@ register_after_tag = refl
 
 register_in_cleanup : site_faults AtCleanup Cleanup ≡ NotAllowed ∷ []
 register_in_cleanup = refl
+
+-- A cleanup that skips, which isn't allowed there: the step that registers it passes in a run, and the cleanup fails.
+with_cleanups : LibraryValue
+with_cleanups =
+    record { step_type = None; pattern = Literal (codes "at last ") ∷ FieldPiece (codes "step") Plain ∷ []; action = AtCleanup }
+    ∷ record { step_type = None; pattern = Literal (codes "it is over") ∷ []; action = SkipScenario }
+    ∷ []
+
+at_last : StepValue
+at_last = record { keyword = codes "Given"; step_type = Given; text = codes "at last it is over"; block = Empty; line = 3 }
+
+over : CleanupValue
+over = record { found = record { entry = 1; fields = [] }; block = Empty }
+
+cleanup_not_allowed : faults_of with_cleanups Scenario at_last ≡ NotAllowed ∷ []
+unfolding with_cleanups at_last faults_of found found_any match_of is_utf8 chars lib.Utf8.encode
+cleanup_not_allowed = refl
+
+its_step_passes : (s : State) → let this = one_step with_cleanups sites.Step s at_last in (this.mark ≡ Acted Passed) × (this.registered ≡ over ∷ [])
+unfolding with_cleanups at_last over act found found_any match_of is_utf8 chars lib.Utf8.encode
+its_step_passes s = (refl, refl)
+
+it_fails : (s : State) → let done = cleanup_done with_cleanups over s in done.outcome ≡ Failed NotHere
+unfolding with_cleanups over act
+it_fails s = refl
 
 -- A table of files, another one, and none.
 files : block_faults (row_of WriteFiles).takes false (Table ((codes "name" ∷ codes "text" ∷ []) ∷ (codes "a" ∷ codes "1" ∷ []) ∷ [])) ≡ []
