@@ -1,5 +1,5 @@
 -- A run whose explanation is written as each feature ends.
-use Rattle.std.specs.Prelude.{◌≡◌, ◌⊎◌, ℕ, Bool, false, List, ◌++◌}
+use Rattle.std.specs.Prelude.{◌≡◌, ◌⊎◌, ℕ, Bool, false, List, ◌++◌, Option}
 use Rattle.gk_select.specs.ExampleRows.{ExampleRowValue}
 use Rattle.gk_world.specs.State.{Contents, State}
 use Rattle.gk_run.specs.declared.results.Status.{Status}
@@ -42,8 +42,8 @@ Closes e results text = (is_cut e ≡ false) × (text ≡ last_text (said e) res
 abbrev pub Explains : Run → State → Bool → ChosenValue → FeatureRow → List ℕ → Explainer → Explainer → Type 0
 Explains = TellsFeature Hears HearsEnd Begins Adds
 
--- The explanation of a run with judged results was written, and their status is returned. At the beginning the explainer, with the run's library, a hooks file of this name and the rows of each feature's outlines, has said nothing.
-pub record IsExplained (run : Run) (hooks : List ℕ) (rows : List (List ExampleRowValue)) (contents : Contents) (features : List ChosenValue) (old new : Device) (answer : ℕ) : Type 0 where
+-- The explanation of a run with judged results was written, and their status is returned. At the beginning the explainer, with the run's library, a hooks file of this name and the rows of each feature's cases, has said nothing.
+pub record IsExplained (run : Run) (hooks : List ℕ) (rows : List (List (Option ExampleRowValue))) (contents : Contents) (features : List ChosenValue) (old new : Device) (answer : ℕ) : Type 0 where
   pub results : Results
   pub judged : Judged run contents features results
   pub first : Explainer
@@ -54,7 +54,7 @@ pub record IsExplained (run : Run) (hooks : List ℕ) (rows : List (List Example
   pub returned : answer ≡ status results
 
 -- A prefix of the text that an explainer had ready of a run's first features was written. Their results begin a judged list.
-pub record IsExplainedInPart (run : Run) (hooks : List ℕ) (rows : List (List ExampleRowValue)) (contents : Contents) (features : List ChosenValue) (old new : Device) (fault : RunFault) : Type 0 where
+pub record IsExplainedInPart (run : Run) (hooks : List ℕ) (rows : List (List (Option ExampleRowValue))) (contents : Contents) (features : List ChosenValue) (old new : Device) (fault : RunFault) : Type 0 where
   pub first : Explainer
   pub silent : said first ≡ nothing_said run.library hooks rows
   pub text : List ℕ
@@ -62,7 +62,7 @@ pub record IsExplainedInPart (run : Run) (hooks : List ℕ) (rows : List (List E
   pub stopped : IsStopped old new text fault
 
 -- A prefix of the explanation of a run with judged results was written.
-pub record IsExplainedInShort (run : Run) (hooks : List ℕ) (rows : List (List ExampleRowValue)) (contents : Contents) (features : List ChosenValue) (old new : Device) (fault : RunFault) : Type 0 where
+pub record IsExplainedInShort (run : Run) (hooks : List ℕ) (rows : List (List (Option ExampleRowValue))) (contents : Contents) (features : List ChosenValue) (old new : Device) (fault : RunFault) : Type 0 where
   pub results : Results
   pub judged : Judged run contents features results
   pub first : Explainer
@@ -72,5 +72,5 @@ pub record IsExplainedInShort (run : Run) (hooks : List ℕ) (rows : List (List 
   pub stopped : IsStopped old new text fault
 
 -- What was written if an explanation ends without its whole text: a prefix of the text of the first features, or of the whole one.
-abbrev pub IsExplainedUpTo : Run → List ℕ → List (List ExampleRowValue) → Contents → List ChosenValue → Device → Device → RunFault → Type 0
+abbrev pub IsExplainedUpTo : Run → List ℕ → List (List (Option ExampleRowValue)) → Contents → List ChosenValue → Device → Device → RunFault → Type 0
 IsExplainedUpTo run hooks rows contents features old new fault = IsExplainedInPart run hooks rows contents features old new fault ⊎ IsExplainedInShort run hooks rows contents features old new fault

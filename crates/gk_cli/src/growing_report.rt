@@ -93,7 +93,7 @@ impl Observer for GrowingReport {
 
     ghost ends = { Stays };
 
-    fn case_ended(&mut self, _row: &CaseResult) {}
+    fn case_ended(&mut self, _index: usize, _row: &CaseResult) {}
 
     fn rule_ended(&mut self, _row: &RuleResult) {}
 

@@ -1,5 +1,5 @@
 -- Worked explanations, by computation.
-use Rattle.std.specs.Prelude.{◌≡◌, ℕ, List, [], ◌∷◌, None, Some, codes, pos, refl}
+use Rattle.std.specs.Prelude.{◌≡◌, ℕ, List, [], ◌∷◌, None, Some, codes, pos, refl, Option}
 use Rattle.std.specs.Fmt.{digits}
 use Rattle.std.specs.Str.{chars, is_utf8}
 use lib.Utf8
@@ -72,25 +72,25 @@ of_scenario s cleanup =
     ∷ of_cleanup levels.Scenario (registered_at parts.Before 2 cleanup) outcomes.Memory s ∷ []) begun
 
 -- Where it failed it is explained.
-failed_is_explained : (s : State) (cleanup : CleanupValue) → (with_case (scenario statuses.Failed) (of_scenario s cleanup)).ready
+failed_is_explained : (s : State) (cleanup : CleanupValue) → (with_case 0 (scenario statuses.Failed) (of_scenario s cleanup)).ready
     ≡ codes "f:6: Scenario: s ... failed\n  h:2: before: Given a ... passed\n  f:7: When b\\nc ... passed\n  f:8: Then d ... failed: differs\n  f:10: And e ... skipped\n  h:4: after: When g ... undefined\n  h:2: cleanup ... memory\n\n"
 unfolding found chars lib.Utf8.encode event_details digits status_text reason_text escaped file_shown status_line line_of_step line_of_cleanup place_text case_heading explanation_text
 failed_is_explained s cleanup = refl
 
 -- Where it passed nothing is said of it.
-passed_is_not : (s : State) (cleanup : CleanupValue) → with_case (scenario statuses.Passed) (of_scenario s cleanup) ≡ begun
+passed_is_not : (s : State) (cleanup : CleanupValue) → with_case 0 (scenario statuses.Passed) (of_scenario s cleanup) ≡ begun
 unfolding found chars lib.Utf8.encode event_details digits status_text reason_text escaped file_shown status_line line_of_step line_of_cleanup place_text case_heading explanation_text
 passed_is_not s cleanup = refl
 
--- The rows of a feature. The second is on the line of the scenario.
-abbrev rows : List ExampleRowValue
-rows = record { line = 4; number = 1; cells = [] } ∷ record { line = 6; number = 2; cells = (codes "a", codes "x\ny") ∷ (codes "b", []) ∷ [] } ∷ []
+-- The rows of a feature's cases. The second case has none.
+abbrev rows : List (Option ExampleRowValue)
+rows = Some (record { line = 4; number = 1; cells = [] }) ∷ None ∷ Some (record { line = 6; number = 2; cells = (codes "a", codes "x\ny") ∷ (codes "b", []) ∷ [] }) ∷ []
 
 abbrev begun_with_rows : ExplanationValue
 begun_with_rows = with_source (codes "f") (nothing_said [] (codes "h") (rows ∷ []))
 
 -- A scenario that is the case of a row names it.
-row_is_named : (with_case (scenario statuses.Failed) begun_with_rows).ready ≡ codes "f:6: Scenario: s ... failed\n  row 2: a=x\\ny, b=\n\n"
+row_is_named : (with_case 2 (scenario statuses.Failed) begun_with_rows).ready ≡ codes "f:6: Scenario: s ... failed\n  row 2: a=x\\ny, b=\n\n"
 unfolding chars lib.Utf8.encode digits status_text escaped file_shown status_line place_text case_heading explanation_text row_line
 row_is_named = refl
 
@@ -117,7 +117,7 @@ with_cleanups s cleanup =
     ∷ of_cleanup levels.Scenario (registered_at parts.Before 2 cleanup) (outcomes.Failed reasons.Asked) s ∷ []) (with_source (codes "f") (nothing_said later_library (codes "h") []))
 
 -- Its cleanups are shown with the places of the steps that registered them.
-cleanups_have_places : (s : State) (cleanup : CleanupValue) → (with_case (scenario statuses.Failed) (with_cleanups s cleanup)).ready
+cleanups_have_places : (s : State) (cleanup : CleanupValue) → (with_case 0 (scenario statuses.Failed) (with_cleanups s cleanup)).ready
     ≡ codes "f:6: Scenario: s ... failed\n  h:2: before: Given later ok ... passed\n  f:7: Given later ok ... passed\n  f:8: Given later no ... failed: no such step\n  f:9: Given ok ... skipped\n  f:7: cleanup ... passed\n  h:2: cleanup ... failed: fail step\n\n"
 unfolding found match_of is_utf8 same_letters is_one_off common_len differ_at_first chars lib.Utf8.encode event_details digits status_text reason_text escaped file_shown status_line line_of_step line_of_cleanup place_text case_heading explanation_text
 cleanups_have_places s cleanup = refl

@@ -75,8 +75,8 @@ unfolding cases filled filled_from cell_of digits set_step check_step
 outline_texts = refl
 
 rows_of_outline : outline_rows outline
-    ≡ record { line = 7; number = 1; cells = (codes "a", codes "<b>") ∷ (codes "b", codes "x") ∷ [] }
-    ∷ record { line = 10; number = 1; cells = (codes "a", codes "y") ∷ (codes "b", codes "z") ∷ [] } ∷ []
+    ≡ Some (record { line = 7; number = 1; cells = (codes "a", codes "<b>") ∷ (codes "b", codes "x") ∷ [] })
+    ∷ Some (record { line = 10; number = 1; cells = (codes "a", codes "y") ∷ (codes "b", codes "z") ∷ [] }) ∷ []
 unfolding outline_rows
 rows_of_outline = refl
 

@@ -28,7 +28,7 @@ pub use lib.Utf8.{encodes, next}
 unfoldable pub use lib.Utf8.{encode}
 pub use Rattle.gk_gherkin.specs.Feature.{StepValue, step_value, texts}
 pub use Rattle.gk_report.specs.ReportTexts.{line_feed}
-pub use Rattle.gk_run.specs.Acting.{UseValue, CleanupValue, done_of}
+pub use Rattle.gk_run.specs.Acting.{CleanupValue, UseValue, done_of}
 unfoldable pub use Rattle.gk_run.specs.Acting.{act}
 pub use Rattle.gk_run.specs.Ending.{ending_of, has_passed}
 pub use Rattle.gk_run.specs.Events.{SectionNow, cut_at, ended_in, left_by, of_cleanup, of_step, refused, used_in}
@@ -44,7 +44,7 @@ pub use Rattle.gk_run.specs.declared.results.Mark.TheVariants.{Skipped}
 pub use Rattle.gk_run.specs.declared.section.Level.{Level}
 pub use Rattle.gk_run.specs.declared.section.Stage.{Stage}
 pub use Rattle.gk_select.specs.Case.{CaseValue}
-pub use Rattle.gk_select.specs.ExampleRows.{ExampleRowValue, cell_value, example_row_value, row_lines}
+pub use Rattle.gk_select.specs.ExampleRows.{ExampleRowValue, cell_value, example_row_value}
 pub use Rattle.gk_steps.specs.Finding.{LibraryValue, found, library_value}
 pub use Rattle.gk_steps.specs.Pattern.{piece_values}
 pub use Rattle.gk_world.specs.State.{State, enter, state_of}
@@ -57,7 +57,7 @@ pub use Rattle.gk_explain.specs.Explainer.{CasesAreExplained, Hears, is_cut, sai
 pub use Rattle.gk_explain.specs.Explanation.{ExplanationValue, explanation_value, with_case, with_case_of, with_event, with_section}
 pub use Rattle.gk_explain.specs.Nearest.{nearest_told, pattern_shown}
 pub use Rattle.gk_explain.specs.NearestLines.{AreNearest}
-pub use Rattle.gk_explain.specs.RowLines.{RowsAreFound, cell_text, cells_text, is_at, row_at, rows_from}
+pub use Rattle.gk_explain.specs.RowLines.{cell_text, cells_text}
 pub use Rattle.gk_explain.specs.EventLines.{event_lines, kept_of, kept_value, names_value}
 pub use Rattle.gk_explain.specs.SectionEvents.{SectionValue, after_event, after_events, section_lines}
 pub use Rattle.gk_explain.specs.Shown.{char_after, char_in, chars_after, cut_line, escaped_char, few_lines, is_commanding, is_control, is_left_out, is_suspect, is_within, left_out, lines_round, marked_lines, past_char, row, text_as, text_lines}

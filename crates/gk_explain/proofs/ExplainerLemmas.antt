@@ -100,7 +100,7 @@ hears_all (t ∷ ts) old new a h uncut =
     )
 
 pub explained_by_its_events : CasesAreExplained
-explained_by_its_events run section c row old new told uncut none =
+explained_by_its_events run section index c row old new told uncut none =
     let events = told.1 in
     let ended = told.2.0 uncut in
     let at = at_order levels.Scenario _ (are_happened levels.Scenario events.cut (alone run section c) (are_case run section c)) in
@@ -110,5 +110,5 @@ explained_by_its_events run section c row old new told uncut none =
       events.cut,
       events.is,
       all.0,
-      ended.1 ∙ ap (with_case row) all.1 ∙ ap (λ (before : SectionValue). with_case_of (section_lines e.names (after_events e.library ts before)) row e) none,
+      ended.1 ∙ ap (with_case index row) all.1 ∙ ap (λ (before : SectionValue). with_case_of (section_lines e.names (after_events e.library ts before)) index row e) none,
     )

@@ -38,7 +38,7 @@ IsCutOnlyByLongName source old new = length source ≤ name_room old.explanation
 
 -- The status with which a scenario, or the hooks and cleanups of a rule, ended.
 abbrev pub ended_status : EndTold → Status
-ended_status (of_case c) = c.status
+ended_status (of_case index c) = c.status
 ended_status (of_rule r) = r.around
 
 -- An explainer received that a scenario or a rule has ended.
@@ -51,7 +51,7 @@ kept_of_case e run section c cut = after_events (said e).library (in_order (happ
 
 -- A case is explained by an explainer that received it, kept nothing of a scenario before and isn't cut now. It says what it said before and, if the case's result failed or was refused memory, the explanation of this case by the lines of all its events.
 abbrev pub CasesAreExplained : Type 0
-CasesAreExplained = (run : Run) (section : State) (c : CaseValue) (row : CaseRow) (old new : Explainer) →
-    IsCaseTold Hears HearsEnd run section c row old new → is_cut new ≡ false → (said old).scenario ≡ no_event →
+CasesAreExplained = (run : Run) (section : State) (index : ℕ) (c : CaseValue) (row : CaseRow) (old new : Explainer) →
+    IsCaseTold Hears HearsEnd run section index c row old new → is_cut new ≡ false → (said old).scenario ≡ no_event →
     (cut : Cut) × (row ≡ reached_row run section cut c)
     × (is_cut old ≡ false) × (said new ≡ with_case_of (section_lines (said old).names (kept_of_case old run section c cut)) row (said old))

@@ -1,6 +1,6 @@
 -- The state that explains a run.
-use Rattle.std.specs.Prelude.{ℕ, List, [], ◌∷◌, ◌++◌, map, string_bytes, string_capacity}
-use Rattle.gk_select.specs.ExampleRows.{ExampleRowValue, example_row_value, row_lists}
+use Rattle.std.specs.Prelude.{ℕ, List, [], ◌∷◌, ◌++◌, map, Option, string_bytes, string_capacity}
+use Rattle.gk_select.specs.ExampleRows.{ExampleRowValue, entry_value, row_lists}
 use Rattle.gk_steps.specs.Finding.{LibraryValue}
 use Rattle.gk_run.specs.declared.results.Status.{Status}
 use Rattle.gk_run.specs.declared.section.Level.{Level}
@@ -12,15 +12,15 @@ use Rattle.gk_explain.specs.declared.explanation.Explanation.{Explanation}
 use Rattle.gk_explain.specs.Event.{level_of}
 use Rattle.gk_explain.specs.EventLines.{NamesValue}
 use Rattle.gk_explain.specs.SectionEvents.{SectionValue, section_value, section_lines, no_event, after_event}
-use Rattle.gk_explain.specs.RowLines.{rows_from, row_at, named_row}
+use Rattle.gk_explain.specs.RowLines.{row_of, named_row}
 use Rattle.gk_explain.specs.Headings.{case_heading, rule_heading, feature_heading, run_heading, explained, listed}
 
--- The library in which the run finds its steps; the names of the files; the rows of outlines that are still to come in the open feature, and those of each later feature; what is kept of the open run, feature, rule and scenario; what is ready to be written; and the list of what failed.
+-- The library in which the run finds its steps; the names of the files; the rows of the open feature's cases, and those of each later feature; what is kept of the open run, feature, rule and scenario; what is ready to be written; and the list of what failed.
 pub record ExplanationValue : Type 0 where
   pub library : LibraryValue
   pub names : NamesValue
-  pub rows : List ExampleRowValue
-  pub coming : List (List ExampleRowValue)
+  pub rows : List (Option ExampleRowValue)
+  pub coming : List (List (Option ExampleRowValue))
   pub run : SectionValue
   pub feature : SectionValue
   pub rule : SectionValue
@@ -37,7 +37,7 @@ abbrev pub explanation_value : Explanation → ExplanationValue
 explanation_value e = record {
   library = e.nearest;
   names = names_with e.explained (string_bytes e.source);
-  rows = map example_row_value e.rows.now;
+  rows = map entry_value e.rows.now;
   coming = row_lists e.coming.now;
   run = section_value e.run;
   feature = section_value e.feature;
@@ -51,8 +51,8 @@ explanation_value e = record {
 abbrev pub name_room : Explanation → ℕ
 name_room e = string_capacity e.source
 
--- Nothing happened yet, and no feature was begun. Each feature has a list of rows, in the order of the features.
-abbrev pub nothing_said : LibraryValue → List ℕ → List (List ExampleRowValue) → ExplanationValue
+-- Nothing happened yet, and no feature was begun. Each feature has a list of its cases' rows, in the order of the features.
+abbrev pub nothing_said : LibraryValue → List ℕ → List (List (Option ExampleRowValue)) → ExplanationValue
 nothing_said library hooks rows = record { library = library; names = record { hooks = hooks; source = [] }; rows = []; coming = rows; run = no_event; feature = no_event; rule = no_event; scenario = no_event; ready = []; failures = [] }
 
 -- A change of the section of a level.
@@ -70,13 +70,13 @@ with_event event e = with_section (level_of event) (after_event e.library event)
 abbrev pub with_end : List ℕ → Status → List ℕ → ExplanationValue → ExplanationValue
 with_end heading status lines e = record e { ready = e.ready ++ explained heading status lines; failures = e.failures ++ listed heading status }
 
--- A scenario with these lines has ended with a result, and nothing is kept of it. If it is the case of a row, its explanation names the row below the heading. The rows above it are dropped.
-abbrev pub with_case_of : List ℕ → CaseRow → ExplanationValue → ExplanationValue
-with_case_of lines c e = let rows = rows_from c.line e.rows in let ended = with_end (case_heading e.names.source c) c.status (named_row (row_at c.line rows) ++ lines) e in record ended { scenario = no_event; rows = rows }
+-- The scenario at an index of its feature, with these lines, has ended with a result, and nothing is kept of it. If it is the case of a row, its explanation names the row below the heading.
+abbrev pub with_case_of : List ℕ → ℕ → CaseRow → ExplanationValue → ExplanationValue
+with_case_of lines index c e = let ended = with_end (case_heading e.names.source c) c.status (named_row (row_of index e.rows) ++ lines) e in record ended { scenario = no_event }
 
--- The open scenario has ended with a result.
-abbrev pub with_case : CaseRow → ExplanationValue → ExplanationValue
-with_case c e = with_case_of (section_lines e.names e.scenario) c e
+-- The open scenario, which has this index in its feature, has ended with a result.
+abbrev pub with_case : ℕ → CaseRow → ExplanationValue → ExplanationValue
+with_case index c e = with_case_of (section_lines e.names e.scenario) index c e
 
 -- The open rule has ended with a result.
 abbrev pub with_rule : RuleRow → ExplanationValue → ExplanationValue
@@ -84,11 +84,11 @@ with_rule r e = let ended = with_end (rule_heading e.names.source r) r.around (s
 
 -- A scenario or a rule has ended.
 abbrev pub with_ended : EndTold → ExplanationValue → ExplanationValue
-with_ended (of_case c) e = with_case c e
+with_ended (of_case index c) e = with_case index c e
 with_ended (of_rule r) e = with_rule r e
 
--- A feature with these rows of outlines begins, or one without rows if there is no list left.
-abbrev pub with_rows : List (List ExampleRowValue) → ExplanationValue → ExplanationValue
+-- A feature whose cases have these rows begins, or one without rows if there is no list left.
+abbrev pub with_rows : List (List (Option ExampleRowValue)) → ExplanationValue → ExplanationValue
 with_rows [] e = record e { rows = [] }
 with_rows (rows ∷ others) e = record e { rows = rows; coming = others }
 

@@ -39,13 +39,13 @@ pub struct Explainer<'a> {
 
 impl<'a> Explainer<'a> {
     /// Returns an explainer before any event. `library` is the library in which the run finds its steps,
-    /// and `hooks` is the run's name for the hooks file. `rows` has the rows of each feature's outlines, in the
-    /// order of the features; a feature without a list there has no rows. Doesn't allocate.
+    /// and `hooks` is the run's name for the hooks file. `rows` has for each feature, in order, the rows of its
+    /// cases, as `outline_rows` returns them; a feature without a list there has none. Doesn't allocate.
     pub fn new(
         alloc: Global,
         library: &'a Library,
         hooks: &'a str,
-        rows: &'a [Vec<ExampleRow>],
+        rows: &'a [Vec<Option<ExampleRow>>],
     ) -> Explainer<'a>
         ensures uncut { spec.is_cut result ≡ false }
         ensures said { said result
@@ -183,11 +183,11 @@ impl Observer for Explainer<'_> {
         self.cut_after(added);
     }
 
-    fn case_ended(&mut self, row: &CaseResult) {
+    fn case_ended(&mut self, index: usize, row: &CaseResult) {
         if self.cut {
             return;
         }
-        let added = self.explanation.end_case(row);
+        let added = self.explanation.end_case(index, row);
         self.cut_after(added);
     }
 

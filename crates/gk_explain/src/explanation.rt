@@ -11,7 +11,7 @@ use crate::event::{Event, level_of};
 use crate::event_lines::Names;
 use crate::headings::{ExplainedEnd, ended_status, push_explanation, push_heading};
 use crate::nearest_lines::NearestLines;
-use crate::row_lines::{row_at, rows_from};
+use crate::row_lines::row_of;
 use crate::section_events::SectionEvents;
 use gk_run::{CaseResult, FeatureResult, Level, RuleResult, Status, is_failed_or_memory};
 use gk_select::ExampleRow;
@@ -19,14 +19,14 @@ use gk_steps::Library;
 use std::alloc::{AllocError, Global};
 use std::mem;
 
-/// What is kept of each open section, the rows of outlines that are still to come in the open feature and in
-/// later ones, and what is explained.
+/// What is kept of each open section, the rows of the open feature's cases and of those of later ones, and what
+/// is explained.
 #[derive(Debug, Drop)]
 pub struct Explanation<'a> {
     nearest: NearestLines<'a>,
     source: String,
-    rows: &'a [ExampleRow],
-    coming: &'a [Vec<ExampleRow>],
+    rows: &'a [Option<ExampleRow>],
+    coming: &'a [Vec<Option<ExampleRow>>],
     run: SectionEvents,
     feature: SectionEvents,
     rule: SectionEvents,
@@ -108,13 +108,14 @@ impl<'a> Explanation<'a> {
     ghost use Rattle.gk_explain.specs.Headings.{failures_text};
     ghost use Rattle.gk_explain.specs.Explanation.{explanation_value, name_room, nothing_said, with_event, with_case, with_rule, with_rows, with_source, with_feature, with_run, with_taken};
 
-    /// Returns an explanation of nothing, before any feature has begun. The run finds its steps in `library`, and `hooks` is the name of the hooks file. `rows` has the rows of each feature's outlines, in
-    /// the order of the features. Doesn't allocate.
+    /// Returns an explanation of nothing, before any feature has begun. The run finds its steps in
+    /// `library`, and `hooks` is the name of the hooks file. `rows` has for each feature, in order, the rows of
+    /// its cases. Doesn't allocate.
     pub fn new(
         alloc: Global,
         library: &'a Library,
         hooks: &'a str,
-        rows: &'a [Vec<ExampleRow>],
+        rows: &'a [Vec<Option<ExampleRow>>],
     ) -> Explanation<'a>
         ensures { explanation_value result
             ≡ nothing_said (library_value library.entry.now) hooks.entry.now
@@ -193,16 +194,15 @@ impl<'a> Explanation<'a> {
         }
     }
 
-    /// Ends the open scenario with this result. If it is the case of a row, its explanation names the row. Each
-    /// case must end before those on later lines, or its row isn't found. An error comes only if a growth
-    /// was refused; a part of its explanation may be ready then.
-    pub fn end_case(&mut self, case: &CaseResult) -> Result<(), AllocError>
+    /// Ends the open scenario, which has this index in its feature, with this result. If it is the case of a row,
+    /// its explanation names the row. An error comes only if a growth was refused; a part of its explanation may
+    /// be ready then.
+    pub fn end_case(&mut self, index: usize, case: &CaseResult) -> Result<(), AllocError>
         ensures ended { OnOk result (explanation_value self.new
-            ≡ with_case (case_row case.now) (explanation_value self.old)) }
+            ≡ with_case index (case_row case.now) (explanation_value self.old)) }
         ensures free { cases.is_failed_or_memory case.now.status ≡ false → OnErr result ⊥ }
     {
-        self.rows = rows_from(self.rows, case.line);
-        let row = row_at(self.rows, case.line);
+        let row = row_of(self.rows, index);
         let source = self.source.as_str();
         self.explained.end(
             source,

@@ -22,5 +22,4 @@ pub use differing_lines::differing_lines_are_shown;
 pub use event_lines::push_place;
 pub use explainer::{Explainer, cases_are_explained};
 pub use nearest::{push_entry, type_word};
-pub use row_lines::rows_are_found;
 pub use shown::{push_file, push_shown, push_unquoted};

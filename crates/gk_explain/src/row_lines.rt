@@ -1,45 +1,23 @@
-//! The line that names a row of an outline, and the rows that are still to come.
+//! The row that a case comes from, and the line that names it.
 ghost use Rattle.std.specs.Prelude.{◌≡◌, map};
-ghost use Rattle.gk_select.specs.ExampleRows.{cell_value, example_row_value};
+ghost use Rattle.gk_select.specs.ExampleRows.{cell_value, entry_value, example_row_value};
 ghost use Rattle.gk_report.specs.ReportTexts.{Pushes};
 ghost use Rattle.gk_explain.specs.RowLines as spec;
-ghost use Rattle.gk_explain.specs.RowLines.{borrowed_row, RowsAreFound};
+ghost use Rattle.gk_explain.specs.RowLines.{borrowed_row};
 
 use crate::shown::push_escaped;
 use gk_select::{ExampleCell, ExampleRow};
 use std::alloc::AllocError;
 
-/// Returns the rows from the first whose line is at least this one on. Doesn't allocate.
-pub fn rows_from(rows: &[ExampleRow], line: u32) -> &[ExampleRow]
-    ensures { map example_row_value result.now
-        ≡ spec.rows_from line (map example_row_value rows.now) }
+/// Returns the row at the index of a case, if the case comes from one. Doesn't allocate.
+pub fn row_of(rows: &[Option<ExampleRow>], index: usize) -> Option<&ExampleRow>
+    ensures { borrowed_row result ≡ spec.row_of index (map entry_value rows.now) }
 {
-    for (i, row) in rows.iter().enumerate() {
-        if row.line >= line {
-            let (_, rest) = rows.split_at(i);
-            return rest;
-        }
-    }
-    &[]
-}
-
-/// Returns the first row if it is at this line. Doesn't allocate.
-pub fn row_at(rows: &[ExampleRow], line: u32) -> Option<&ExampleRow>
-    ensures { borrowed_row result
-        ≡ spec.row_at line (map example_row_value rows.now) }
-{
-    match rows.split_first() {
-        Some((row, _)) if row.line == line => Some(row),
+    match rows.get(index) {
+        Some(Some(row)) => Some(row),
         _ => None,
     }
 }
-
-/// Of rows whose lines rise, the one at a line is found, if there is one, even if rows were dropped for an earlier
-/// line.
-#[tactic(auto, using(crate::proofs::FoundRows::rows_are_found))]
-pub fn rows_are_found()
-    ensures { RowsAreFound }
-{}
 
 // Returns what is between the cell with this index and the text before it.
 fn separator(index: usize) -> &'static str

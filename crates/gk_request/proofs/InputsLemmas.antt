@@ -84,11 +84,11 @@ read_one chooses (x ∷ ss) fs s reading h text reads within = (
   ap (λ x. x ++ with_reading chooses s.name reading []) h.4 ∙ with_more chooses x.name h.0 h.1 (with_reading chooses s.name reading []),
 )
 
-with_more_rows : (reading : Option FeatureValue) (others more : List (List ExampleRowValue)) → with_rows reading others ++ more ≡ with_rows reading (others ++ more)
+with_more_rows : (reading : Option FeatureValue) (others more : List (List (Option ExampleRowValue))) → with_rows reading others ++ more ≡ with_rows reading (others ++ more)
 with_more_rows None others more = refl
 with_more_rows (Some f) others more = refl
 
-rows_of_one : (ss : List SourceValue) (rows : List (List ExampleRowValue)) (s : SourceValue) (reading : Option FeatureValue) → AreRowsOf ss rows → Reads (lines_of s.bytes) reading → AreRowsOf (ss ++ s ∷ []) (rows ++ with_rows reading [])
+rows_of_one : (ss : List SourceValue) (rows : List (List (Option ExampleRowValue))) (s : SourceValue) (reading : Option FeatureValue) → AreRowsOf ss rows → Reads (lines_of s.bytes) reading → AreRowsOf (ss ++ s ∷ []) (rows ++ with_rows reading [])
 rows_of_one [] rows s reading none reads = (reading, [], reads, refl, ap (λ x. x ++ with_rows reading []) none)
 rows_of_one (x ∷ ss) rows s reading h reads = (
   h.0,
@@ -99,7 +99,7 @@ rows_of_one (x ∷ ss) rows s reading h reads = (
 )
 
 -- The rows of one source more, if they are wanted.
-pub rows_one : (wanted : Bool) (ss : List SourceValue) (old new : List (List ExampleRowValue)) (s : SourceValue) → AreRowsIf wanted ss old → AreRowsReadOnto wanted s old new → AreRowsIf wanted (ss ++ s ∷ []) new
+pub rows_one : (wanted : Bool) (ss : List SourceValue) (old new : List (List (Option ExampleRowValue))) (s : SourceValue) → AreRowsIf wanted ss old → AreRowsReadOnto wanted s old new → AreRowsIf wanted (ss ++ s ∷ []) new
 rows_one true ss old new s rows onto = subst (AreRowsOf (ss ++ s ∷ [])) (sym onto.added) (rows_of_one ss old s onto.reading rows onto.reads)
 rows_one false ss old new s rows onto = onto.added ∙ rows
 

@@ -80,20 +80,20 @@ AreRead chooses [] features = features ≡ []
 AreRead chooses (s ∷ ss) features =
     (reading : Option FeatureValue) × (others : List ChosenValue) × IsReadAs s.bytes reading × AreRead chooses ss others × (features ≡ with_reading chooses s.name reading others)
 
--- The rows of the outlines of a source's feature, before those of others; a source without a feature adds no list.
-abbrev pub with_rows : Option FeatureValue → List (List ExampleRowValue) → List (List ExampleRowValue)
+-- The rows of the cases of a source's feature, before those of others; a source without a feature adds no list.
+abbrev pub with_rows : Option FeatureValue → List (List (Option ExampleRowValue)) → List (List (Option ExampleRowValue))
 with_rows None others = others
 with_rows (Some f) others = outline_rows f ∷ others
 
--- For each feature that the sources read as, in order, there is a list with the rows of its outlines.
-abbrev pub AreRowsOf : List SourceValue → List (List ExampleRowValue) → Type 0
+-- For each feature that the sources read as, in order, there is a list with the rows of its cases.
+abbrev pub AreRowsOf : List SourceValue → List (List (Option ExampleRowValue)) → Type 0
 AreRowsOf [] rows = rows ≡ []
 AreRowsOf (s ∷ ss) rows =
-    (reading : Option FeatureValue) × (others : List (List ExampleRowValue))
+    (reading : Option FeatureValue) × (others : List (List (Option ExampleRowValue)))
     × Reads (lines_of s.bytes) reading × AreRowsOf ss others × (rows ≡ with_rows reading others)
 
--- The rows of the sources' outlines if they are wanted; otherwise there is no list.
-abbrev pub AreRowsIf : Bool → List SourceValue → List (List ExampleRowValue) → Type 0
+-- The rows of the sources' cases if they are wanted; otherwise there is no list.
+abbrev pub AreRowsIf : Bool → List SourceValue → List (List (Option ExampleRowValue)) → Type 0
 AreRowsIf true sources rows = AreRowsOf sources rows
 AreRowsIf false sources rows = rows ≡ []
 
@@ -179,12 +179,12 @@ pub record IsReadOnto (chooses : CaseValue → Bool) (source : SourceValue) (old
   pub formed : AllByRecursion IsFormed old → AllByRecursion IsFormed new
 
 -- Rows of outlines after one more source, whose feature has these if they are wanted.
-abbrev pub rows_onto : Bool → Option FeatureValue → List (List ExampleRowValue) → List (List ExampleRowValue)
+abbrev pub rows_onto : Bool → Option FeatureValue → List (List (Option ExampleRowValue)) → List (List (Option ExampleRowValue))
 rows_onto true reading rows = rows ++ with_rows reading []
 rows_onto false reading rows = rows
 
--- A source reads, and the rows of its outlines, if they are wanted, are added after those of the others.
-pub record AreRowsReadOnto (wanted : Bool) (source : SourceValue) (old new : List (List ExampleRowValue)) : Type 0 where
+-- A source reads, and the rows of its cases, if they are wanted, are added after those of the others.
+pub record AreRowsReadOnto (wanted : Bool) (source : SourceValue) (old new : List (List (Option ExampleRowValue))) : Type 0 where
   pub reading : Option FeatureValue
   pub reads : Reads (lines_of source.bytes) reading
   pub added : new ≡ rows_onto wanted reading old

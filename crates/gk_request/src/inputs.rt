@@ -40,9 +40,8 @@ pub struct ReadInputs {
     pub library: Library,
     pub hooks: HookFile,
     pub features: Vec<Chosen>,
-    /// The rows of each feature's outlines, in the order of `features`. If they weren't asked for, there is no
-    /// list.
-    pub rows: Vec<Vec<ExampleRow>>,
+    /// The rows of each feature's cases, in the order of `features`. If they weren't asked for, there is no list.
+    pub rows: Vec<Vec<Option<ExampleRow>>>,
 }
 
 fn read_rules(alloc: Global, tags: &[String]) -> Result<Vec<TagRule>, SelectFault>
@@ -335,12 +334,12 @@ fn add_feature(
     Ok(())
 }
 
-// Adds the rows of a feature's outlines after those of other features, if they are wanted.
+// Adds the rows of a feature's cases after those of other features, if they are wanted.
 fn add_rows(
     alloc: Global,
     with_rows: bool,
     feature: &Feature,
-    rows: &mut Vec<Vec<ExampleRow>>,
+    rows: &mut Vec<Vec<Option<ExampleRow>>>,
 ) -> Result<(), AllocError>
     ensures { OnOk result (row_lists rows.new.items ≡ spec.rows_onto
         with_rows (Some (feature_value feature.now)) (row_lists rows.old.items)) }
@@ -352,7 +351,7 @@ fn add_rows(
 }
 
 // Reads the source at a place, and adds its feature, if it has one, after those of other sources, and the rows of its
-// outlines, if they are wanted.
+// cases, if they are wanted.
 fn read_onto(
     alloc: Global,
     choice: &Choice,
@@ -360,7 +359,7 @@ fn read_onto(
     input: usize,
     source: &Source,
     features: &mut Vec<Chosen>,
-    rows: &mut Vec<Vec<ExampleRow>>,
+    rows: &mut Vec<Vec<Option<ExampleRow>>>,
 ) -> Result<(), RunFault>
     ensures ok { OnOk result (IsReadOnto (chosen_by choice.now) (source_value source.now)
         features.old.items features.new.items) }
@@ -379,11 +378,11 @@ fn read_onto(
     }
 }
 
-// What is read of sources: their features, and the rows of each feature's outlines, if they are wanted.
+// What is read of sources: their features, and the rows of each feature's cases, if they are wanted.
 #[derive(Drop)]
 struct ReadSources {
     features: Vec<Chosen>,
-    rows: Vec<Vec<ExampleRow>>,
+    rows: Vec<Vec<Option<ExampleRow>>>,
 }
 
 // Reads sources.
@@ -460,7 +459,8 @@ pub fn read_before(
 }
 
 /// Reads the request: first the texts of tags, then the library, then the hooks, then each source. An error names the
-/// first that doesn't read. The rows of outlines are copied only if `with_rows` asks for them.
+/// first that doesn't read. The rows that cases come from are copied only if
+/// `with_rows` asks for them.
 pub fn read_inputs(
     alloc: Global,
     options: &Options,

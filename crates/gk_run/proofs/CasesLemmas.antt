@@ -1,12 +1,11 @@
 -- Cases, one after another.
-use Rattle.gk_run.proofs.Common.{FoldsTo, list_any, ◌⊎◌, inl, inr, Bool, List, [], ap, append_assoc, arith, cond, false, length, map, refl, suc, subst, sym, true, ℕ, ◌&&◌, ◌++◌, ◌<◌, ◌||◌, ◌∙◌, ◌∷◌, ◌≡◌, Err, IfOk, None, Ok, Result, Some, Vec, Global, eq-eqb, common_steps, map_push, StepValue, Case, State, CaseResult, Mark, Skipped, Untested, Status, Run, AreEventsTold, alone, reached_row, unrun_row, unreached_row, unselected_row, same_marks, all_stay_open, case_events, case_of, cases_of, first_or, without_first, stays_open, row_of_step, rows_of_steps, MemberValue, has_selected, member_of, members_of, falls_from, members_of_rank, Event, EndTold, IsRan, Ran, Told, happens, has_ended, of_case, tells, StopsBeforeCase, AreCases, AreCasesInPart, IsMember, RunsCases, TakesMember, members_in, Cases, Member, RuleResult, CaseRow, RuleRow, case_row, rule_row, Cut, happened, in_order, nowhere}
+use Rattle.gk_run.proofs.Common.{FoldsTo, list_any, ◌⊎◌, inl, inr, Bool, List, [], ap, append_assoc, arith, cond, false, length, map, refl, suc, subst, sym, true, ℕ, ◌&&◌, ◌++◌, ◌||◌, ◌∙◌, ◌∷◌, ◌≡◌, Err, IfOk, Ok, Result, common_steps, length-append, map_push, StepValue, Case, State, CaseResult, Mark, Skipped, Untested, Status, Run, AreEventsTold, alone, reached_row, unrun_row, unreached_row, unselected_row, same_marks, all_stay_open, case_events, case_of, cases_of, cases_told, first_or, without_first, stays_open, row_of_step, rows_of_steps, MemberValue, has_selected, members_of, Event, EndTold, IsRan, Ran, Told, happens, has_ended, of_case, tells, StopsBeforeCase, AreCasesInPart, IsMember, RunsCases, members_in, Member, RuleResult, CaseRow, RuleRow, case_row, rule_row, Cut, happened, in_order, nowhere}
 use Rattle.std.proofs.lemmas.List.{append-nil}
 use Rattle.gk_run.specs.declared.results.Status.TheVariants as statuses
 use Rattle.gk_run.proofs.EventLemmas.{heard_both}
 use Rattle.gk_run.proofs.ToldLemmas.{heard_told}
 use Rattle.gk_run.proofs.PartLemmas.{GoesFrom, ran_of, ran_whole, stops_behind, stops_both, told_so_far}
-use Rattle.gk_run.proofs.GroupingLemmas.{and_left, first_of_rank, none_of_rank, not_of_rank}
-use Rattle.gk_select.specs.RuleOrder as order
+use Rattle.gk_run.proofs.GroupingLemmas.{and_left}
 use Rattle.gk_run.proofs.Nothing.{nothing_in}
 
 -- a test of statuses, as the code makes it
@@ -23,6 +22,14 @@ arounds_any p (r ∷ rs) = ap (λ b. p r.around || b) (arounds_any p rs)
 pub around_or : (p : Status → Bool) (rules : List RuleResult) (around : Status) (a b both : Bool) → a ≡ p around → b ≡ list_any (λ (r : RuleResult). p r.around) rules → both ≡ (a || b) →
     both ≡ list_any p (around ∷ map (λ (row : RuleRow). row.around) (map rule_row rules))
 around_or p rules around a b both first others is = is ∙ ap (λ x. x || b) first ∙ ap (λ x. p around || x) (others ∙ sym (arounds_any p rules))
+
+selected_in : (members : List Member) → list_any (λ (m : Member). m.selected) members ≡ has_selected (members_in members)
+selected_in [] = refl
+selected_in (m ∷ ms) = ap (λ b. m.selected || b) (selected_in ms)
+
+-- whether a rule is begun, as the code finds it
+pub begins_by : (begun is_open selects : Bool) (members here : List Member) → begun ≡ (is_open && selects) → selects ≡ list_any (λ (m : Member). m.selected) here → here ≡ members → begun ≡ (is_open && has_selected (members_in members))
+begins_by begun is_open selects members here both test same = both ∙ ap (λ b. is_open && b) (test ∙ ap (list_any (λ (m : Member). m.selected)) same ∙ selected_in members)
 
 pub selected_any : (cases : List Case) (selected : List Bool) → length selected ≡ length cases → has_selected (members_of cases selected) ≡ list_any (λ (s : Bool). s) selected
 selected_any [] [] h = refl
@@ -82,80 +89,60 @@ of_ok Q (Err e) h f = h
 
 -- ---- cases, one after another
 
--- however what is left is cut, the whole has cuts with these rows before the others, and what was told of them
-abbrev pub GoesCases : {S : Type 0} → (S → Told → S → Type 0) → Run → State → Bool → List MemberValue → List CaseRow → Bool → List MemberValue → S → S → Type 0
-GoesCases told run first first_open all rows is_open left begin here =
-    (section : State) → (first_open ≡ true → first ≡ section) → GoesFrom told (λ (cuts : List Cut). cases_of run section first_open cuts all) (λ (cuts : List Cut). cases_of run section is_open cuts left) (λ (more : List CaseRow). rows ++ more) begin here
+-- however what is left is cut, the whole has cuts with these rows before the others, and what was told of them; the first case of all has one index, the next one another
+abbrev pub GoesCases : {S : Type 0} → (S → Told → S → Type 0) → ℕ → ℕ → Run → State → Bool → List MemberValue → List CaseRow → Bool → List MemberValue → S → S → Type 0
+GoesCases told index next run first first_open all rows is_open left begin here =
+    (section : State) → (first_open ≡ true → first ≡ section) → GoesFrom told (λ (cuts : List Cut). cases_of index run section first_open cuts all) (λ (cuts : List Cut). cases_of next run section is_open cuts left) (λ (more : List CaseRow). rows ++ more) begin here
 
 -- the rows and the telling of one case more
 push_case : (rows : List CaseRow) (row : CaseRow) (front events : List Told) (ended : Told) (next : Ran (List CaseRow)) →
     ran_of (rows ++ row ∷ next.result) (front ++ (events ++ ended ∷ next.told)) ≡ ran_of ((rows ++ row ∷ []) ++ next.result) ((front ++ (events ++ ended ∷ [])) ++ next.told)
 push_case rows row front events ended next = grind (arith, common_steps)
 
-pub cases_on : {S : Type 0} (hears : S → Event → S → Type 0) (ends : S → EndTold → S → Type 0) (run : Run) (first now : State) (first_open : Bool) (all : List MemberValue) (rows : List CaseRow) (row : CaseRow) (is_open next : Bool) (m : MemberValue) (left : List MemberValue) (begin here ran after : S) →
-    now ≡ first → (is_open ≡ true → first_open ≡ true) → IsMember hears run now is_open m row here ran → ends ran (of_case row) after → next ≡ (is_open && stays_open run row.status) →
-    GoesCases (tells hears ends) run first first_open all rows is_open (m ∷ left) begin here → GoesCases (tells hears ends) run first first_open all (rows ++ row ∷ []) next left begin after
-cases_on hears ends run first now first_open all rows row is_open next m left begin here ran after same earlier one ended nexts goes section opens =
+cases_on : {S : Type 0} (hears : S → Event → S → Type 0) (ends : S → EndTold → S → Type 0) (index at : ℕ) (run : Run) (first now : State) (first_open : Bool) (all : List MemberValue) (rows : List CaseRow) (row : CaseRow) (is_open next : Bool) (m : MemberValue) (left : List MemberValue) (begin here ran after : S) →
+    now ≡ first → (is_open ≡ true → first_open ≡ true) → IsMember hears run now is_open m row here ran → ends ran (of_case at row) after → next ≡ (is_open && stays_open run row.status) →
+    GoesCases (tells hears ends) index at run first first_open all rows is_open (m ∷ left) begin here → GoesCases (tells hears ends) index (suc at) run first first_open all (rows ++ row ∷ []) next left begin after
+cases_on hears ends index at run first now first_open all rows row is_open next m left begin here ran after same earlier one ended nexts goes section opens =
     let told_by = tells hears ends in
     let this = one section (λ o. same ∙ opens (earlier o)) in
     let events = case_events run section is_open this.0 m in
     let of_row = case_of run section is_open this.0 m in
     let stays : next ≡ (is_open && stays_open run of_row.status) = nexts ∙ ap (λ (x : CaseRow). is_open && stays_open run x.status) this.1 in
-    let ends_so : ends ran (of_case of_row) after = subst (λ (x : CaseRow). ends ran (of_case x) after) this.1 ended in
+    let ends_so : ends ran (of_case at of_row) after = subst (λ (x : CaseRow). ends ran (of_case at x) after) this.1 ended in
     let so_far = goes section opens in
-    let tail = map happens events ++ has_ended (of_case of_row) ∷ [] in
+    let tail = map happens events ++ has_ended (of_case at of_row) ∷ [] in
     let front = so_far.front ++ tail in
     record {
       front = front;
       heard = heard_both told_by begin so_far.front here tail after so_far.heard
-          (heard_both told_by here (map happens events) ran (has_ended (of_case of_row) ∷ []) after (heard_told hears ends here events ran this.2) (after, ends_so, refl));
-      stops = stops_both so_far.front tail so_far.stops (stops_behind (map happens events) (has_ended (of_case of_row)) [] tt tt);
+          (heard_both told_by here (map happens events) ran (has_ended (of_case at of_row) ∷ []) after (heard_told hears ends here events ran this.2) (after, ends_so, refl));
+      stops = stops_both so_far.front tail so_far.stops (stops_behind (map happens events) (has_ended (of_case at of_row)) [] tt tt);
       cuts = λ cuts.
           let whole = so_far.cuts (this.0 ∷ cuts) in
-          let others : Bool → Ran (List CaseRow) = λ b. cases_of run section b cuts left in
+          let others : Bool → Ran (List CaseRow) = λ b. cases_of (suc at) run section b cuts left in
           let put : CaseRow → Ran (List CaseRow) → Ran (List CaseRow) = λ x more. ran_of ((rows ++ x ∷ []) ++ more.result) (front ++ more.told) in (
             whole.0,
-            whole.1 ∙ push_case rows of_row so_far.front (map happens events) (has_ended (of_case of_row)) (others (is_open && stays_open run of_row.status))
+            whole.1 ∙ push_case rows of_row so_far.front (map happens events) (has_ended (of_case at of_row)) (others (is_open && stays_open run of_row.status))
                 ∙ ap (λ x. put x (others (is_open && stays_open run of_row.status))) (sym this.1)
                 ∙ ap (λ b. put row (others b)) (sym stays),
           );
     }
 
-pub cases_last : {S : Type 0} (told : S → Told → S → Type 0) (run : Run) (first : State) (first_open : Bool) (all : List MemberValue) (rows : List CaseRow) (is_open : Bool) (left : List MemberValue) (begin here : S) → left ≡ [] →
-    GoesCases told run first first_open all rows is_open left begin here → AreCases told run first first_open all rows begin here
-cases_last told run first first_open all rows is_open [] begin here none goes section opens =
-    let whole = ran_whole told (λ (cuts : List Cut). cases_of run section first_open cuts all) (λ (cuts : List Cut). cases_of run section is_open cuts []) (λ (more : List CaseRow). rows ++ more) [] begin here (λ cuts. refl) (goes section opens) in
-    (whole.0, subst (λ xs. IsRan told (cases_of run section first_open whole.0 all) xs begin here) (append-nil rows) whole.1)
-cases_last told run first first_open all rows is_open (m ∷ left) begin here none goes section opens = let no : ⊥ = cc in absurd no
-
--- cases of which some are left
-pub cases_stopped : {S : Type 0} (told : S → Told → S → Type 0) (run : Run) (first : State) (first_open : Bool) (all : List MemberValue) (rows : List CaseRow) (is_open : Bool) (left : List MemberValue) (begin here : S) →
-    GoesCases told run first first_open all rows is_open left begin here → AreCasesInPart told run first first_open all begin here
-cases_stopped told run first first_open all rows is_open left begin here goes section opens =
-    told_so_far told (λ (cuts : List Cut). cases_of run section first_open cuts all) (λ (cuts : List Cut). cases_of run section is_open cuts left) (λ (more : List CaseRow). rows ++ more) begin here (goes section opens)
-
 -- cases end where another may begin
-pub stops_cases : (run : Run) (section : State) (is_open : Bool) (cuts : List Cut) (members : List MemberValue) → (let ran = cases_of run section is_open cuts members in StopsBeforeCase ran.told)
-stops_cases run section is_open cuts [] = tt
-stops_cases run section is_open cuts (m ∷ ms) =
+pub stops_cases : (index : ℕ) (run : Run) (section : State) (is_open : Bool) (cuts : List Cut) (members : List MemberValue) → StopsBeforeCase (cases_told index run section is_open cuts members)
+stops_cases index run section is_open cuts [] = tt
+stops_cases index run section is_open cuts (m ∷ ms) =
     let cut = first_or nowhere cuts in
     let row = case_of run section is_open cut m in
-    let next = cases_of run section (is_open && stays_open run row.status) (without_first cuts) ms in
-    stops_behind (map happens (case_events run section is_open cut m)) (has_ended (of_case row)) next.told tt (stops_cases run section (is_open && stays_open run row.status) (without_first cuts) ms)
+    let opens = is_open && stays_open run row.status in
+    stops_behind (map happens (case_events run section is_open cut m)) (has_ended (of_case index row)) (cases_told (suc index) run section opens (without_first cuts) ms) tt (stops_cases (suc index) run section opens (without_first cuts) ms)
 
--- ---- the cases of a rank
-
--- the cases that were taken so far, and those of the rank that are left
-pub record GoesOn {S : Type 0} (hears : S → Event → S → Type 0) (ends : S → EndTold → S → Type 0) (run : Run) (first : State) (is_open : Bool) (old now : Cases) (all_stay : Bool) (begin here : S) : Type 0 where
+-- the cases that ran so far, and those that are left
+pub record GoesOn {S : Type 0} (hears : S → Event → S → Type 0) (ends : S → EndTold → S → Type 0) (run : Run) (first : State) (is_open : Bool) (all : List MemberValue) (old now : List CaseResult) (left : List MemberValue) (all_stay : Bool) (begin here : S) : Type 0 where
   pub rows : List CaseRow
-  pub told : map case_row now.results.items ≡ map case_row old.results.items ++ rows
-  pub goes : GoesCases (tells hears ends) run first is_open (members_of_rank old.rank (members_in old)) rows (is_open && all_stay) (members_of_rank old.rank (members_in now)) begin here
+  pub added : map case_row now ≡ map case_row old ++ rows
+  pub goes : GoesCases (tells hears ends) (length old) (length now) run first is_open all rows (is_open && all_stay) left begin here
   pub stay : all_stay ≡ all_stay_open run rows
-  pub rank : now.rank ≡ old.rank
-  pub others : (other : ℕ) → old.rank < other → members_of_rank other (members_in now) ≡ members_of_rank other (members_in old)
-
-apart : (r other n : ℕ) → r < other → n ≡ r → n ≡ other → ⊥
-apart r other n lt this that = omega (arith, lt, this, that)
 
 pub and_true : (a : Bool) → (a && true) ≡ a
 and_true true = refl
@@ -165,78 +152,56 @@ pub and_assoc : (a b c : Bool) → ((a && b) && c) ≡ (a && (b && c))
 and_assoc true b c = refl
 and_assoc false b c = refl
 
-pub goes_first : {S : Type 0} (hears : S → Event → S → Type 0) (ends : S → EndTold → S → Type 0) (run : Run) (first : State) (is_open : Bool) (old : Cases) (begin : S) → GoesOn hears ends run first is_open old old true begin begin
-goes_first hears ends run first is_open old begin =
-    let all = members_of_rank old.rank (members_in old) in
-    record {
-      rows = [];
-      told = sym (append-nil (map case_row old.results.items));
-      goes = subst (λ (b : Bool). GoesCases (tells hears ends) run first is_open all [] b all begin begin) (sym (and_true is_open)) (λ section opens. record { front = []; heard = refl; stops = tt; cuts = λ cuts. (cuts, refl) });
-      stay = refl;
-      rank = refl;
-      others = λ other lt. refl;
-    }
+pub goes_first : {S : Type 0} (hears : S → Event → S → Type 0) (ends : S → EndTold → S → Type 0) (run : Run) (first : State) (is_open : Bool) (all : List MemberValue) (old : List CaseResult) (begin : S) → GoesOn hears ends run first is_open all old old all true begin begin
+goes_first hears ends run first is_open all old begin = record {
+  rows = [];
+  added = sym (append-nil (map case_row old));
+  goes = subst (λ (b : Bool). GoesCases (tells hears ends) (length old) (length old) run first is_open all [] b all begin begin) (sym (and_true is_open)) (λ section opens. record { front = []; heard = refl; stops = tt; cuts = λ cuts. (cuts, refl) });
+  stay = refl;
+}
 
-pub all_stay_push : (run : Run) (rows : List CaseRow) (row : CaseRow) → all_stay_open run (rows ++ row ∷ []) ≡ (all_stay_open run rows && stays_open run row.status)
+all_stay_push : (run : Run) (rows : List CaseRow) (row : CaseRow) → all_stay_open run (rows ++ row ∷ []) ≡ (all_stay_open run rows && stays_open run row.status)
 all_stay_push run [] row = and_true (stays_open run row.status)
 all_stay_push run (r ∷ rows) row = grind (arith, common_steps, and_assoc)
 
-pub goes_on : {S : Type 0} (hears : S → Event → S → Type 0) (ends : S → EndTold → S → Type 0) (run : Run) (first now_state : State) (is_open : Bool) (old now taken next : Cases) (m : Member) (row : CaseResult) (all_stay opens stays : Bool) (begin here ran after : S) →
-    GoesOn hears ends run first is_open old now all_stay begin here → TakesMember now (Some m) taken → opens ≡ (is_open && all_stay) → now_state ≡ first →
-    IsMember hears run now_state opens (member_of m.case m.selected) (case_row row) here ran → ends ran (of_case (case_row row)) after → stays ≡ (all_stay && stays_open run row.status) →
-    next.rank ≡ taken.rank → members_in next ≡ members_in taken → next.results.items ≡ taken.results.items ++ row ∷ [] → GoesOn hears ends run first is_open old next stays begin after
-goes_on hears ends run first now_state is_open old now taken next m row all_stay opens stays begin here ran after so_far takes open_is same one ended stays_is rank_is members_is pushed =
-    let r = old.rank in
-    let all = members_of_rank r (members_in old) in
-    let this = member_of m.case m.selected in
-    let behind = members_in taken in
+pub goes_on : {S : Type 0} (hears : S → Event → S → Type 0) (ends : S → EndTold → S → Type 0) (run : Run) (first now_state : State) (is_open : Bool) (all : List MemberValue) (old now : List CaseResult) (m : MemberValue) (left : List MemberValue) (row : CaseResult) (index : ℕ) (all_stay opens stays : Bool) (begin here ran after : S) →
+    GoesOn hears ends run first is_open all old now (m ∷ left) all_stay begin here → opens ≡ (is_open && all_stay) → now_state ≡ first →
+    IsMember hears run now_state opens m (case_row row) here ran → index ≡ length now → ends ran (of_case index (case_row row)) after → stays ≡ (all_stay && stays_open run row.status) →
+    GoesOn hears ends run first is_open all old (now ++ row ∷ []) left stays begin after
+goes_on hears ends run first now_state is_open all old now m left row index all_stay opens stays begin here ran after so_far open_is same one at ended stays_is =
     let rows = so_far.rows in
     let told_by = tells hears ends in
-    let of_rank = takes.1 ∙ so_far.rank in
-    let told : map case_row next.results.items ≡ map case_row old.results.items ++ (rows ++ case_row row ∷ []) =
-    ap (map case_row) pushed ∙ map_push case_row taken.results.items row ∙ ap (λ (rs : Vec CaseResult Global). map case_row rs.items ++ case_row row ∷ []) takes.3 ∙ ap (λ rs. rs ++ case_row row ∷ []) so_far.told
-    ∙ append_assoc (map case_row old.results.items) rows (case_row row ∷ []) in
-    let first_is : members_of_rank r (members_in now) ≡ this ∷ members_of_rank r behind = ap (members_of_rank r) takes.0 ∙ first_of_rank r this behind (eq-eqb (order.rank m.case.rule) r of_rank) in
-    let before : GoesCases told_by run first is_open all rows (is_open && all_stay) (this ∷ members_of_rank r behind) begin here =
-    subst (λ (left : List MemberValue). GoesCases told_by run first is_open all rows (is_open && all_stay) left begin here) first_is so_far.goes in
-    let there : IsMember hears run now_state (is_open && all_stay) this (case_row row) here ran = subst (λ (b : Bool). IsMember hears run now_state b this (case_row row) here ran) open_is one in
-    let without_first : GoesCases told_by run first is_open all (rows ++ case_row row ∷ []) (is_open && stays) (members_of_rank r behind) begin after =
-    cases_on hears ends run first now_state is_open all rows (case_row row) (is_open && all_stay) (is_open && stays) this (members_of_rank r behind) begin here ran after same (and_left is_open all_stay) there ended
-    (ap (λ b. is_open && b) stays_is ∙ sym (and_assoc is_open all_stay (stays_open run row.status))) before in
+    let more = rows ++ case_row row ∷ [] in
+    let next : length (now ++ row ∷ []) ≡ suc (length now) = omega (arith, length-append now (row ∷ [])) in
+    let there : IsMember hears run now_state (is_open && all_stay) m (case_row row) here ran = subst (λ (b : Bool). IsMember hears run now_state b m (case_row row) here ran) open_is one in
+    let ended_at : ends ran (of_case (length now) (case_row row)) after = subst (λ (n : ℕ). ends ran (of_case n (case_row row)) after) at ended in
+    let goes : GoesCases told_by (length old) (suc (length now)) run first is_open all more (is_open && stays) left begin after =
+    cases_on hears ends (length old) (length now) run first now_state is_open all rows (case_row row) (is_open && all_stay) (is_open && stays) m left begin here ran after same (and_left is_open all_stay) there ended_at
+    (ap (λ b. is_open && b) stays_is ∙ sym (and_assoc is_open all_stay (stays_open run row.status))) so_far.goes in
     record {
-      rows = rows ++ case_row row ∷ [];
-      told = told;
-      goes = subst (λ (ms : List MemberValue). GoesCases told_by run first is_open all (rows ++ case_row row ∷ []) (is_open && stays) (members_of_rank r ms) begin after) (sym members_is) without_first;
+      rows = more;
+      added = map_push case_row now row ∙ ap (λ rs. rs ++ case_row row ∷ []) so_far.added ∙ append_assoc (map case_row old) rows (case_row row ∷ []);
+      goes = subst (λ (n : ℕ). GoesCases told_by (length old) n run first is_open all more (is_open && stays) left begin after) (sym next) goes;
       stay = stays_is ∙ ap (λ b. b && stays_open run row.status) so_far.stay ∙ sym (all_stay_push run rows (case_row row));
-      rank = rank_is ∙ takes.2 ∙ so_far.rank;
-      others = λ other lt.
-          ap (members_of_rank other) members_is ∙ sym (not_of_rank other this behind (λ is. let no : ⊥ = apart r other (order.rank m.case.rule) lt of_rank is in no)) ∙ ap (members_of_rank other) (sym takes.0) ∙ so_far.others other lt;
     }
 
-pub goes_last : {S : Type 0} (hears : S → Event → S → Type 0) (ends : S → EndTold → S → Type 0) (run : Run) (first : State) (is_open : Bool) (old now last : Cases) (all_stay : Bool) (begin here : S) → GoesOn hears ends run first is_open old now all_stay begin here → TakesMember now None last →
-    RunsCases hears ends run first is_open old last begin here all_stay
-goes_last hears ends run first is_open old now last all_stay begin here so_far none =
-    let r = old.rank in
-    let all = members_of_rank r (members_in old) in
-    let falls : falls_from (suc r) now.waiting.items ≡ true = subst (λ (n : ℕ). falls_from (suc n) now.waiting.items ≡ true) so_far.rank none.1 in
-    let nothing = none_of_rank r now.waiting.items now.selected.items falls in
-    record {
-      rows = so_far.rows;
-      told = ap (λ (c : Cases). map case_row c.results.items) none.0 ∙ so_far.told;
-      are = cases_last (tells hears ends) run first is_open all so_far.rows (is_open && all_stay) (members_of_rank r (members_in now)) begin here nothing so_far.goes;
-      stay = so_far.stay;
-      left = record {
-        rank = ap (λ (c : Cases). c.rank) none.0 ∙ so_far.rank;
-        falls = subst (λ (c : Cases). falls_from (suc r) c.waiting.items ≡ true) (sym none.0) falls;
-        others = λ other lt. ap (λ (c : Cases). members_of_rank other (members_in c)) none.0 ∙ so_far.others other lt;
-      };
-    }
+pub goes_last : {S : Type 0} (hears : S → Event → S → Type 0) (ends : S → EndTold → S → Type 0) (run : Run) (first : State) (is_open : Bool) (all : List MemberValue) (old now : List CaseResult) (all_stay : Bool) (begin here : S) →
+    GoesOn hears ends run first is_open all old now [] all_stay begin here → RunsCases hears ends run first is_open all old now begin here all_stay
+goes_last hears ends run first is_open all old now all_stay begin here so_far = record {
+  rows = so_far.rows;
+  added = so_far.added;
+  are = λ section opens.
+      let told_by = tells hears ends in
+      let index = length old in
+      let whole = ran_whole told_by (λ (cuts : List Cut). cases_of index run section is_open cuts all) (λ (cuts : List Cut). cases_of (length now) run section (is_open && all_stay) cuts []) (λ (more : List CaseRow). so_far.rows ++ more) [] begin here (λ cuts. refl) (so_far.goes section opens) in
+      (whole.0, subst (λ xs. IsRan told_by (cases_of index run section is_open whole.0 all) xs begin here) (append-nil so_far.rows) whole.1);
+  stay = so_far.stay;
+}
 
 -- the case that would have been next told nothing
-pub goes_stopped : {S : Type 0} (hears : S → Event → S → Type 0) (ends : S → EndTold → S → Type 0) (run : Run) (first : State) (is_open : Bool) (old now : Cases) (all_stay : Bool) (begin here last : S) → last ≡ here → GoesOn hears ends run first is_open old now all_stay begin here →
-    AreCasesInPart (tells hears ends) run first is_open (members_of_rank old.rank (members_in old)) begin last
-goes_stopped {S} hears ends run first is_open old now all_stay begin here last same so_far =
-    let r = old.rank in
-    let all = members_of_rank r (members_in old) in
-    subst (λ (s : S). AreCasesInPart (tells hears ends) run first is_open all begin s) (sym same)
-    (cases_stopped (tells hears ends) run first is_open all so_far.rows (is_open && all_stay) (members_of_rank r (members_in now)) begin here so_far.goes)
+pub goes_stopped : {S : Type 0} (hears : S → Event → S → Type 0) (ends : S → EndTold → S → Type 0) (run : Run) (first : State) (is_open : Bool) (all : List MemberValue) (old now : List CaseResult) (left : List MemberValue) (all_stay : Bool) (begin here last : S) → last ≡ here → GoesOn hears ends run first is_open all old now left all_stay begin here →
+    AreCasesInPart (tells hears ends) (length old) run first is_open all begin last
+goes_stopped {S} hears ends run first is_open all old now left all_stay begin here last same so_far =
+    let told_by = tells hears ends in
+    subst (λ (s : S). AreCasesInPart told_by (length old) run first is_open all begin s) (sym same)
+    (λ section opens. told_so_far told_by (λ (cuts : List Cut). cases_of (length old) run section is_open cuts all) (λ (cuts : List Cut). cases_of (length now) run section (is_open && all_stay) cuts left) (λ (more : List CaseRow). so_far.rows ++ more) begin here (so_far.goes section opens))

@@ -1,41 +1,33 @@
 -- What is inside of a feature, and what it comes to.
-use Rattle.gk_run.proofs.Common.{Bool, List, [], ap, arith, false, flat_map, map, refl, subst, suc, sym, true, zero, ℕ, ◌&&◌, ◌++◌, ◌<◌, ◌≤◌, ◌∙◌, ◌≡◌, append-nil, common_steps, State, Cases, RuleResult, Status, FoldsTo, all_stay_open, case_statuses, cases_of, Event, EndTold, IsRan, Ran, Told, tells, AreCasesInPart, AreRulesInPart, IsFeatureEnd, IsFeatureEndInPart, IsInside, IsInsideInPart, RunsCases, RunsFeature, RunsRules, StopsFeature, members_in, ChosenValue, HeadValue, MemberValue, has_selected, CasesFallIntoRules, Group, groups_from, members_of_rank, own_members, rule_groups, FeatureCuts, FeaturesWithoutRulesHaveTheirCases, feature_row_of, feature_verdict, inside_by, inside_of, rule_statuses, Inside, IsToldInPart, feature_of, rules_of, uncut_feature, SectionRow, section_of, section_state, Run, CaseRow, FeatureRow, case_row, rule_row, nowhere}
+use Rattle.gk_run.proofs.Common.{Bool, List, [], ap, arith, false, flat_map, map, length, refl, subst, sym, true, ℕ, ◌&&◌, ◌++◌, ◌∙◌, ◌≡◌, append-nil, common_steps, State, CaseResult, RuleResult, Status, FoldsTo, all_stay_open, case_statuses, cases_of, Event, EndTold, IsRan, Ran, Told, tells, AreCasesInPart, AreRulesInPart, IsFeatureEnd, IsFeatureEndInPart, IsInside, IsInsideInPart, RunsCases, RunsFeature, RunsRules, StopsFeature, ChosenValue, MemberValue, has_selected, CasesFallIntoRules, Group, own_members, rule_groups, FeatureCuts, FeaturesWithoutRulesHaveTheirCases, feature_row_of, feature_verdict, inside_by, inside_of, rule_statuses, Inside, IsToldInPart, feature_of, rules_of, uncut_feature, SectionRow, section_of, section_state, Run, CaseRow, FeatureRow, case_row, rule_row, nowhere}
 use Rattle.gk_run.specs.declared.results.Status.TheVariants as statuses
 use Rattle.gk_run.specs.declared.section.Level.TheVariants as levels
 use Rattle.gk_run.proofs.CasesLemmas.{stops_cases}
 use Rattle.gk_run.proofs.PartLemmas.{told_between}
 use Rattle.gk_run.proofs.EventLemmas.{heard_both}
-use Rattle.gk_run.proofs.GroupingLemmas.{and_left, groups_all, groups_same}
-
-pub later_rank : (first other : ℕ) → first ≡ 0 → suc zero ≤ other → first < other
-later_rank first other is le = omega (arith, is, le)
+use Rattle.gk_run.proofs.GroupingLemmas.{and_left, groups_all}
 
 -- what is inside, from its own cases and its rules
-pub inside_is : {S : Type 0} (hears : S → Event → S → Type 0) (ends : S → EndTold → S → Type 0) (run : Run) (now then : State) (is_open all_stay opens : Bool) (heads : List HeadValue) (old mid new : Cases) (results : List RuleResult) (begin here last : S) → old.rank ≡ 0 → old.results.items ≡ [] → then ≡ now → opens ≡ (is_open && all_stay) →
-    RunsCases hears ends run now is_open old mid begin here all_stay → RunsRules hears ends run then opens heads mid new results here last →
-    IsInside (tells hears ends) run now is_open (members_of_rank 0 (members_in old)) (groups_from 1 heads (members_in old)) (record { rules = map rule_row results; cases = map case_row new.results.items }) begin last
-inside_is hears ends run now then is_open all_stay opens heads old mid new results begin here last first nothing same open_is cases rules section open_at =
+pub inside_is : {S : Type 0} (hears : S → Event → S → Type 0) (ends : S → EndTold → S → Type 0) (run : Run) (now then : State) (is_open all_stay opens : Bool) (own : List MemberValue) (groups : List Group) (old mid new : List CaseResult) (results : List RuleResult) (begin here last : S) → old ≡ [] → length mid ≡ length own → then ≡ now → opens ≡ (is_open && all_stay) →
+    RunsCases hears ends run now is_open own old mid begin here all_stay → RunsRules hears ends run then opens groups mid new results here last →
+    IsInside (tells hears ends) run now is_open own groups (record { rules = map rule_row results; cases = map case_row new }) begin last
+inside_is hears ends run now then is_open all_stay opens own groups old mid new results begin here last nothing counted same open_is cases rules section open_at =
     let told_by = tells hears ends in
-    let own = members_of_rank 0 (members_in old) in
-    let groups = groups_from 1 heads (members_in old) in
-    let own_is : members_of_rank old.rank (members_in old) ≡ own = ap (λ (r : ℕ). members_of_rank r (members_in old)) first in
     let mine = cases.are section open_at in
     let theirs = rules.are section (λ o. same ∙ open_at (and_left is_open all_stay (sym open_is ∙ o))) in
-    let first_ran = cases_of run section is_open mine.0 own in
-    let mine_are : IsRan told_by first_ran cases.rows begin here = subst (λ (ms : List MemberValue). IsRan told_by (cases_of run section is_open mine.0 ms) cases.rows begin here) own_is mine.1 in
-    let groups_are : groups_from (suc mid.rank) heads (members_in mid) ≡ groups =
-    ap (λ (r : ℕ). groups_from (suc r) heads (members_in mid)) (cases.left.rank ∙ first) ∙ groups_same 1 heads (members_in mid) (members_in old) (λ other le. cases.left.others other (later_rank old.rank other first le)) in
+    let first_ran = cases_of 0 run section is_open mine.0 own in
+    let mine_are : IsRan told_by first_ran cases.rows begin here = subst (λ (n : ℕ). IsRan told_by (cases_of n run section is_open mine.0 own) cases.rows begin here) (ap length nothing) mine.1 in
     let opens_so : opens ≡ (is_open && all_stay_open run first_ran.result) = open_is ∙ ap (λ (b : Bool). is_open && b) (cases.stay ∙ ap (all_stay_open run) mine_are.is) in
-    let told : map case_row new.results.items ≡ cases.rows ++ rules.rows =
-    rules.told ∙ ap (λ (rs : List CaseRow). rs ++ rules.rows) (cases.told ∙ ap (λ rs. map case_row rs ++ cases.rows) nothing) in
+    let added : map case_row new ≡ cases.rows ++ rules.rows =
+    rules.added ∙ ap (λ (rs : List CaseRow). rs ++ rules.rows) (cases.added ∙ ap (λ (rs : List CaseResult). map case_row rs ++ cases.rows) nothing) in
     let rules_in : Inside = record { rules = map rule_row results; cases = rules.rows } in
-    let next = rules_of run section (is_open && all_stay_open run first_ran.result) theirs.0 groups in
-    let theirs_are : IsRan told_by next rules_in here last = subst (λ (b : Bool). IsRan told_by (rules_of run section b theirs.0 groups) rules_in here last) opens_so (subst (λ (gs : List Group). IsRan told_by (rules_of run section opens theirs.0 gs) rules_in here last) groups_are theirs.1) in
+    let next = rules_of (length own) run section (is_open && all_stay_open run first_ran.result) theirs.0 groups in
+    let theirs_are : IsRan told_by next rules_in here last = subst (λ (b : Bool). IsRan told_by (rules_of (length own) run section b theirs.0 groups) rules_in here last) opens_so (subst (λ (n : ℕ). IsRan told_by (rules_of n run section opens theirs.0 groups) rules_in here last) counted theirs.1) in
     let both : List CaseRow → Inside → Inside = λ rs n. record { rules = n.rules; cases = rs ++ n.cases } in (
       mine.0,
       theirs.0,
       record {
-        is = ap (λ (rs : List CaseRow). record { rules = map rule_row results; cases = rs }) told ∙ ap (λ rs. both rs rules_in) mine_are.is ∙ ap (both first_ran.result) theirs_are.is;
+        is = ap (λ (rs : List CaseRow). record { rules = map rule_row results; cases = rs }) added ∙ ap (λ rs. both rs rules_in) mine_are.is ∙ ap (both first_ran.result) theirs_are.is;
         heard = heard_both told_by begin first_ran.told here next.told last mine_are.heard theirs_are.heard;
       },
     )
@@ -66,35 +58,29 @@ feature_is hears ends run now is_open is_begun f status end first last begins ve
 -- ---- a feature that is told in part
 
 -- of what is inside, its own cases are told in part
-pub own_in_part : {S : Type 0} (told : S → Told → S → Type 0) (run : Run) (now : State) (is_open : Bool) (rank : ℕ) (members : List MemberValue) (groups : List Group) (first last : S) → rank ≡ 0 → AreCasesInPart told run now is_open (members_of_rank rank members) first last →
-    IsInsideInPart told run now is_open (members_of_rank 0 members) groups first last
-own_in_part told run now is_open rank members groups first last is cases section open_at =
-    let own = members_of_rank 0 members in
-    let own_stopped : AreCasesInPart told run now is_open own first last = subst (λ (r : ℕ). AreCasesInPart told run now is_open (members_of_rank r members) first last) is cases in
-    let part = own_stopped section open_at in
-    let mine = cases_of run section is_open part.0 own in
-    let next = rules_of run section (is_open && all_stay_open run mine.result) [] groups in
-    (part.0, [], told_between told mine (inside_by run section is_open part.0 [] own groups) [] next.told first first last refl refl tt part.1)
+pub own_in_part : {S : Type 0} (told : S → Told → S → Type 0) (index : ℕ) (run : Run) (now : State) (is_open : Bool) (own : List MemberValue) (groups : List Group) (first last : S) → index ≡ 0 → AreCasesInPart told index run now is_open own first last →
+    IsInsideInPart told run now is_open own groups first last
+own_in_part told index run now is_open own groups first last is cases section open_at =
+    let part = cases section open_at in
+    let here : IsToldInPart told (cases_of 0 run section is_open part.0 own) first last = subst (λ (n : ℕ). IsToldInPart told (cases_of n run section is_open part.0 own) first last) is part.1 in
+    let mine = cases_of 0 run section is_open part.0 own in
+    let next = rules_of (length own) run section (is_open && all_stay_open run mine.result) [] groups in
+    (part.0, [], told_between told mine (inside_by run section is_open part.0 [] own groups) [] next.told first first last refl refl tt here)
 
 -- of what is inside, the rules are told in part
-pub rules_in_part : {S : Type 0} (hears : S → Event → S → Type 0) (ends : S → EndTold → S → Type 0) (run : Run) (now then : State) (is_open all_stay opens : Bool) (heads : List HeadValue) (old mid : Cases) (begin here last : S) → old.rank ≡ 0 → then ≡ now → opens ≡ (is_open && all_stay) →
-    RunsCases hears ends run now is_open old mid begin here all_stay → AreRulesInPart (tells hears ends) run then opens (groups_from (suc mid.rank) heads (members_in mid)) here last →
-    IsInsideInPart (tells hears ends) run now is_open (members_of_rank 0 (members_in old)) (groups_from 1 heads (members_in old)) begin last
-rules_in_part hears ends run now then is_open all_stay opens heads old mid begin here last first same open_is cases rules section open_at =
+pub rules_in_part : {S : Type 0} (hears : S → Event → S → Type 0) (ends : S → EndTold → S → Type 0) (run : Run) (now then : State) (is_open all_stay opens : Bool) (own : List MemberValue) (groups : List Group) (old mid : List CaseResult) (begin here last : S) → old ≡ [] → length mid ≡ length own → then ≡ now → opens ≡ (is_open && all_stay) →
+    RunsCases hears ends run now is_open own old mid begin here all_stay → AreRulesInPart (tells hears ends) (length mid) run then opens groups here last →
+    IsInsideInPart (tells hears ends) run now is_open own groups begin last
+rules_in_part hears ends run now then is_open all_stay opens own groups old mid begin here last nothing counted same open_is cases rules section open_at =
     let told_by = tells hears ends in
-    let own = members_of_rank 0 (members_in old) in
-    let groups = groups_from 1 heads (members_in old) in
-    let own_is : members_of_rank old.rank (members_in old) ≡ own = ap (λ (r : ℕ). members_of_rank r (members_in old)) first in
     let mine = cases.are section open_at in
     let theirs = rules section (λ o. same ∙ open_at (and_left is_open all_stay (sym open_is ∙ o))) in
-    let first_ran = cases_of run section is_open mine.0 own in
-    let mine_are : IsRan told_by first_ran cases.rows begin here = subst (λ (ms : List MemberValue). IsRan told_by (cases_of run section is_open mine.0 ms) cases.rows begin here) own_is mine.1 in
-    let groups_are : groups_from (suc mid.rank) heads (members_in mid) ≡ groups =
-    ap (λ (r : ℕ). groups_from (suc r) heads (members_in mid)) (cases.left.rank ∙ first) ∙ groups_same 1 heads (members_in mid) (members_in old) (λ other le. cases.left.others other (later_rank old.rank other first le)) in
+    let first_ran = cases_of 0 run section is_open mine.0 own in
+    let mine_are : IsRan told_by first_ran cases.rows begin here = subst (λ (n : ℕ). IsRan told_by (cases_of n run section is_open mine.0 own) cases.rows begin here) (ap length nothing) mine.1 in
     let opens_so : opens ≡ (is_open && all_stay_open run first_ran.result) = open_is ∙ ap (λ (b : Bool). is_open && b) (cases.stay ∙ ap (all_stay_open run) mine_are.is) in
-    let next = rules_of run section (is_open && all_stay_open run first_ran.result) theirs.0 groups in
-    let theirs_are : IsToldInPart told_by next here last = subst (λ (b : Bool). IsToldInPart told_by (rules_of run section b theirs.0 groups) here last) opens_so (subst (λ (gs : List Group). IsToldInPart told_by (rules_of run section opens theirs.0 gs) here last) groups_are theirs.1) in
-    (mine.0, theirs.0, told_between told_by next (inside_by run section is_open mine.0 theirs.0 own groups) first_ran.told [] begin here last (ap (λ xs. first_ran.told ++ xs) (sym (append-nil next.told))) mine_are.heard (stops_cases run section is_open mine.0 own) theirs_are)
+    let next = rules_of (length own) run section (is_open && all_stay_open run first_ran.result) theirs.0 groups in
+    let theirs_are : IsToldInPart told_by next here last = subst (λ (b : Bool). IsToldInPart told_by (rules_of (length own) run section b theirs.0 groups) here last) opens_so (subst (λ (n : ℕ). IsToldInPart told_by (rules_of n run section opens theirs.0 groups) here last) counted theirs.1) in
+    (mine.0, theirs.0, told_between told_by next (inside_by run section is_open mine.0 theirs.0 own groups) first_ran.told [] begin here last (ap (λ xs. first_ran.told ++ xs) (sym (append-nil next.told))) mine_are.heard (stops_cases 0 run section is_open mine.0 own) theirs_are)
 
 -- a feature that isn't begun
 pub unbegun_in_part : {S : Type 0} (told : S → Told → S → Type 0) (run : Run) (now : State) (is_begun : Bool) (tags : List (List ℕ)) (own : List MemberValue) (groups : List Group) (first last : S) → is_begun ≡ false → IsInsideInPart told run now false own groups first last →
@@ -124,7 +110,7 @@ own_are_all : (f : ChosenValue) → f.rules ≡ [] → CasesFallIntoRules f → 
 own_are_all f none falls = grind (arith, common_steps, append-nil, flat_map, groups_all)
 
 inside_without_rules : (run : Run) (section : State) (is_open : Bool) (cuts : FeatureCuts) (f : ChosenValue) → f.rules ≡ [] → CasesFallIntoRules f →
-    inside_of run cuts f section is_open ≡ (let ran = cases_of run section is_open cuts.cases f.members in record { result = record { rules = []; cases = ran.result }; told = ran.told })
+    inside_of run cuts f section is_open ≡ (let ran = cases_of 0 run section is_open cuts.cases f.members in record { result = record { rules = []; cases = ran.result }; told = ran.told })
 inside_without_rules run section is_open cuts f none falls = grind (arith, common_steps, append-nil, own_are_all)
 
 pub without_rules : FeaturesWithoutRulesHaveTheirCases

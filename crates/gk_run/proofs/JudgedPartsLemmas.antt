@@ -152,9 +152,9 @@ stays_case run row = stays_open run row.status
 stays_case_is : (run : Run) (row : CaseRow) → Decides (stays_case run row) (run.stop ≡ true → IsGoodCase row)
 stays_case_is run row = stays run.stop (is_failed_or_memory row.status)
 
-cases_words : (run : Run) (section : State) (b : Bool) (P : Type 0) (ms : List MemberValue) (rows : List CaseRow) → Decides b P → JudgedCases run section P ms rows ↔ ((cuts : List Cut) × (rows ≡ result_of (cases_of run section b cuts ms)))
+cases_words : (run : Run) (section : State) (b : Bool) (P : Type 0) (ms : List MemberValue) (rows : List CaseRow) → Decides b P → JudgedCases run section P ms rows ↔ ((cuts : List Cut) × (rows ≡ result_of (cases_of 0 run section b cuts ms)))
 cases_words run section b P ms rows d =
-    walked (case_of run section) (stays_case run) nowhere (λ b cuts ms. result_of (cases_of run section b cuts ms)) (JudgedCase run section) (λ b cuts. refl) (λ b cuts m ms. refl) (case_words run section) b ms rows
+    walked (case_of run section) (stays_case run) nowhere (λ b cuts ms. result_of (cases_of 0 run section b cuts ms)) (JudgedCase run section) (λ b cuts. refl) (λ b cuts m ms. refl) (case_words run section) b ms rows
     (λ k. P × (run.stop ≡ true → All IsGoodCase (take k rows))) (flag_stops run.stop (stays_case run) IsGoodCase (stays_case_is run) P b d rows)
 
 cases_stay : (run : Run) (rows : List CaseRow) → Decides (all_stay_open run rows) (run.stop ≡ true → All IsGoodCase rows)
@@ -169,26 +169,26 @@ RuleEnds = List (SectionRow (List CaseRow))
 abbrev ends_of : Run → State → Bool → List RuleCuts → List Group → RuleEnds
 ends_of run outside b cuts [] = []
 ends_of run outside b cuts (g ∷ gs) =
-    let end = result_of (rule_of run outside b (first_or uncut_rule cuts) g) in
+    let end = result_of (rule_of 0 run outside b (first_or uncut_rule cuts) g) in
     end ∷ ends_of run outside (b && rule_stays_open run end) (without_first cuts) gs
 
 abbrev told_of : List Group → RuleEnds → Inside
 told_of groups ends = record { rules = rule_rows groups ends; cases = flat_map (λ (end : SectionRow (List CaseRow)). end.inside) ends }
 
-rules_told : (run : Run) (outside : State) (b : Bool) (cuts : List RuleCuts) (gs : List Group) → result_of (rules_of run outside b cuts gs) ≡ told_of gs (ends_of run outside b cuts gs)
+rules_told : (run : Run) (outside : State) (b : Bool) (cuts : List RuleCuts) (gs : List Group) → result_of (rules_of 0 run outside b cuts gs) ≡ told_of gs (ends_of run outside b cuts gs)
 rules_told run outside b cuts [] = refl
 rules_told run outside b cuts (g ∷ gs) =
-    let end = result_of (rule_of run outside b (first_or uncut_rule cuts) g) in
+    let end = result_of (rule_of 0 run outside b (first_or uncut_rule cuts) g) in
     let before : Inside → Inside = λ next. record { rules = record { line = g.head.line; around = end.around } ∷ next.rules; cases = end.inside ++ next.cases } in
     ap before (rules_told run outside (b && rule_stays_open run end) (without_first cuts) gs)
 
 stays_rule_is : (run : Run) (end : SectionRow (List CaseRow)) → Decides (rule_stays_open run end) (run.stop ≡ true → IsGoodRule end)
 stays_rule_is run end = grind (arith, common_steps, Decides-like, Decides-and, stays, cases_stay)
 
-rule_words : (run : Run) (outside : State) (b : Bool) (P : Type 0) (g : Group) (end : SectionRow (List CaseRow)) → Decides b P → JudgedRule run outside P g end ↔ ((cuts : RuleCuts) × (end ≡ result_of (rule_of run outside b cuts g)))
+rule_words : (run : Run) (outside : State) (b : Bool) (P : Type 0) (g : Group) (end : SectionRow (List CaseRow)) → Decides b P → JudgedRule run outside P g end ↔ ((cuts : RuleCuts) × (end ≡ result_of (rule_of 0 run outside b cuts g)))
 rule_words run outside b P g end d =
     let chosen = has_selected g.members in
-    let inside : List Cut → State → Bool → Ran (List CaseRow) = λ cuts section c. cases_of run section c cuts g.members in
+    let inside : List Cut → State → Bool → Ran (List CaseRow) = λ cuts section c. cases_of 0 run section c cuts g.members in
     let both = section_words run levels.Rule g.head.tags outside inside (λ section Q rows. JudgedCases run section Q g.members rows) (λ section c Q rows e. cases_words run section c Q g.members rows e)
     (b && chosen) (P × (chosen ≡ true)) end (Decides-and b chosen d (itself chosen)) in
     (λ w. (let c = both.0 w in (record { own = c.0; cases = c.1 }, c.2)), λ c. (let cuts = c.0 in both.1 (cuts.own, cuts.cases, c.1)))
@@ -207,7 +207,7 @@ open_for run b P own ends k d =
 rules_words : (run : Run) (section : State) (b : Bool) (P : Type 0) (own : List CaseRow) (groups : List Group) (ends : RuleEnds) → Decides b P →
     Each (λ k g end. JudgedRule run section (P × (run.stop ≡ true → All IsGoodCase own × All IsGoodRule (take k ends))) g end) groups ends ↔ ((cuts : List RuleCuts) × (ends ≡ ends_of run section (b && all_stay_open run own) cuts groups))
 rules_words run section b P own groups ends d =
-    walked (λ b cuts g. result_of (rule_of run section b cuts g)) (rule_stays_open run) uncut_rule (ends_of run section) (JudgedRule run section) (λ b cuts. refl) (λ b cuts g gs. refl) (rule_words run section) (b && all_stay_open run own) groups ends
+    walked (λ b cuts g. result_of (rule_of 0 run section b cuts g)) (rule_stays_open run) uncut_rule (ends_of run section) (JudgedRule run section) (λ b cuts. refl) (λ b cuts g gs. refl) (rule_words run section) (b && all_stay_open run own) groups ends
     (λ k. P × (run.stop ≡ true → All IsGoodCase own × All IsGoodRule (take k ends))) (λ k. open_for run b P own ends k d)
 
 abbrev inside_with : List CaseRow → Inside → Inside
@@ -227,14 +227,14 @@ inside_words run section b P f inside d =
           let ruled = (rules mine w.ends).0 w.rules in
           let with_cases : List CaseRow → Inside = λ rows. record { rules = inside.rules; cases = rows } in
           let with_rules : List RuleRow → Inside = λ rows. record { rules = rows; cases = mine ++ flat_map (λ (end : SectionRow (List CaseRow)). end.inside) w.ends } in
-          let by_own : List CaseRow → Inside = λ rows. inside_with rows (result_of (rules_of run section (b && all_stay_open run rows) ruled.0 groups)) in (
+          let by_own : List CaseRow → Inside = λ rows. inside_with rows (result_of (rules_of 0 run section (b && all_stay_open run rows) ruled.0 groups)) in (
             (own.0, ruled.0),
             ap with_cases w.case_results ∙ ap with_rules w.rule_results ∙ ap (λ (ends : RuleEnds). inside_with mine (told_of groups ends)) ruled.1
                 ∙ sym (ap (inside_with mine) (rules_told run section (b && all_stay_open run mine) ruled.0 groups)) ∙ ap by_own own.1,
           )
           ),
       λ c. (
-          let mine = result_of (cases_of run section b c.0.0 (own_members f)) in
+          let mine = result_of (cases_of 0 run section b c.0.0 (own_members f)) in
           let opens = b && all_stay_open run mine in
           let theirs = ends_of run section opens c.0.1 groups in
           let told = c.1 ∙ ap (inside_with mine) (rules_told run section opens c.0.1 groups) in

@@ -52,13 +52,13 @@ case_kept : (run : Run) (section : State) (is_open : Bool) (cut : Cut) (m : Memb
 case_kept run section is_open cut m h = grind (arith, common_steps, choice_kept, reached_kept)
 
 cases_kept : (run : Run) (section : State) (is_open : Bool) (cuts : List Cut) (ms : List MemberValue) →
-    list_any is_memory_case (result_of (cases_of run section is_open cuts ms)) ≡ false → result_of (cases_of run section is_open cuts ms) ≡ result_of (cases_of run section is_open [] ms)
+    list_any is_memory_case (result_of (cases_of 0 run section is_open cuts ms)) ≡ false → result_of (cases_of 0 run section is_open cuts ms) ≡ result_of (cases_of 0 run section is_open [] ms)
 cases_kept run section is_open cuts [] h = refl
 cases_kept run section is_open cuts (m ∷ ms) h =
     let row = case_of run section is_open (first_or nowhere cuts) m in
-    let rest = result_of (cases_of run section (is_open && stays_open run row.status) (without_first cuts) ms) in
+    let rest = result_of (cases_of 0 run section (is_open && stays_open run row.status) (without_first cuts) ms) in
     ap (λ rows. row ∷ rows) (cases_kept run section (is_open && stays_open run row.status) (without_first cuts) ms (or_right (is_memory_case row) (list_any is_memory_case rest) h))
-    ∙ ap (λ (r : CaseRow). r ∷ result_of (cases_of run section (is_open && stays_open run r.status) [] ms))
+    ∙ ap (λ (r : CaseRow). r ∷ result_of (cases_of 0 run section (is_open && stays_open run r.status) [] ms))
     (case_kept run section is_open (first_or nowhere cuts) m (or_left (is_memory_case row) (list_any is_memory_case rest) h))
 
 -- ---- features, the run
@@ -83,22 +83,22 @@ append_right xs ys h = or_right (list_any is_memory_case xs) (list_any is_memory
 
 -- a rule
 rule_kept : (run : Run) (outside : State) (is_open : Bool) (cuts : RuleCuts) (g : Group) →
-    (let end = result_of (rule_of run outside is_open cuts g) in is_memory end.around ≡ false) → (let end = result_of (rule_of run outside is_open cuts g) in list_any is_memory_case end.inside ≡ false) →
-    result_of (rule_of run outside is_open cuts g) ≡ result_of (rule_of run outside is_open uncut_rule g)
+    (let end = result_of (rule_of 0 run outside is_open cuts g) in is_memory end.around ≡ false) → (let end = result_of (rule_of 0 run outside is_open cuts g) in list_any is_memory_case end.inside ≡ false) →
+    result_of (rule_of 0 run outside is_open cuts g) ≡ result_of (rule_of 0 run outside is_open uncut_rule g)
 rule_kept run outside is_open cuts g around cases = search (rules, section_kept, cases_kept)
 
 rules_kept : (run : Run) (outside : State) (is_open : Bool) (cuts : List RuleCuts) (gs : List Group) →
-    (let inside = result_of (rules_of run outside is_open cuts gs) in list_any is_memory_rule inside.rules ≡ false) → (let inside = result_of (rules_of run outside is_open cuts gs) in list_any is_memory_case inside.cases ≡ false) →
-    result_of (rules_of run outside is_open cuts gs) ≡ result_of (rules_of run outside is_open [] gs)
+    (let inside = result_of (rules_of 0 run outside is_open cuts gs) in list_any is_memory_rule inside.rules ≡ false) → (let inside = result_of (rules_of 0 run outside is_open cuts gs) in list_any is_memory_case inside.cases ≡ false) →
+    result_of (rules_of 0 run outside is_open cuts gs) ≡ result_of (rules_of 0 run outside is_open [] gs)
 rules_kept run outside is_open cuts [] h k = refl
 rules_kept run outside is_open cuts (g ∷ gs) h k =
-    let end = result_of (rule_of run outside is_open (first_or uncut_rule cuts) g) in
+    let end = result_of (rule_of 0 run outside is_open (first_or uncut_rule cuts) g) in
     let opens : SectionRow (List CaseRow) → Bool = λ e. is_open && rule_stays_open run e in
-    let next = result_of (rules_of run outside (opens end) (without_first cuts) gs) in
+    let next = result_of (rules_of 0 run outside (opens end) (without_first cuts) gs) in
     let row : SectionRow (List CaseRow) → RuleRow = λ e. record { line = g.head.line; around = e.around } in
     let both : SectionRow (List CaseRow) → Inside → Inside = λ e n. record { rules = row e ∷ n.rules; cases = e.inside ++ n.cases } in
     ap (both end) (rules_kept run outside (opens end) (without_first cuts) gs (or_right (is_memory end.around) (list_any is_memory_rule next.rules) h) (append_right end.inside next.cases k))
-    ∙ ap (λ e. both e (result_of (rules_of run outside (opens e) [] gs)))
+    ∙ ap (λ e. both e (result_of (rules_of 0 run outside (opens e) [] gs)))
     (rule_kept run outside is_open (first_or uncut_rule cuts) g (or_left (is_memory end.around) (list_any is_memory_rule next.rules) h) (append_left end.inside next.cases k))
 
 inside_kept : (run : Run) (section : State) (is_open : Bool) (cuts : List Cut) (rule_cuts : List RuleCuts) (own : List MemberValue) (gs : List Group) →

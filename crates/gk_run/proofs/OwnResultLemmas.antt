@@ -1,5 +1,5 @@
 -- Each scenario whose result is settled has its own result.
-use Rattle.gk_run.proofs.Common.{AllZip, Bool, List, Option, Some, None, [], ap, cond, false, flat_map, length, map, not, option_map, refl, slice_get, subst, suc, sym, true, zero, ℕ, ◌&&◌, ◌||◌, ◌+◌, ◌++◌, ◌∙◌, ◌∷◌, ◌≡◌, inl, inr, true≢false, nat_eq, none-some, same_Some, eqb-true, arith, list_any, list_any-append, rank, FallFrom, CaseValue, LibraryValue, Contents, State, StepValue, enter, state_of, Status, Level, before_of, entered, left_by, walk, event_marks, is_memory_mark, dry_events, ⊤, case_of, cases_of, first_or, without_first, is_failed_or_memory, stays_open, all_stay_open, reached_row, unreached_row, unselected_row, CasesFallIntoRules, ChosenValue, HeadValue, MemberValue, has_selected, Group, groups_from, members_of_rank, own_members, rule_groups, dry_cases_of, dry_features_of, dry_row, FeatureCuts, feature_of, features_of, case_statuses, rule_statuses, verdict_by, uncut_feature, RuleCuts, rule_of, rule_stays_open, rules_of, uncut_rule, Cuts, Judged, uncut, dry_results, results_from, result_of, SectionRow, around_of, happened_in, no_events, section_events, section_state, Run, CaseRow, FeatureRow, Results, is_failed, is_memory, is_passed, is_untested, Cut, Events, before_passed, happened, in_after, in_before, in_cleanups, in_steps, has_event, nowhere, cut_at, ended_in, has_passed, before_list, HookValue, Ending, Mark, SectionNow, Skipped, StepRow, Untested, after_event, after_lists, before_events, cleaned, ending_of, event_of, looked_up, one_step, outcomes_of, row_of_case, row_of_step, rows_of_steps, steps_from, steps_of_case, unrun_step, verdict_of, verdict_status, walk_each, worse, Event, map-append, reverse, reverse-append, mark_of, CleanupValue, Registered, Registration, cleanups_at, place_of, Stepped, stepped, FoundValue, of_step, of_cleanup, found, clean_each, cleanup_done, Outcome, Acted, around_status, after_of}
+use Rattle.gk_run.proofs.Common.{AllZip, Bool, List, Option, Some, None, [], ap, cond, false, flat_map, length, map, not, option_map, refl, slice_get, subst, suc, sym, true, zero, ℕ, ◌&&◌, ◌||◌, ◌+◌, ◌++◌, ◌∙◌, ◌∷◌, ◌≡◌, inl, inr, true≢false, nat_eq, none-some, same_Some, eqb-true, arith, list_any, list_any-append, rank, FallFrom, CaseValue, LibraryValue, Contents, State, StepValue, enter, state_of, Status, Level, before_of, entered, left_by, walk, event_marks, is_memory_mark, dry_events, ⊤, case_of, cases_of, first_or, without_first, is_failed_or_memory, stays_open, all_stay_open, reached_row, unreached_row, unselected_row, CasesFallIntoRules, ChosenValue, HeadValue, MemberValue, has_selected, Group, groups_from, members_of_rank, own_members, rule_groups, dry_cases_of, dry_features_of, dry_row, FeatureCuts, feature_of, features_of, case_statuses, rule_statuses, verdict_by, uncut_feature, RuleCuts, rule_of, rule_stays_open, rules_of, uncut_rule, Cuts, Judged, uncut, dry_results, results_from, result_of, SectionRow, around_of, happened_in, no_events, section_events, section_state, Run, CaseRow, FeatureRow, Results, is_failed, is_memory, is_passed, is_untested, Cut, Events, before_passed, happened, in_after, in_before, in_cleanups, in_steps, has_event, nowhere, cut_at, ended_in, has_passed, before_list, HookValue, Ending, Mark, SectionNow, Skipped, StepRow, Untested, after_event, after_lists, before_events, cleaned, ending_of, event_of, looked_up, one_step, outcomes_of, row_of_case, row_of_step, rows_of_steps, steps_from, steps_of_case, unrun_step, verdict_of, verdict_status, walk_each, worse, Event, map-append, reverse, reverse-append, mark_of, CleanupValue, Registered, Registration, cleanups_at, place_of, Stepped, stepped, FoundValue, of_step, of_cleanup, found, clean_each, cleanup_done, Outcome, Acted, around_status, after_of, members_of_groups}
 use Rattle.gk_run.specs.Ending.{ended_of}
 use Rattle.gk_run.specs.OwnResult.{Above, BeginsLike, HasResult, ScenariosComeToTheSameAlone, MovedScenariosComeToTheSame, anywhere, row_anywhere, step_anywhere, step_row_anywhere, deselected, IsLike, IsSameScenario, none_in, only, only_case, only_in, IsSettled, Place, ResultsAreTheSameInEachRun, ScenariosHaveTheirOwnResults, Start, above, go_inside, go_inside_rule, own_row, ran_whole, start_of, tags_of_rule}
 use Rattle.gk_run.specs.declared.ending.Ending.TheVariants as endings
@@ -70,7 +70,7 @@ case_is_own run start b cut m ready false s w = absurd (true≢false (sym s))
 case_is_own run start true cut m ready true s w = (let row = reached_row run start.state cut m.scenario in (ready refl, reached_kept run start.state cut m.scenario (not_memory (is_untested row.status) (is_memory row.status) w)))
 case_is_own run start false cut m ready true s w = absurd (true≢false (sym w))
 
-cases_are_own : (run : Run) (start : Start) (b : Bool) (cuts : List Cut) (ms : List MemberValue) → (b ≡ true → start.is_ready ≡ true) → AllZip (IsOwn run start) ms (result_of (cases_of run start.state b cuts ms))
+cases_are_own : (run : Run) (start : Start) (b : Bool) (cuts : List Cut) (ms : List MemberValue) → (b ≡ true → start.is_ready ≡ true) → AllZip (IsOwn run start) ms (result_of (cases_of 0 run start.state b cuts ms))
 cases_are_own run start b cuts [] ready = tt
 cases_are_own run start b cuts (m ∷ ms) ready =
     let cut = first_or nowhere cuts in
@@ -114,12 +114,9 @@ in_rule heads (Some k) n head h at =
     let same : k ≡ n = omega (arith, h) in
     ap (λ (i : ℕ). tags (slice_get heads i)) same ∙ ap tags at
 
-abbrev members_of_groups : List Group → List MemberValue
-members_of_groups gs = flat_map (λ (g : Group). g.members) gs
-
 rules_are_own : (run : Run) (feature : Start) (all heads : List HeadValue) (members : List MemberValue) (n : ℕ) (b : Bool) (cuts : List RuleCuts) →
     ((k i : ℕ) → i ≡ n + k → slice_get all i ≡ slice_get heads k) → (b ≡ true → feature.is_ready ≡ true) →
-    (let gs = groups_from (suc n) heads members in let inside = result_of (rules_of run feature.state b cuts gs) in AllZip (IsOwnIn run feature all) (members_of_groups gs) inside.cases)
+    (let gs = groups_from (suc n) heads members in let inside = result_of (rules_of 0 run feature.state b cuts gs) in AllZip (IsOwnIn run feature all) (members_of_groups gs) inside.cases)
 rules_are_own run feature all [] members n b cuts same ready = tt
 rules_are_own run feature all (head ∷ heads) members n b cuts same ready =
     let these = members_of_rank (suc n) members in
@@ -128,9 +125,9 @@ rules_are_own run feature all (head ∷ heads) members n b cuts same ready =
     let mine = first_or uncut_rule cuts in
     let is_begun = b && has_selected these in
     let rule = go_inside run levels.Rule head.tags feature in
-    let end = result_of (rule_of run feature.state b mine g) in
+    let end = result_of (rule_of 0 run feature.state b mine g) in
     let opens = b && rule_stays_open run end in
-    let next = result_of (rules_of run feature.state opens (without_first cuts) others) in
+    let next = result_of (rules_of 0 run feature.state opens (without_first cuts) others) in
     zip_append (IsOwnIn run feature all) these end.inside (members_of_groups others) next.cases
     (zip_of_rank (IsOwn run rule) (IsOwnIn run feature all) (suc n)
     (λ m row is h. subst (λ (tags : Option (List (List ℕ))). IsOwn run (go_inside_rule run feature tags) m row) (sym (in_rule all m.scenario.rule n head is (same 0 n (omega arith)))) h)
@@ -146,9 +143,9 @@ feature_is_own run suite b cuts f falls ready =
     let is_begun = b && has_selected f.members in
     let is_ready = is_begun && before_passed (happened_in run levels.Feature f.tags suite.state is_begun cuts.own) in
     let known : is_ready ≡ true → feature.is_ready ≡ true = λ h. ready_inside run levels.Feature f.tags suite is_begun cuts.own (λ s. ready (and_left b (has_selected f.members) s)) h in
-    let first = result_of (cases_of run feature.state is_ready cuts.cases (own_members f)) in
+    let first = result_of (cases_of 0 run feature.state is_ready cuts.cases (own_members f)) in
     let opens = is_ready && all_stay_open run first in
-    let next = result_of (rules_of run feature.state opens cuts.rules (rule_groups f)) in
+    let next = result_of (rules_of 0 run feature.state opens cuts.rules (rule_groups f)) in
     subst (λ (ms : List MemberValue). AllZip (IsOwnIn run feature f.rules) ms (first ++ next.cases)) (groups_all f falls)
     (zip_append (IsOwnIn run feature f.rules) (own_members f) first (members_of_groups (rule_groups f)) next.cases
     (zip_of_rank (IsOwn run feature) (IsOwnIn run feature f.rules) 0
@@ -309,37 +306,37 @@ quiet_case run section b m h = ap (λ (x : Bool). cond x (cond b (reached_row ru
 quiet_stays : (run : Run) (section : State) (b : Bool) (m : MemberValue) → m.selected ≡ false → (let row = case_of run section b nowhere m in stays_open run row.status) ≡ true
 quiet_stays run section b m h = ap (λ (row : CaseRow). stays_open run row.status) (quiet_case run section b m h) ∙ open_by run.stop false refl
 
-quiet_cases_stay : (run : Run) (section : State) (b : Bool) (ms : List MemberValue) → has_selected ms ≡ false → all_stay_open run (result_of (cases_of run section b [] ms)) ≡ true
+quiet_cases_stay : (run : Run) (section : State) (b : Bool) (ms : List MemberValue) → has_selected ms ≡ false → all_stay_open run (result_of (cases_of 0 run section b [] ms)) ≡ true
 quiet_cases_stay run section b [] h = refl
 quiet_cases_stay run section b (m ∷ ms) h =
     let row = case_of run section b nowhere m in
     let opens = b && stays_open run row.status in
-    ap (λ (x : Bool). x && all_stay_open run (result_of (cases_of run section opens [] ms))) (quiet_stays run section b m (or_left m.selected (has_selected ms) h)) ∙ quiet_cases_stay run section opens ms (or_right m.selected (has_selected ms) h)
+    ap (λ (x : Bool). x && all_stay_open run (result_of (cases_of 0 run section opens [] ms))) (quiet_stays run section b m (or_left m.selected (has_selected ms) h)) ∙ quiet_cases_stay run section opens ms (or_right m.selected (has_selected ms) h)
 
 quiet_around : (b has : Bool) (e : Events) → has ≡ false → around_of (cond (b && has) e no_events) ≡ statuses.Passed
 quiet_around false has e h = refl
 quiet_around true has e h = ap (λ (x : Bool). around_of (cond x e no_events)) h
 
-quiet_rule : (run : Run) (section : State) (b : Bool) (g : Group) → has_selected g.members ≡ false → (let end = result_of (rule_of run section b uncut_rule g) in end.around) ≡ statuses.Passed
+quiet_rule : (run : Run) (section : State) (b : Bool) (g : Group) → has_selected g.members ≡ false → (let end = result_of (rule_of 0 run section b uncut_rule g) in end.around) ≡ statuses.Passed
 quiet_rule run section b g h = quiet_around b (has_selected g.members) (section_events run levels.Rule g.head.tags section) h
 
-quiet_rule_stays : (run : Run) (section : State) (b : Bool) (g : Group) → has_selected g.members ≡ false → rule_stays_open run (result_of (rule_of run section b uncut_rule g)) ≡ true
+quiet_rule_stays : (run : Run) (section : State) (b : Bool) (g : Group) → has_selected g.members ≡ false → rule_stays_open run (result_of (rule_of 0 run section b uncut_rule g)) ≡ true
 quiet_rule_stays run section b g h =
     let is_begun = b && has_selected g.members in
     let is_ready = is_begun && before_passed (happened_in run levels.Rule g.head.tags section is_begun nowhere) in
-    let rows = result_of (cases_of run (section_state run levels.Rule g.head.tags section) is_ready [] g.members) in
+    let rows = result_of (cases_of 0 run (section_state run levels.Rule g.head.tags section) is_ready [] g.members) in
     ap (λ (status : Status). stays_open run status && all_stay_open run rows) (quiet_rule run section b g h)
     ∙ ap (λ (x : Bool). x && all_stay_open run rows) (open_by run.stop false refl)
     ∙ quiet_cases_stay run (section_state run levels.Rule g.head.tags section) is_ready g.members h
 
 -- of a status that neither what passed nor what is skipped has
 module _ (test : Status → Bool) (on_passed : test statuses.Passed ≡ false) (on_skipped : test statuses.Skipped ≡ false) where
-  quiet_statuses : (run : Run) (section : State) (b : Bool) (ms : List MemberValue) → has_selected ms ≡ false → list_any test (case_statuses (result_of (cases_of run section b [] ms))) ≡ false
+  quiet_statuses : (run : Run) (section : State) (b : Bool) (ms : List MemberValue) → has_selected ms ≡ false → list_any test (case_statuses (result_of (cases_of 0 run section b [] ms))) ≡ false
   quiet_statuses run section b [] h = refl
   quiet_statuses run section b (m ∷ ms) h =
       let row = case_of run section b nowhere m in
       let opens = b && stays_open run row.status in
-      let others = result_of (cases_of run section opens [] ms) in
+      let others = result_of (cases_of 0 run section opens [] ms) in
       or_none (test row.status) (list_any test (case_statuses others)) (ap (λ (r : CaseRow). test r.status) (quiet_case run section b m (or_left m.selected (has_selected ms) h)) ∙ on_skipped)
       (quiet_statuses run section opens ms (or_right m.selected (has_selected ms) h))
 
@@ -349,15 +346,15 @@ module _ (test : Status → Bool) (on_passed : test statuses.Passed ≡ false) (
       or_none (test x.status) (list_any test (case_statuses (xs ++ ys))) (or_left (test x.status) (list_any test (case_statuses xs)) h) (both_statuses xs ys (or_right (test x.status) (list_any test (case_statuses xs)) h) k)
 
   quiet_rules : (run : Run) (section : State) (b : Bool) (heads : List HeadValue) (r : ℕ) (members : List MemberValue) → has_selected members ≡ false →
-      (let inside = result_of (rules_of run section b [] (groups_from r heads members)) in (list_any test (rule_statuses inside.rules) ≡ false) × (list_any test (case_statuses inside.cases) ≡ false))
+      (let inside = result_of (rules_of 0 run section b [] (groups_from r heads members)) in (list_any test (rule_statuses inside.rules) ≡ false) × (list_any test (case_statuses inside.cases) ≡ false))
   quiet_rules run section b [] r members h = (refl, refl)
   quiet_rules run section b (head ∷ heads) r members h =
       let these = members_of_rank r members in
       let g : Group = record { head = head; members = these } in
       let none = unless (has_selected these) (has_selected members) (chosen_of_rank r members) h in
-      let end = result_of (rule_of run section b uncut_rule g) in
+      let end = result_of (rule_of 0 run section b uncut_rule g) in
       let opens = b && rule_stays_open run end in
-      let next = result_of (rules_of run section opens [] (groups_from (suc r) heads members)) in
+      let next = result_of (rules_of 0 run section opens [] (groups_from (suc r) heads members)) in
       let others = quiet_rules run section opens heads (suc r) members h in
       let is_begun = b && has_selected these in
       let is_ready = is_begun && before_passed (happened_in run levels.Rule head.tags section is_begun nowhere) in (
@@ -372,9 +369,9 @@ module _ (test : Status → Bool) (on_passed : test statuses.Passed ≡ false) (
       let section = section_state run levels.Feature f.tags suite in
       let is_begun = b && has_selected f.members in
       let is_ready = is_begun && before_passed (happened_in run levels.Feature f.tags suite is_begun nowhere) in
-      let first = result_of (cases_of run section is_ready [] (own_members f)) in
+      let first = result_of (cases_of 0 run section is_ready [] (own_members f)) in
       let opens = is_ready && all_stay_open run first in
-      let next = result_of (rules_of run section opens [] (rule_groups f)) in
+      let next = result_of (rules_of 0 run section opens [] (rule_groups f)) in
       let rules = quiet_rules run section opens f.rules 1 f.members h in
       let around = ap test (quiet_around b (has_selected f.members) (section_events run levels.Feature f.tags suite) h) ∙ on_passed in
       or_none (test row.around || list_any test (rule_statuses row.rules)) (list_any test (case_statuses row.cases)) (or_none (test row.around) (list_any test (rule_statuses row.rules)) around rules.0)
@@ -402,7 +399,7 @@ plain_case : (run : Run) (start : Start) (b : Bool) (m : MemberValue) (selected 
 plain_case run start b m true s ready = ap (λ (x : Bool). cond x (reached_row run start.state nowhere m.scenario) (unreached_row m.scenario)) ready
 plain_case run start b m false s ready = absurd (true≢false (sym s))
 
-plain_cases : (run : Run) (start : Start) (b : Bool) (ms : List MemberValue) → IsCalm run ms → (has_selected ms ≡ true → b ≡ start.is_ready) → AllZip (IsPlainRow run start) ms (result_of (cases_of run start.state b [] ms))
+plain_cases : (run : Run) (start : Start) (b : Bool) (ms : List MemberValue) → IsCalm run ms → (has_selected ms ≡ true → b ≡ start.is_ready) → AllZip (IsPlainRow run start) ms (result_of (cases_of 0 run start.state b [] ms))
 plain_cases run start b [] calm ready = tt
 plain_cases run start b (m ∷ ms) calm ready =
     let row = case_of run start.state b nowhere m in (
@@ -424,7 +421,7 @@ plain_inside run level tags outside b has chosen ready =
 
 plain_rules : (run : Run) (feature : Start) (all heads : List HeadValue) (members : List MemberValue) (n : ℕ) (b : Bool) → ((k i : ℕ) → i ≡ n + k → slice_get all i ≡ slice_get heads k) →
     (let gs = groups_from (suc n) heads members in IsCalm run (members_of_groups gs)) → (let gs = groups_from (suc n) heads members in has_selected (members_of_groups gs) ≡ true → b ≡ feature.is_ready) →
-    (let gs = groups_from (suc n) heads members in let inside = result_of (rules_of run feature.state b [] gs) in AllZip (IsPlainIn run feature all) (members_of_groups gs) inside.cases)
+    (let gs = groups_from (suc n) heads members in let inside = result_of (rules_of 0 run feature.state b [] gs) in AllZip (IsPlainIn run feature all) (members_of_groups gs) inside.cases)
 plain_rules run feature all [] members n b same calm ready = tt
 plain_rules run feature all (head ∷ heads) members n b same calm ready =
     let these = members_of_rank (suc n) members in
@@ -433,9 +430,9 @@ plain_rules run feature all (head ∷ heads) members n b same calm ready =
     let rest = members_of_groups others in
     let is_begun = b && has_selected these in
     let rule = go_inside run levels.Rule head.tags feature in
-    let end = result_of (rule_of run feature.state b uncut_rule g) in
+    let end = result_of (rule_of 0 run feature.state b uncut_rule g) in
     let opens = b && rule_stays_open run end in
-    let next = result_of (rules_of run feature.state opens [] others) in
+    let next = result_of (rules_of 0 run feature.state opens [] others) in
     zip_append (IsPlainIn run feature all) these end.inside rest next.cases
     (zip_of_rank (IsPlainRow run rule) (IsPlainIn run feature all) (suc n)
     (λ m row is k. subst (λ (tags : Option (List (List ℕ))). IsPlainRow run (go_inside_rule run feature tags) m row) (sym (in_rule all m.scenario.rule n head is (same 0 n (omega arith)))) k)
@@ -456,9 +453,9 @@ plain_feature run suite b f falls calm ready =
     let whole : own ++ ruled ≡ f.members = groups_all f falls in
     let known : has_selected (own ++ ruled) ≡ true → is_ready ≡ feature.is_ready = λ k. (let has = sym (ap has_selected whole) ∙ k in plain_inside run levels.Feature f.tags suite b (has_selected f.members) has (ready has)) in
     let sole : run.stop ≡ true → IsSole (own ++ ruled) = λ s. subst IsSole (sym whole) (calm s) in
-    let first = result_of (cases_of run feature.state is_ready [] own) in
+    let first = result_of (cases_of 0 run feature.state is_ready [] own) in
     let opens = is_ready && all_stay_open run first in
-    let next = result_of (rules_of run feature.state opens [] (rule_groups f)) in
+    let next = result_of (rules_of 0 run feature.state opens [] (rule_groups f)) in
     subst (λ (ms : List MemberValue). AllZip (IsPlainIn run feature f.rules) ms (first ++ next.cases)) whole
     (zip_append (IsPlainIn run feature f.rules) own first ruled next.cases
     (zip_of_rank (IsPlainRow run feature) (IsPlainIn run feature f.rules) 0

@@ -1,10 +1,12 @@
 -- A feature's cases, which of them are selected, and the cases of each rule.
-use Rattle.std.specs.Prelude.{◌≡◌, ℕ, Bool, List, map, zip, length, string_bytes, suc, true, ◌&&◌, nat_le, [], ◌∷◌, nat_eq, flat_map, ◌++◌}
+use Rattle.std.specs.Prelude.{◌≡◌, ℕ, Bool, List, map, zip, length, string_bytes, suc, [], ◌∷◌, nat_eq, flat_map, ◌++◌}
 use Rattle.std.specs.List.{list_any, filter}
 use Rattle.gk_gherkin.specs.Feature.{texts}
 use Rattle.gk_select.specs.declared.case.Case.{Case}
 use Rattle.gk_select.specs.Case.{CaseValue, case_value}
 use Rattle.gk_select.specs.RuleOrder.{FallIntoRules, rank}
+use Rattle.gk_run.specs.declared.cases.Member.{Member}
+use Rattle.gk_run.specs.declared.cases.RuleCases.{RuleCases}
 use Rattle.gk_run.specs.declared.chosen.Chosen.{Chosen}
 use Rattle.gk_run.specs.declared.chosen.RuleHead.{RuleHead}
 
@@ -82,17 +84,32 @@ rule_groups f = groups_from 1 f.rules f.members
 abbrev pub CasesFallIntoRules : ChosenValue → Type 0
 CasesFallIntoRules f = FallIntoRules (length f.rules) (map (λ (m : MemberValue). m.scenario.rule) f.members)
 
+-- The cases of rules, in order.
+abbrev pub members_of_groups : List Group → List MemberValue
+members_of_groups groups = flat_map (λ (g : Group). g.members) groups
+
 -- If the cases of a feature fall into its rules, its own cases and then those of each rule are all of them, in file order.
 abbrev pub GroupsAreAll : Type 0
-GroupsAreAll = (f : ChosenValue) → CasesFallIntoRules f → own_members f ++ flat_map (λ (g : Group). g.members) (rule_groups f) ≡ f.members
+GroupsAreAll = (f : ChosenValue) → CasesFallIntoRules f → own_members f ++ members_of_groups (rule_groups f) ≡ f.members
 
 -- The cases of a feature that `run_feature` accepts fall into its rules.
 abbrev pub FormedCasesFallIntoRules : Type 0
 FormedCasesFallIntoRules = (c : Chosen) → IsFormed c → CasesFallIntoRules (chosen_value c)
 
--- Proof machinery, from here on: what the code's calls do.
+-- Proof machinery, from here on: the values of cases that were divided.
 
--- The ranks of these cases begin at this rank or above, and are non-decreasing.
-abbrev pub falls_from : ℕ → List Case → Bool
-falls_from least [] = true
-falls_from least (c ∷ cs) = nat_le least (rank c.rule) && falls_from (rank c.rule) cs
+-- The values of a list of `Member`.
+abbrev pub members_in : List Member → List MemberValue
+members_in members = map (λ (m : Member). member_of m.case m.selected) members
+
+-- The value of a `RuleCases`.
+abbrev pub group_value : RuleCases → Group
+group_value r = record { head = head_value r.head; members = members_in r.members.items }
+
+-- The values of a list of `RuleCases`.
+abbrev pub groups_in : List RuleCases → List Group
+groups_in rules = map group_value rules
+
+-- A rule that has no cases yet.
+abbrev pub bare_group : HeadValue → Group
+bare_group head = record { head = head; members = [] }

@@ -96,9 +96,9 @@ SoFar true now all rest told = told ≡ []
 SoFar false true all rest told = IsCutOff all told
 SoFar false false all rest told = all ≡ told ++ rest
 
--- The end of a case or a rule, with its result.
+-- The end of a case, with its index among the cases of its feature and its result, or that of a rule, with its result.
 pub data EndTold : Type 0 where
-  of_case : CaseRow → EndTold
+  of_case : ℕ → CaseRow → EndTold
   of_rule : RuleRow → EndTold
 
 -- What an observer is told: an event, or that a case or a rule has ended.

@@ -1,6 +1,6 @@
 -- The results of features, of their rules and of their cases.
 use Rattle.std.specs.List.{FoldsTo, list_any}
-use Rattle.std.specs.Prelude.{Bool, true, cond, List, [], ◌∷◌, ◌++◌, map, ◌≡◌, ◌&&◌, ◌||◌, ◌⊎◌, ⊤}
+use Rattle.std.specs.Prelude.{ℕ, Bool, true, cond, List, [], ◌∷◌, ◌++◌, ◌+◌, length, map, ◌≡◌, ◌&&◌, ◌||◌, ◌⊎◌, ⊤}
 use Rattle.gk_world.specs.State.{State}
 use Rattle.gk_run.specs.declared.results.Status.{Status}
 use Rattle.gk_run.specs.declared.results.Status.TheVariants as statuses
@@ -21,10 +21,10 @@ pub record RuleCuts : Type 0 where
 abbrev pub uncut_rule : RuleCuts
 uncut_rule = record { own = nowhere; cases = [] }
 
--- The result of a rule in its feature's state. The rule is begun if the feature is open so far and the rule has a selected case. Its cases are reached if it was begun and its before list passed whole. (behave's documentation: environment file functions)
-abbrev pub rule_of : Run → State → Bool → RuleCuts → Group → Ran (SectionRow (List CaseRow))
-rule_of run outside is_open cuts g =
-    section_of run levels.Rule g.head.tags outside (is_open && has_selected g.members) cuts.own (λ section is_ready. cases_of run section is_ready cuts.cases g.members)
+-- The result of a rule in its feature's state. Its first case has this index in the feature. The rule is begun if the feature is open so far and the rule has a selected case. Its cases are reached if it was begun and its before list passed whole. (behave's documentation: environment file functions)
+abbrev pub rule_of : ℕ → Run → State → Bool → RuleCuts → Group → Ran (SectionRow (List CaseRow))
+rule_of index run outside is_open cuts g =
+    section_of run levels.Rule g.head.tags outside (is_open && has_selected g.members) cuts.own (λ section is_ready. cases_of index run section is_ready cuts.cases g.members)
 
 -- Whether what comes after a rule is still reached. (behave's documentation: `--stop`)
 abbrev pub rule_stays_open : Run → SectionRow (List CaseRow) → Bool
@@ -35,18 +35,26 @@ pub record Inside : Type 0 where
   pub rules : List RuleRow
   pub cases : List CaseRow
 
--- Rules in order. Each has a result; what happens in it is told, and then its end. A rule is begun only if the feature is open so far.
-abbrev pub rules_of : Run → State → Bool → List RuleCuts → List Group → Ran Inside
-rules_of run outside is_open cuts [] = record { result = record { rules = []; cases = [] }; told = [] }
-rules_of run outside is_open cuts (g ∷ gs) =
-    let ran = rule_of run outside is_open (first_or uncut_rule cuts) g in
-    let end = ran.result in
+-- The results of rules and of their cases, in order. A rule is begun only if the feature is open so far. (No result depends on an index.)
+abbrev pub rules_inside : Run → State → Bool → List RuleCuts → List Group → Inside
+rules_inside run outside is_open cuts [] = record { rules = []; cases = [] }
+rules_inside run outside is_open cuts (g ∷ gs) =
+    let end = result_of (rule_of 0 run outside is_open (first_or uncut_rule cuts) g) in
     let row : RuleRow = record { line = g.head.line; around = end.around } in
-    let next = rules_of run outside (is_open && rule_stays_open run end) (without_first cuts) gs in
-    record {
-      result = record { rules = row ∷ next.result.rules; cases = end.inside ++ next.result.cases };
-      told = ran.told ++ has_ended (of_rule row) ∷ next.told;
-    }
+    let next = rules_inside run outside (is_open && rule_stays_open run end) (without_first cuts) gs in
+    record { rules = row ∷ next.rules; cases = end.inside ++ next.cases }
+
+-- What is told of rules, the first of whose cases has this index in its feature: of each what happens in it, and then its end.
+abbrev pub rules_told : ℕ → Run → State → Bool → List RuleCuts → List Group → List Told
+rules_told index run outside is_open cuts [] = []
+rules_told index run outside is_open cuts (g ∷ gs) =
+    let ran = rule_of index run outside is_open (first_or uncut_rule cuts) g in
+    let row : RuleRow = record { line = g.head.line; around = ran.result.around } in
+    ran.told ++ has_ended (of_rule row) ∷ rules_told (index + length g.members) run outside (is_open && rule_stays_open run ran.result) (without_first cuts) gs
+
+-- Rules in order, the first of whose cases has this index in its feature.
+abbrev pub rules_of : ℕ → Run → State → Bool → List RuleCuts → List Group → Ran Inside
+rules_of index run outside is_open cuts groups = record { result = rules_inside run outside is_open cuts groups; told = rules_told index run outside is_open cuts groups }
 
 -- The cuts of a feature: in its own hooks and cleanups, in each of its own cases, and in each of its rules. A dry run begins no feature and no rule: there, `cases` are the cuts of all its cases, including those of its rules, and the other cuts have no effect. What a list doesn't name isn't cut, and a cut of what isn't reached has no effect.
 pub record FeatureCuts : Type 0 where
@@ -78,8 +86,8 @@ feature_row_of f around inside = record { source = f.source; name = f.name; line
 -- What is inside a section: some cases, and then rules. A rule is begun only if the section is open so far.
 abbrev pub inside_by : Run → State → Bool → List Cut → List RuleCuts → List MemberValue → List Group → Ran Inside
 inside_by run section is_open cuts rule_cuts own groups =
-    let first = cases_of run section is_open cuts own in
-    let next = rules_of run section (is_open && all_stay_open run first.result) rule_cuts groups in
+    let first = cases_of 0 run section is_open cuts own in
+    let next = rules_of (length own) run section (is_open && all_stay_open run first.result) rule_cuts groups in
     record { result = record { rules = next.result.rules; cases = first.result ++ next.result.cases }; told = first.told ++ next.told }
 
 -- What is inside a feature: its own cases, and then its rules. (Cucumber's Gherkin reference: rule)
@@ -135,7 +143,7 @@ IsFeatureToldInPart hears ends run outside is_open f old new = (cuts : FeatureCu
 -- The result of a feature without rules: its cases run one after another, each from the feature's state.
 abbrev pub feature_without_rules : Run → State → Bool → FeatureCuts → ChosenValue → Ran FeatureRow
 feature_without_rules run outside is_open cuts f =
-    let ran = section_of run levels.Feature f.tags outside (is_open && has_selected f.members) cuts.own (λ section is_ready. cases_of run section is_ready cuts.cases f.members) in
+    let ran = section_of run levels.Feature f.tags outside (is_open && has_selected f.members) cuts.own (λ section is_ready. cases_of 0 run section is_ready cuts.cases f.members) in
     record { result = feature_row_of f ran.result.around (record { rules = []; cases = ran.result.inside }); told = ran.told }
 
 -- A feature without rules, whose cases are in none, has the results that its cases have one after another, each from the feature's state.

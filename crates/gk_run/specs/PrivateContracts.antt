@@ -33,17 +33,17 @@ use Rattle.gk_run.specs.Results.{step_row, CaseRow, FeatureRow, case_row, rule_r
 use Rattle.gk_run.specs.Section.{steps_of_case, before_of, Cut}
 use Rattle.gk_run.specs.Walk.{IsLookedUp, Stepped, one_step, rows_of_steps, steps_from, walk}
 use Rattle.std.specs.declared.alloc.Global.{Global}
-use Rattle.gk_select.specs.RuleOrder as order
-use Rattle.gk_run.specs.declared.cases.Cases.{Cases}
 use Rattle.gk_run.specs.declared.cases.Member.{Member}
+use Rattle.gk_run.specs.declared.cases.RuleCases.{RuleCases}
 use Rattle.gk_run.specs.declared.cases.Content.{Content}
 use Rattle.gk_run.specs.declared.features.FeatureEnd.{FeatureEnd}
 use Rattle.gk_run.specs.declared.features.InsideResults.{InsideResults}
+use Rattle.gk_run.specs.declared.results.CaseResult.{CaseResult}
 use Rattle.gk_run.specs.declared.results.RuleResult.{RuleResult}
 use Rattle.gk_run.specs.declared.rules.RuleEnd.{RuleEnd}
 use Rattle.gk_run.specs.declared.section.Level.TheVariants as levels
 use Rattle.gk_run.specs.Running.{all_stay_open, case_events, case_of, cases_of}
-use Rattle.gk_run.specs.Chosen.{ChosenValue, HeadValue, MemberValue, head_value, member_of, members_of, Group, falls_from, groups_from, members_of_rank}
+use Rattle.gk_run.specs.Chosen.{ChosenValue, HeadValue, MemberValue, Group, groups_from, groups_in, members_in, members_of_rank}
 use Rattle.gk_run.specs.Features.{IsFeatureTold, IsFeatureToldInPart, IsToldInPart, inside_by, Inside, RuleCuts, rule_of, rule_stays_open, rules_of}
 
 -- Events of a section happened and were told, with `rest` left. `before` is how the section had ended before them, `ended` how it has ended now, and `now` its state and cleanups.
@@ -180,71 +180,58 @@ abbrev pub IsMember : {S : Type 0} → (S → Event → S → Type 0) → Run �
 IsMember hears run now is_open m row first last =
     (section : State) → (is_open ≡ true → now ≡ section) → (cut : Cut) × (row ≡ case_of run section is_open cut m) × FoldsTo hears first (case_events run section is_open cut m) last
 
--- The rows of cases, and what was told of them, are those of some cuts, from the section's state if they are reached.
-abbrev pub AreCases : {S : Type 0} → (S → Told → S → Type 0) → Run → State → Bool → List MemberValue → List CaseRow → S → S → Type 0
-AreCases told run now is_open members rows first last =
-    (section : State) → (is_open ≡ true → now ≡ section) → (cuts : List Cut) × IsRan told (cases_of run section is_open cuts members) rows first last
+-- The rows of cases, the first of which has this index in its feature, and what was told of them, are those of some cuts, from the section's state if they are reached.
+abbrev pub AreCases : {S : Type 0} → (S → Told → S → Type 0) → ℕ → Run → State → Bool → List MemberValue → List CaseRow → S → S → Type 0
+AreCases told index run now is_open members rows first last =
+    (section : State) → (is_open ≡ true → now ≡ section) → (cuts : List Cut) × IsRan told (cases_of index run section is_open cuts members) rows first last
 
 -- Cases were told in part, for some cuts, from the section's state if they are reached.
-abbrev pub AreCasesInPart : {S : Type 0} → (S → Told → S → Type 0) → Run → State → Bool → List MemberValue → S → S → Type 0
-AreCasesInPart told run now is_open members first last =
-    (section : State) → (is_open ≡ true → now ≡ section) → (cuts : List Cut) × IsToldInPart told (cases_of run section is_open cuts members) first last
+abbrev pub AreCasesInPart : {S : Type 0} → (S → Told → S → Type 0) → ℕ → Run → State → Bool → List MemberValue → S → S → Type 0
+AreCasesInPart told index run now is_open members first last =
+    (section : State) → (is_open ≡ true → now ≡ section) → (cuts : List Cut) × IsToldInPart told (cases_of index run section is_open cuts members) first last
 
--- The cases that are still to come, each with whether it is selected.
-abbrev pub members_in : Cases → List MemberValue
-members_in cases = members_of cases.waiting.items cases.selected.items
-
--- The next case of the rank was taken, or there is none.
-abbrev pub TakesMember : Cases → Option Member → Cases → Type 0
-TakesMember old None new = (new ≡ old) × (falls_from (suc old.rank) old.waiting.items ≡ true)
-TakesMember old (Some m) new =
-    (members_in old ≡ member_of m.case m.selected ∷ members_in new) × (order.rank m.case.rule ≡ old.rank) × (new.rank ≡ old.rank) × (new.results ≡ old.results) × (length old.waiting.items ≡ suc (length new.waiting.items))
-
--- All cases of the rank were taken, and no others.
-pub record IsLeft (old new : Cases) : Type 0 where
-  pub rank : new.rank ≡ old.rank
-  pub falls : falls_from (suc old.rank) new.waiting.items ≡ true
-  pub others : (other : ℕ) → old.rank < other → members_of_rank other (members_in new) ≡ members_of_rank other (members_in old)
-
--- The next cases, those of one rank, were run in a section. `is_open` says whether the section is open, `stays_open` whether what comes after them is still reached.
-pub record RunsCases {S : Type 0} (hears : S → Event → S → Type 0) (ends : S → EndTold → S → Type 0) (run : Run) (now : State) (is_open : Bool) (old new : Cases) (first last : S) (stays_open : Bool) : Type 0 where
+-- Cases were run in a section, and their results were added to those of the cases before them in the feature. `is_open` says whether the section is open, `stays_open` whether what comes after them is still reached.
+pub record RunsCases {S : Type 0} (hears : S → Event → S → Type 0) (ends : S → EndTold → S → Type 0) (run : Run) (now : State) (is_open : Bool) (members : List MemberValue) (old new : List CaseResult) (first last : S) (stays_open : Bool) : Type 0 where
   pub rows : List CaseRow
-  pub told : map case_row new.results.items ≡ map case_row old.results.items ++ rows
-  pub are : AreCases (tells hears ends) run now is_open (members_of_rank old.rank (members_in old)) rows first last
+  pub added : map case_row new ≡ map case_row old ++ rows
+  pub are : AreCases (tells hears ends) (length old) run now is_open members rows first last
   pub stay : stays_open ≡ all_stay_open run rows
-  pub left : IsLeft old new
 
 -- ---- rules
 
--- The result of a rule, and what was told of it, are those of some cuts, from its feature's state if the feature is open.
-abbrev pub IsRule : {S : Type 0} → (S → Told → S → Type 0) → Run → State → Bool → Group → SectionRow (List CaseRow) → S → S → Type 0
-IsRule told run now is_open g end first last =
-    (outside : State) → (is_open ≡ true → now ≡ outside) → (cuts : RuleCuts) × IsRan told (rule_of run outside is_open cuts g) end first last
+-- Cases are divided: those in no rule are a feature's own, and each other case is among those of its rule.
+pub record AreDivided (heads : List HeadValue) (members : List MemberValue) (own : List Member) (rules : List RuleCases) : Type 0 where
+  pub unruled : members_in own ≡ members_of_rank 0 members
+  pub ruled : groups_in rules ≡ groups_from 1 heads members
+
+-- The result of a rule, whose first case has this index in its feature, and what was told of it, are those of some cuts, from its feature's state if the feature is open.
+abbrev pub IsRule : {S : Type 0} → (S → Told → S → Type 0) → ℕ → Run → State → Bool → Group → SectionRow (List CaseRow) → S → S → Type 0
+IsRule told index run now is_open g end first last =
+    (outside : State) → (is_open ≡ true → now ≡ outside) → (cuts : RuleCuts) × IsRan told (rule_of index run outside is_open cuts g) end first last
 
 -- A rule was told in part, for some cuts, from its feature's state if the feature is open.
-abbrev pub IsRuleInPart : {S : Type 0} → (S → Told → S → Type 0) → Run → State → Bool → Group → S → S → Type 0
-IsRuleInPart told run now is_open g first last =
-    (outside : State) → (is_open ≡ true → now ≡ outside) → (cuts : RuleCuts) × IsToldInPart told (rule_of run outside is_open cuts g) first last
+abbrev pub IsRuleInPart : {S : Type 0} → (S → Told → S → Type 0) → ℕ → Run → State → Bool → Group → S → S → Type 0
+IsRuleInPart told index run now is_open g first last =
+    (outside : State) → (is_open ≡ true → now ≡ outside) → (cuts : RuleCuts) × IsToldInPart told (rule_of index run outside is_open cuts g) first last
 
 -- Rules were told in part, for some cuts, from their feature's state if the feature is open.
-abbrev pub AreRulesInPart : {S : Type 0} → (S → Told → S → Type 0) → Run → State → Bool → List Group → S → S → Type 0
-AreRulesInPart told run now is_open groups first last =
-    (outside : State) → (is_open ≡ true → now ≡ outside) → (cuts : List RuleCuts) × IsToldInPart told (rules_of run outside is_open cuts groups) first last
+abbrev pub AreRulesInPart : {S : Type 0} → (S → Told → S → Type 0) → ℕ → Run → State → Bool → List Group → S → S → Type 0
+AreRulesInPart told index run now is_open groups first last =
+    (outside : State) → (is_open ≡ true → now ≡ outside) → (cuts : List RuleCuts) × IsToldInPart told (rules_of index run outside is_open cuts groups) first last
 
--- The next rule was run in a feature, with the next cases, those of one rank. `is_open` says whether the feature is open.
-pub record RunsRule {S : Type 0} (hears : S → Event → S → Type 0) (ends : S → EndTold → S → Type 0) (run : Run) (now : State) (is_open : Bool) (head : HeadValue) (old new : Cases) (first last : S) (end : RuleEnd) : Type 0 where
+-- A rule was run in a feature, and the results of its cases were added to those of the cases before them. `is_open` says whether the feature is open.
+pub record RunsRule {S : Type 0} (hears : S → Event → S → Type 0) (ends : S → EndTold → S → Type 0) (run : Run) (now : State) (is_open : Bool) (g : Group) (old new : List CaseResult) (first last : S) (end : RuleEnd) : Type 0 where
   pub rows : List CaseRow
-  pub told : map case_row new.results.items ≡ map case_row old.results.items ++ rows
-  pub is : IsRule (tells hears ends) run now is_open (record { head = head; members = members_of_rank old.rank (members_in old) }) (record { around = end.around; inside = rows }) first last
+  pub added : map case_row new ≡ map case_row old ++ rows
+  pub is : IsRule (tells hears ends) (length old) run now is_open g (record { around = end.around; inside = rows }) first last
   pub stay : end.stays_open ≡ rule_stays_open run (record { around = end.around; inside = rows })
-  pub left : IsLeft old new
 
--- The next rules were run in a feature. Their results, and what was told of them, are those of some cuts, from the feature's state if it is open.
-pub record RunsRules {S : Type 0} (hears : S → Event → S → Type 0) (ends : S → EndTold → S → Type 0) (run : Run) (now : State) (is_open : Bool) (heads : List HeadValue) (old new : Cases) (results : List RuleResult) (first last : S) : Type 0 where
+-- Rules were run in a feature. Their results, and what was told of them, are those of some cuts, from the feature's state if it is open.
+pub record RunsRules {S : Type 0} (hears : S → Event → S → Type 0) (ends : S → EndTold → S → Type 0) (run : Run) (now : State) (is_open : Bool) (groups : List Group) (old new : List CaseResult) (results : List RuleResult) (first last : S) : Type 0 where
   pub rows : List CaseRow
-  pub told : map case_row new.results.items ≡ map case_row old.results.items ++ rows
+  pub added : map case_row new ≡ map case_row old ++ rows
   pub are : (outside : State) → (is_open ≡ true → now ≡ outside) → (cuts : List RuleCuts)
-      × IsRan (tells hears ends) (rules_of run outside is_open cuts (groups_from (suc old.rank) heads (members_in old))) (record { rules = map rule_row results; cases = rows }) first last
+      × IsRan (tells hears ends) (rules_of (length old) run outside is_open cuts groups) (record { rules = map rule_row results; cases = rows }) first last
 
 -- ---- a feature
 
@@ -277,22 +264,22 @@ inside_value i = record { rules = map rule_row i.rules.items; cases = map case_r
 -- What is inside a feature was run. `is_open` says whether the feature is open.
 abbrev pub RunsInside : {S : Type 0} → (S → Event → S → Type 0) → (S → EndTold → S → Type 0) → shared.Run → State → Bool → Content → S → S → InsideResults → Type 0
 RunsInside hears ends run now is_open content first last inside =
-    IsInside (tells hears ends) (run_value run) now is_open (members_of_rank 0 (members_in content.cases)) (groups_from 1 (map head_value content.rules.list.items) (members_in content.cases)) (inside_value inside) first last
+    IsInside (tells hears ends) (run_value run) now is_open (members_in content.own.items) (groups_in content.rules.list.items) (inside_value inside) first last
 
 -- What is inside a feature was told in part.
 abbrev pub StopsInside : {S : Type 0} → (S → Event → S → Type 0) → (S → EndTold → S → Type 0) → shared.Run → State → Bool → Content → S → S → Type 0
 StopsInside hears ends run now is_open content first last =
-    IsInsideInPart (tells hears ends) (run_value run) now is_open (members_of_rank 0 (members_in content.cases)) (groups_from 1 (map head_value content.rules.list.items) (members_in content.cases)) first last
+    IsInsideInPart (tells hears ends) (run_value run) now is_open (members_in content.own.items) (groups_in content.rules.list.items) first last
 
 -- A feature ran, or wasn't begun, and ended like this.
 abbrev pub EndsFeature : {S : Type 0} → (S → Event → S → Type 0) → (S → EndTold → S → Type 0) → shared.Run → State → Bool → List (String Global) → Content → S → S → FeatureEnd → Type 0
 EndsFeature hears ends run now is_begun tags content first last end =
-    IsFeatureEnd (tells hears ends) (run_value run) now is_begun (texts tags) (members_of_rank 0 (members_in content.cases)) (groups_from 1 (map head_value content.rules.list.items) (members_in content.cases)) (record { around = end.around; inside = inside_value end.inside }) first last
+    IsFeatureEnd (tells hears ends) (run_value run) now is_begun (texts tags) (members_in content.own.items) (groups_in content.rules.list.items) (record { around = end.around; inside = inside_value end.inside }) first last
 
 -- A feature that ran, or wasn't begun, was told in part.
 abbrev pub StopsFeatureEnd : {S : Type 0} → (S → Event → S → Type 0) → (S → EndTold → S → Type 0) → shared.Run → State → Bool → List (String Global) → Content → S → S → Type 0
 StopsFeatureEnd hears ends run now is_begun tags content first last =
-    IsFeatureEndInPart (tells hears ends) (run_value run) now is_begun (texts tags) (members_of_rank 0 (members_in content.cases)) (groups_from 1 (map head_value content.rules.list.items) (members_in content.cases)) first last
+    IsFeatureEndInPart (tells hears ends) (run_value run) now is_begun (texts tags) (members_in content.own.items) (groups_in content.rules.list.items) first last
 
 -- The result of a feature, and what was told of it, are those of some cuts, from the run's state if the run is open.
 abbrev pub RunsFeature : {S : Type 0} → (S → Event → S → Type 0) → (S → EndTold → S → Type 0) → Run → State → Bool → ChosenValue → S → S → FeatureRow → Type 0

@@ -1,6 +1,6 @@
 -- Running the cases of a section: each has the result that plain maps give it alone from its section's state.
 use Rattle.std.specs.List.{FoldsTo, list_all}
-use Rattle.std.specs.Prelude.{List, [], map, ◌≡◌, Bool, cond, ◌∷◌, ◌++◌, ◌&&◌, not, ◌||◌}
+use Rattle.std.specs.Prelude.{ℕ, suc, List, [], map, ◌≡◌, Bool, cond, ◌∷◌, ◌++◌, ◌&&◌, not, ◌||◌}
 use Rattle.gk_select.specs.Case.{CaseValue}
 use Rattle.gk_world.specs.State.{State}
 use Rattle.gk_run.specs.declared.results.Mark.{Mark}
@@ -9,7 +9,7 @@ use Rattle.gk_run.specs.declared.results.Status.{Status}
 use Rattle.gk_run.specs.declared.results.Status.TheVariants as statuses
 use Rattle.gk_run.specs.declared.section.Level.TheVariants as levels
 use Rattle.gk_run.specs.Ending.{verdict_status}
-use Rattle.gk_run.specs.Events.{Event, ended_in, event_marks, outcomes_of, EndTold, of_case, Ran, happens, has_ended}
+use Rattle.gk_run.specs.Events.{Event, ended_in, event_marks, outcomes_of, EndTold, of_case, Ran, Told, happens, has_ended}
 use Rattle.gk_run.specs.Results.{CaseRow, is_failed, is_memory}
 use Rattle.gk_run.specs.OpenSection.{Run, events_with}
 use Rattle.gk_run.specs.Section.{Events, Cut, around_of, happened, in_order, nowhere}
@@ -58,9 +58,9 @@ pub record AreEventsTold {S : Type 0} (hears : S → Event → S → Type 0) (ru
   pub is : row ≡ reached_row run section cut c
   pub told : FoldsTo hears old (in_order (happened cut (alone run section c))) new
 
--- An observer was told of a case with this result: its events, and then that it has ended.
-abbrev pub IsCaseTold : {S : Type 0} → (S → Event → S → Type 0) → (S → EndTold → S → Type 0) → Run → State → CaseValue → CaseRow → S → S → Type 0
-IsCaseTold {S} hears ends run section c row old new = (heard : S) × AreEventsTold hears run section c row old heard × ends heard (of_case row) new
+-- An observer was told of the case at an index of its feature, with this result: its events, and then that it has ended.
+abbrev pub IsCaseTold : {S : Type 0} → (S → Event → S → Type 0) → (S → EndTold → S → Type 0) → Run → State → ℕ → CaseValue → CaseRow → S → S → Type 0
+IsCaseTold {S} hears ends run section index c row old new = (heard : S) × AreEventsTold hears run section c row old heard × ends heard (of_case index row) new
 
 -- The first element of a list, or another if the list is empty.
 abbrev pub first_or : {A : Type 0} → A → List A → A
@@ -96,14 +96,24 @@ case_of run section is_open cut m = cond m.selected (cond is_open (reached_row r
 abbrev pub case_events : Run → State → Bool → Cut → MemberValue → List Event
 case_events run section is_open cut m = cond (m.selected && is_open) (in_order (happened cut (alone run section m.scenario))) []
 
--- A section's cases in order. Each has a result; its events are told, and then its end. Each starts from the section's state: the others leave nothing in it. A selected one is reached if the section is open so far. (behave's documentation: context layers)
-abbrev pub cases_of : Run → State → Bool → List Cut → List MemberValue → Ran (List CaseRow)
-cases_of run section is_open cuts [] = record { result = []; told = [] }
-cases_of run section is_open cuts (m ∷ ms) =
+-- The results of a section's cases, in order. Each starts from the section's state: the others leave nothing in it. A selected one is reached if the section is open so far. (behave's documentation: context layers)
+abbrev pub case_rows : Run → State → Bool → List Cut → List MemberValue → List CaseRow
+case_rows run section is_open cuts [] = []
+case_rows run section is_open cuts (m ∷ ms) =
+    let row = case_of run section is_open (first_or nowhere cuts) m in
+    row ∷ case_rows run section (is_open && stays_open run row.status) (without_first cuts) ms
+
+-- What is told of a section's cases, the first of which has this index in its feature: of each its events, and then its end.
+abbrev pub cases_told : ℕ → Run → State → Bool → List Cut → List MemberValue → List Told
+cases_told index run section is_open cuts [] = []
+cases_told index run section is_open cuts (m ∷ ms) =
     let cut = first_or nowhere cuts in
     let row = case_of run section is_open cut m in
-    let next = cases_of run section (is_open && stays_open run row.status) (without_first cuts) ms in
-    record { result = row ∷ next.result; told = map happens (case_events run section is_open cut m) ++ has_ended (of_case row) ∷ next.told }
+    map happens (case_events run section is_open cut m) ++ has_ended (of_case index row) ∷ cases_told (suc index) run section (is_open && stays_open run row.status) (without_first cuts) ms
+
+-- A section's cases in order, the first of which has this index in its feature.
+abbrev pub cases_of : ℕ → Run → State → Bool → List Cut → List MemberValue → Ran (List CaseRow)
+cases_of index run section is_open cuts members = record { result = case_rows run section is_open cuts members; told = cases_told index run section is_open cuts members }
 
 -- The verdicts of cases.
 abbrev pub case_statuses : List CaseRow → List Status

@@ -1,14 +1,15 @@
-//! The cases of a feature, taken one after another.
-ghost use Rattle.std.specs.Prelude.{◌≡◌, true, [], ◌+◌, ◌≤◌, length, vec_capacity};
-ghost use Rattle.gk_run.specs.Chosen.{falls_from};
+//! The cases of a feature, divided into its own and those of each rule.
+ghost use Rattle.std.specs.Prelude.{◌≡◌, ◌+◌, ◌≤◌, [], length, vec_capacity};
+ghost use Rattle.gk_run.specs.Chosen.{members_in, groups_in, members_of_groups};
 
+mod dividing;
 mod section_cases;
 
 use crate::chosen::RuleHead;
 use crate::results::{CaseResult, Reserved, RuleResult};
+pub use dividing::divide;
 use gk_select::Case;
-pub use section_cases::run_cases;
-use std::collections::VecDeque;
+pub use section_cases::{run_cases, selects};
 
 /// A case, and whether it is selected.
 #[derive(Drop)]
@@ -17,26 +18,21 @@ pub struct Member {
     pub selected: bool,
 }
 
-/// The cases of a feature that are still to come, each with whether it is selected. `results` are those
-/// of the cases before them, with room for the results of all.
+/// A rule with its cases.
 #[derive(Drop)]
-pub struct Cases {
-    /// The rank of the cases that come next: 0 for those without a rule, 1 for those of the first rule,
-    /// and so on.
-    pub rank: usize,
-    pub waiting: VecDeque<Case>,
-    pub selected: VecDeque<bool>,
-    pub results: Vec<CaseResult>,
-    ghost paired: { length selected.items ≡ length waiting.items },
-    ghost room: { length results.items + length waiting.items ≤ vec_capacity results },
-    ghost falls: { falls_from rank waiting.items ≡ true },
+pub struct RuleCases {
+    pub head: RuleHead,
+    pub members: Vec<Member>,
 }
 
-/// The rules and the cases of a feature, none of them run yet.
+/// The cases of a feature that are in no rule, and its rules, none of them run yet. `results` has room
+/// for the results of all cases.
 #[derive(Drop)]
 pub struct Content {
-    pub rules: Reserved<RuleHead, RuleResult>,
-    pub cases: Cases,
-    ghost first: { cases.rank ≡ 0 },
-    ghost empty: { cases.results.items ≡ [] },
+    pub own: Vec<Member>,
+    pub rules: Reserved<RuleCases, RuleResult>,
+    pub results: Vec<CaseResult>,
+    ghost empty: { results.items ≡ [] },
+    ghost room: { length own.items + length (members_of_groups (groups_in rules.list.items))
+        ≤ vec_capacity results },
 }

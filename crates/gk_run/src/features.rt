@@ -13,12 +13,12 @@ ghost use Rattle.gk_run.specs.Features.{IsFeatureResult, rule_statuses, feature_
 ghost use Rattle.gk_run.specs.PrivateContracts.{EndsFeature, RunsFeature, RunsInside};
 ghost use Rattle.gk_run.specs.PrivateContracts.{StopsFeature, StopsFeatureEnd, StopsInside};
 
-use crate::cases::{Cases, Content, run_cases};
+use crate::cases::{Content, divide, run_cases};
 use crate::chosen::Chosen;
 use crate::ending::{both, either, has_passed};
 use crate::observer::{Observer, Unwatched};
 use crate::open_section::{end_around, leave_section, open_section};
-use crate::results::{CaseResult, FeatureResult, NoRoom, RuleResult, Status, reserve};
+use crate::results::{CaseResult, FeatureResult, NoRoom, RuleResult, Status};
 use crate::rules::run_rules;
 use crate::section::{Level, Run, Section};
 use gk_gherkin::{HookFile, HookTable};
@@ -49,14 +49,16 @@ fn run_inside<O: Observer>(
         (state_of sandbox.old.now) is_open content observer.old observer.new) }
     ensures same { IsSame sandbox.old sandbox.new }
 {
-    let Content { rules, mut cases } = content;
-    let all_stay = run_cases(run, sandbox, is_open, &mut cases, observer)?;
+    let Content {
+        own,
+        rules,
+        results,
+    } = content;
+    let mut cases = results;
+    let all_stay = run_cases(run, sandbox, is_open, own, &mut cases, observer)?;
     let is_open = both(is_open, all_stay);
     let rules = run_rules(run, sandbox, is_open, rules, &mut cases, observer)?;
-    Ok(InsideResults {
-        rules,
-        cases: cases.results,
-    })
+    Ok(InsideResults { rules, cases })
 }
 
 /// How a feature's hooks and cleanups ended, and the results of what is inside it.
@@ -197,9 +199,7 @@ pub(crate) fn feature_in<O: Observer>(
         selected,
     } = chosen;
     let is_begun = both(is_open, has_selected(selected.as_slice()));
-    let rules = reserve(run.alloc, rules)?;
-    let cases = Cases::new(reserve(run.alloc, cases)?, selected);
-    let content = Content { rules, cases };
+    let content = divide(run.alloc, rules, cases, selected)?;
     let end = feature_end(run, sandbox, is_begun, tags.as_slice(), content, observer)?;
     Ok(FeatureResult {
         source,

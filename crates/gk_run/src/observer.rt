@@ -45,10 +45,10 @@ pub trait Observer {
         ensures { hears self.old (of_cleanup level (cleanup_value cleanup.now) outcome
             (state_of sandbox.now.now)) self.new };
 
-    /// Receives the result of a scenario that has ended, after its events. A scenario that isn't run
-    /// has no events.
-    fn case_ended(&mut self, row: &CaseResult)
-        ensures { ends self.old (of_case (case_row row.now)) self.new };
+    /// Receives the result of a scenario that has ended, after its events, and its index among the
+    /// scenarios of its feature, counted from 0. A scenario that isn't run has no events.
+    fn case_ended(&mut self, index: usize, row: &CaseResult)
+        ensures { ends self.old (of_case index (case_row row.now)) self.new };
 
     /// Receives the result of a rule that has ended, after its events and its scenarios.
     fn rule_ended(&mut self, row: &RuleResult)
@@ -74,7 +74,7 @@ impl Observer for Unwatched {
         _sandbox: &Sandbox,
     ) {}
 
-    fn case_ended(&mut self, _row: &CaseResult) {}
+    fn case_ended(&mut self, _index: usize, _row: &CaseResult) {}
 
     fn rule_ended(&mut self, _row: &RuleResult) {}
 }

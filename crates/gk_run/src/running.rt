@@ -86,9 +86,9 @@ pub fn run_case(
 }
 
 /// Runs a case as `run_case` does, and notifies an observer of its events in order, each once it has
-/// happened, and then of its result. The observer gets all events of the case, or, if memory is refused
-/// in one, those up to that one. They are the events from which the result comes. It gets none if
-/// `NoRoom` is returned. An observer changes nothing in the run. The sandbox has fewer than
+/// happened, and then of its result, with the index 0. The observer gets all events of the case, or, if
+/// memory is refused in one, those up to that one. They are the events from which the result comes. It
+/// gets none if `NoRoom` is returned. An observer changes nothing in the run. The sandbox has fewer than
 /// `gk_world::LAYERS` open layers.
 #[tactic(auto, using(std::proofs::lemmas::Grind::common_steps))]
 pub fn run_case_watched<O: Observer>(
@@ -104,7 +104,7 @@ pub fn run_case_watched<O: Observer>(
         (state_of sandbox.old.now) (case_value case) (case_row r)) }
     ensures told { IfOk result (λ r. IsCaseTold O.hears O.ends
         (run_of library.now hooks.now false) (state_of sandbox.old.now)
-        (case_value case) (case_row r) observer.old observer.new) }
+        0 (case_value case) (case_row r) observer.old observer.new) }
     ensures untold { OnErr result (observer.new ≡ observer.old) }
     ensures same { IsSame sandbox.old sandbox.new }
 {
@@ -116,7 +116,7 @@ pub fn run_case_watched<O: Observer>(
         stop: false,
     };
     let result = case_in(&run, sandbox, case, observer)?;
-    observer.case_ended(&result);
+    observer.case_ended(0, &result);
     Ok(result)
 }
 

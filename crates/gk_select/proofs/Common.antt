@@ -19,7 +19,7 @@ pub use Rattle.std.proofs.lemmas.Result.{err_from_is_err_and}
 pub use Rattle.std.proofs.lemmas.Slice.Eq.{bytes_eq-Decides, starts_is}
 pub use Rattle.std.proofs.lemmas.Str.{IsCharBoundary-after_ascii, IsCharBoundary-from_take}
 pub use Rattle.std.proofs.lemmas.Str.Pattern.{IsSplitOnceResult, split_parts, strip_prefix_char}
-pub use Rattle.std.specs.List.{AllByRecursion, enumerate_from, list_all, list_any, starts_with, suffix_len, sum_by}
+pub use Rattle.std.specs.List.{AllZip, AllByRecursion, enumerate_from, list_all, list_any, starts_with, suffix_len, sum_by}
 pub use Rattle.std.specs.List.Sorted.{IsBinarySearchResult, IsNonDecreasing, IsNonDecreasingBy, IsPermutation, IsStrictlyIncreasing}
 pub use Rattle.std.specs.Map.{update}
 pub use Rattle.std.specs.Ordering.{is_eq, nat_cmp}
@@ -47,7 +47,7 @@ unfoldable pub use Rattle.gk_select.specs.Choice.{is_chosen}
 pub use Rattle.gk_select.specs.Names.{IsIndexFrom, has_length, position_in}
 unfoldable pub use Rattle.gk_select.specs.Names.{position_of}
 pub use Rattle.gk_select.specs.Counting.{examples_steps, feature_steps, left, left_of, rule_steps, scenario_steps}
-pub use Rattle.gk_select.specs.ExampleRows.{ExampleRowValue, RowsAreAtCases, RowsAreInFileOrder, cell_value, example_row_value, numbered_row, row_lines, rows_of_examples, rows_of_scenario}
+pub use Rattle.gk_select.specs.ExampleRows.{ExampleRowValue, IsRowOf, RowsAreAtCases, cell_value, entry_value, example_row_value, numbered_row, rows_of_examples, rows_of_scenario}
 unfoldable pub use Rattle.gk_select.specs.ExampleRows.{outline_rows}
 pub use Rattle.gk_select.specs.Expansion.{ArePlain, HasNoOutline, IsExpandable, RowsFit, RowsFitHeader, case_count, case_count_of, cases_of_rows, cases_of_rules, examples_cases, plain_case, plain_cases, row_case, rule_cases, scenario_cases, step_count}
 unfoldable pub use Rattle.gk_select.specs.Expansion.{cases}

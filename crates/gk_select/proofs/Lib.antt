@@ -20,7 +20,6 @@ pub mod RisingLines
 pub mod CaseLines
 pub mod CaseNames
 pub mod RowLines
-pub mod RowOrder
 pub mod ChosenLines
 pub mod Selected
 pub mod Untagged

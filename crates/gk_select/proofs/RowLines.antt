@@ -1,26 +1,37 @@
--- The rows of outlines, and the lines of their cases.
-use Rattle.gk_select.proofs.Common.{◌≡◌, ℕ, ◌+◌, ◌<◌, ◌≤◌, suc, zero, Bool, true, false, ◌||◌, List, [], ◌∷◌, ◌++◌, length, map, flat_map, drop, get_or, Option, Some, refl, sym, ap, ◌∙◌, arith, add-one, append_assoc, rules, common_steps, map-append, zip, slice_get, enumerate_from, RowValue, ExamplesValue, ScenarioValue, CaseValue, InheritedValue, is_outline, has_examples, row_case, examples_cases, scenario_cases, case_lines, ExampleRowValue, numbered_row, rows_of_examples, rows_of_scenario, row_lines, RowsAreAtCases}
+-- The rows that cases come from, and the cells under headers.
+use Rattle.gk_select.proofs.Common.{◌≡◌, ℕ, ◌+◌, ◌<◌, ◌≤◌, suc, zero, Bool, true, false, List, [], ◌∷◌, ◌++◌, length, map, flat_map, drop, get_or, Option, Some, None, refl, sym, ap, arith, add-one, append_assoc, rules, common_steps, zip, slice_get, enumerate_from, if◌then◌else◌, AllZip, RowValue, ExamplesValue, ScenarioValue, RuleValue, FeatureValue, CaseValue, InheritedValue, inherited_in_feature, inherited_in_rule, is_outline, row_case, plain_case, examples_cases, scenario_cases, rule_cases, cases, ExampleRowValue, IsRowOf, numbered_row, rows_of_examples, rows_of_scenario, outline_rows, RowsAreAtCases}
 
-numbered_lines : (i : InheritedValue) (s : ScenarioValue) (k : ℕ) (e : ExamplesValue) (n : ℕ) (rows : List RowValue) →
-    row_lines (map (numbered_row e.header) (enumerate_from n rows)) ≡ case_lines (map (λ (r : ℕ × RowValue). row_case i s k e r.0 r.1) (enumerate_from n rows))
-numbered_lines i s k e n [] = refl
-numbered_lines i s k e n (row ∷ rows) = ap (λ (lines : List ℕ). row.line ∷ lines) (numbered_lines i s k e (n + 1) rows)
+zip_append : (cs ds : List CaseValue) (rows more : List (Option ExampleRowValue)) → AllZip IsRowOf cs rows → AllZip IsRowOf ds more → AllZip IsRowOf (cs ++ ds) (rows ++ more)
+zip_append [] ds [] more h k = k
+zip_append [] ds (row ∷ rows) more h k = absurd h
+zip_append (c ∷ cs) ds [] more h k = absurd h
+zip_append (c ∷ cs) ds (row ∷ rows) more h k = (h.0, zip_append cs ds rows more h.1 k)
 
-examples_lines : (i : InheritedValue) (s : ScenarioValue) (k : ℕ) (es : List ExamplesValue) → row_lines (flat_map rows_of_examples es) ≡ case_lines (flat_map (examples_cases i s) (enumerate_from k es))
-examples_lines i s k [] = refl
-examples_lines i s k (e ∷ es) =
-    map-append (λ (r : ExampleRowValue). r.line) (rows_of_examples e) (flat_map rows_of_examples es)
-    ∙ rw (numbered_lines i s k e 1 e.rows, examples_lines i s (k + 1) es) refl
-    ∙ sym (map-append (λ (c : CaseValue). c.line) (examples_cases i s (k, e)) (flat_map (examples_cases i s) (enumerate_from (k + 1) es)))
+of_rows : (i : InheritedValue) (s : ScenarioValue) (k : ℕ) (e : ExamplesValue) (n : ℕ) (rows : List RowValue) →
+    AllZip IsRowOf (map (λ (r : ℕ × RowValue). row_case i s k e r.0 r.1) (enumerate_from n rows)) (map (λ (r : ℕ × RowValue). Some (numbered_row e.header r)) (enumerate_from n rows))
+of_rows i s k e n [] = tt
+of_rows i s k e n (row ∷ rows) = (refl, of_rows i s k e (n + 1) rows)
 
-outline_lines : (i : InheritedValue) (s : ScenarioValue) → is_outline s ≡ true → row_lines (rows_of_scenario s) ≡ case_lines (scenario_cases i s)
-outline_lines i s is = rw is (examples_lines i s 1 s.examples)
+of_examples : (i : InheritedValue) (s : ScenarioValue) (k : ℕ) (es : List ExamplesValue) → AllZip IsRowOf (flat_map (examples_cases i s) (enumerate_from k es)) (flat_map rows_of_examples es)
+of_examples i s k [] = tt
+of_examples i s k (e ∷ es) = zip_append (examples_cases i s (k, e)) _ (rows_of_examples e) _ (of_rows i s k e 1 e.rows) (of_examples i s (k + 1) es)
 
-none_of_plain : (a b : Bool) (es : List ExamplesValue) → (a || (b || has_examples es)) ≡ false → flat_map rows_of_examples es ≡ []
-none_of_plain a b [] plain = refl
-none_of_plain true b (e ∷ es) plain = let no : ⊥ = cc plain in absurd no
-none_of_plain false true (e ∷ es) plain = let no : ⊥ = cc plain in absurd no
-none_of_plain false false (e ∷ es) plain = let no : ⊥ = cc plain in absurd no
+by_kind : (b : Bool) (cs : List CaseValue) (c : CaseValue) (rows : List (Option ExampleRowValue)) → AllZip IsRowOf cs rows → AllZip IsRowOf (if b then cs else (c ∷ [])) (if b then rows else (None ∷ []))
+by_kind true cs c rows h = h
+by_kind false cs c rows h = (tt, tt)
+
+of_scenarios : (i : InheritedValue) (ss : List ScenarioValue) → AllZip IsRowOf (flat_map (scenario_cases i) ss) (flat_map rows_of_scenario ss)
+of_scenarios i [] = tt
+of_scenarios i (s ∷ ss) =
+    zip_append (scenario_cases i s) _ (rows_of_scenario s) _ (by_kind (is_outline s) _ (plain_case i s) _ (of_examples i s 1 s.examples)) (of_scenarios i ss)
+
+of_rules : (f : FeatureValue) (n : ℕ) (rs : List RuleValue) → AllZip IsRowOf (flat_map (rule_cases f) (enumerate_from n rs)) (flat_map (λ (r : RuleValue). flat_map rows_of_scenario r.scenarios) rs)
+of_rules f n [] = tt
+of_rules f n (r ∷ rs) = zip_append (rule_cases f (n, r)) _ (flat_map rows_of_scenario r.scenarios) _ (of_scenarios (inherited_in_rule f n r) r.scenarios) (of_rules f (n + 1) rs)
+
+pub at_cases : RowsAreAtCases
+unfolding cases outline_rows
+at_cases f = zip_append (flat_map (scenario_cases (inherited_in_feature f)) f.scenarios) _ (flat_map rows_of_scenario f.scenarios) _ (of_scenarios (inherited_in_feature f) f.scenarios) (of_rules f 0 f.rules)
 
 -- The element at a place, as a loop has it.
 pub at_place : {A B : Type 0} (f : A → B) (xs : List A) (i : ℕ) (x : A) → i < length xs → x ≡ get_or xs i x → slice_get (map f xs) i ≡ Some (f x)
@@ -63,6 +74,3 @@ one_cell {X = X} {Y = Y} more done p hs ts i grown h t all before = search (rule
 pub no_cell : {X Y : Type 0} (done : List (X × Y)) (hs : List X) (ts : List Y) (i : ℕ) → length ts ≤ i →
     (all : List (X × Y)) → done ++ zip (drop i hs) (drop i ts) ≡ all → done ++ zip (drop (i + 1) hs) (drop (i + 1) ts) ≡ all
 no_cell {X = X} {Y = Y} done hs ts i short all before = grind (arith, common_steps, none_left)
-
-pub at_cases : (i : InheritedValue) (s : ScenarioValue) → RowsAreAtCases i s
-at_cases i s = record { outline = outline_lines i s; plain = none_of_plain _ _ s.examples }

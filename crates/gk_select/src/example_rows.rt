@@ -3,8 +3,9 @@ ghost use Rattle.std.specs.Prelude.{◌≡◌, flat_map, map, zip, IfOk};
 ghost use Rattle.gk_gherkin.specs.Feature.{texts, examples_value, scenario_value, feature_value};
 ghost use Rattle.gk_select.specs.Copies.{Appends};
 ghost use Rattle.gk_select.specs.ExampleRows as spec;
-ghost use Rattle.gk_select.specs.ExampleRows.{cell_value, example_row_value};
+ghost use Rattle.gk_select.specs.ExampleRows.{cell_value, entry_value};
 
+use crate::outline::is_outline;
 use gk_gherkin::{Examples, Feature, Scenario};
 use std::alloc::{AllocError, Global};
 
@@ -57,44 +58,48 @@ fn cells_under(
 // Appends the rows of Examples.
 fn push_rows(
     alloc: Global,
-    rows: &mut Vec<ExampleRow>,
+    rows: &mut Vec<Option<ExampleRow>>,
     examples: &Examples,
 ) -> Result<(), AllocError>
-    ensures { Appends example_row_value result rows.old.items rows.new.items
+    ensures { Appends entry_value result rows.old.items rows.new.items
         (spec.rows_of_examples (examples_value examples.now)) }
 {
     for (i, row) in examples.rows.iter().enumerate() {
-        rows.push(ExampleRow {
+        rows.push(Some(ExampleRow {
             line: row.line,
             number: i + 1,
             cells: cells_under(alloc, &examples.header, &row.cells)?,
-        })?;
+        }))?;
     }
     Ok(())
 }
 
-// Appends the rows of a scenario's Examples.
+// Appends the rows of an outline's Examples, or for any other scenario that its case has no row.
 fn push_scenario_rows(
     alloc: Global,
-    rows: &mut Vec<ExampleRow>,
+    rows: &mut Vec<Option<ExampleRow>>,
     scenario: &Scenario,
 ) -> Result<(), AllocError>
-    ensures { Appends example_row_value result rows.old.items rows.new.items
+    ensures { Appends entry_value result rows.old.items rows.new.items
         (spec.rows_of_scenario (scenario_value scenario.now)) }
 {
+    if !is_outline(scenario) {
+        rows.push(None)?;
+        return Ok(());
+    }
     for examples in &scenario.examples {
         push_rows(alloc, rows, examples)?;
     }
     Ok(())
 }
 
-// Appends the rows of the Examples of scenarios.
+// Appends the rows of the cases of scenarios.
 fn push_scenarios_rows(
     alloc: Global,
-    rows: &mut Vec<ExampleRow>,
+    rows: &mut Vec<Option<ExampleRow>>,
     scenarios: &[Scenario],
 ) -> Result<(), AllocError>
-    ensures { Appends example_row_value result rows.old.items rows.new.items
+    ensures { Appends entry_value result rows.old.items rows.new.items
         (flat_map spec.rows_of_scenario (map scenario_value scenarios.now)) }
 {
     for scenario in scenarios {
@@ -103,11 +108,12 @@ fn push_scenarios_rows(
     Ok(())
 }
 
-/// Returns the rows of a feature's outlines, in file order. Each text is copied. An error comes only if a
-/// growth was refused. (Cucumber's Gherkin reference: scenario outline, examples)
+/// Returns for each case of a feature, in the cases' order, the row that it comes from, or nothing if its
+/// scenario isn't an outline. Each text is copied. An error comes only if a growth was refused. (Cucumber's
+/// Gherkin reference: scenario outline, examples)
 #[tactic(auto, unfolding(crate::specs::ExampleRows::outline_rows))]
-pub fn outline_rows(alloc: Global, feature: &Feature) -> Result<Vec<ExampleRow>, AllocError>
-    ensures { IfOk result (λ v. map example_row_value v.items
+pub fn outline_rows(alloc: Global, feature: &Feature) -> Result<Vec<Option<ExampleRow>>, AllocError>
+    ensures { IfOk result (λ v. map entry_value v.items
         ≡ spec.outline_rows (feature_value feature.now)) }
 {
     let mut rows = Vec::new(alloc);

@@ -2,15 +2,14 @@
 ghost use Rattle.std.specs.Prelude.{◌≡◌, ℕ, List, Some, length, map};
 ghost use Rattle.std.specs.List.{list_any};
 ghost use Rattle.gk_gherkin.specs.Lines.{lines_of, IsText};
-ghost use Rattle.gk_gherkin.specs.Feature.{FeatureValue, ScenarioValue};
+ghost use Rattle.gk_gherkin.specs.Feature.{FeatureValue};
 ghost use Rattle.gk_gherkin.specs.Grammar.{Reads};
 ghost use Rattle.gk_select.specs.Filling.{FillsByCut};
-ghost use Rattle.gk_select.specs.Inherited.{InheritedValue};
 ghost use Rattle.gk_select.specs.Expansion.{cases, IsExpandable, HasNoOutline, plain_cases, case_count};
 ghost use Rattle.gk_select.specs.OwnTags.{HasSameCasesUntagged};
 ghost use Rattle.gk_select.specs.RuleOrder.{FallIntoRules};
 ghost use Rattle.gk_select.specs.FileOrder.{CasesAreInFileOrder};
-ghost use Rattle.gk_select.specs.ExampleRows.{RowsAreAtCases, RowsAreInFileOrder};
+ghost use Rattle.gk_select.specs.ExampleRows.{RowsAreAtCases};
 ghost use Rattle.gk_select.specs.TagGrammar.{Expression};
 ghost use Rattle.gk_select.specs.TagValues.{holds};
 ghost use Rattle.gk_select.specs.Alternatives.{AlternativeValue, ReadsAlternatives, alternative_holds};
@@ -49,17 +48,11 @@ pub fn rows_are_cases()
     ensures { (f : FeatureValue) → length (cases f) ≡ case_count f }
 {}
 
-/// States that the rows of an outline have the lines of its cases, in order, and that any other scenario has no
-/// rows. (Cucumber's Gherkin reference: scenario outline)
+/// States that at the index of each case of a feature is the row that the case comes from, on the case's line, or
+/// none. (Cucumber's Gherkin reference: scenario outline)
 #[tactic(auto, using(crate::proofs::RowLines::at_cases))]
 pub fn rows_are_at_cases()
-    ensures { (inherited : InheritedValue) (s : ScenarioValue) → RowsAreAtCases inherited s }
-{}
-
-/// States that in a feature read from a file, each row of an outline is on a later line than the row before it.
-/// (Cucumber's Gherkin reference: examples)
-pub fn rows_are_in_file_order()
-    ensures { RowsAreInFileOrder }
+    ensures { RowsAreAtCases }
 {}
 
 /// States that the rules of the cases are indexes among the feature's rules and are non-decreasing from case to

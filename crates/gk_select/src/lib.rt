@@ -51,8 +51,7 @@ pub use expansion::{expand, into_cases};
 pub use laws::{
     alternatives_are_tag_rules, cases_are_in_file_order, cases_fall_into_rules,
     cases_keep_without_tags, plain_scenarios_are_cases, read_features_are_expandable,
-    rows_are_at_cases, rows_are_cases, rows_are_in_file_order, texts_have_one_cut,
-    texts_have_one_tag_rule,
+    rows_are_at_cases, rows_are_cases, texts_have_one_cut, texts_have_one_tag_rule,
 };
 pub use names::Names;
 pub use outline::is_outline;

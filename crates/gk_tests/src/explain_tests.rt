@@ -138,7 +138,7 @@ fn explained(
     alloc: Global,
     library: &Library,
     hooks: &HookFile,
-    rows: &[Vec<ExampleRow>],
+    rows: &[Vec<Option<ExampleRow>>],
     chosen: Chosen,
 ) -> Result<String, AllocError>
     requires { IsFormed chosen }
@@ -168,7 +168,7 @@ const NAMED_ROWS: &str =
     "boxes.feature:2: Scenario: Plain ... failed\n  boxes.feature:3: Given it fails ... failed: fail step\n\nboxes.feature:8: Scenario Outline: Row -- @1.1 ... failed\n  row 1: a=1, b\\nc=x\n  boxes.feature:5: Given it fails ... failed: fail step\n\nboxes.feature:9: Scenario Outline: Row -- @1.2 ... failed\n  row 2: a=2, b\\nc=\n  boxes.feature:5: Given it fails ... failed: fail step\n\n--\n--\nboxes.feature:2: Scenario: Plain\nboxes.feature:8: Scenario Outline: Row -- @1.1\nboxes.feature:9: Scenario Outline: Row -- @1.2\n\n--\n";
 
 // Returns the rows of a text's feature, as the only feature of a run.
-fn rows_of(alloc: Global, text: &str) -> Result<Vec<Vec<ExampleRow>>, Fail> {
+fn rows_of(alloc: Global, text: &str) -> Result<Vec<Vec<Option<ExampleRow>>>, Fail> {
     let feature = feature_of(alloc, text)?;
     let mut rows = Vec::new(alloc);
     rows.push(outline_rows(alloc, &feature)?)?;

@@ -114,7 +114,7 @@ fn rows_are_listed(rt: HostRuntime) -> Result<(), Fail> {
     same(
         &rt,
         shown_rows(rt.alloc(), FEATURE)?.as_str(),
-        "[ExampleRow { line: 14, number: 1, cells: [ExampleCell { header: \"a\", text: \"1\" }] }]",
+        "[None, Some(ExampleRow { line: 14, number: 1, cells: [ExampleCell { header: \"a\", text: \"1\" }] }), None]",
     );
     Ok(())
 }

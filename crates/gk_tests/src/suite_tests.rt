@@ -124,8 +124,12 @@ impl Observer for Teller {
         );
     }
 
-    fn case_ended(&mut self, row: &CaseResult) {
-        let _ = write!(self.told, "scenario {} {:?}\n", row.line, row.status);
+    fn case_ended(&mut self, index: usize, row: &CaseResult) {
+        let _ = write!(
+            self.told,
+            "scenario {index} {} {:?}\n",
+            row.line, row.status
+        );
     }
 
     fn rule_ended(&mut self, row: &RuleResult) {
@@ -143,10 +147,10 @@ const HOOKS: &str =
 
 // What is told of its first scenario, and of the whole run.
 const CASE_TOLD: &str =
-    "Scenario Steps 3 Acted(Passed) Some(\"1\")\nScenario Steps 4 Acted(Passed) Some(\"1\")\nScenario cleanup [Text(\"n\"), Text(\"1\")] Passed Some(\"1\")\nscenario 2 Passed\n";
+    "Scenario Steps 3 Acted(Passed) Some(\"1\")\nScenario Steps 4 Acted(Passed) Some(\"1\")\nScenario cleanup [Text(\"n\"), Text(\"1\")] Passed Some(\"1\")\nscenario 0 2 Passed\n";
 
 const RUN_TOLD: &str =
-    "Run Before 2 Acted(Passed) None\nScenario Steps 3 Acted(Passed) Some(\"1\")\nScenario Steps 4 Acted(Passed) Some(\"1\")\nScenario cleanup [Text(\"n\"), Text(\"1\")] Passed Some(\"1\")\nscenario 2 Passed\nScenario Steps 7 Acted(Failed(Absent)) None\nscenario 6 Failed\nRule After 4 Acted(Failed(Asked)) None\nrule 5 Failed\nRun After 6 Acted(Passed) None\n";
+    "Run Before 2 Acted(Passed) None\nScenario Steps 3 Acted(Passed) Some(\"1\")\nScenario Steps 4 Acted(Passed) Some(\"1\")\nScenario cleanup [Text(\"n\"), Text(\"1\")] Passed Some(\"1\")\nscenario 0 2 Passed\nScenario Steps 7 Acted(Failed(Absent)) None\nscenario 1 6 Failed\nRule After 4 Acted(Failed(Asked)) None\nrule 5 Failed\nRun After 6 Acted(Passed) None\n";
 
 // Returns the first scenario of a feature.
 fn first_case(alloc: Global, text: &str) -> Result<Case, Fail> {

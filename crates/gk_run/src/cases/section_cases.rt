@@ -1,112 +1,27 @@
 //! Running the cases of a section, one after another.
-ghost use Rattle.std.specs.Prelude.{◌≡◌, true, ◌+◌, ◌≤◌, ◌<◌, ◌^◌, suc, length, nat_eq, false, vec_capacity, MatchOption, IfOk, OnErr, IfSome};
-ghost use Rattle.gk_select.specs.RuleOrder as order;
+ghost use Rattle.std.specs.Prelude.{◌≡◌, ◌+◌, ◌≤◌, ◌<◌, length, vec_capacity, IfOk, OnOk, OnErr};
+ghost use Rattle.std.specs.List.{list_any};
 ghost use Rattle.gk_world.specs.State.{state_of, layers};
 ghost use Rattle.gk_world.specs.Sandbox.{depth, IsSame};
 ghost use Rattle.gk_run.specs.Events.{tells};
-ghost use Rattle.gk_run.specs.PrivateContracts.{AreCasesInPart, IsMember, RunsCases, TakesMember, members_in};
-ghost use Rattle.gk_run.specs.Chosen.{has_selected, member_of, falls_from, members_of_rank};
+ghost use Rattle.gk_run.specs.PrivateContracts.{AreCasesInPart, IsMember, RunsCases};
+ghost use Rattle.gk_run.specs.Chosen.{member_of, members_in};
 ghost use Rattle.gk_run.specs.Results.{case_row};
 ghost use Rattle.gk_run.specs.OpenSection.{run_value};
 
-use crate::cases::{Cases, Member};
+use super::Member;
 use crate::ending::{both, stays_open};
 use crate::observer::Observer;
-use crate::results::{CaseResult, Mark, NoRoom, Reserved, Status};
+use crate::results::{CaseResult, Mark, NoRoom, Status};
 use crate::running::{case_in, unrun_case};
 use crate::section::Run;
-use gk_select::Case;
 use gk_world::Sandbox;
-use std::collections::VecDeque;
 
-fn rank_of(rule: Option<u32>) -> usize
-    ensures { result ≡ order.rank rule }
+/// Returns whether a case among these is selected.
+pub fn selects(members: &[Member]) -> bool
+    ensures { result ≡ list_any (λ (m : Member). m.selected) members.now }
 {
-    match rule {
-        None => 0,
-        Some(rule) => rule as usize + 1,
-    }
-}
-
-// Returns whether there is a case and it has this rank.
-fn is_of_rank(case: Option<&Case>, rank: usize) -> bool
-    ensures { MatchOption case.entry (result ≡ false) (λ c.
-        result ≡ nat_eq (order.rank c.now.rule) rank) }
-{
-    match case {
-        None => false,
-        Some(case) => rank_of(case.rule) == rank,
-    }
-}
-
-// Returns whether there is a choice and it selects.
-fn is_selected(selected: Option<&bool>) -> bool
-    ensures { MatchOption selected.entry (result ≡ false) (λ s. result ≡ s.now) }
-{
-    match selected {
-        None => false,
-        Some(selected) => *selected,
-    }
-}
-
-impl Cases {
-    /// Returns the cases of a feature, with none taken yet.
-    pub fn new(reserved: Reserved<Case, CaseResult>, selected: Vec<bool>) -> Cases
-        requires paired { length selected.items ≡ length reserved.list.items }
-        requires falls { falls_from 0 reserved.list.items ≡ true }
-        ensures rank { result.rank ≡ 0 }
-        ensures waiting { result.waiting.items ≡ reserved.list.items }
-        ensures selected { result.selected.items ≡ selected.items }
-        ensures results { result.results ≡ reserved.results }
-    {
-        let Reserved { list, results } = reserved;
-        Cases {
-            rank: 0,
-            waiting: VecDeque::from(list),
-            selected: VecDeque::from(selected),
-            results,
-        }
-    }
-
-    /// Takes the next case of the rank, if there is one.
-    pub fn next_member(&mut self) -> Option<Member>
-        ensures taken { TakesMember self.old result self.new }
-        ensures room { IfSome result (λ m. length self.new.results.items
-            + suc (length self.new.waiting.items) ≤ vec_capacity self.new.results) }
-    {
-        if !is_of_rank(self.waiting.front(), self.rank) {
-            return None;
-        }
-        let case = self.waiting.pop_front()?;
-        let selected = self.selected.pop_front()?;
-        Some(Member { case, selected })
-    }
-
-    /// Returns whether a case of the rank is selected.
-    pub fn has_selected(&self) -> bool
-        ensures { result ≡ has_selected (members_of_rank self.now.rank (members_in self.now)) }
-    {
-        let mut index = 0;
-        while is_of_rank(self.waiting.get(index), self.rank) {
-            if is_selected(self.selected.get(index)) {
-                return true;
-            }
-            index += 1;
-        }
-        false
-    }
-
-    /// Moves on to the cases of the next rank. No case of the current rank is left.
-    pub fn next_rank(&mut self)
-        requires falls { falls_from (suc self.old.rank) self.old.waiting.items ≡ true }
-        requires room { suc self.old.rank < 2 ^ 64 }
-        ensures rank { self.new.rank ≡ suc self.old.rank }
-        ensures waiting { self.new.waiting ≡ self.old.waiting }
-        ensures selected { self.new.selected ≡ self.old.selected }
-        ensures results { self.new.results ≡ self.old.results }
-    {
-        self.rank += 1;
-    }
+    members.iter().any(|member| member.selected)
 }
 
 // Runs a case if it is selected and its section is open, and returns its result.
@@ -134,29 +49,36 @@ fn run_member<O: Observer>(
     case_in(run, sandbox, case, observer)
 }
 
-/// Runs the cases of the rank in a section. `is_open` says whether the section is open. Returns whether
-/// what comes after them is still reached.
+/// Runs cases in a section, and adds their results to those of the feature's cases before them.
+/// `is_open` says whether the section is open. Returns whether what comes after the cases is still
+/// reached.
 pub fn run_cases<O: Observer>(
     run: &Run<'_>,
     sandbox: &mut Sandbox,
     is_open: bool,
-    cases: &mut Cases,
+    members: Vec<Member>,
+    results: &mut Vec<CaseResult>,
     observer: &mut O,
 ) -> Result<bool, NoRoom>
     requires layer { depth sandbox.old < layers }
+    requires room { length results.old.items + length members.items ≤ vec_capacity results.old }
     ensures cases { IfOk result (RunsCases O.hears O.ends (run_value run.now)
-        (state_of sandbox.old.now) is_open cases.old cases.new observer.old observer.new) }
-    ensures stopped { OnErr result (AreCasesInPart (tells O.hears O.ends) (run_value run.now)
-        (state_of sandbox.old.now) is_open (members_of_rank cases.old.rank (members_in cases.old))
-        observer.old observer.new) }
+        (state_of sandbox.old.now) is_open (members_in members.items) results.old.items
+        results.new.items observer.old observer.new) }
+    ensures counted { OnOk result (length results.new.items
+        ≡ length results.old.items + length members.items) }
+    ensures capacity { vec_capacity results.new ≡ vec_capacity results.old }
+    ensures stopped { OnErr result (AreCasesInPart (tells O.hears O.ends)
+        (length results.old.items) (run_value run.now) (state_of sandbox.old.now) is_open
+        (members_in members.items) observer.old observer.new) }
     ensures same { IsSame sandbox.old sandbox.new }
 {
     let mut all_stay = true;
-    while let Some(member) = cases.next_member() {
+    for member in members {
         let row = run_member(run, sandbox, both(is_open, all_stay), member, observer)?;
-        observer.case_ended(&row);
+        observer.case_ended(results.len(), &row);
         all_stay = both(all_stay, stays_open(run.stop, row.status));
-        cases.results.push_reserved(row);
+        results.push_reserved(row);
     }
     Ok(all_stay)
 }

@@ -1,4 +1,4 @@
-use Rattle.gk_run.proofs.Common.{◌∙◌, Bool, inl, map, refl, subst, sym, texts, State, state_of, head_value, groups_from, members_of_rank, inside_value, members_in, inside_by, Inside, IsToldInPart, section_now, IsRan, Ran, tells, IsBegun, section_of, section_state, run_value}
+use Rattle.gk_run.proofs.Common.{◌∙◌, Bool, inl, refl, subst, sym, texts, State, state_of, groups_in, inside_value, members_in, inside_by, Inside, IsToldInPart, section_now, IsRan, Ran, tells, IsBegun, section_of, section_state, run_value}
 use Rattle.gk_run.specs.declared.section.Level.TheVariants as levels
 use Rattle.gk_run.proofs.FeaturesLemmas.{feature_unbegun, unbegun_in_part}
 use Rattle.gk_run.proofs.PartLemmas.{at_err, section_in_part}
@@ -8,8 +8,8 @@ use Rattle.gk_run.proofs.features.feature_end.Goals as goal
 
 pub returns-then-not-is_begun-clause-end : goal.returns-then-not-is_begun-clause-end
 returns-then-not-is_begun-clause-end g c =
-    let members = members_in c.args.content.cases in
-    feature_unbegun (tells g.O.Observer.hears g.O.Observer.ends) (run_value c.args.run.now) (state_of c.args.sandbox.now.now) c.args.is_begun (texts c.args.tags.now) (members_of_rank 0 members) (groups_from 1 (map head_value c.args.content.rules.list.items) members) (inside_value c.in_ok-inside.inside)
+    let content = c.args.content in
+    feature_unbegun (tells g.O.Observer.hears g.O.Observer.ends) (run_value c.args.run.now) (state_of c.args.sandbox.now.now) c.args.is_begun (texts c.args.tags.now) (members_in content.own.items) (groups_in content.rules.list.items) (inside_value c.in_ok-inside.inside)
     c.args.observer.now c.run_inside.new.observer c.if-not-is_begun.true c.in_ok-inside.ensures.inside
 
 pub returns-in-Ok-clause-end : goal.returns-in-Ok-clause-end
@@ -23,8 +23,8 @@ returns-in-Ok-clause-end g c = λ there open_at.
     let now = c.open_section-opened.new.sandbox in
     let opens = c.open_section-opened.ensures in
     let first = opens.0.first in
-    let own = members_of_rank 0 (members_in c.args.content.cases) in
-    let groups = groups_from 1 (map head_value c.args.content.rules.list.items) (members_in c.args.content.cases) in
+    let own = members_in c.args.content.own.items in
+    let groups = groups_in c.args.content.rules.list.items in
     let around = c.end_around.result in
     let before = opened.before in
     let begins : IsBegun run levels.Feature tags there first before (section_now now opened.cleanups) = subst (λ (x : State). IsBegun run levels.Feature tags x first before (section_now now opened.cleanups)) (open_at c.if-not-is_begun.false) opens.0.begins in
@@ -43,8 +43,8 @@ returns-in-Ok-clause-end g c = λ there open_at.
 
 pub returns-in_err-inside-clause-stopped : goal.returns-in_err-inside-clause-stopped
 returns-in_err-inside-clause-stopped g c =
-    let members = members_in c.args.content.cases in
-    at_err _ (unbegun_in_part (tells g.O.Observer.hears g.O.Observer.ends) (run_value c.args.run.now) (state_of c.args.sandbox.now.now) c.args.is_begun (texts c.args.tags.now) (members_of_rank 0 members) (groups_from 1 (map head_value c.args.content.rules.list.items) members)
+    let content = c.args.content in
+    at_err _ (unbegun_in_part (tells g.O.Observer.hears g.O.Observer.ends) (run_value c.args.run.now) (state_of c.args.sandbox.now.now) c.args.is_begun (texts c.args.tags.now) (members_in content.own.items) (groups_in content.rules.list.items)
     c.args.observer.now c.run_inside.new.observer c.if-not-is_begun.true c.in_err-inside.ensures.stopped)
 
 pub returns-in-Err-clause-stopped : goal.returns-in-Err-clause-stopped
@@ -55,8 +55,8 @@ returns-in-Err-clause-stopped g c = λ there open_at.
     let now = section_now c.open_section-opened.new.sandbox opened.cleanups in
     let opens = c.open_section-opened.ensures in
     let first = opens.0.first in
-    let own = members_of_rank 0 (members_in c.args.content.cases) in
-    let groups = groups_from 1 (map head_value c.args.content.rules.list.items) (members_in c.args.content.cases) in
+    let own = members_in c.args.content.own.items in
+    let groups = groups_in c.args.content.rules.list.items in
     let before = opened.before in
     let begin = c.args.observer.now in
     let last = c.run_inside-2.new.observer in
