@@ -2,7 +2,6 @@
 #![tactic(auto)]
 
 ghost use Rattle.std.specs.Process.{exit_status};
-ghost use Rattle.gk_io.specs.Counted.{FailuresCanRise};
 ghost use Rattle.gk_cli.specs.Writing.{device_of};
 ghost use Rattle.gherkin_run.specs.Machine.{IsRunOn, reads_some};
 
@@ -21,7 +20,6 @@ fn run_on<R: Env + Files + AllocGlobal, W: Write, E: Write>(
     out: &mut Counted<W>,
     errors: &mut Counted<E>,
 ) -> ExitCode
-    requires room { FailuresCanRise out.old }
     ensures { IsRunOn (reads_some R.File.remaining) machine.old machine.new
         (device_of W.contents out.old) (device_of W.contents out.new)
         (device_of E.contents errors.old) (device_of E.contents errors.new) (exit_status result) }

@@ -89,11 +89,11 @@ pub fn answer_call(
     ensures { IsAnswer (map text_value arguments.now) (map file_value files.now)
         out.old out.new errors.old errors.new result }
 {
-    let mut said = Counted::new(buffer_for(alloc, out));
-    let mut told = Counted::new(buffer_for(alloc, errors));
-    let ended = run_over(alloc, arguments, files, &mut said, &mut told);
-    let out_length = put_out(said.inner().as_slice(), out);
-    answer_with(ended, &said, out_length, &told, errors)
+    let mut output = Counted::new(buffer_for(alloc, out));
+    let mut complaints = Counted::new(buffer_for(alloc, errors));
+    let ended = run_over(alloc, arguments, files, &mut output, &mut complaints);
+    let out_length = put_out(output.inner().as_slice(), out);
+    answer_with(ended, &output, out_length, &complaints, errors)
 }
 
 // Adds a name and the zero byte that ends it.

@@ -1,5 +1,5 @@
 use crate::whole_suite_tests::{files_with, oil, source};
-use gk_findings::{EnvMistake, findings_text, notes_on_env, push_notes};
+use gk_findings::{EnvMistake, findings_text, push_env_notes, push_notes, push_unreadable_note};
 use gk_gherkin::ReadFault;
 use gk_request::{
     Options, ReadInputs, RunFault, SuiteFiles, bytes_of, file_at_fault, first_bad_tags,
@@ -210,14 +210,29 @@ fn bad_text_of_tags_has_notes(rt: HostRuntime) -> Result<(), Fail> {
 
 #[test]
 fn bad_variables_have_notes(rt: HostRuntime) -> Result<(), Fail> {
-    let notes = notes_on_env(rt.alloc(), EnvMistake::NoEquals, "COLOUR")?;
+    let mut notes = String::new(rt.alloc());
+    push_env_notes(&mut notes, EnvMistake::NoEquals, "COLOUR")?;
     let wanted = "    | COLOUR\n    write NAME=VALUE, with = after the name\n";
     assert_eq!(rt; notes.as_str(), wanted);
-    let notes = notes_on_env(rt.alloc(), EnvMistake::BadName, "")?;
+    notes.clear();
+    push_env_notes(&mut notes, EnvMistake::BadName, "")?;
     let wanted = "    | =\n    give the variable a name of 1 to 255 bytes before the =\n";
     assert_eq!(rt; notes.as_str(), wanted);
-    let notes = notes_on_env(rt.alloc(), EnvMistake::LongValue, "A")?;
+    notes.clear();
+    push_env_notes(&mut notes, EnvMistake::LongValue, "A")?;
     let wanted = "    | A=\n    shorten its value: at most 1048576 bytes\n";
     assert_eq!(rt; notes.as_str(), wanted);
+    Ok(())
+}
+
+#[test]
+fn unreadable_files_have_a_note(rt: HostRuntime) -> Result<(), Fail> {
+    let mut notes = String::new(rt.alloc());
+    push_unreadable_note(&mut notes)?;
+    assert!(rt;
+        notes
+            .as_str()
+            .starts_with("    check its name and permissions; ")
+    );
     Ok(())
 }

@@ -2,7 +2,7 @@
 use Rattle.std.proofs.Common.{refl, inl, inr, arith, ℕ, List, [], ◌∷◌, Some}
 use Rattle.gk_cli.specs.Writing.{Device}
 use Rattle.gk_program.specs.Program.{IsShown, IsTextFault}
-use Rattle.gk_program.specs.declared.fault.Fault.TheVariants.{Write}
+use Rattle.gk_request.specs.declared.run_fault.RunFault.TheVariants.{Write}
 use Rattle.gk_program.proofs.ProgramLemmas.{kept}
 
 -- standard output by what it has taken, and its counts of calls, flushes, failures and idle calls

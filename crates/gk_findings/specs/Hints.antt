@@ -1,13 +1,31 @@
--- Hints on how to fix the faults of a run, in one line each. (this project's profile)
-use Rattle.std.specs.Prelude.{ℕ, List, codes}
+-- Hints on how to fix faults, in one line each. (this project's profile)
+use Rattle.std.specs.Prelude.{ℕ, ◌-◌, List, codes, Option, Some, None, option_map, unwrap_or}
+use Rattle.std.specs.Str.Lines.{lines}
+use Rattle.std.specs.Str.Lossy.{utf8_lossy}
+use Rattle.gk_gherkin.specs.Lines.{without_mark}
 use Rattle.gk_gherkin.specs.declared.read_fault.ReadFault.{ReadFault}
 use Rattle.gk_gherkin.specs.declared.read_fault.ReadFault.TheVariants as reading
 use Rattle.gk_select.specs.declared.select_fault.SelectFault.{SelectFault}
 use Rattle.gk_select.specs.declared.select_fault.SelectFault.TheVariants as selecting
 use Rattle.gk_steps.specs.declared.library_fault.LibraryFault.{LibraryFault}
 use Rattle.gk_steps.specs.declared.library_fault.LibraryFault.TheVariants as library
+use Rattle.gk_lint.specs.LibraryCauses.{library_cause, library_cause_text}
+use Rattle.gk_lint.specs.UnexpectedLines.{cause_at, cause_text}
+use Rattle.gk_request.specs.Source.{SourceValue}
 use Rattle.gk_request.specs.declared.run_fault.RunFault.{RunFault}
 use Rattle.gk_request.specs.declared.run_fault.RunFault.TheVariants.{Read, Library, Hooks, Select, Write, Memory}
+use Rattle.gk_findings.specs.declared.hints.EnvMistake.{EnvMistake}
+use Rattle.gk_findings.specs.declared.hints.EnvMistake.TheVariants.{NoEquals, BadName, LongValue}
+
+-- The hint for a file that can't be opened or read.
+abbrev pub unreadable_hint : List ℕ
+unreadable_hint = codes "check its name and permissions; for a folder, name its files, as in features/*.feature; for FILE:12, write --line 12 FILE"
+
+-- The hint for an argument of `--env`. The limits are those of the world.
+abbrev pub env_hint : EnvMistake → List ℕ
+env_hint NoEquals = codes "write NAME=VALUE, with = after the name"
+env_hint BadName = codes "give the variable a name of 1 to 255 bytes before the ="
+env_hint LongValue = codes "shorten its value: at most 1048576 bytes"
 
 -- The hint for a file that is too long.
 abbrev pub too_long_hint : List ℕ
@@ -58,7 +76,7 @@ select_hint selecting.TooMany = codes "divide the outline or the file"
 select_hint selecting.BadTagText = codes "write it as '@a and not @b', or as @a,~@b"
 select_hint selecting.Memory = no_memory_hint
 
--- The hint for a fault of a run.
+-- The hint for a fault of a run, by the fault alone.
 abbrev pub hint : RunFault → List ℕ
 hint (Read input fault) = feature_hint fault
 hint (Library fault) = library_hint fault
@@ -66,3 +84,18 @@ hint (Hooks fault) = hooks_hint fault
 hint (Select input fault) = select_hint fault
 hint Write = codes "make room, and run again"
 hint Memory = no_memory_hint
+
+-- The lines of a file, without the byte-order mark that it may begin with. Bytes that aren't UTF-8 appear as U+FFFD.
+abbrev pub lines_in : List ℕ → List (List ℕ)
+lines_in bytes = lines (without_mark (utf8_lossy bytes))
+
+-- The hint for a fault of a file with these lines. That for an unexpected line of a feature file goes by what is above the line, and that for a fault of a library by its line and those above, if a cause is found there.
+abbrev pub hint_by : List (List ℕ) → RunFault → List ℕ
+hint_by lines (Read input (reading.Unexpected n)) = unwrap_or (option_map cause_text (cause_at lines (n - 1))) (hint (Read input (reading.Unexpected n)))
+hint_by lines (Library fault) = unwrap_or (option_map library_cause_text (library_cause lines fault)) (hint (Library fault))
+hint_by lines fault = hint fault
+
+-- The hint for a fault in a file, if it is in one.
+abbrev pub hint_in : Option SourceValue → RunFault → List ℕ
+hint_in None fault = hint fault
+hint_in (Some file) fault = hint_by (lines_in file.bytes) fault

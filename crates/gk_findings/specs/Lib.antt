@@ -7,4 +7,3 @@ pub mod LintedSteps
 pub mod Hints
 pub mod TagHints
 pub mod FaultNotes
-pub mod EnvNotes

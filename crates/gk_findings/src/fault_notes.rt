@@ -1,23 +1,49 @@
-//! The notes below a fault of a run: the line of the file, and a hint on how to fix it.
-ghost use Rattle.std.specs.Prelude.{◌≡◌, ◌-◌, option_map, slice_get, string_bytes, IfOk};
+//! The notes below a fault: what it is about, and a hint on how to fix it. Each is a line that begins with four spaces;
+//! invisible characters are escapes. An error comes only if a growth was refused; a part of the notes may have been
+//! appended then.
+ghost use Rattle.std.specs.Prelude.{◌≡◌, ◌-◌, option_map, slice_get};
 ghost use Rattle.std.specs.Str.Lines.{lines};
-ghost use Rattle.gk_gherkin.specs.Lines as of_lines;
-ghost use Rattle.gk_lint.specs.LibraryCauses.{cause_value, library_cause as cause_of_library};
-ghost use Rattle.gk_lint.specs.UnexpectedLines.{cause_at as cause_of_lines};
 ghost use Rattle.gk_report.specs.ReportTexts.{Pushes};
 ghost use Rattle.gk_request.specs.Source.{source_value};
 ghost use Rattle.gk_request.specs.Request.{files_value};
 ghost use Rattle.gk_findings.specs.Notes.{quote};
 ghost use Rattle.gk_findings.specs.FaultNotes as spec;
 
-use crate::hints::hint;
-use crate::notes::{position_of, push_note, push_quoted, text_lines};
+use crate::hints::{EnvMistake, UNREADABLE, env_hint, hint_in};
+use crate::notes::{push_note, push_quoted};
 use crate::tag_hints::tags_hint;
-use gk_gherkin::ReadFault;
-use gk_lint::{Cause, LibraryCause, cause_at, library_cause};
+use gk_explain::push_unquoted;
 use gk_request::{RunFault, Source, SuiteFiles, file_at_fault, line_at_fault};
-use gk_steps::LibraryFault;
 use std::alloc::{AllocError, Global};
+
+// Returns what follows the name in an argument with this mistake.
+fn after_name(mistake: EnvMistake) -> &'static str
+    ensures { result.now ≡ spec.after_name mistake }
+{
+    match mistake {
+        EnvMistake::NoEquals => "",
+        EnvMistake::BadName | EnvMistake::LongValue => "=",
+    }
+}
+
+/// Appends the notes below the fault of an argument of `--env`: the argument up to its `=`, and a hint.
+#[tactic(auto, unfolding(crate::specs::Notes::quoted))]
+pub fn push_env_notes(out: &mut String, mistake: EnvMistake, name: &str) -> Result<(), AllocError>
+    ensures { Pushes out.old (spec.env_notes mistake name.now) result out.new }
+{
+    out.push_str("    | ")?;
+    push_unquoted(out, name)?;
+    out.push_str(after_name(mistake))?;
+    out.push_str("\n")?;
+    push_note(out, env_hint(mistake))
+}
+
+/// Appends the note below a file that can't be opened or read: a hint.
+pub fn push_unreadable_note(out: &mut String) -> Result<(), AllocError>
+    ensures { Pushes out.old spec.unreadable_note result out.new }
+{
+    push_note(out, UNREADABLE)
+}
 
 // Returns the line number `line`, counted from 1, of a text.
 fn line_of(text: &str, line: u32) -> Option<&str>
@@ -57,109 +83,6 @@ fn push_quote(
     }
 }
 
-// Returns a text without a leading byte-order mark.
-fn without_mark(text: &str) -> &str
-    ensures { result.now ≡ of_lines.without_mark text.now }
-{
-    if text.starts_with("\u{feff}") {
-        &text[3..]
-    } else {
-        text
-    }
-}
-
-// Returns why a line of a feature file is unexpected, if the file has the line.
-fn cause_in(alloc: Global, bytes: &[u8], line: u32) -> Result<Option<Cause>, AllocError>
-    ensures { IfOk result (λ cause. cause ≡ cause_of_lines (spec.lines_in bytes.now) (line - 1)) }
-{
-    let text = String::from_utf8_lossy(alloc, bytes)?;
-    let lines = text_lines(alloc, without_mark(text.as_str()))?;
-    cause_at(alloc, &lines, position_of(line))
-}
-
-// Returns the hint for an unexpected line.
-fn cause_hint(alloc: Global, cause: Option<Cause>, fault: RunFault) -> Result<String, AllocError>
-    ensures { IfOk result (λ text. string_bytes text ≡ spec.cause_hint fault cause) }
-{
-    match cause {
-        Some(cause) => cause.text(alloc),
-        None => String::from_str(alloc, hint(fault)),
-    }
-}
-
-// Returns the hint for an unexpected line of a feature file.
-fn unexpected_hint(
-    alloc: Global,
-    file: &Source,
-    line: u32,
-    fault: RunFault,
-) -> Result<String, AllocError>
-    ensures { IfOk result (λ text. string_bytes text ≡ spec.cause_hint fault (cause_of_lines
-        (spec.lines_in (source_value file.now).bytes) (line - 1))) }
-{
-    let cause = cause_in(alloc, file.bytes.as_slice(), line)?;
-    cause_hint(alloc, cause, fault)
-}
-
-// Returns what a fault of a library with these bytes concerns, if it can be named.
-fn library_cause_in(
-    alloc: Global,
-    bytes: &[u8],
-    fault: LibraryFault,
-) -> Result<Option<LibraryCause>, AllocError>
-    ensures { IfOk result (λ cause. option_map cause_value cause
-        ≡ cause_of_library (spec.lines_in bytes.now) fault) }
-{
-    let text = String::from_utf8_lossy(alloc, bytes)?;
-    let lines = text_lines(alloc, without_mark(text.as_str()))?;
-    library_cause(alloc, &lines, fault)
-}
-
-// Returns the hint for a fault of a library.
-fn library_hint(
-    alloc: Global,
-    cause: Option<LibraryCause>,
-    fault: LibraryFault,
-) -> Result<String, AllocError>
-    ensures { IfOk result (λ text. string_bytes text
-        ≡ spec.library_cause_hint fault (option_map cause_value cause)) }
-{
-    match cause {
-        Some(cause) => cause.text(alloc),
-        None => String::from_str(alloc, hint(RunFault::Library(fault))),
-    }
-}
-
-// Returns the hint for a fault of a library file.
-fn library_hint_in(alloc: Global, file: &Source, fault: LibraryFault) -> Result<String, AllocError>
-    ensures { IfOk result (λ text. string_bytes text ≡ spec.library_cause_hint fault
-        (cause_of_library (spec.lines_in (source_value file.now).bytes) fault)) }
-{
-    let cause = library_cause_in(alloc, file.bytes.as_slice(), fault)?;
-    library_hint(alloc, cause, fault)
-}
-
-// Returns the hint for a fault in a file, if it is in one.
-fn hint_in(alloc: Global, file: Option<&Source>, fault: RunFault) -> Result<String, AllocError>
-    ensures { IfOk result (λ text. string_bytes text
-        ≡ spec.hint_in (option_map (λ file. source_value file.now) file.entry) fault) }
-{
-    match fault {
-        RunFault::Read {
-            fault: ReadFault::Unexpected { line },
-            ..
-        } => match file {
-            Some(file) => unexpected_hint(alloc, file, line, fault),
-            None => String::from_str(alloc, hint(fault)),
-        },
-        RunFault::Library(of_library) => match file {
-            Some(file) => library_hint_in(alloc, file, of_library),
-            None => String::from_str(alloc, hint(fault)),
-        },
-        _ => String::from_str(alloc, hint(fault)),
-    }
-}
-
 // Appends the notes below a fault of a file, or of none.
 fn push_file_notes(
     out: &mut String,
@@ -187,8 +110,7 @@ fn push_tags_notes(out: &mut String, alloc: Global, text: &str) -> Result<(), Al
 
 /// Appends the notes below a fault of a run. If `tags` is given, the fault is that this text of tags spells no rule:
 /// the notes are the text and where it breaks. Otherwise they are the line that the fault names, if it names one, and a
-/// hint on how to fix it. Each is a line that begins with four spaces; invisible characters are escapes. An error comes
-/// only if a growth was refused; a part of the notes may have been appended then.
+/// hint. `Write` and `Memory` have none.
 pub fn push_notes(
     out: &mut String,
     alloc: Global,
@@ -201,6 +123,9 @@ pub fn push_notes(
 {
     match tags {
         Some(text) => push_tags_notes(out, alloc, text),
-        None => push_file_notes(out, alloc, files, fault),
+        None => match fault {
+            RunFault::Write | RunFault::Memory => Ok(()),
+            _ => push_file_notes(out, alloc, files, fault),
+        },
     }
 }

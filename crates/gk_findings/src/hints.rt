@@ -1,11 +1,19 @@
-//! Hints on how to fix the faults of a run, in one line each.
-ghost use Rattle.std.specs.Prelude.{◌≡◌};
+//! Hints on how to fix faults, in one line each.
+ghost use Rattle.std.specs.Prelude.{◌≡◌, map, option_map, string_bytes, IfOk};
+ghost use Rattle.gk_request.specs.Source.{source_value};
 ghost use Rattle.gk_findings.specs.Hints as spec;
 
+use crate::notes::{position_of, text_lines, without_mark};
 use gk_gherkin::ReadFault;
-use gk_request::RunFault;
+use gk_lint::{cause_at, library_cause};
+use gk_request::{RunFault, Source};
 use gk_select::SelectFault;
 use gk_steps::LibraryFault;
+use std::alloc::{AllocError, Global};
+
+/// The hint for a file that can't be opened or read.
+pub const UNREADABLE: &str =
+    "check its name and permissions; for a folder, name its files, as in features/*.feature; for FILE:12, write --line 12 FILE";
 
 // Hints for faults that more than one reader has.
 const TOO_LONG: &str = "divide the file";
@@ -13,6 +21,28 @@ const TOO_LONG: &str = "divide the file";
 const NOT_UTF8: &str = "save the file as UTF-8";
 
 const NO_MEMORY: &str = "divide the files, or spread them over several runs";
+
+/// What is wrong with an argument of `--env`.
+#[derive(Clone, Copy, Debug, PartialEq, Eq)]
+pub enum EnvMistake {
+    /// It has no `=`.
+    NoEquals,
+    /// No variable may have its name.
+    BadName,
+    /// Its value is longer than a text may be.
+    LongValue,
+}
+
+/// Returns the hint for an argument of `--env`.
+pub fn env_hint(mistake: EnvMistake) -> &'static str
+    ensures { result.now ≡ spec.env_hint mistake }
+{
+    match mistake {
+        EnvMistake::NoEquals => "write NAME=VALUE, with = after the name",
+        EnvMistake::BadName => "give the variable a name of 1 to 255 bytes before the =",
+        EnvMistake::LongValue => "shorten its value: at most 1048576 bytes",
+    }
+}
 
 // Returns the hint for a fault of a feature file.
 fn feature_hint(fault: ReadFault) -> &'static str
@@ -87,8 +117,8 @@ pub fn select_hint(fault: SelectFault) -> &'static str
     }
 }
 
-/// Returns a hint on how to fix a fault of a run, in one line without its line feed.
-pub fn hint(fault: RunFault) -> &'static str
+// Returns the hint for a fault of a run, by the fault alone.
+fn hint(fault: RunFault) -> &'static str
     ensures { result.now ≡ spec.hint fault }
 {
     match fault {
@@ -98,5 +128,41 @@ pub fn hint(fault: RunFault) -> &'static str
         RunFault::Select { fault, .. } => select_hint(fault),
         RunFault::Write => "make room, and run again",
         RunFault::Memory => NO_MEMORY,
+    }
+}
+
+// Returns the hint for a fault of a file with these lines.
+fn hint_by(alloc: Global, lines: &[&str], fault: RunFault) -> Result<String, AllocError>
+    ensures { IfOk result (λ text. string_bytes text
+        ≡ spec.hint_by (map (λ line. line.now) lines.now) fault) }
+{
+    match fault {
+        RunFault::Read {
+            fault: ReadFault::Unexpected { line },
+            ..
+        } => match cause_at(alloc, lines, position_of(line))? {
+            Some(cause) => cause.text(alloc),
+            None => String::from_str(alloc, hint(fault)),
+        },
+        RunFault::Library(of_library) => match library_cause(alloc, lines, of_library)? {
+            Some(cause) => cause.text(alloc),
+            None => String::from_str(alloc, hint(fault)),
+        },
+        _ => String::from_str(alloc, hint(fault)),
+    }
+}
+
+/// Returns the hint for a fault of a run in a file, if it is in one. An error comes only if a growth was refused.
+pub fn hint_in(alloc: Global, file: Option<&Source>, fault: RunFault) -> Result<String, AllocError>
+    ensures { IfOk result (λ text. string_bytes text
+        ≡ spec.hint_in (option_map (λ file. source_value file.now) file.entry) fault) }
+{
+    match file {
+        Some(file) => {
+            let text = String::from_utf8_lossy(alloc, file.bytes.as_slice())?;
+            let lines = text_lines(alloc, without_mark(text.as_str()))?;
+            hint_by(alloc, &lines, fault)
+        }
+        None => String::from_str(alloc, hint(fault)),
     }
 }

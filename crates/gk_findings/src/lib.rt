@@ -1,8 +1,6 @@
-//! The text of `--lint`: the findings in a whole request, before any run, and the notes below the faults of files that don't
-//! read.
+//! The text of `--lint`: the findings in a whole request, before any run, and the notes below faults.
 #![tactic(auto)]
 
-mod env_notes;
 mod fault_notes;
 mod finding_lines;
 mod hints;
@@ -12,7 +10,7 @@ mod linted_suite;
 mod notes;
 mod tag_hints;
 
-pub use env_notes::{EnvMistake, notes_on_env};
-pub use fault_notes::push_notes;
+pub use fault_notes::{push_env_notes, push_notes, push_unreadable_note};
+pub use hints::EnvMistake;
 pub use laws::{found_faults_are_failures, steps_run_at_their_sites};
 pub use linted_suite::findings_text;

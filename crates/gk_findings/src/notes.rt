@@ -1,6 +1,7 @@
 //! Notes below faults and findings, and the lines that they quote.
 ghost use Rattle.std.specs.Prelude.{◌≡◌, ◌-◌, map, IfOk};
 ghost use Rattle.std.specs.Str.Lines.{lines};
+ghost use Rattle.gk_gherkin.specs.Lines as of_lines;
 ghost use Rattle.gk_report.specs.ReportTexts.{Pushes};
 ghost use Rattle.gk_explain.specs.Shown.{unquoted};
 ghost use Rattle.gk_findings.specs.Notes as spec;
@@ -26,6 +27,17 @@ pub fn push_quoted(out: &mut String, text: &str) -> Result<(), AllocError>
     out.push_str("    | ")?;
     push_unquoted(out, text)?;
     out.push_str("\n")
+}
+
+/// Returns a text without a leading byte-order mark.
+pub fn without_mark(text: &str) -> &str
+    ensures { result.now ≡ of_lines.without_mark text.now }
+{
+    if text.starts_with("\u{feff}") {
+        &text[3..]
+    } else {
+        text
+    }
 }
 
 /// Returns the lines of a text. An error comes only if a growth was refused.

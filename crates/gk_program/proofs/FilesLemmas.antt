@@ -1,11 +1,6 @@
 -- Reading names one after the other.
-use Rattle.gk_program.proofs.Common.{◌≡◌, inl, inr, subst, ◌++◌, ap, sym, refl, arith, suc, ℕ, List, [], ◌∷◌, map, append_assoc, Option, Some, None, Result, Ok, Err, IfErr, IfSome, IsErrAnd, IsSomeAnd, String, option_map, string_bytes, Global, Any, map-append, SourceValue, source_value, Source, SourceFault, AreRead, IsNotRead, StopsReading, name_of, one_of, Fault, Memory, common_steps}
-
-pub any_first : {X : Type 0} (P : X → Type 0) (x : X) (xs : List X) → P x → Any P (x ∷ xs)
-any_first P x xs p = (0, x, omega arith, refl, p)
-
-pub any_later : {X : Type 0} (P : X → Type 0) (x : X) (xs : List X) → Any P xs → Any P (x ∷ xs)
-any_later P x xs any = (suc any.0, any.1, omega (arith, any.2), any.3, any.4)
+use Rattle.gk_program.proofs.Common.{◌≡◌, inl, inr, subst, ◌++◌, ap, sym, refl, arith, ℕ, List, [], ◌∷◌, map, append_assoc, Option, Some, None, Result, Ok, Err, IfErr, IsErrAnd, String, option_map, string_bytes, Global, map-append, SourceValue, source_value, Source, SourceFault, AreRead, IsNotRead, StopsReading, name_of, one_of, Fault, OfRun, TooLong, common_steps}
+use Rattle.gk_request.specs.declared.run_fault.RunFault.TheVariants.{Memory}
 
 -- one more is read: its name goes from the names that are left to those of the sources
 pub one_source_more : {X Y : Type 0} (f : X → List ℕ) (g : Y → List ℕ) (xs more : List X) (x : X) (left : List Y) (y : Y) (rest : List Y) (all : List (List ℕ))
@@ -16,14 +11,6 @@ one_source_more f g xs more x left y rest all grown step same before = grind (ar
 pub passed_on : {T E : Type 0} {Q P : E → Type 0} (r : Result T E) → IsErrAnd r Q → ((e : E) → Q e → P e) → IfErr r P
 passed_on (Ok x) h f = absurd h
 passed_on (Err e) h f = f e h
-
--- a fault that a named file alone has
-pub named_file : {X : Type 0} (P : X → Type 0) (name : Option X) → IfSome name P → (name ≡ None → ⊥) → IsSomeAnd name P
-named_file P None says none = absurd (none refl)
-named_file P (Some n) says none = says
-
-pub err_is_not_ok : {T E : Type 0} (e : E) (x : T) → Err e ≡ Ok x → ⊥
-err_is_not_ok e x h = cc
 
 -- one reading after another
 pub reads_both : {S : Type 0} (r : S → List ℕ → Result (List ℕ) SourceFault → S → Type 0) (a b c : S) (xs ys : List SourceValue) → AreRead r a xs b → AreRead r b ys c → AreRead r a (xs ++ ys) c
@@ -48,11 +35,11 @@ pub stops_sooner : {S : Type 0} (r : S → List ℕ → Result (List ℕ) Source
 stops_sooner r a c names more fault stops = grind (arith, common_steps)
 
 -- the first of some files isn't read
-pub stops_at : {S : Type 0} (r : S → List ℕ → Result (List ℕ) SourceFault → S → Type 0) (a c : S) (name : List ℕ) (rest : List (List ℕ)) (fault : Fault) → IsNotRead r a name c fault → StopsReading r a (name ∷ rest) c fault
+pub stops_at : {S : Type 0} (r : S → List ℕ → Result (List ℕ) SourceFault → S → Type 0) (a c : S) (name : List ℕ) (rest : List (List ℕ)) (fault : Fault) → IsNotRead r TooLong a name c fault → StopsReading r a (name ∷ rest) c fault
 stops_at r a c name rest fault stops = record { files = []; left = name ∷ rest; between = a; order = refl; read = refl; stops = inl stops }
 
 -- memory ran out before the next of some files
-pub stops_for_memory : {S : Type 0} (r : S → List ℕ → Result (List ℕ) SourceFault → S → Type 0) (a : S) (names : List (List ℕ)) (fault : Fault) → fault ≡ Memory → StopsReading r a names a fault
+pub stops_for_memory : {S : Type 0} (r : S → List ℕ → Result (List ℕ) SourceFault → S → Type 0) (a : S) (names : List (List ℕ)) (fault : Fault) → fault ≡ OfRun Memory → StopsReading r a names a fault
 stops_for_memory r a [] fault is = record { files = []; left = []; between = a; order = refl; read = refl; stops = (refl, is) }
 stops_for_memory r a (name ∷ names) fault is = record { files = []; left = name ∷ names; between = a; order = refl; read = refl; stops = inr (refl, is) }
 

@@ -4,4 +4,3 @@ mod FilesLemmas
 mod WorldFilesLemmas
 pub mod ProgramLemmas
 mod AskedLemmas
-mod EndedLemmas

@@ -1,11 +1,8 @@
 -- What the program reports and returns, in reading order. A definition whose comment names no source is this project's profile, or a word that the others use.
 pub mod FaultPlace
 pub mod Fault
-pub mod ShownFault
-pub mod EnvFault
 pub mod Files
 pub mod Asked
-pub mod FaultListing
 pub mod WorldFiles
 pub mod Program
 pub mod Ended

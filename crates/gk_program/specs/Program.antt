@@ -1,47 +1,27 @@
--- What the program returns and writes.
-use Rattle.std.specs.Prelude.{◌≡◌, ◌⊎◌, ◌<◌, ◌≤◌, ◌+◌, ◌++◌, ℕ, true, List, [], ◌∷◌, map, None, Result, Ok, Err, IsSomeAnd, option_map, string_bytes}
+-- What the program writes to standard output.
+use Rattle.std.specs.Prelude.{◌≡◌, ◌⊎◌, ℕ, List, map, Some, Result, Ok, Err, option_map, string_bytes}
 use Rattle.std.specs.Io.KnownBytes.{Keeps}
-use Rattle.std.specs.List.{All, Any}
-use Rattle.clap.specs.Words.{Text}
 use Rattle.gk_world.specs.State.{Contents, nothing_yet}
-use Rattle.gk_world.specs.Refusals.{put_refusal}
-use Rattle.gk_world.specs.Sandbox.{SandboxValue, with_env}
-use Rattle.gk_cli.specs.Arguments.{PairValue, is_lint, pair_value}
+use Rattle.gk_gherkin.specs.Feature.{texts}
 use Rattle.gk_io.specs.Counted.{one_more}
-use Rattle.gk_request.specs.Request.{Request, FilesValue, request_of_files}
-use Rattle.gk_cli.specs.Writing.{Device, IsUntouched, IsStopped, IsWritten}
-use Rattle.gk_cli.specs.Modes.{IsStoppedAs, IsWrittenAs, SaysFaultAs}
-use Rattle.gk_request.specs.FaultLine.{name_at_fault}
-use Rattle.gk_cli.specs.declared.arguments.Mode.{Mode}
-use Rattle.gk_cli.specs.declared.arguments.Mode.TheVariants.{Findings}
-use Rattle.gk_cli.specs.declared.arguments.Words.{Words}
+use Rattle.gk_request.specs.Request.{Request, FilesValue, files_value, request_of_files}
 use Rattle.gk_request.specs.declared.run_fault.RunFault.{RunFault}
-use Rattle.gk_request.specs.declared.run_fault.RunFault.TheVariants as run
-use Rattle.gk_program.specs.Asked.{SaysGiven, files_to_put, names_given}
-use Rattle.gk_program.specs.EnvFault.{IsFaultOfVariable}
-use Rattle.gk_program.specs.FaultListing.{IsListedAs}
+use Rattle.gk_request.specs.declared.run_fault.RunFault.TheVariants.{Write}
+use Rattle.gk_cli.specs.Arguments.{PairValue, pair_value}
+use Rattle.gk_cli.specs.Modes.{IsWrittenAs, SaysFaultAs}
+use Rattle.gk_cli.specs.Writing.{Device, IsStopped, IsUntouched, IsWritten, UsesWriter}
+use Rattle.gk_cli.specs.declared.arguments.Mode.{Mode}
+use Rattle.gk_cli.specs.declared.arguments.Words.{Words}
+use Rattle.gk_program.specs.Asked.{files_to_put, names_given}
+use Rattle.gk_program.specs.Fault.{alone}
 use Rattle.gk_program.specs.Files.{AreRead, Reading, StopsReading, files_in_order}
-use Rattle.gk_program.specs.ShownFault.{IsFaultIn}
-use Rattle.gk_program.specs.declared.fault.Fault.{Fault}
-use Rattle.gk_program.specs.WorldFiles.{ArePut, StopsPutting}
-use Rattle.gk_program.specs.declared.fault.Fault.TheVariants.{NotUtf8, Usage, Env, File, NotText, TextTooLong, CannotRead, TooLong, OfRun, Write, Memory}
-use Rattle.gk_program.specs.declared.asked.ArgumentsFault.{ArgumentsFault}
+use Rattle.gk_program.specs.WorldFiles.{ArePut, AreTaken, StopsAtVariable, StopsPutting, with_variables}
 use Rattle.gk_program.specs.declared.asked.Asked.{Asked}
-use Rattle.gk_program.specs.declared.asked.Asked.TheVariants.{Help, Run}
-
--- Standard output failed, and moved a byte in each call except at most one, or it was not called at all.
-abbrev pub SaysCalls : Device → Device → Fault → Type 0
-SaysCalls old new Write = (old.failures < new.failures) × (new.idle ≤ old.idle + 1)
-SaysCalls old new _ = IsUntouched old new
-
--- A prefix of the output of some run was written, and then memory was refused.
-abbrev pub IsCutShortForSome : Device → Device → Type 0
-IsCutShortForSome old new = (mode : Mode) × (files : FilesValue) × (request : Request) × (contents : Contents) × IsStoppedAs mode files request contents old new run.Memory
-
--- Standard output failed, or it was not called at all, or memory was refused after a prefix of a run's output was written.
-abbrev pub SaysCallsOfRun : Device → Device → Fault → Type 0
-SaysCallsOfRun old new Memory = IsUntouched old new ⊎ IsCutShortForSome old new
-SaysCallsOfRun old new fault = SaysCalls old new fault
+use Rattle.gk_program.specs.declared.asked.Asked.TheVariants.{Help, Nothing, Run}
+use Rattle.gk_program.specs.declared.fault.Fault.{Fault}
+use Rattle.gk_program.specs.declared.fault.Fault.TheVariants.{OfRun}
+use Rattle.gk_program.specs.declared.fault.Faults.{Faults}
+use Rattle.gk_program.specs.declared.fault.Inputs.{Inputs}
 
 -- Standard output was flushed once, and took nothing more.
 pub record IsFlushed (old new : Device) : Type 0 where
@@ -65,83 +45,29 @@ pub record FailsToFlushText (text : List ℕ) (old new : Device) : Type 0 where
   pub flushed : IsFlushed written new
   pub failed : new.failures ≡ one_more old.failures
 
--- Why this text was not shown, and which part of it was written. If a write failed, a prefix was written, and nothing was flushed. If the flush failed, all of it was written. If memory was refused, nothing was written, and standard output was not called.
-abbrev pub IsTextFault : List ℕ → Device → Device → Fault → Type 0
-IsTextFault text old new Write = IsStopped old new text run.Write ⊎ FailsToFlushText text old new
-IsTextFault text old new Memory = IsUntouched old new
-IsTextFault text old new _ = ⊥
+-- Why this text was not shown, and which part of it was written. If a write failed, a prefix was written, and nothing was flushed. If the flush failed, all of it was written.
+abbrev pub IsTextFault : List ℕ → Device → Device → RunFault → Type 0
+IsTextFault text old new Write = IsStopped old new text Write ⊎ FailsToFlushText text old new
+IsTextFault text old new fault = ⊥
 
--- Contents with some variables put in, in order. If several have the same name, the last one counts.
-abbrev pub with_variables : Contents → List PairValue → Contents
-with_variables c [] = c
-with_variables c (v ∷ vs) = with_variables (with_env c v.name v.text) vs
+-- What a flush after this result of a call gives: the same result, or that the flush failed. After a fault nothing is flushed.
+abbrev pub SaysFlush : Result ℕ RunFault → Device → Device → Result ℕ RunFault → Type 0
+SaysFlush (Ok status) old new (Ok same) = (same ≡ status) × IsFlushed old new × (new.failures ≡ old.failures)
+SaysFlush (Ok status) old new (Err fault) = (fault ≡ Write) × IsFlushed old new × (new.failures ≡ one_more old.failures)
+SaysFlush (Err fault) old new result = (result ≡ Err fault) × (new ≡ old)
 
--- A variable that no sandbox takes, because of a bad name or a text that is too long, with its fault.
-abbrev pub IsRefused : Mode → Fault → PairValue → Type 0
-IsRefused mode fault v = IsSomeAnd (put_refusal v.name v.text) (λ reason. IsFaultOfVariable mode v.name reason fault)
+-- The output of a suite and its status, or why it has none.
+abbrev pub SaysSuite : Mode → FilesValue → Request → Contents → Device → Device → Result ℕ RunFault → Type 0
+SaysSuite mode files request contents old new (Ok status) = IsWrittenAs mode files request contents old new status
+SaysSuite mode files request contents old new (Err fault) = SaysFaultAs mode files request contents old new fault
 
--- A sandbox takes each of these variables.
-abbrev pub AreTaken : List PairValue → Type 0
-AreTaken variables = All (λ v. put_refusal v.name v.text ≡ None) variables
-
--- The first of these variables that no sandbox takes, with its fault.
-pub record IsFirstRefused (mode : Mode) (fault : Fault) (variables : List PairValue) : Type 0 where
-  pub before : List PairValue
-  pub variable : PairValue
-  pub after : List PairValue
-  pub whole : variables ≡ before ++ variable ∷ after
-  pub taken : AreTaken before
-  pub refused : IsRefused mode fault variable
-
--- Memory was refused at the variable after these. A sandbox takes these, and that variable, too, unless the memory was for notes, which only `--lint` has.
-pub record IsMemoryAfter (mode : Mode) (before variables : List PairValue) : Type 0 where
-  pub variable : PairValue
-  pub after : List PairValue
-  pub whole : variables ≡ before ++ variable ∷ after
-  pub taken : AreTaken before
-  pub why : (put_refusal variable.name variable.text ≡ None) ⊎ (is_lint mode ≡ true)
-
--- Proof machinery: the variables are in the sandbox, and its layers are unchanged; or the first that is refused has the fault. If memory was refused at a variable, those before it are in the sandbox.
-abbrev pub SaysVariables : Mode → List PairValue → SandboxValue → SandboxValue → Result (Unit {0}) Fault → Type 0
-SaysVariables mode variables old new (Ok u) = (new.now ≡ with_variables old.now variables) × (new.saved ≡ old.saved) × AreTaken variables
-SaysVariables mode variables old new (Err (Env notes)) = IsFirstRefused mode (Env notes) variables
-SaysVariables mode variables old new (Err Memory) = (before : List PairValue) × IsMemoryAfter mode before variables × (new.now ≡ with_variables old.now before) × (new.saved ≡ old.saved)
-SaysVariables mode variables old new (Err _) = ⊥
-
--- The program's fault for a fault of the run: the same fault, with a file's name in place of its number.
-abbrev pub IsFaultOfRun : FilesValue → RunFault → Fault → Type 0
-IsFaultOfRun files run.Write fault = fault ≡ Write
-IsFaultOfRun files run.Memory fault = fault ≡ Memory
-IsFaultOfRun files by (OfRun name same) = (same ≡ by) × (option_map string_bytes name ≡ name_at_fault files by)
-IsFaultOfRun files by other = ⊥
-
--- The program's fault for a fault of the run, by the mode. With `--lint`, all invalid files are listed.
-abbrev pub IsFaultAs : Mode → List (List ℕ) → FilesValue → RunFault → Fault → Type 0
-IsFaultAs (Findings steps) tags files run.Write fault = IsFaultOfRun files run.Write fault
-IsFaultAs (Findings steps) tags files run.Memory fault = IsFaultOfRun files run.Memory fault
-IsFaultAs (Findings steps) tags files by fault = IsListedAs tags files by fault
-IsFaultAs mode tags files by fault = IsFaultOfRun files by fault
-
--- The output of a run was written and flushed, and its status is returned.
-pub record IsFlushedRun (mode : Mode) (files : FilesValue) (request : Request) (contents : Contents) (old new : Device) (status : ℕ) : Type 0 where
-  pub written : Device
-  pub is : IsWrittenAs mode files request contents old written status
-  pub flushed : IsFlushed written new
-
--- The output of a run was written, and then the flush failed.
-pub record FailsToFlush (mode : Mode) (files : FilesValue) (request : Request) (contents : Contents) (old new : Device) (fault : Fault) : Type 0 where
-  pub named : fault ≡ Write
-  pub status : ℕ
-  pub written : Device
-  pub is : IsWrittenAs mode files request contents old written status
-  pub flushed : IsFlushed written new
-  pub failed : new.failures ≡ one_more old.failures
-
--- A fault after the files are read: that of the run, or of the flush.
-abbrev pub SaysSuite : Mode → FilesValue → Request → Contents → Device → Device → Fault → Type 0
-SaysSuite mode files request contents old new fault =
-    ((by : RunFault) × IsFaultAs mode request.tags files by fault × SaysFaultAs mode files request contents old new by)
-    ⊎ FailsToFlush mode files request contents old new fault
+-- The output of a suite was written and flushed once, and its status is returned; or it was not, with the fault of the suite or of the flush.
+pub record IsOutput (mode : Mode) (files : FilesValue) (request : Request) (contents : Contents) (old new : Device) (result : Result ℕ RunFault) : Type 0 where
+  pub written : Result ℕ RunFault
+  pub between : Device
+  pub suite : SaysSuite mode files request contents old between written
+  pub used : UsesWriter written old between
+  pub flush : SaysFlush written between new result
 
 -- The sources have the names of the given files, in order. There is a library file if and only if one was given, and it has the given name; the same holds for the hooks file.
 pub record AreGiven (w : Words) (files : FilesValue) : Type 0 where
@@ -157,102 +83,54 @@ variables_given w = map pair_value w.env.items
 abbrev pub contents_given : Words → Contents
 contents_given w = with_variables nothing_yet (variables_given w)
 
--- The given files, and no others, were read from the system, in order. The output and the status are those of one run of the bytes that it returned, which begins with these contents.
-pub record IsRunFrom {S : Type 0} (reads : Reading S) (w : Words) (contents : Contents) (before after : S) (old new : Device) (status : ℕ) : Type 0 where
-  pub files : FilesValue
-  pub given : AreGiven w files
-  pub read : AreRead reads before (files_in_order files) after
-  pub run : IsFlushedRun w.mode files (request_of_files w.options files) contents old new status
-
--- The variables are taken. Then each file of `--file` was read from the system and put under its name, in order. The rest is one run that begins with these contents.
-pub record IsRun {S : Type 0} (reads : Reading S) (w : Words) (before after : S) (old new : Device) (status : ℕ) : Type 0 where
+-- The world has these contents before a run: the variables are taken, and then each file of `--file` was read from the system and put under its name, in order.
+pub record IsPrepared {S : Type 0} (reads : Reading S) (w : Words) (before after : S) (contents : Contents) : Type 0 where
   pub taken : AreTaken (variables_given w)
+  pub put : ArePut reads (files_to_put w) before after (contents_given w) contents
+
+-- Why a run isn't begun: a variable isn't taken, a file of `--file` isn't put, or a given file isn't read. It is the first such fault, and no file was read after it.
+abbrev pub StopsBefore : {S : Type 0} → Reading S → Words → S → S → Fault → Type 0
+StopsBefore {S} reads w before after fault =
+    StopsAtVariable (variables_given w) fault × (before ≡ after)
+    ⊎ (AreTaken (variables_given w) × StopsPutting reads (files_to_put w) before after fault
+    ⊎ ((start : S) × (contents : Contents) × IsPrepared reads w before start contents × StopsReading reads start (names_given w) after fault))
+
+-- What a run with these words gives for this result of its output: the status, or the fault with the inputs of the run.
+abbrev pub IsResultOf : Words → FilesValue → Result ℕ RunFault → Result ℕ Faults → Type 0
+IsResultOf w files (Ok status) done = done ≡ Ok status
+IsResultOf w files (Err fault) done =
+    (inputs : Inputs) × (texts inputs.tags.items ≡ texts w.options.tags.items) × (files_value inputs.files ≡ files)
+    × (done ≡ Err (record { first = OfRun fault; inputs = Some inputs }))
+
+-- The world is prepared. Then the given files, and no others, were read from the system, in order. The output and the status are those of one run of the bytes that it returned, which begins with the contents of the world.
+pub record IsRun {S : Type 0} (reads : Reading S) (w : Words) (before after : S) (old new : Device) (done : Result ℕ Faults) : Type 0 where
   pub start : S
   pub contents : Contents
-  pub put : ArePut reads (files_to_put w) before start (contents_given w) contents
-  pub run : IsRunFrom reads w contents start after old new status
-
--- A file of this name was given.
-abbrev pub IsGiven : Words → List ℕ → Type 0
-IsGiven w name = IsSomeAnd w.library (λ file. name ≡ string_bytes file) ⊎ (IsSomeAnd w.hooks (λ file. name ≡ string_bytes file) ⊎ Any (λ file. name ≡ string_bytes file) w.files.items)
-
--- A fault of the run of the given files, with the bytes that the system returned.
-pub record IsFaultOfGiven {S : Type 0} (reads : Reading S) (w : Words) (contents : Contents) (before after : S) (old new : Device) (fault : Fault) : Type 0 where
+  pub prepared : IsPrepared reads w before start contents
   pub files : FilesValue
   pub given : AreGiven w files
-  pub read : AreRead reads before (files_in_order files) after
-  pub says : SaysSuite w.mode files (request_of_files w.options files) contents old new fault
+  pub read : AreRead reads start (files_in_order files) after
+  pub result : Result ℕ RunFault
+  pub output : IsOutput w.mode files (request_of_files w.options files) contents old new result
+  pub done_is : IsResultOf w files result done
 
--- A given file is the first that the system didn't return, and this is its fault. No file was read after it.
-pub record IsFaultOfName {S : Type 0} (reads : Reading S) (w : Words) (before after : S) (name : List ℕ) (fault : Fault) : Type 0 where
-  pub given : IsGiven w name
-  pub stops : StopsReading reads before (names_given w) after fault
+-- Nothing is done, because of this fault, and standard output isn't called.
+abbrev pub IsNothing : Device → Device → Fault → Result ℕ Faults → Type 0
+IsNothing old new fault done = IsUntouched old new × (done ≡ Err (alone fault))
 
--- Proof machinery: a fault of reading files, in this mode: with `--lint`, a file that can't be read has a hint.
-abbrev pub hinted : Mode → Fault → Fault
-hinted mode (CannotRead name hint) = CannotRead name (is_lint mode)
-hinted mode fault = fault
+-- What a run with these words gives.
+abbrev pub SaysRun : {S : Type 0} → Reading S → Words → S → S → Device → Device → Result ℕ Faults → Type 0
+SaysRun reads w before after old new done =
+    ((fault : Fault) × StopsBefore reads w before after fault × IsNothing old new fault done)
+    ⊎ IsRun reads w before after old new done
 
--- What each fault of a run from these contents says. A file that can't be read is the first such file; with `--lint`, it has a hint. If memory was refused, nothing was written and reading stopped, or all files were read and the fault is the run's.
-abbrev pub SaysRunFrom : {S : Type 0} → Reading S → Words → Contents → S → S → Device → Device → Fault → Type 0
-SaysRunFrom reads w contents before after old new NotUtf8 = ⊥
-SaysRunFrom reads w contents before after old new (Usage text) = ⊥
-SaysRunFrom reads w contents before after old new (Env notes) = ⊥
-SaysRunFrom reads w contents before after old new File = ⊥
-SaysRunFrom reads w contents before after old new (NotText name) = ⊥
-SaysRunFrom reads w contents before after old new (TextTooLong name) = ⊥
-SaysRunFrom reads w contents before after old new (CannotRead name hint) = IsFaultOfName reads w before after (string_bytes name) (CannotRead name hint) × (hint ≡ is_lint w.mode)
-SaysRunFrom reads w contents before after old new (TooLong name) = IsFaultOfName reads w before after (string_bytes name) (TooLong name)
-SaysRunFrom reads w contents before after old new Memory = (IsUntouched old new × StopsReading reads before (names_given w) after Memory) ⊎ IsFaultOfGiven reads w contents before after old new Memory
-SaysRunFrom reads w contents before after old new fault = IsFaultOfGiven reads w contents before after old new fault
+-- What showing a text gives.
+abbrev pub SaysShown : List ℕ → Device → Device → Result ℕ Faults → Type 0
+SaysShown text old new (Ok status) = IsShown text old new status
+SaysShown text old new (Err faults) = (fault : RunFault) × IsTextFault text old new fault × (faults ≡ alone (OfRun fault))
 
--- A variable is refused, or memory at a variable. The system is unchanged, and standard output was not called.
-abbrev pub IsFaultOfVariables : {S : Type 0} → Words → S → S → Device → Device → Fault → Type 0
-IsFaultOfVariables w before after old new (Env notes) = IsFirstRefused w.mode (Env notes) (variables_given w) × (before ≡ after) × IsUntouched old new
-IsFaultOfVariables w before after old new Memory = ((taken : List PairValue) × IsMemoryAfter w.mode taken (variables_given w)) × (before ≡ after) × IsUntouched old new
-IsFaultOfVariables w before after old new fault = ⊥
-
--- The variables are taken, a file of `--file` is not put, and standard output was not called.
-pub record IsFaultOfPutting {S : Type 0} (reads : Reading S) (w : Words) (before after : S) (old new : Device) (fault : Fault) : Type 0 where
-  pub taken : AreTaken (variables_given w)
-  pub stops : StopsPutting reads (files_to_put w) before after fault
-  pub untouched : IsUntouched old new
-
--- The variables are taken, the files of `--file` are put, and then the run has this fault.
-pub record IsFaultOfRunning {S : Type 0} (reads : Reading S) (w : Words) (before after : S) (old new : Device) (fault : Fault) : Type 0 where
-  pub taken : AreTaken (variables_given w)
-  pub start : S
-  pub contents : Contents
-  pub put : ArePut reads (files_to_put w) before start (contents_given w) contents
-  pub says : SaysRunFrom reads w contents start after old new fault
-
--- What each fault says of what was asked for: it is one of the variables, of the files of `--file`, or of the run.
-abbrev pub SaysProgram : {S : Type 0} → Reading S → Words → S → S → Device → Device → Fault → Type 0
-SaysProgram reads w before after old new fault =
-    IsFaultOfVariables w before after old new fault
-    ⊎ (IsFaultOfPutting reads w before after old new fault ⊎ IsFaultOfRunning reads w before after old new fault)
-
--- What each fault says of what was asked for, as it is printed in the mode that was asked for.
-abbrev pub SaysPrinted : {S : Type 0} → Reading S → Words → S → S → Device → Device → Fault → Type 0
-SaysPrinted reads w before after old new printed = (fault : Fault) × SaysProgram reads w before after old new fault × IsFaultIn w.mode fault printed
-
--- What was asked for was done. For help, its text was written and flushed, with status 0, and the system is unchanged. Otherwise there was a run.
-abbrev pub IsDone : {S : Type 0} → Reading S → Asked → S → S → Device → Device → ℕ → Type 0
-IsDone reads (Help text) before after old new status = IsShown (string_bytes text) old new status × (before ≡ after)
-IsDone reads (Run w) before after old new status = IsRun reads w before after old new status
-
--- Why what was asked for was not done, and which part of its output was written.
-abbrev pub IsFaultOfAsked : {S : Type 0} → Reading S → Asked → S → S → Device → Device → Fault → Type 0
-IsFaultOfAsked reads (Help text) before after old new fault = IsTextFault (string_bytes text) old new fault × SaysCalls old new fault × (before ≡ after)
-IsFaultOfAsked reads (Run w) before after old new fault = SaysPrinted reads w before after old new fault
-
--- What these arguments ask for was done.
-abbrev pub IsDoneFor : {S : Type 0} → Reading S → Result (List Text) ArgumentsFault → S → S → Device → Device → ℕ → Type 0
-IsDoneFor reads arguments before after old new status =
-    (asked : Asked) × SaysGiven arguments (Ok asked) × IsDone reads asked before after old new status
-
--- These arguments are at fault, standard output was not called, and the system is unchanged; or what they ask for was not done.
-abbrev pub IsFaultFor : {S : Type 0} → Reading S → Result (List Text) ArgumentsFault → S → S → Device → Device → Fault → Type 0
-IsFaultFor reads arguments before after old new fault =
-    (SaysGiven arguments (Err fault) × IsUntouched old new × (before ≡ after))
-    ⊎ ((asked : Asked) × SaysGiven arguments (Ok asked) × IsFaultOfAsked reads asked before after old new fault)
+-- What was done of what the arguments ask for, and what was written to standard output. Only a run reads files.
+abbrev pub SaysDone : {S : Type 0} → Reading S → Asked → S → S → Device → Device → Result ℕ Faults → Type 0
+SaysDone reads (Help text) before after old new done = SaysShown (string_bytes text) old new done × (before ≡ after)
+SaysDone reads (Run w) before after old new done = SaysRun reads w before after old new done
+SaysDone reads (Nothing fault mode) before after old new done = IsNothing old new fault done × (before ≡ after)

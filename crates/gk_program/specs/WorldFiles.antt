@@ -1,16 +1,50 @@
--- The files that `--file` puts into the world before a run.
+-- The variables of `--env` and the files of `--file`, which are put into the world before a run.
 use Rattle.std.specs.Prelude.{◌≡◌, ◌⊎◌, ◌++◌, IsUtf8, ℕ, true, false, List, ◌∷◌, fold, map, None, Result, Ok, Err, string_bytes}
 use Rattle.std.specs.List.{All}
 use Rattle.gk_world.specs.State.{Contents}
-use Rattle.gk_world.specs.Refusals.{is_bad_name, is_too_long, put_refusal}
-use Rattle.gk_world.specs.Sandbox.{SandboxValue, with_file}
+use Rattle.gk_world.specs.Refusals.{IsFault, is_bad_name, is_too_long, put_refusal}
+use Rattle.gk_world.specs.Sandbox.{SandboxValue, with_env, with_file}
+use Rattle.gk_world.specs.declared.refusals.WorldFault.{WorldFault}
+use Rattle.gk_world.specs.declared.refusals.WorldFault.TheVariants as world
+use Rattle.gk_findings.specs.declared.hints.EnvMistake.{EnvMistake}
+use Rattle.gk_findings.specs.declared.hints.EnvMistake.TheVariants.{BadName, LongValue}
 use Rattle.gk_cli.specs.Arguments.{PairValue}
 use Rattle.gk_request.specs.Source.{SourceValue}
-use Rattle.gk_io.specs.declared.whole_read.SourceFault.{SourceFault}
-use Rattle.gk_io.specs.declared.whole_read.SourceFault.TheVariants as reading
-use Rattle.gk_program.specs.Files.{AreRead, Reading}
+use Rattle.gk_request.specs.declared.run_fault.RunFault.TheVariants.{Memory}
+use Rattle.gk_program.specs.Files.{AreRead, IsNotRead, Reading}
 use Rattle.gk_program.specs.declared.fault.Fault.{Fault}
-use Rattle.gk_program.specs.declared.fault.Fault.TheVariants.{File, CannotRead, NotText, TextTooLong, Memory}
+use Rattle.gk_program.specs.declared.fault.Fault.TheVariants.{Env, File, OfFile, OfRun}
+use Rattle.gk_program.specs.declared.fault.FileFault.TheVariants.{NotText, TextTooLong}
+
+-- Contents with some variables put in, in order. If several have the same name, the last one counts.
+abbrev pub with_variables : Contents → List PairValue → Contents
+with_variables c variables = fold (λ c v. with_env c v.name v.text) c variables
+
+-- The world takes each of these variables.
+abbrev pub AreTaken : List PairValue → Type 0
+AreTaken variables = All (λ v. put_refusal v.name v.text ≡ None) variables
+
+-- What is wrong with a variable that the world refuses for this reason.
+abbrev pub mistake_of : WorldFault → EnvMistake
+mistake_of world.TextTooLong = LongValue
+mistake_of fault = BadName
+
+-- The fault of a variable of this name that the world refuses, for this reason.
+abbrev pub IsFaultOfVariable : List ℕ → WorldFault → Fault → Type 0
+IsFaultOfVariable name world.Memory fault = fault ≡ OfRun Memory
+IsFaultOfVariable name by (Env mistake same) = (string_bytes same ≡ name) × (mistake ≡ mistake_of by)
+IsFaultOfVariable name by fault = ⊥
+
+-- Some variables are taken, and the next isn't, for this reason: its name is bad or its text is too long, or there is no such reason and memory was refused.
+pub record StopsAtVariable (given : List PairValue) (fault : Fault) : Type 0 where
+  pub before : List PairValue
+  pub next : PairValue
+  pub left : List PairValue
+  pub all : before ++ next ∷ left ≡ given
+  pub taken : AreTaken before
+  pub by : WorldFault
+  pub refused : IsFault (put_refusal next.name next.text) by
+  pub stops : IsFaultOfVariable next.name by fault
 
 -- A file that was put into the world: its name there, the path that was read, and the text that was found.
 pub record PutFile : Type 0 where
@@ -42,15 +76,18 @@ pub record ArePut {S : Type 0} (reads : Reading S) (given : List PairValue) (bef
   pub texts : All IsText files
   pub put : new ≡ with_files old files
 
--- Why a file with a good name isn't put: its path can't be read, which has no hint; its bytes aren't UTF-8, or they are and are too many, or it has more than any file may have; or memory was refused.
+-- Why these bytes of the file of this path aren't put: they aren't UTF-8, or they are and are too many, or memory was refused.
+abbrev pub IsNoText : List ℕ → List ℕ → Fault → Type 0
+IsNoText path bytes (OfFile name NotText) = (string_bytes name ≡ path) × (IsUtf8 bytes → ⊥)
+IsNoText path bytes (OfFile name TextTooLong) = (string_bytes name ≡ path) × IsUtf8 bytes × (is_too_long bytes ≡ true)
+IsNoText path bytes (OfRun fault) = fault ≡ Memory
+IsNoText path bytes fault = ⊥
+
+-- Why a file with a good name isn't put: its path can't be read, or not what was read.
 abbrev pub IsFaultOfFile : {S : Type 0} → Reading S → S → PairValue → S → Fault → Type 0
-IsFaultOfFile reads before given after (CannotRead path hinted) = (string_bytes path ≡ given.text) × (hinted ≡ false) × reads before given.text (Err reading.Device) after
-IsFaultOfFile reads before given after (NotText path) = (string_bytes path ≡ given.text) × ((bytes : List ℕ) × reads before given.text (Ok bytes) after × (IsUtf8 bytes → ⊥))
-IsFaultOfFile reads before given after (TextTooLong path) =
-    (string_bytes path ≡ given.text)
-    × (reads before given.text (Err reading.TooLong) after ⊎ ((bytes : List ℕ) × reads before given.text (Ok bytes) after × IsUtf8 bytes × (is_too_long bytes ≡ true)))
-IsFaultOfFile {S} reads before given after Memory = (before ≡ after) ⊎ ((answer : Result (List ℕ) SourceFault) × reads before given.text answer after)
-IsFaultOfFile reads before given after fault = ⊥
+IsFaultOfFile reads before given after fault =
+    IsNotRead reads TextTooLong before given.text after fault
+    ⊎ ((bytes : List ℕ) × reads before given.text (Ok bytes) after × IsNoText given.text bytes fault)
 
 -- Why the file of this name and path isn't put. A bad name is found before the path is read.
 abbrev pub IsNotPut : {S : Type 0} → Reading S → S → PairValue → S → Fault → Type 0
@@ -76,17 +113,7 @@ pub record IsPut {S : Type 0} (reads : Reading S) (given : PairValue) (before af
   pub put : new.now ≡ with_file old.now given.name text
   pub layers : new.saved ≡ old.saved
 
--- Proof machinery: the fault of a path that can't be read.
-abbrev pub IsFaultOfPath : List ℕ → SourceFault → Fault → Type 0
-IsFaultOfPath path reading.Device (CannotRead name hinted) = (string_bytes name ≡ path) × (hinted ≡ false)
-IsFaultOfPath path reading.TooLong (TextTooLong name) = string_bytes name ≡ path
-IsFaultOfPath path reading.Memory Memory = Unit {0}
-IsFaultOfPath path by fault = ⊥
-
--- Proof machinery: bytes are put as the text of a file, or they aren't UTF-8 or too long, or memory was refused.
+-- Proof machinery: bytes are put as the text of a file, or not.
 abbrev pub SaysText : List ℕ → List ℕ → List ℕ → SandboxValue → SandboxValue → Result (Unit {0}) Fault → Type 0
 SaysText name bytes path old new (Ok u) = IsUtf8 bytes × (put_refusal name bytes ≡ None) × (new.now ≡ with_file old.now name bytes) × (new.saved ≡ old.saved)
-SaysText name bytes path old new (Err (NotText p)) = (string_bytes p ≡ path) × (IsUtf8 bytes → ⊥)
-SaysText name bytes path old new (Err (TextTooLong p)) = (string_bytes p ≡ path) × IsUtf8 bytes × (is_too_long bytes ≡ true)
-SaysText name bytes path old new (Err Memory) = Unit {0}
-SaysText name bytes path old new (Err fault) = ⊥
+SaysText name bytes path old new (Err fault) = IsNoText path bytes fault

@@ -1,13 +1,13 @@
 //! What the arguments ask for.
 ghost use Rattle.std.specs.Prelude.{◌≡◌, ◌++◌, map, IfOk, OnOk, option_map, string_bytes};
 ghost use Rattle.gk_cli.specs.Arguments.{pair_value};
-ghost use Rattle.gk_program.specs.Asked.{AreNamesAsked, SaysAsked, SaysError, SaysGiven, fault_without, given_value, names_asked_by};
+ghost use Rattle.gk_program.specs.Asked.{AreNamesAsked, SaysAsked, SaysError, SaysGiven, given_value, names_asked_by, nothing_asked};
 ghost use Rattle.gk_program.specs.Files.{one_of};
 
-use crate::env_fault::fault_of_env;
 use crate::fault::Fault;
-use gk_cli::{Words, WordsFault, read_words};
+use gk_cli::{Mode, Words, WordsFault, read_words};
 use gk_findings::EnvMistake;
+use gk_request::RunFault;
 use std::alloc::{AllocError, Global};
 
 /// Why there are no arguments.
@@ -19,62 +19,67 @@ pub enum ArgumentsFault {
     Memory,
 }
 
-/// What the arguments ask for: help or the version, whose text is clap's own, or a run.
+/// What the arguments ask for: help or the version, whose text is clap's own, a run, or nothing, because of a fault, which
+/// is printed in this mode.
 #[derive(Debug, Drop)]
 pub enum Asked {
     Help { text: String },
     Run(Words),
+    Nothing { fault: Fault, mode: Mode },
+}
+
+// Returns a fault of the arguments without their mode, which isn't known, or doesn't matter.
+fn nothing(fault: Fault) -> Asked
+    ensures { result ≡ nothing_asked fault }
+{
+    Asked::Nothing {
+        fault,
+        mode: Mode::Report,
+    }
 }
 
 // Returns clap's error as a mistake or a request for help. Clap reports both as errors.
-fn asked_for(alloc: Global, error: clap::Error) -> Result<Asked, Fault>
+fn asked_for(alloc: Global, error: clap::Error) -> Asked
     ensures { SaysError error result }
 {
-    let text = format!(in alloc; "{error}")?;
+    let Ok(text) = format!(in alloc; "{error}") else {
+        return nothing(Fault::OfRun(RunFault::Memory));
+    };
     if error.use_stderr() {
-        Err(Fault::Usage { text })
+        nothing(Fault::Usage { text })
     } else {
-        Ok(Asked::Help { text })
+        Asked::Help { text }
     }
 }
 
 // Returns what these arguments ask for. The first is the program's name. A mistake is `Usage`, and comes before `Env`.
-#[tactic(auto, using(crate::proofs::AskedLemmas::of_env, crate::proofs::AskedLemmas::of_mistake))]
-fn asked_by(alloc: Global, arguments: &[String]) -> Result<Asked, Fault>
+#[tactic(auto, using(crate::proofs::AskedLemmas::of_mistake))]
+fn asked_by(alloc: Global, arguments: &[String]) -> Asked
     ensures { SaysAsked (map string_bytes arguments.now) result }
 {
     match read_words(alloc, arguments) {
-        Ok(words) => Ok(Asked::Run(words)),
+        Ok(words) => Asked::Run(words),
         Err(WordsFault::Usage(error)) => asked_for(alloc, error),
-        Err(WordsFault::Env { mode, value }) => {
-            let mistake = EnvMistake::NoEquals;
-            Err(fault_of_env(alloc, mode, mistake, value.as_str()))
-        }
-        Err(WordsFault::File) => Err(Fault::File),
-        Err(WordsFault::Memory) => Err(Fault::Memory),
-    }
-}
-
-// Returns the program's fault if there are no arguments.
-fn fault_of_arguments(fault: ArgumentsFault) -> Fault
-    ensures { result ≡ fault_without fault }
-{
-    match fault {
-        ArgumentsFault::NotUtf8 => Fault::NotUtf8,
-        ArgumentsFault::Memory => Fault::Memory,
+        Err(WordsFault::Env { mode, value }) => Asked::Nothing {
+            fault: Fault::Env {
+                mistake: EnvMistake::NoEquals,
+                name: value,
+            },
+            mode,
+        },
+        Err(WordsFault::File) => nothing(Fault::File),
+        Err(WordsFault::Memory) => nothing(Fault::OfRun(RunFault::Memory)),
     }
 }
 
 /// Returns what was asked for, if there are arguments.
-pub fn asked_with(
-    alloc: Global,
-    arguments: Result<Vec<String>, ArgumentsFault>,
-) -> Result<Asked, Fault>
+pub fn asked_with(alloc: Global, arguments: Result<Vec<String>, ArgumentsFault>) -> Asked
     ensures { SaysGiven (given_value arguments) result }
 {
     match arguments {
         Ok(arguments) => asked_by(alloc, arguments.as_slice()),
-        Err(fault) => Err(fault_of_arguments(fault)),
+        Err(ArgumentsFault::NotUtf8) => nothing(Fault::NotUtf8),
+        Err(ArgumentsFault::Memory) => nothing(Fault::OfRun(RunFault::Memory)),
     }
 }
 
@@ -124,9 +129,11 @@ pub fn files_asked(
         AreNamesAsked (given_value arguments) (map string_bytes names.items)) }
 {
     match asked_with(alloc, arguments) {
-        Ok(Asked::Run(words)) => names_of(alloc, words),
-        Ok(Asked::Help { .. }) => Ok(Vec::new(alloc)),
-        Err(Fault::Memory) => Err(AllocError),
-        Err(_) => Ok(Vec::new(alloc)),
+        Asked::Run(words) => names_of(alloc, words),
+        Asked::Nothing {
+            fault: Fault::OfRun(_),
+            ..
+        } => Err(AllocError),
+        _ => Ok(Vec::new(alloc)),
     }
 }

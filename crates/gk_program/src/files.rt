@@ -1,14 +1,13 @@
 //! Reading the library file, the hooks file and the feature files.
-ghost use Rattle.std.specs.Prelude.{◌≡◌, ◌≤◌, map, IfOk, IfErr, IfSome, Ok, option_map, string_bytes, vec_len};
-ghost use Rattle.std.specs.List.{Any};
-ghost use Rattle.gk_program.specs.Files.{AreRead, IsFaultOfFiles, IsFaultOfReading, IsFileFault, IsNotRead, StopsReading, files_in_order, name_of, names_in_order, one_of};
+ghost use Rattle.std.specs.Prelude.{◌≡◌, ◌≤◌, map, IfOk, IfErr, Ok, option_map, string_bytes, vec_len};
+ghost use Rattle.gk_program.specs.Files.{AreRead, IsFaultOfReading, IsNotRead, StopsReading, files_in_order, name_of, names_in_order, one_of};
 ghost use Rattle.gk_request.specs.Source.{source_value};
 ghost use Rattle.gk_request.specs.Request.{files_value};
 
-use crate::fault::Fault;
+use crate::fault::{Fault, FileFault};
 use gk_gherkin::LONGEST_FILE;
 use gk_io::SourceFault;
-use gk_request::{Source, SuiteFiles};
+use gk_request::{RunFault, Source, SuiteFiles};
 use std::alloc::Global;
 
 /// A system that files are read from. What is proved over a `System` holds for each one: in which order it is asked for
@@ -28,33 +27,41 @@ pub trait System {
         ensures within { IfOk result (λ bytes. vec_len bytes ≤ LONGEST_FILE) };
 }
 
-fn fault_of_reading(name: String, fault: SourceFault) -> Fault
-    ensures { IsFaultOfReading (string_bytes name) fault result }
+// Returns the fault of a file that can't be read, for this reason. `over_limit` is that of one with too many bytes.
+fn fault_of_reading(name: String, fault: SourceFault, over_limit: FileFault) -> Fault
+    ensures { IsFaultOfReading over_limit (string_bytes name) fault result }
 {
     match fault {
-        SourceFault::Device => Fault::CannotRead {
+        SourceFault::Device => Fault::OfFile {
             name,
-            hinted: false,
+            fault: FileFault::CannotRead,
         },
-        SourceFault::TooLong => Fault::TooLong { name },
-        SourceFault::Memory => Fault::Memory,
+        SourceFault::TooLong => Fault::OfFile {
+            name,
+            fault: over_limit,
+        },
+        SourceFault::Memory => Fault::OfRun(RunFault::Memory),
     }
 }
 
-// Returns a source of this name with all bytes of the file. A file that can't be opened or read is `CannotRead`, and
-// one with more bytes than `gk_gherkin::LONGEST_FILE` is `TooLong`.
-fn read_file<S: System>(alloc: Global, system: &mut S, name: String) -> Result<Source, Fault>
+/// Returns all bytes of the file of this name. A file that can't be opened or read is `CannotRead`, and one with more
+/// bytes than `gk_gherkin::LONGEST_FILE` has the fault `over_limit`.
+pub fn read_file<S: System>(
+    alloc: Global,
+    system: &mut S,
+    name: String,
+    over_limit: FileFault,
+) -> Result<Source, Fault>
     ensures named { IfOk result (λ source. name_of source ≡ string_bytes name) }
     ensures within { IfOk result (λ source. vec_len source.bytes ≤ LONGEST_FILE) }
     ensures read { IfOk result (λ source.
         S.reads system.old (string_bytes name) (Ok source.bytes.items) system.new) }
-    ensures first { IfErr result
-        (IsNotRead S.reads system.old (string_bytes name) system.new) }
-    ensures fault { IfErr result (IsFileFault (string_bytes name)) }
+    ensures fault { IfErr result
+        (IsNotRead S.reads over_limit system.old (string_bytes name) system.new) }
 {
     match system.read(alloc, name.as_str()) {
         Ok(bytes) => Ok(Source { name, bytes }),
-        Err(fault) => Err(fault_of_reading(name, fault)),
+        Err(fault) => Err(fault_of_reading(name, fault, over_limit)),
     }
 }
 
@@ -68,14 +75,12 @@ fn read_files<S: System>(
         (λ sources. map name_of sources.items ≡ map string_bytes names.items) }
     ensures read { IfOk result (λ sources.
         AreRead S.reads system.old (map source_value sources.items) system.new) }
-    ensures first { IfErr result
-        (StopsReading S.reads system.old (map string_bytes names.items) system.new) }
     ensures fault { IfErr result
-        (λ fault. Any (λ name. IsFileFault (string_bytes name) fault) names.items) }
+        (StopsReading S.reads system.old (map string_bytes names.items) system.new) }
 {
     let mut sources = Vec::new(alloc);
     for name in names {
-        let source = read_file(alloc, system, name)?;
+        let source = read_file(alloc, system, name, FileFault::TooLong)?;
         sources.push(source)?;
     }
     Ok(sources)
@@ -91,14 +96,11 @@ fn read_named_file<S: System>(
         (λ source. option_map name_of source ≡ option_map string_bytes name) }
     ensures read { IfOk result (λ source.
         AreRead S.reads system.old (one_of (option_map source_value source)) system.new) }
-    ensures first { IfErr result
-        (StopsReading S.reads system.old (one_of (option_map string_bytes name)) system.new) }
     ensures fault { IfErr result
-        (λ fault. IfSome name (λ name. IsFileFault (string_bytes name) fault)) }
-    ensures unnamed { name ≡ None → result ≡ Ok None }
+        (StopsReading S.reads system.old (one_of (option_map string_bytes name)) system.new) }
 {
     match name {
-        Some(name) => match read_file(alloc, system, name) {
+        Some(name) => match read_file(alloc, system, name, FileFault::TooLong) {
             Ok(source) => Ok(Some(source)),
             Err(fault) => Err(fault),
         },
@@ -125,9 +127,8 @@ pub fn read_run_files<S: System>(
     ensures read { IfOk result (λ files.
         AreRead S.reads system.old (files_in_order (files_value files)) system.new) }
     // The fault is that of the first file that wasn't read, in the order library, hooks, files; or memory was refused.
-    ensures first { IfErr result (StopsReading S.reads system.old
+    ensures fault { IfErr result (StopsReading S.reads system.old
         (names_in_order library hooks names.items) system.new) }
-    ensures fault { IfErr result (IsFaultOfFiles library hooks names.items) }
 {
     let library = read_named_file(alloc, system, library)?;
     let hooks = read_named_file(alloc, system, hooks)?;

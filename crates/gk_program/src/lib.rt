@@ -5,13 +5,10 @@
 
 mod asked;
 mod ended;
-mod env_fault;
 mod fault;
-mod fault_listing;
 mod fault_place;
 mod files;
 mod program;
-mod shown_fault;
 mod world_files;
 
 pub use asked::{ArgumentsFault, files_asked};

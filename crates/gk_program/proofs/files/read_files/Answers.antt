@@ -1,5 +1,5 @@
-use Rattle.gk_program.proofs.Common.{rules, ◌∷◌, ◌∙◌, ◌++◌, ap, arith, length, map, refl, sym, subst, string_bytes, [], Any, into_iter_items, AreRead, IsFileFault, StopsReading, name_of, source_value}
-use Rattle.gk_program.proofs.FilesLemmas.{any_first, any_later, names_of_values, one_source_more, passed_on, reads_one_more, stops_at, stops_for_memory, stops_later}
+use Rattle.gk_program.proofs.Common.{rules, ◌∷◌, ◌∙◌, ◌++◌, ap, arith, length, map, refl, sym, subst, string_bytes, [], into_iter_items, AreRead, StopsReading, name_of, source_value}
+use Rattle.gk_program.proofs.FilesLemmas.{names_of_values, one_source_more, passed_on, reads_one_more, stops_at, stops_for_memory, stops_later}
 use Rattle.gk_program.proofs.files.read_files.Goals as goal
 
 pub loop-name-init : goal.loop-name-init
@@ -9,25 +9,8 @@ loop-name-init g c =
     record {
       named = ap (λ sources. map name_of sources ++ map string_bytes left) c.new-sources.ensures.items ∙ ap (map string_bytes) gives.0;
       read = subst (λ l. AreRead g.S.System.reads c.args.system.now (map source_value l) c.args.system.now) (sym c.new-sources.ensures.items) refl;
-      among = λ fault any. subst (Any (λ name. IsFileFault (string_bytes name) fault)) gives.0 any;
       counted = let here = ap length gives.0 in let small = c.args.names.ok.0 in omega (arith, here, small, gives.1);
     }
-
-pub returns-in_err-source-clause-fault : goal.returns-in_err-source-clause-fault
-returns-in_err-source-clause-fault g c =
-    let step = c.in-Some.ensures.steps in
-    let name = c.in-Some.name in
-    passed_on c.from_residual.result c.from_residual.ensures.1 (λ fault same.
-    c.loop-name.invariant.among fault (subst (Any (λ other. IsFileFault (string_bytes other) fault)) (sym step.0)
-    (any_first _ name (into_iter_items c.next.new.self) (subst (IsFileFault (string_bytes name)) (sym same) c.in_err-source.ensures.fault))))
-
-pub returns-in_err-push-clause-fault : goal.returns-in_err-push-clause-fault
-returns-in_err-push-clause-fault g c =
-    let step = c.in-Some.ensures.steps in
-    let name = c.in-Some.name in
-    passed_on c.from_residual-in_err-push.result c.from_residual-in_err-push.ensures.1 (λ fault same.
-    c.loop-name.invariant.among fault (subst (Any (λ other. IsFileFault (string_bytes other) fault)) (sym step.0)
-    (any_first _ name (into_iter_items c.next.new.self) (subst (IsFileFault (string_bytes name)) (sym same) tt))))
 
 pub loop-name-preserved : goal.loop-name-preserved
 loop-name-preserved g c =
@@ -38,12 +21,11 @@ loop-name-preserved g c =
           (search rules) step.0 c.in_ok-source.ensures.named c.loop-name.invariant.named;
       read = reads_one_more g.S.System.reads c.args.system.now c.loop-name.system c.read_file.new.system c.loop-name.sources.items c.push.new.self.items c.in_ok-source.source (string_bytes c.in-Some.name)
           (search rules) c.in_ok-source.ensures.named c.loop-name.invariant.read c.in_ok-source.ensures.read;
-      among = λ fault any. c.loop-name.invariant.among fault (subst (Any (λ name. IsFileFault (string_bytes name) fault)) (sym step.0) (any_later _ c.in-Some.name (into_iter_items c.next.new.self) any));
       counted = let before = c.loop-name.invariant.counted in omega (arith, fewer, before, step.1);
     }
 
-pub returns-in_err-source-clause-first : goal.returns-in_err-source-clause-first
-returns-in_err-source-clause-first g c =
+pub returns-in_err-source-clause-fault : goal.returns-in_err-source-clause-fault
+returns-in_err-source-clause-fault g c =
     let reads = g.S.System.reads in
     let start = c.args.system.now in
     let end = c.read_file.new.system in
@@ -55,10 +37,10 @@ returns-in_err-source-clause-first g c =
     subst (λ f. StopsReading reads start (map string_bytes c.args.names.items) end f) (sym same)
     (subst (λ names. StopsReading reads start names end c.in_err-source.field-0.0) (ap (λ l. map name_of sources ++ map string_bytes l) (sym step.0) ∙ c.loop-name.invariant.named)
     (stops_later reads start c.loop-name.system end (map source_value sources) (map name_of sources) (name ∷ rest) c.in_err-source.field-0.0
-    c.loop-name.invariant.read (names_of_values sources) (stops_at reads c.loop-name.system end name rest c.in_err-source.field-0.0 c.in_err-source.ensures.first))))
+    c.loop-name.invariant.read (names_of_values sources) (stops_at reads c.loop-name.system end name rest c.in_err-source.field-0.0 c.in_err-source.ensures.fault))))
 
-pub returns-in_err-push-clause-first : goal.returns-in_err-push-clause-first
-returns-in_err-push-clause-first g c =
+pub returns-in_err-push-clause-fault : goal.returns-in_err-push-clause-fault
+returns-in_err-push-clause-fault g c =
     let reads = g.S.System.reads in
     let start = c.args.system.now in
     let end = c.read_file.new.system in
