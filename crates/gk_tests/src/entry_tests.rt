@@ -196,9 +196,11 @@ const FAULTS: [(LibraryFault, Option<u32>, &str); 9] = [
 ];
 
 #[test]
-fn faults_of_libraries_have_lines_and_texts(rt: HostRuntime) {
+fn faults_of_libraries_have_lines_and_texts(rt: HostRuntime) -> Result<(), Fail> {
     for (fault, line, text) in FAULTS {
         equal(&rt, &LibraryFault::line(&fault), &line);
-        same(&rt, LibraryFault::said(&fault).text, text);
+        let displayed = format!(in rt.alloc(); "{fault}")?;
+        same(&rt, displayed.as_str(), text);
     }
+    Ok(())
 }

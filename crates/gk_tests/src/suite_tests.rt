@@ -93,7 +93,8 @@ fn steps_are_looked_up(rt: HostRuntime) -> Result<(), Fail> {
     Ok(())
 }
 
-/// An observer that keeps a line of each call: the place, the outcome, and the value `n` after it.
+/// An observer that keeps a line of each call: the place, the outcome, whether a step's action was carried out and
+/// registered a cleanup, and the value `n` after it.
 #[derive(Debug, Drop)]
 struct Teller {
     told: String,
@@ -107,10 +108,15 @@ impl Observer for Teller {
     fn step(&mut self, stage: Stage, step: &Step, done: &StepDone<'_>, sandbox: &Sandbox) {
         let value = sandbox.value("n");
         let Stage { level, part } = stage;
-        let mark = done.mark;
+        let StepDone {
+            mark,
+            registered,
+            ..
+        } = *done;
+        let is_used = done.used.is_some();
         let _ = write!(
             self.told,
-            "{level:?} {part:?} {} {mark:?} {value:?}\n",
+            "{level:?} {part:?} {} {mark:?} {is_used} {registered} {value:?}\n",
             step.line
         );
     }
@@ -119,8 +125,8 @@ impl Observer for Teller {
         let value = sandbox.value("n");
         let _ = write!(
             self.told,
-            "{level:?} cleanup {:?} {outcome:?} {value:?}\n",
-            cleanup.found.fields
+            "{level:?} cleanup of {:?} {} {:?} {outcome:?} {value:?}\n",
+            cleanup.at.part, cleanup.at.line, cleanup.found.fields
         );
     }
 
@@ -147,10 +153,10 @@ const HOOKS: &str =
 
 // What is told of its first scenario, and of the whole run.
 const CASE_TOLD: &str =
-    "Scenario Steps 3 Acted(Passed) Some(\"1\")\nScenario Steps 4 Acted(Passed) Some(\"1\")\nScenario cleanup [Text(\"n\"), Text(\"1\")] Passed Some(\"1\")\nscenario 0 2 Passed\n";
+    "Scenario Steps 3 Acted(Passed) true false Some(\"1\")\nScenario Steps 4 Acted(Passed) true true Some(\"1\")\nScenario cleanup of Steps 4 [Text(\"n\"), Text(\"1\")] Passed Some(\"1\")\nscenario 0 2 Passed\n";
 
 const RUN_TOLD: &str =
-    "Run Before 2 Acted(Passed) None\nScenario Steps 3 Acted(Passed) Some(\"1\")\nScenario Steps 4 Acted(Passed) Some(\"1\")\nScenario cleanup [Text(\"n\"), Text(\"1\")] Passed Some(\"1\")\nscenario 0 2 Passed\nScenario Steps 7 Acted(Failed(Absent)) None\nscenario 1 6 Failed\nRule After 4 Acted(Failed(Asked)) None\nrule 5 Failed\nRun After 6 Acted(Passed) None\n";
+    "Run Before 2 Acted(Passed) true false None\nScenario Steps 3 Acted(Passed) true false Some(\"1\")\nScenario Steps 4 Acted(Passed) true true Some(\"1\")\nScenario cleanup of Steps 4 [Text(\"n\"), Text(\"1\")] Passed Some(\"1\")\nscenario 0 2 Passed\nScenario Steps 7 Acted(Failed(Absent)) true false None\nscenario 1 6 Failed\nRule After 4 Acted(Failed(Asked)) true false None\nrule 5 Failed\nRun After 6 Acted(Passed) true false None\n";
 
 // Returns the first scenario of a feature.
 fn first_case(alloc: Global, text: &str) -> Result<Case, Fail> {
