@@ -282,7 +282,7 @@ def fault_texts():
     for path in {*shape.files("crates/(?!gk_tests/|gk_cli_tests/)[^/]+/src/.*[.]rt")} - {HINTS, CAUSES, KEYWORDS}:
         code = re.sub(r"//.*", "", driver.text(path)).replace('\\n"', '"')
         for pattern in (r'#\[error\("([^"{}]+)"\)\]', r'write_str\("([^"{}]+)"\)', r'=>\s*"([^"{}]+)"',
-                        r'\btext: "([^"{}]+)",\s*hint: "', r'"gherkin_run: (?:\{name\}: )?([^"{}]+)"'):
+                        r'"gherkin_run: (?:\{name\}: )?([^"{}]+)"'):
             texts.update(it.removeprefix("gherkin_run: ") for it in re.findall(pattern, code))
     return {it for it in texts if re.fullmatch(r"[A-Za-z][A-Za-z0-9 -]+", it) and it not in STATUSES and "-- @" not in it
             and (" " in it or it in REASONS_OF_ONE_WORD or it.startswith("bad"))}
@@ -299,10 +299,9 @@ def fault_differences():
 
 
 def fault_hints():
-    """The hints of the code: those of HINTS, and those beside the texts of faults."""
-    for path in shape.CODE:
-        code = re.sub(r"//.*", "", driver.text(path)).replace("\\\\", "\\")
-        yield from re.findall(r'"([^"]+)"' if path == HINTS else r'\btext: "[^"]+",\s*hint: "([^"]+)"', code)
+    """The hints of the code."""
+    code = re.sub(r"//.*", "", driver.text(HINTS)).replace("\\\\", "\\")
+    return re.findall(r'"([^"]+)"', code)
 
 
 def hint_differences():

@@ -15,7 +15,7 @@
 #include <stdint.h>
 
 /* The version of this header; gherkin_run_version returns that of the library. */
-#define GHERKIN_RUN_VERSION "1.2.0"
+#define GHERKIN_RUN_VERSION "2.0.0"
 
 /* The number in the shared library's name, libgherkin_run.so.0. It changes if callers have to be compiled again. */
 #define GHERKIN_RUN_ABI_VERSION 0

@@ -12,7 +12,7 @@ from gherkin_run.data import FeatureData, ReportData, RuleData, ScenarioData, St
 from gherkin_run.library import version
 from gherkin_run.runs import Explanation, Failed, Fault, File, Findings, Format, Report, Result, Source, World, WorldFile, explain, lint, run
 
-__version__ = "1.2.0"
+__version__ = "2.0.0"
 __all__ = [
     "Explanation",
     "Failed",

@@ -64,4 +64,4 @@ AreFilesPut arguments old new count =
 
 -- The version of the library.
 abbrev pub version : List ℕ
-version = codes "1.2.0"
+version = codes "2.0.0"

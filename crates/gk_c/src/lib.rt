@@ -63,5 +63,5 @@ pub extern "C" fn gherkin_run_version(room: &mut [u8]) -> usize
     ensures count { result ≡ length version }
     ensures written { room.new ≡ put_over version room.old }
 {
-    put_out(b"1.2.0", room)
+    put_out(b"2.0.0", room)
 }

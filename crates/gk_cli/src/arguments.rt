@@ -22,7 +22,7 @@ const EXAMPLE: &str =
 
 const FILES_HELP: &str = "Feature files, run in this order";
 
-const VERSION: &str = "1.2.0";
+const VERSION: &str = "2.0.0";
 
 /// What is written: the report or an explanation of a run, or the findings in its files, for which nothing runs.
 #[derive(Clone, Copy, Debug, PartialEq, Eq)]

@@ -54,4 +54,4 @@ abbrev pub CasesAreExplained : Type 0
 CasesAreExplained = (run : Run) (section : State) (index : ℕ) (c : CaseValue) (row : CaseRow) (old new : Explainer) →
     IsCaseTold Hears HearsEnd run section index c row old new → is_cut new ≡ false → (said old).scenario ≡ no_event →
     (cut : Cut) × (row ≡ reached_row run section cut c)
-    × (is_cut old ≡ false) × (said new ≡ with_case_of (section_lines (said old).names (kept_of_case old run section c cut)) row (said old))
+    × (is_cut old ≡ false) × (said new ≡ with_case_of (section_lines (said old).names (kept_of_case old run section c cut)) index row (said old))
