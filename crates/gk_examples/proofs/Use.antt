@@ -16,11 +16,12 @@ use Rattle.gk_steps.specs.Pattern.{Literal, FieldPiece}
 use Rattle.gk_steps.specs.Matching.{match_of}
 use Rattle.gk_steps.specs.Finding.{LibraryValue, found, found_any}
 use Rattle.gk_world.specs.State.{State}
-use Rattle.gk_run.specs.declared.acting.Site.TheVariants as sites
+use Rattle.gk_run.specs.declared.section.Part.TheVariants.{Steps}
 use Rattle.gk_run.specs.declared.results.Mark.TheVariants.{Acted}
 use Rattle.gk_run.specs.declared.results.Outcome.TheVariants.{Passed, Failed}
 use Rattle.gk_run.specs.declared.results.Reason.TheVariants.{NotHere}
 use Rattle.gk_run.specs.Acting.{CleanupValue, act}
+use Rattle.gk_run.specs.Section.{steps_of_case}
 use Rattle.gk_run.specs.SectionHooks.{cleanup_done}
 use Rattle.gk_run.specs.Walk.{one_step}
 use Rattle.gk_lint.specs.declared.findings.FindingKind.TheVariants.{NameTwice, OfStep, UnusedEntry, HookOfNoTag}
@@ -82,13 +83,13 @@ at_last : StepValue
 at_last = record { keyword = codes "Given"; step_type = Given; text = codes "at last it is over"; block = Empty; line = 3 }
 
 over : CleanupValue
-over = record { found = record { entry = 1; fields = [] }; block = Empty }
+over = record { found = record { entry = 1; fields = [] }; block = Empty; at = record { part = Steps; line = 3 } }
 
 cleanup_not_allowed : faults_of with_cleanups Scenario at_last ≡ NotAllowed ∷ []
 unfolding with_cleanups at_last faults_of found found_any match_of is_utf8 chars lib.Utf8.encode
 cleanup_not_allowed = refl
 
-its_step_passes : (s : State) → let this = one_step with_cleanups sites.Step s at_last in (this.mark ≡ Acted Passed) × (this.registered ≡ over ∷ [])
+its_step_passes : (s : State) → let this = one_step with_cleanups steps_of_case s at_last in (this.mark ≡ Acted Passed) × (this.registered ≡ over ∷ [])
 unfolding with_cleanups at_last over act found found_any match_of is_utf8 chars lib.Utf8.encode
 its_step_passes s = (refl, refl)
 

@@ -33,13 +33,12 @@ pub use Rattle.gk_request.proofs.InputsLemmas.{at_place, first_unread, sources_u
 pub use Rattle.gk_request.specs.Inputs.{AreRead, IsLibrary, with_reading}
 pub use Rattle.gk_request.specs.Request.{bytes_of, files_value, hooks_name, library_name, request_of_files}
 pub use Rattle.gk_request.specs.Source.{SourceValue, source_value}
-pub use Rattle.gk_run.specs.Acting.{CleanupValue, arguments_of, at_site, doc_string, may_register, write_below, write_table}
+pub use Rattle.gk_run.specs.Acting.{Registered, arguments_of, at_site, doc_string, may_register, write_below, write_table}
 unfoldable pub use Rattle.gk_run.specs.Acting.{act}
 pub use Rattle.gk_run.specs.Chosen.{ChosenValue}
 pub use Rattle.gk_run.specs.Section.{after_of, before_of, site_of}
 pub use Rattle.gk_run.specs.SectionHooks.{after_kind, before_kind}
 pub use Rattle.gk_run.specs.declared.acting.Site.{Site}
-pub use Rattle.gk_run.specs.declared.results.Mark.TheVariants.{Acted}
 pub use Rattle.gk_run.specs.declared.results.Outcome.{Outcome}
 pub use Rattle.gk_run.specs.declared.results.Outcome.TheVariants.{Failed, Passed}
 pub use Rattle.gk_run.specs.declared.results.Reason.{Reason}

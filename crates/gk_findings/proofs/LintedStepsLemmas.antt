@@ -1,5 +1,5 @@
 -- Why a step for which the linter finds a fault fails.
-use Rattle.gk_findings.proofs.Common.{Acted, Action, AlwaysComesTo, AlwaysFails, BlockValue, Bool, CleanupAlwaysFails, CleanupValue, Failed, FoundFaultsAreFailures, FoundValue, Level, LibraryValue, List, None, Option, Outcome, Passed, Reason, RegistersFailure, Site, Some, State, StepFault, StepSite, StepValue, StepsRunAtTheirSites, Table, Takes, [], act, action_faults, action_of, after_kind, after_of, ap, arguments_of, arith, at_site, before_kind, before_of, block_faults, cleanup_faults, cleanup_text, codes, common_steps, doc_string, false, fault_if, faults_of, files_below, found, found_any, found_faults, has_fault, has_text, inl, inr, is_none, is_same_fault, is_some, lets_register, list_any-append, may_register, may_run_at, may_stand, not, option_or, or_cases, reason_of_fault, refl, row_of, site_faults, site_of, site_of_hook, subst, sym, text_field, true, write_below, write_table, ℕ, ◌++◌, ◌∙◌, ◌∷◌, ◌≡◌, ◌⊎◌}
+use Rattle.gk_findings.proofs.Common.{Action, AlwaysComesTo, AlwaysFails, BlockValue, Bool, CleanupAlwaysFails, Failed, FoundFaultsAreFailures, FoundValue, Level, LibraryValue, List, None, Option, Outcome, Passed, Reason, Registered, RegistersFailure, Site, Some, State, StepFault, StepSite, StepValue, StepsRunAtTheirSites, Table, Takes, [], act, action_faults, action_of, after_kind, after_of, ap, arguments_of, arith, at_site, before_kind, before_of, block_faults, cleanup_faults, cleanup_text, codes, common_steps, doc_string, false, fault_if, faults_of, files_below, found, found_any, found_faults, has_fault, has_text, inl, inr, is_none, is_same_fault, is_some, lets_register, list_any-append, may_register, may_run_at, may_stand, not, option_or, or_cases, reason_of_fault, refl, row_of, site_faults, site_of, site_of_hook, subst, sym, text_field, true, write_below, write_table, ℕ, ◌++◌, ◌∙◌, ◌∷◌, ◌≡◌, ◌⊎◌}
 use Rattle.gk_steps.specs.declared.action.Action.TheVariants as actions
 use Rattle.gk_steps.specs.declared.action.Takes.TheVariants as takes
 use Rattle.gk_run.specs.declared.acting.Site.TheVariants as sites
@@ -48,15 +48,15 @@ lacks t field block fault why e r = grind (arith, common_steps)
 
 module _ (library : LibraryValue) (f : FoundValue) (block : BlockValue) where
   -- an action at a site of the linter always comes to this
-  abbrev ComesTo : Action → StepSite → Outcome → List CleanupValue → Type 0
-  ComesTo action site outcome registered = (at : Site) (s : State) → may_run_at site at ≡ true → let effect = at_site action at library (arguments_of library f block) s in (let done = effect.done in done.outcome ≡ outcome) × (effect.registered ≡ registered)
+  abbrev ActsSo : Action → StepSite → Outcome → List Registered → Type 0
+  ActsSo action site outcome registered = (at : Site) (s : State) → may_run_at site at ≡ true → let effect = at_site action at library (arguments_of library f block) s in (let done = effect.done in done.outcome ≡ outcome) × (effect.registered ≡ registered)
 
-  fails_at : (action : Action) (site : StepSite) (why : Reason) → Lacks (let row = row_of action in row.takes) (text_field library f (codes "text")) block why → ComesTo action site (Failed why) []
+  fails_at : (action : Action) (site : StepSite) (why : Reason) → Lacks (let row = row_of action in row.takes) (text_field library f (codes "text")) block why → ActsSo action site (Failed why) []
   fails_at actions.WriteFiles site why lack at s r = (lack s, refl)
   fails_at actions.AtCleanup site why lack at s r = absurd lack
   fails_at action site why lack at s r = (grind (arith, common_steps, lack), refl)
 
-  not_allowed : (action : Action) (site : StepSite) → may_stand (let row = row_of action in row.does) site ≡ false → ComesTo action site (Failed reasons.NotHere) []
+  not_allowed : (action : Action) (site : StepSite) → may_stand (let row = row_of action in row.does) site ≡ false → ActsSo action site (Failed reasons.NotHere) []
   not_allowed actions.SkipScenario lint.Hook e sites.Hook s r = (refl, refl)
   not_allowed actions.SkipScenario lint.Cleanup e sites.Cleanup s r = (refl, refl)
   not_allowed actions.AtCleanup lint.Cleanup e sites.Cleanup s r = (refl, refl)
@@ -67,19 +67,19 @@ module _ (library : LibraryValue) (f : FoundValue) (block : BlockValue) where
   site_fails false faults.NotAllowed why e r = (refl, cc)
   site_fails allowed fault why e r = grind (arith, common_steps)
 
-  own_fails : (action : Action) (site : StepSite) (fault : StepFault) (why : Reason) → has_fault (site_faults action site ++ block_faults (let row = row_of action in row.takes) (has_text library f) block) fault ≡ true → reason_of_fault fault ≡ Some why → ComesTo action site (Failed why) []
+  own_fails : (action : Action) (site : StepSite) (fault : StepFault) (why : Reason) → has_fault (site_faults action site ++ block_faults (let row = row_of action in row.takes) (has_text library f) block) fault ≡ true → reason_of_fault fault ≡ Some why → ActsSo action site (Failed why) []
   own_fails action site fault why e r =
       let row = row_of action in
       let of_site = site_faults action site in
       let of_block = block_faults row.takes (has_text library f) block in
       elim (or_cases (has_fault of_site fault) (has_fault of_block fault) (sym (list_any-append (is_same_fault fault) of_site of_block) ∙ e)) [
-        | inl here ↦ (let this = site_fails (may_stand row.does site) fault why here r in subst (λ (x : Reason). ComesTo action site (Failed x) []) this.1 (not_allowed action site this.0))
+        | inl here ↦ (let this = site_fails (may_stand row.does site) fault why here r in subst (λ (x : Reason). ActsSo action site (Failed x) []) this.1 (not_allowed action site this.0))
         | inr below ↦ fails_at action site why (lacks row.takes (text_field library f (codes "text")) block fault why below r)
       ]
 
-cleanup_fails : (library : LibraryValue) (c : CleanupValue) (fault : StepFault) (why : Reason) → has_fault (cleanup_faults library (Some c.found) c.block) fault ≡ true → reason_of_fault fault ≡ Some why → CleanupAlwaysFails library c why
+cleanup_fails : (library : LibraryValue) (c : Registered) (fault : StepFault) (why : Reason) → has_fault (cleanup_faults library (Some c.found) c.block) fault ≡ true → reason_of_fault fault ≡ Some why → CleanupAlwaysFails library c why
 unfolding act
-cleanup_fails library c fault why e r s = (own_fails library c.found c.block (action_of library c.found) lint.Cleanup fault why e r sites.Cleanup s refl).0
+cleanup_fails library c fault why e r at s = (own_fails library c.found c.block (action_of library c.found) lint.Cleanup fault why e r sites.Cleanup s refl).0
 
 -- ---- a step
 
@@ -92,16 +92,16 @@ module _ (library : LibraryValue) (step : StepValue) (fault : StepFault) (why : 
   abbrev Becomes : StepSite → Type 0
   Becomes site = AlwaysFails library site step why ⊎ (RegistersFailure library site step why ⊎ ((site ≡ lint.Cleanup) × AlwaysFails library site step reasons.NotHere))
 
-  comes_to : (site : StepSite) (f : FoundValue) (outcome : Outcome) (registered : List CleanupValue) → found library step.step_type step.text ≡ Some f
-      → ComesTo library f step.block (action_of library f) site outcome registered → AlwaysComesTo library site step (Acted outcome) registered
+  comes_to : (site : StepSite) (f : FoundValue) (outcome : Outcome) (registered : List Registered) → found library step.step_type step.text ≡ Some f
+      → ActsSo library f step.block (action_of library f) site outcome registered → AlwaysComesTo library site step outcome registered
   unfolding act
-  comes_to site f outcome registered e always at s r = rw e (ap (λ (o : Outcome). Acted o) (always at s r).0, (always at s r).1)
+  comes_to site f outcome registered e always = record { entry = f; finds = e; always = always }
 
   registers : (site : StepSite) (f : FoundValue) (x : Option FoundValue) → lets_register site ≡ true → action_of library f ≡ actions.AtCleanup → found library step.step_type step.text ≡ Some f
       → found_any library (cleanup_text library f) ≡ x → has_fault (cleanup_faults library x step.block) fault ≡ true → RegistersFailure library site step why
   registers site f None may is e into h = grind (arith, common_steps)
   registers site f (Some c) may is e into h =
-      let cleanup : CleanupValue = record { found = c; block = step.block } in
+      let cleanup : Registered = record { found = c; block = step.block } in
       (cleanup, comes_to site f Passed (cleanup ∷ []) e (rw is (λ at s r. rw (registers_there site at may r) (rw into (refl, refl)))), cleanup_fails library cleanup fault why h reason)
 
   by_action : (site : StepSite) (f : FoundValue) (action : Action) → action_of library f ≡ action → found library step.step_type step.text ≡ Some f

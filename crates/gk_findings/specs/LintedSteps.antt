@@ -2,20 +2,19 @@
 use Rattle.std.specs.Prelude.{◌≡◌, ◌⊎◌, Bool, true, false, List, [], ◌∷◌, Option, Some, None}
 use Rattle.gk_gherkin.specs.Feature.{StepValue}
 use Rattle.gk_gherkin.specs.declared.hooks.HookKind.TheVariants.{BeforeTag, AfterTag}
-use Rattle.gk_steps.specs.Finding.{LibraryValue}
+use Rattle.gk_steps.specs.Finding.{LibraryValue, FoundValue, found}
 use Rattle.gk_world.specs.State.{State}
 use Rattle.gk_run.specs.declared.acting.Site.{Site}
 use Rattle.gk_run.specs.declared.acting.Site.TheVariants as sites
-use Rattle.gk_run.specs.declared.results.Mark.{Mark}
-use Rattle.gk_run.specs.declared.results.Mark.TheVariants.{Acted}
+use Rattle.gk_run.specs.declared.cleanups.Registration.{Registration}
+use Rattle.gk_run.specs.declared.results.Outcome.{Outcome}
 use Rattle.gk_run.specs.declared.results.Outcome.TheVariants.{Passed, Failed}
 use Rattle.gk_run.specs.declared.results.Reason.{Reason}
 use Rattle.gk_run.specs.declared.results.Reason.TheVariants as reasons
 use Rattle.gk_run.specs.declared.section.Level.{Level}
-use Rattle.gk_run.specs.Acting.{CleanupValue}
+use Rattle.gk_run.specs.Acting.{Registered, act}
 use Rattle.gk_run.specs.Section.{after_of, before_of, site_of, steps_of_case}
 use Rattle.gk_run.specs.SectionHooks.{after_kind, before_kind, cleanup_done}
-use Rattle.gk_run.specs.Walk.{one_step}
 use Rattle.gk_lint.specs.declared.step_faults.StepFault.{StepFault}
 use Rattle.gk_lint.specs.declared.step_faults.StepFault.TheVariants.{NotAllowed, NoText, NoTable, BadTable}
 use Rattle.gk_lint.specs.declared.step_sites.StepSite.{StepSite}
@@ -49,21 +48,23 @@ reason_of_fault NoTable = Some reasons.NoTable
 reason_of_fault BadTable = Some reasons.BadTable
 reason_of_fault _ = None
 
--- Wherever a step at this site of the linter may run, and from any state, it gets this mark and registers these cleanups.
-abbrev pub AlwaysComesTo : LibraryValue → StepSite → StepValue → Mark → List CleanupValue → Type 0
-AlwaysComesTo library site step mark registered = (at : Site) (s : State) → may_run_at site at ≡ true → let this = one_step library at s step in (this.mark ≡ mark) × (this.registered ≡ registered)
+-- A step finds an entry. Wherever a step at this site of the linter may run, and from any state, that entry's action has this outcome and registers this. What is carried out there is `act`, by a step of a run as by a cleanup.
+pub record AlwaysComesTo (library : LibraryValue) (site : StepSite) (step : StepValue) (outcome : Outcome) (registered : List Registered) : Type 0 where
+  pub entry : FoundValue
+  pub finds : found library step.step_type step.text ≡ Some entry
+  pub always : (at : Site) (s : State) → may_run_at site at ≡ true → let acted = act library at entry step.block s in (acted.done.outcome ≡ outcome) × (acted.registered ≡ registered)
 
 -- A step at this site always fails for this reason.
 abbrev pub AlwaysFails : LibraryValue → StepSite → StepValue → Reason → Type 0
-AlwaysFails library site step why = AlwaysComesTo library site step (Acted (Failed why)) []
+AlwaysFails library site step why = AlwaysComesTo library site step (Failed why) []
 
--- A cleanup fails for this reason, from any state.
-abbrev pub CleanupAlwaysFails : LibraryValue → CleanupValue → Reason → Type 0
-CleanupAlwaysFails library c why = (s : State) → let done = cleanup_done library c s in done.outcome ≡ Failed why
+-- A cleanup that was registered so fails for this reason, wherever it was registered, and from any state.
+abbrev pub CleanupAlwaysFails : LibraryValue → Registered → Reason → Type 0
+CleanupAlwaysFails library c why = (at : Registration) (s : State) → let done = cleanup_done library (record { found = c.found; block = c.block; at = at }) s in done.outcome ≡ Failed why
 
 -- A step at this site always passes and registers a cleanup, which always fails for this reason.
 abbrev pub RegistersFailure : LibraryValue → StepSite → StepValue → Reason → Type 0
-RegistersFailure library site step why = (c : CleanupValue) × AlwaysComesTo library site step (Acted Passed) (c ∷ []) × CleanupAlwaysFails library c why
+RegistersFailure library site step why = (c : Registered) × AlwaysComesTo library site step Passed (c ∷ []) × CleanupAlwaysFails library c why
 
 -- If the linter finds a fault with a reason, the step always fails for this reason; or it always passes and registers a cleanup that always fails for this reason. In a cleanup, where nothing may be registered, it may always fail because of that. (behave's documentation: cleanups, skipping scenarios)
 abbrev pub FoundFaultsAreFailures : Type 0
