@@ -85,7 +85,7 @@ fn rows_are_read_if_they_are_asked_for(rt: HostRuntime) -> Result<(), Fail> {
     let rows = format!(in rt.alloc(); "{:?}", read.rows)?;
     assert_eq!(rt;
         rows.as_str(),
-        "[[ExampleRow { line: 9, number: 1, cells: [ExampleCell { header: \"hour\", text: \"one\" }] }, ExampleRow { line: 10, number: 2, cells: [ExampleCell { header: \"hour\", text: \"two\" }] }]]"
+        "[[None, Some(ExampleRow { line: 9, number: 1, cells: [ExampleCell { header: \"hour\", text: \"one\" }] }), Some(ExampleRow { line: 10, number: 2, cells: [ExampleCell { header: \"hour\", text: \"two\" }] })]]"
     );
     Ok(())
 }
