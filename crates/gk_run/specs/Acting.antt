@@ -12,6 +12,8 @@ use Rattle.gk_steps.specs.declared.action.Does.{Does}
 use Rattle.gk_steps.specs.declared.action.Does.TheVariants.{Registers, Skips}
 use Rattle.gk_steps.specs.Action.{row_of}
 use Rattle.gk_steps.specs.FilesTable.{files_below}
+use Rattle.gk_gherkin.specs.declared.feature.Block.{Block}
+use Rattle.gk_steps.specs.declared.finding.Found.{Found}
 use Rattle.gk_steps.specs.declared.library.Library.{Library}
 use Rattle.gk_steps.specs.declared.used_fields.UsedFields.{UsedFields}
 use Rattle.gk_steps.specs.Finding.{LibraryValue, FoundValue, library_value, action_of, found_value, text_field, number_field, found_any, lent_text, HasCandidate}
@@ -25,6 +27,7 @@ use Rattle.gk_run.specs.declared.acting.Used.{Used}
 use Rattle.gk_run.specs.declared.cleanups.Cleanup.{Cleanup}
 use Rattle.gk_run.specs.declared.cleanups.Registration.{Registration}
 use Rattle.gk_run.specs.declared.acting.Site.{Site}
+use Rattle.gk_run.specs.declared.section.Part.TheVariants as parts
 use Rattle.gk_run.specs.declared.acting.Site.TheVariants as sites
 use Rattle.gk_run.specs.declared.results.Reason.{Reason}
 use Rattle.gk_run.specs.declared.results.Reason.TheVariants as reasons
@@ -333,6 +336,14 @@ used_at site library used s = at_site used.action site library used.arguments s
 unfoldable pub act : LibraryValue → Site → FoundValue → BlockValue → State → ActionEffect
 act library site found block s = used_at site library (use_of library found block) s
 
+-- What the action of a found step leaves and registers, for the program's `Library`, `Found` and `Block`.
+abbrev pub act_of : Library → Site → Found → Block → State → ActionEffect
+act_of library site found block s = act (library_value library) site (found_value found) (block_value block) s
+
+-- The place of a cleanup whose step has no place that is known.
+abbrev pub no_place : Registration
+no_place = record { part = parts.Steps; line = 0 }
+
 -- An action was carried out, or memory was refused in it, which requires `takes_memory`.
 abbrev pub IsDone : Done → Outcome → State → Type 0
 IsDone done outcomes.Memory new = done.takes_memory ≡ true
@@ -346,6 +357,12 @@ HasRegistered acted at before outcome after = after ≡ before ++ cleanups_at at
 -- If no entry of type `step` matches a text, memory is refused only if the text has the ends of such an entry.
 abbrev pub NeedsCandidate : LibraryValue → List ℕ → Outcome → Type 0
 NeedsCandidate library text outcome = found_any library text ≡ None → outcome ≡ outcomes.Memory → HasCandidate library None text
+
+-- If no entry of type `step` matches the step that at_cleanup registers, memory is refused only if that step has the ends of such an entry.
+abbrev pub CleanupNeedsCandidate : Library → Found → Block → Outcome → Type 0
+CleanupNeedsCandidate library found block outcome =
+    let used = use_of (library_value library) (found_value found) (block_value block) in
+    used.action ≡ actions.AtCleanup → NeedsCandidate (library_value library) used.arguments.step outcome
 
 -- Some number of these files, from the first on, were written one after another, and nothing else changed.
 abbrev pub WritesFirst : List (List ℕ × List ℕ) → SandboxValue → SandboxValue → Type 0

@@ -7,13 +7,14 @@ ghost use Rattle.gk_steps.specs.Finding.{library_value, found_value};
 ghost use Rattle.gk_world.specs.State.{State, state_of};
 ghost use Rattle.gk_world.specs.Sandbox.{depth};
 ghost use Rattle.gk_run.specs.Acting as words;
-ghost use Rattle.gk_run.specs.Acting.{arguments_by_uses, arguments_value, agrees, called, use_of, use_value, Performs, IsActed, IsDone, HasRegistered, NeedsCandidate};
+ghost use Rattle.gk_run.specs.Acting.{arguments_by_uses, arguments_value, act_of, agrees, called, use_of, use_value, Performs, IsActed, IsDone, HasRegistered, NeedsCandidate, CleanupNeedsCandidate};
 
 mod file_actions;
 mod value_actions;
 
 use crate::cleanups::{Cleanups, Registration};
 use crate::results::{Outcome, Reason};
+use crate::section::Part;
 use file_actions::{append_file, remove_file, rename_file, write_file, write_files};
 use gk_gherkin::Block;
 use gk_gherkin::text::contains;
@@ -259,19 +260,9 @@ fn at_cleanup(
     }
 }
 
-/// Carries out an action at a site. `at` is the place of its step, which is that of a cleanup that it
-/// registers. A layer of the sandbox is open.
-///
-/// The outcome is `Passed`, `Failed` with the first of the action's reasons that holds, `Skip`, or
-/// `Memory`. `Memory` comes only if a growth was refused. It never comes for an action that only
-/// checks, or for one that is refused before a part of it passed. Nor does it come for `at_cleanup`
-/// with a step that has the ends of no entry of type `step`. `at_cleanup` adds a cleanup to those that
-/// are registered; every other action, and a refusal, leaves these as they are. An action that fails
-/// midway keeps what it did before: rows of `write_files` before the refused one stay. At `Memory` the
-/// sandbox and the cleanups are as they were, except for what `write_files` changed before; the end of
-/// the layer restores what the sandbox held when the layer began. (behave's documentation: cleanups)
+/// Carries out an action at a site, as `act` does. A cleanup that it registers gets this place.
 #[inline(always)]
-pub fn act(
+pub(crate) fn carry_out(
     alloc: Global,
     sandbox: &mut Sandbox,
     cleanups: &mut Cleanups,
@@ -296,4 +287,42 @@ pub fn act(
         Does::Skips => skip(site),
         Does::Changes | Does::Checks => perform(alloc, sandbox, used.action, arguments),
     }
+}
+
+/// Carries out the action of a step that was found in a library, with the step's block. A layer of the
+/// sandbox is open.
+///
+/// The outcome is `Passed`, `Failed` with the first of the action's reasons that holds, `Skip`, or
+/// `Memory`. `Memory` comes only if a growth was refused. It never comes for an action that only
+/// checks, or for one that is refused before a part of it passed. Nor does it come for `at_cleanup`
+/// with a step that has the ends of no entry of type `step`. `at_cleanup` adds a cleanup to those that
+/// are registered, at line 0, since this call doesn't know the step's line; every other action, and a
+/// refusal, leaves these as they are. An action that fails midway keeps what it did before: rows of
+/// `write_files` before the refused one stay. At `Memory` the sandbox and the cleanups are as they were,
+/// except for what `write_files` changed before; the end of the layer restores what the sandbox held
+/// when the layer began. (behave's documentation: cleanups)
+pub fn act(
+    alloc: Global,
+    sandbox: &mut Sandbox,
+    cleanups: &mut Cleanups,
+    library: &Library,
+    site: Site,
+    found: &Found,
+    block: &Block,
+) -> Outcome
+    requires in_layer { 0 < depth sandbox.old }
+    ensures acted { IsActed (words.done_of
+        (act_of library.now site found.now block.now (state_of sandbox.old.now)))
+        sandbox.old result sandbox.new }
+    ensures registered { HasRegistered
+        (act_of library.now site found.now block.now (state_of sandbox.old.now)) words.no_place
+        cleanups.old result cleanups.new }
+    ensures memory { CleanupNeedsCandidate library.now found.now block.now result }
+{
+    let at = Registration {
+        part: Part::Steps,
+        line: 0,
+    };
+    let used = used_of(library, found, block);
+    carry_out(alloc, sandbox, cleanups, library, site, at, &used)
 }

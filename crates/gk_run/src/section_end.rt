@@ -8,7 +8,7 @@ ghost use Rattle.gk_run.specs.SectionHooks.{cleanup_done};
 ghost use Rattle.gk_run.specs.Events.{of_cleanup};
 ghost use Rattle.gk_run.specs.PrivateContracts.{Cleans, Closes};
 
-use crate::acting::{Site, act, used_of};
+use crate::acting::{Site, act};
 use crate::cleanups::{Cleanup, Cleanups};
 use crate::ending::{Ending, ending_of, is_memory, worse};
 use crate::observer::Observer;
@@ -41,15 +41,14 @@ fn clean_one<O: Observer>(
 {
     // A cleanup registers no cleanups.
     let mut none = Cleanups::new(run.alloc);
-    let used = used_of(run.library, &cleanup.found, &cleanup.block);
     let outcome = act(
         run.alloc,
         sandbox,
         &mut none,
         run.library,
         Site::Cleanup,
-        cleanup.at,
-        &used,
+        &cleanup.found,
+        &cleanup.block,
     );
     observer.cleanup(level, &cleanup, outcome, sandbox);
     outcome

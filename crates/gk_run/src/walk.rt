@@ -11,7 +11,7 @@ ghost use Rattle.gk_run.specs.Results.{step_row};
 ghost use Rattle.gk_run.specs.Walk.{IsLookedUp, row_of_step};
 ghost use Rattle.gk_run.specs.PrivateContracts.{RunsStep, StepNeedsCandidate, StepKeepsAtMemory, WalksHook, TakesNext, NotifiesStep, NotifiesNext, IsDoneBy, RunsSteps};
 
-use crate::acting::{Used, act, arguments_by};
+use crate::acting::{Used, arguments_by, carry_out};
 use crate::cleanups::{Cleanups, Registration};
 use crate::ending::{Ending, ending_of, has_passed, reason_of, status_of, worse};
 use crate::observer::{Observer, StepDone};
@@ -97,7 +97,7 @@ fn run_step<O: Observer>(
             };
             let site = site_of(stage);
             let before = cleanups.len();
-            let outcome = act(run.alloc, sandbox, cleanups, run.library, site, at, &used);
+            let outcome = carry_out(run.alloc, sandbox, cleanups, run.library, site, at, &used);
             let done = done_by(&used, outcome, cleanups.len() != before);
             observer.step(stage, step, &done, sandbox);
             done.mark

@@ -4,7 +4,7 @@ ghost use Rattle.gk_world.specs.Sandbox.{depth, KeepsLayers};
 use crate::checks::{equal, same};
 use crate::run_tests::cases_of;
 use gk_gherkin::{Block, Step};
-use gk_run::{Cleanups, Outcome, Part, Reason, Registration, Site, act, used_of};
+use gk_run::{Cleanups, Outcome, Reason, Site, act, used_of};
 use gk_steps::{Library, default_library, files_below};
 use gk_world::Sandbox;
 use std::alloc::Global;
@@ -22,15 +22,8 @@ fn acted(
     requires { 0 < depth sandbox.old }
     ensures { KeepsLayers sandbox.old sandbox.new }
 {
-    let at = Registration {
-        part: Part::Steps,
-        line: step.line,
-    };
     match library.find(alloc, step.step_type, step.text.as_str())? {
-        Some(found) => {
-            let used = used_of(library, &found, &step.block);
-            Ok(act(alloc, sandbox, cleanups, library, site, at, &used))
-        }
+        Some(found) => Ok(act(alloc, sandbox, cleanups, library, site, &found, &step.block)),
         None => Err("no such step".into()),
     }
 }
