@@ -1,5 +1,5 @@
 -- The names from elsewhere that the proofs of this crate cite, passed on from one place. Declares nothing.
-pub use Rattle.std.proofs.Common.{Bool, Bor, Err, IfErr, IfOk, IfSome, List, None, Ok, Option, Result, Some, [], ap, append_assoc, arith, cond, drop, false, find, get_or, inl, inr, length, length-append, length-drop, map, min, nat_eq, not, option_copied, refl, rules, slice_index, subst, suc, sym, take, true, vec_len, zero, ℕ, ◌&&◌, ◌++◌, ◌+◌, ◌-◌, ◌<◌, ◌==◌, ◌^◌, ◌||◌, ◌↔◌, ◌∙◌, ◌∷◌, ◌≡◌, ◌≢◌, ◌≤◌, ◌⊎◌}
+pub use Rattle.std.proofs.Common.{Bool, Bor, Err, IfErr, IfOk, IfSome, List, None, Ok, Option, Result, Some, [], ap, append_assoc, arith, cond, drop, false, find, get_or, inl, inr, set, length, length-append, length-drop, map, min, nat_eq, not, option_copied, refl, rules, slice_index, subst, suc, sym, take, true, vec_len, zero, ℕ, ◌&&◌, ◌++◌, ◌+◌, ◌-◌, ◌<◌, ◌==◌, ◌^◌, ◌||◌, ◌↔◌, ◌∙◌, ◌∷◌, ◌≡◌, ◌≢◌, ◌≤◌, ◌⊎◌}
 pub use Rattle.std.proofs.Math.Nat.{eq-or-lt_of_le}
 pub use Rattle.std.proofs.Math.Seq.{take-append_seam}
 pub use Rattle.std.proofs.lemmas.Bool.{cases_lt, eqb-true, false_from_ne_true, false≢true, lt-ltb, ltb-true, or_parts}
@@ -16,7 +16,7 @@ pub use Rattle.std.proofs.lemmas.Result.{err_from_is_err_and}
 pub use Rattle.std.proofs.lemmas.Slice.Eq.{bytes_eq-Decides}
 pub use Rattle.std.proofs.lemmas.Str.{IsCharBoundary-after_ascii, IsCharBoundary-before_ascii, IsCharBoundary-start}
 pub use Rattle.std.proofs.lemmas.Str.Pattern.{IsSplitOnceResult, split_once_first, split_parts, split_text_parts, starts_text, strip_prefix_char}
-pub use Rattle.std.specs.List.{AllByRecursion, after_first, before_first, before_last, ends_with, join_with_byte, list_all, list_any, position_or_len, prefix_len, slice_split, starts_with, suffix_len}
+pub use Rattle.std.specs.List.{AllByRecursion, after_first, before_first, before_last, ends_with, join_with_byte, last_or, list_all, list_any, position_or_len, prefix_len, slice_split, starts_with, suffix_len}
 pub use Rattle.std.specs.Prelude.{MatchOption, OnOk, String, codes, filter, is_some, ltb, option_and_then, option_map, slice_get, take_while, ⊤}
 pub use Rattle.std.specs.Str.{IsCharBoundary, IsUtf8, bytes_eq}
 pub use Rattle.std.specs.Str.Iter.{HasSubslice}
@@ -30,8 +30,8 @@ pub use Rattle.gk_gherkin.specs.Class.{background_keywords, begins_as_step, begi
 unfoldable pub use Rattle.gk_gherkin.specs.Class.{class, class_of, class_of_words, heading_keyword, heading_name}
 pub use Rattle.gk_gherkin.specs.DocStrings.{ReadsFences, ReadsOneWay, a_byte, a_fence, content_of, escaped_fence, fences_read, nothing}
 unfoldable pub use Rattle.gk_gherkin.specs.DocStrings.{closes, doc_string}
-pub use Rattle.gk_gherkin.specs.Feature.{BackgroundValue, BlockValue, ContainerValue, Empty, ExamplesValue, FeatureValue, RowValue, RuleValue, ScenarioValue, StepValue, Table, Text, feature_container, feature_value, rule_container, texts}
-pub use Rattle.gk_gherkin.specs.FeatureReader.{Above, FeatureReader, InFeature, NeedsAt, OfFeature, OfRule, OpenFeature, Tagged, Top, Untagged, after_text, by_language, examples_after, feature_in, feature_of, feature_readers, on_comment, rule_of, tag_line, takes_text, with_rule, with_text, without_tags}
+pub use Rattle.gk_gherkin.specs.Feature.{BackgroundValue, BlockValue, ContainerValue, Empty, ExamplesValue, FeatureValue, RowValue, RuleValue, ScenarioValue, StepValue, Table, Text, background_value, block_value, examples_value, feature_container, feature_value, row_value, rule_container, rule_value, scenario_value, step_value, texts}
+pub use Rattle.gk_gherkin.specs.FeatureReader.{FeatureReader, NeedsAt, Tagged, Untagged, after_text, by_language, children_in, children_put, feature_from, feature_readers, heading_in_feature, last_children, line_in_feature, on_comment, own_children, rule_from, rule_with, tag_line, takes_text, with_children, with_rules, with_text, without_tags}
 unfoldable pub use Rattle.gk_gherkin.specs.FeatureReader.{on, on_heading, on_line}
 pub use Rattle.gk_gherkin.specs.Grammar.{AreExamples, AreOfOneWidth, AreSteps, AreTags, Describes, HasOneReading, HasTable, IsBackground, IsBlock, IsConcatenation, IsContainer, IsDocString, IsFeature, IsHeading, IsIgnored, IsIgnoredAbove, IsIgnoredClass, IsReadable, IsRow, IsRule, IsScenario, IsStep, IsTable, IsTagLine, IsTaggedHeading, Many, MayDescribeExamples, MayDescribeFeature, MayDescribeScenario, Next, Perhaps, Reads, Skips, describe, described, more, none, skip, skip_none, tagged, untagged}
 pub use Rattle.gk_gherkin.specs.HookHeadings.{HookHeadingValue, plain_heading, tag_alone, tag_between}
@@ -41,13 +41,14 @@ pub use Rattle.gk_gherkin.specs.HookTable.{hook_for}
 pub use Rattle.gk_gherkin.specs.Hooks.{HookValue, hook_value, hooks_value, is_for, is_same_kind, is_same_tag, number_of_kind}
 pub use Rattle.gk_gherkin.specs.HooksGrammar.{AreDistinct, AreHooksReadable, HaveOneHooksReading, IsHook, ReadsHooks, heading_of}
 pub use Rattle.gk_gherkin.specs.HooksReader.{HooksReader, InHook, Needs, NoHook, OpenedValue, has_heading, hook_after, hook_begun, hook_of, hooks_of, hooks_readers, opened_from}
-unfoldable pub use Rattle.gk_gherkin.specs.HooksReader.{on_hook, on_hook_body, on_plain_line}
+unfoldable pub use Rattle.gk_gherkin.specs.HooksReader.{on_hook, on_plain_line}
 pub use Rattle.gk_gherkin.specs.HooksSoFar.{so_far_value}
 pub use Rattle.gk_gherkin.specs.Language.{IsEnglishOrNone, language_word, rest_after}
 unfoldable pub use Rattle.gk_gherkin.specs.Language.{language_of}
 pub use Rattle.gk_gherkin.specs.Lines.{IsNotUtf8At, IsText, IsTooLong, LineValue, Lines, borrowed_value, byte_order_mark, limit, line_at, line_value, lines_of, numbered_from, without_mark}
-pub use Rattle.gk_gherkin.specs.OpenParts.{Body, ChildrenValue, Grid, HeadValue, InBody, InDescription, InExamples, NoRows, NoSteps, OfBackground, OfScenario, Open, OutlineValue, Owner, Rows, Steps, background_children, body_takes_text, body_with_text, children_of, examples_of, head_from, header_of, is_empty, open_takes_text, outline_of, owner_children, row_from, row_of, rows_of, scenario_of, step_from, steps_of, width_of, with_block, with_examples, with_scenario}
-unfoldable pub use Rattle.gk_gherkin.specs.OpenParts.{on_block, on_body, on_grid, on_open, on_row}
+pub use Rattle.gk_gherkin.specs.OpenParts.{ChildrenValue, background_takes_text, background_with, background_with_text, children_take_text, children_with_text, described_in, examples_from, examples_under, in_examples, in_scenario, is_empty, last_takes_text, last_type, last_with_text, on_children, on_scenario, row_below, row_from, row_in, row_of, row_under_last, scenario_from, scenario_takes_text, step_after, step_from, steps_take_text, steps_with_text, takes_text_under, text_under_last, type_of_last, width_of, with_background, with_block, with_examples, with_scenarios, with_steps, with_table}
+pub use Rattle.gk_gherkin.specs.OpenParts.Views.{children_value}
+unfoldable pub use Rattle.gk_gherkin.specs.OpenParts.{heading_in, on_background, on_block, on_body, on_examples, on_row, on_steps, with_last}
 pub use Rattle.gk_gherkin.specs.ReadFault.{AnswersOrLacksMemory, AnyLineSays, BeginsNone, BeginsSome, BeginsWithTag, EndsInDocString, EndsInTags, FaultSays, FeatureFault, HaveOneFault, HooksFault, HooksLineSays, HooksNeedMemory, IsBadRow, IsBadTag, IsHooksLineFault, IsLineFault, IsOtherWidth, LineSays, LinesFaultSays, NeedsMemory, NoneLikeIt, SomeLikeIt, StoodBefore, StopsAt, TakesTags, line_of_fault}
 pub use Rattle.gk_gherkin.specs.Reading.{DocStringValue, FailsAs, FailsBy, InText, Need, NeedSome, NeedsAtEnd, NeedsIn, Outside, Readers, State, in_text, longer, need_at_end, need_here, need_later, opened, opening, outside, outside_text, run, whole_text, with_line}
 unfoldable pub use Rattle.gk_gherkin.specs.Reading.{finish, reading, run_by, step}

@@ -1,19 +1,21 @@
 -- What has a reading as a feature file is read so, and so no lines have two.
-use Rattle.gk_gherkin.proofs.Common.{◌≡◌, ℕ, List, [], ◌∷◌, ◌++◌, length, Option, Some, None, Result, Ok, refl, sym, subst, ap, ◌∙◌, append_assoc, inl, inr, arith, append-nil, BackgroundHeading, Blank, Comment, ExamplesHeading, FeatureHeading, FenceLine, Other, RowLine, RuleHeading, ScenarioHeading, StepLine, TagLine, Class, Fence, ReadFault, Above, FeatureReader, InFeature, OfFeature, OfRule, OpenFeature, Tagged, Top, Untagged, examples_after, feature_in, feature_of, feature_readers, on, on_heading, on_line, rule_of, tag_line, takes_text, with_rule, without_tags, Outside, State, finish, opening, reading, run, step, InBody, Body, NoSteps, InExamples, Grid, HeadValue, InDescription, NoRows, OfBackground, OfScenario, Open, OutlineValue, Owner, Rows, ChildrenValue, Steps, background_children, examples_of, head_from, header_of, on_body, on_grid, on_open, open_takes_text, outline_of, row_from, rows_of, scenario_of, children_of, steps_of, with_examples, with_scenario, LineValue, Lines, class, heading_name, tags_of, BackgroundValue, ExamplesValue, FeatureValue, RowValue, RuleValue, ScenarioValue, StepValue, AreExamples, AreSteps, AreTags, Describes, HasOneReading, HasTable, IsBackground, IsFeature, IsIgnored, IsIgnoredClass, IsRow, IsRule, IsScenario, IsTaggedHeading, Many, MayDescribeExamples, MayDescribeFeature, MayDescribeScenario, Next, Perhaps, Reads, Skips, describe, described, more, none, skip, skip_none, tagged, untagged, ◌>>=◌, common_steps}
+use Rattle.gk_gherkin.proofs.Common.{◌≡◌, ℕ, Bool, false, List, [], ◌∷◌, ◌++◌, length, Option, Some, None, Result, Ok, refl, sym, subst, ap, ◌∙◌, append_assoc, inl, inr, arith, append-nil, BackgroundHeading, Blank, Comment, ExamplesHeading, FeatureHeading, FenceLine, Other, RowLine, RuleHeading, ScenarioHeading, StepLine, TagLine, Class, ReadFault, FeatureReader, Tagged, Untagged, after_text, children_in, children_put, feature_from, feature_readers, heading_in_feature, last_children, on, on_heading, on_line, rule_from, rule_with, tag_line, takes_text, with_children, with_rules, without_tags, Outside, State, finish, opening, reading, run, step, ChildrenValue, children_take_text, children_with_text, examples_from, examples_under, heading_in, in_examples, in_scenario, last_takes_text, last_with_text, on_background, on_body, on_children, on_examples, on_scenario, on_steps, row_from, row_in, scenario_from, scenario_takes_text, steps_take_text, steps_with_text, with_examples, with_last, with_scenarios, with_steps, with_table, LineValue, Lines, class, heading_keyword, heading_name, tags_of, BackgroundValue, ExamplesValue, FeatureValue, RowValue, RuleValue, ScenarioValue, StepValue, AreExamples, AreSteps, AreTags, Describes, HasOneReading, HasTable, IsBackground, IsFeature, IsIgnored, IsIgnoredClass, IsRow, IsRule, IsScenario, IsTaggedHeading, Many, MayDescribeExamples, MayDescribeFeature, MayDescribeScenario, Next, Perhaps, Reads, Skips, describe, described, more, none, skip, skip_none, tagged, untagged, ◌>>=◌, common_steps}
+use Rattle.gk_gherkin.proofs.LastItems.{last_or-push, with_last-push}
 use Rattle.gk_gherkin.proofs.ReadingRuns.{no_ok, ok_same, run_nil, run_over}
 use Rattle.gk_gherkin.proofs.ReadingStates.{IsNoFence, ignored_no_fence, no_fence, step_plain}
 use Rattle.gk_gherkin.proofs.ReadingSteps.{AllAre, run_steps}
 use Rattle.gk_gherkin.proofs.RowStops.{row_takes}
+use Rattle.gk_gherkin.proofs.OpenPartsSound.{some_cells}
 use Rattle.gk_gherkin.proofs.FeatureReaderSound.{IgnoredAt}
 
 -- ignored lines are passed over
-abbrev FeatureOf : FeatureReader → OpenFeature
+abbrev FeatureOf : FeatureReader → Option FeatureValue
 FeatureOf (Untagged feature) = feature
 FeatureOf (Tagged feature tags last) = feature
 
-ignored_class : (feature : OpenFeature) (l : LineValue) → IgnoredAt feature l → IsIgnoredClass (class l)
-ignored_class Above l i = i.0
-ignored_class (InFeature top part) l i = i
+ignored_class : (feature : (Option FeatureValue)) (l : LineValue) → IgnoredAt feature l → IsIgnoredClass (class l)
+ignored_class None l i = i.0
+ignored_class (Some f) l i = i
 
 quiet_class : (s : FeatureReader) (l : LineValue) (c : Class) → IgnoredAt (FeatureOf s) l → IsIgnoredClass c → on s l c ≡ Ok s
 unfolding on
@@ -41,20 +43,20 @@ run_next : {ls rest : Lines} (s t : FeatureReader) (l : LineValue) (c : Class) �
 run_next {ls} {rest} s t l c n i o e = run_skips s n ∙ line_over s t l rest (ap (opening (takes_text s)) i ∙ o) (ap (on s l) i ∙ e)
 
 -- tags
-data Waits (feature : OpenFeature) : FeatureReader → List (List ℕ) → Type 0 where
+data Waits (feature : (Option FeatureValue)) : FeatureReader → List (List ℕ) → Type 0 where
   bare : Waits feature (Untagged feature) []
   behind : {tags : List (List ℕ)} {last : ℕ} → Waits feature (Tagged feature tags last) tags
 
-takes_tags : {feature : OpenFeature} {s : FeatureReader} {tags some : List (List ℕ)} (l : LineValue) → Waits feature s tags → tags_of l ≡ Some some → on s l TagLine ≡ Ok (Tagged feature (tags ++ some) l.line)
+takes_tags : {feature : (Option FeatureValue)} {s : FeatureReader} {tags some : List (List ℕ)} (l : LineValue) → Waits feature s tags → tags_of l ≡ Some some → on s l TagLine ≡ Ok (Tagged feature (tags ++ some) l.line)
 unfolding on
 takes_tags {feature} l bare e = ap (λ (r : Option (List (List ℕ))). tag_line r feature [] l) e
 takes_tags {feature} {s} {tags} l behind e = ap (λ (r : Option (List (List ℕ))). tag_line r feature tags l) e
 
-at_feature : {feature : OpenFeature} {s : FeatureReader} {tags : List (List ℕ)} {ls rest : Lines} → Waits feature s tags → Skips (IgnoredAt feature) ls rest → Skips (IgnoredAt (FeatureOf s)) ls rest
+at_feature : {feature : (Option FeatureValue)} {s : FeatureReader} {tags : List (List ℕ)} {ls rest : Lines} → Waits feature s tags → Skips (IgnoredAt feature) ls rest → Skips (IgnoredAt (FeatureOf s)) ls rest
 at_feature bare n = n
 at_feature behind n = n
 
-run_tags : {feature : OpenFeature} {ls rest : Lines} {tags others : List (List ℕ)} (s : FeatureReader) → Waits feature s tags → AreTags (IgnoredAt feature) ls others rest → (t : FeatureReader) × (runs_over s ls ≡ runs_over t rest) × Waits feature t (tags ++ others)
+run_tags : {feature : (Option FeatureValue)} {ls rest : Lines} {tags others : List (List ℕ)} (s : FeatureReader) → Waits feature s tags → AreTags (IgnoredAt feature) ls others rest → (t : FeatureReader) × (runs_over s ls ≡ runs_over t rest) × Waits feature t (tags ++ others)
 run_tags {tags = tags} s w untagged = (s, refl, subst (Waits _ s) (sym (append-nil tags)) w)
 run_tags {feature} {ls} {rest} {tags} s w (tagged {some = some} {others = others} first after_first) =
     let l = first.line in
@@ -77,7 +79,7 @@ tagged_no_fence ScenarioHeading i = tt
 tagged_no_fence ExamplesHeading i = tt
 tagged_no_fence _ i = absurd i
 
-takes_heading : {feature : OpenFeature} {s : FeatureReader} {tags : List (List ℕ)} (l : LineValue) (c : Class) → IsTaggedClass c → Waits feature s tags → on s l c ≡ without_tags (on_heading feature tags l c)
+takes_heading : {feature : (Option FeatureValue)} {s : FeatureReader} {tags : List (List ℕ)} (l : LineValue) (c : Class) → IsTaggedClass c → Waits feature s tags → on s l c ≡ without_tags (on_heading feature tags l c)
 unfolding on
 takes_heading l FeatureHeading i bare = refl
 takes_heading l RuleHeading i bare = refl
@@ -89,7 +91,7 @@ takes_heading l ScenarioHeading i behind = refl
 takes_heading l ExamplesHeading i behind = refl
 takes_heading l _ i w = absurd i
 
-run_heading : {ls rest : Lines} {tags : List (List ℕ)} (feature next : OpenFeature) (c : Class) (l : LineValue) → IsTaggedClass c → IsTaggedHeading (IgnoredAt feature) c ls tags l rest → on_heading feature tags l c ≡ Ok next → runs_over (Untagged feature) ls ≡ runs_over (Untagged next) rest
+run_heading : {ls rest : Lines} {tags : List (List ℕ)} (feature next : (Option FeatureValue)) (c : Class) (l : LineValue) → IsTaggedClass c → IsTaggedHeading (IgnoredAt feature) c ls tags l rest → on_heading feature tags l c ≡ Ok next → runs_over (Untagged feature) ls ≡ runs_over (Untagged next) rest
 run_heading feature next c l i h e =
     let r = run_tags (Untagged feature) bare h.above in
     r.1 ∙ run_next r.0 (Untagged next) l c (at_feature r.2 h.heading.next) h.heading.is (no_fence (takes_text r.0) c (tagged_no_fence c i)) (takes_heading l c i r.2 ∙ ap without_tags e)
@@ -103,246 +105,298 @@ IsPlainClass (FenceLine fence) = Unit {0}
 IsPlainClass Other = Unit {0}
 IsPlainClass _ = ⊥
 
-fence_opens_none : (part next : Open) (l : LineValue) (fence : Fence) → on_open part l (FenceLine fence) ≡ Ok next → opening (open_takes_text part) (FenceLine fence) ≡ None
-unfolding on_open on_body
-fence_opens_none InDescription next l fence e = refl
-fence_opens_none (InBody owner NoSteps) next l fence e = refl
-fence_opens_none (InBody owner (Steps steps st)) next l fence e = no_ok e
-fence_opens_none (InExamples children scenario head grid) next l fence e = refl
+takes_plain : (f next : FeatureValue) (l : LineValue) (c : Class) → IsPlainClass c → on_line (Some f) l c ≡ Ok (Some next) → on (Untagged (Some f)) l c ≡ Ok (Untagged (Some next))
+unfolding on
+takes_plain f next l BackgroundHeading i e = ap without_tags e
+takes_plain f next l StepLine i e = ap without_tags e
+takes_plain f next l RowLine i e = ap without_tags e
+takes_plain f next l (FenceLine fence) i e = ap without_tags e
+takes_plain f next l Other i e = ap without_tags e
+takes_plain f next l _ i e = absurd i
 
-opens_none : (part next : Open) (l : LineValue) (c : Class) → on_open part l c ≡ Ok next → opening (open_takes_text part) c ≡ None
-opens_none part next l (FenceLine fence) e = fence_opens_none part next l fence e
-opens_none part next l c e = no_fence (open_takes_text part) c tt
+body_taken : (steps next : List StepValue) (l : LineValue) (c : Class) → on_steps steps l c ≡ Ok next → on_body steps l c ≡ Ok next
+unfolding on_body on_steps
+body_taken [] next l RowLine e = no_ok e
+body_taken [] next l (FenceLine fence) e = no_ok e
+body_taken [] next l Other e = no_ok e
+body_taken steps next l c e = e
 
-takes_plain : (top : Top) (part next : Open) (l : LineValue) (c : Class) → IsPlainClass c → on_open part l c ≡ Ok next → on (Untagged (InFeature top part)) l c ≡ Ok (Untagged (InFeature top next))
-unfolding on on_line
-takes_plain top part next l BackgroundHeading i e = ap (λ (r : Result Open ReadFault). without_tags (r >>= λ next. Ok (InFeature top next))) e
-takes_plain top part next l StepLine i e = ap (λ (r : Result Open ReadFault). without_tags (r >>= λ next. Ok (InFeature top next))) e
-takes_plain top part next l RowLine i e = ap (λ (r : Result Open ReadFault). without_tags (r >>= λ next. Ok (InFeature top next))) e
-takes_plain top part next l (FenceLine fence) i e = ap (λ (r : Result Open ReadFault). without_tags (r >>= λ next. Ok (InFeature top next))) e
-takes_plain top part next l Other i e = ap (λ (r : Result Open ReadFault). without_tags (r >>= λ next. Ok (InFeature top next))) e
-takes_plain top part next l _ i e = absurd i
+steps_plain : (steps next : List StepValue) (l : LineValue) (c : Class) → on_steps steps l c ≡ Ok next → IsPlainClass c
+unfolding on_steps
+steps_plain steps next l StepLine e = tt
+steps_plain steps next l RowLine e = tt
+steps_plain steps next l _ e = no_ok e
 
-run_plain : {ls rest : Lines} (top : Top) (part next : Open) (l : LineValue) (c : Class) → Next IsIgnored ls l rest → class l ≡ c → IsPlainClass c → on_open part l c ≡ Ok next → runs_over (Untagged (InFeature top part)) ls ≡ runs_over (Untagged (InFeature top next)) rest
-run_plain top part next l c n is i e = run_next (Untagged (InFeature top part)) (Untagged (InFeature top next)) l c n is (opens_none part next l c e) (takes_plain top part next l c i e)
+-- no children yet
+abbrev no_children : ChildrenValue
+no_children = record { background = None; scenarios = [] }
 
--- descriptions
-run_describes : {May : Class → Type 0} (top : Top) (part : Open) → ((l : LineValue) (c : Class) → May c → IsPlainClass c × (on_open part l c ≡ Ok part)) → {ls rest : Lines} → Describes May ls rest → runs_over (Untagged (InFeature top part)) ls ≡ runs_over (Untagged (InFeature top part)) rest
-run_describes top part stays described = refl
-run_describes top part stays (describe {l = l} n may d) =
-    let k = stays l (class l) may in
-    run_plain top part part l (class l) n refl k.0 k.1 ∙ run_describes top part stays d
+-- F: the feature with some children of its last rule, or of its own.
+module _ (F : ChildrenValue → FeatureValue) (gets : (k : ChildrenValue) → last_children (F k) ≡ k) (puts : (k next : ChildrenValue) → with_children (F k) next ≡ F next) where
+  abbrev at : ChildrenValue → FeatureReader
+  at k = Untagged (Some (F k))
 
-stays_headed : (l : LineValue) (c : Class) → MayDescribeFeature c → IsPlainClass c × (on_open InDescription l c ≡ Ok InDescription)
-unfolding on_open
-stays_headed l StepLine m = (tt, refl)
-stays_headed l RowLine m = (tt, refl)
-stays_headed l (FenceLine fence) m = (tt, refl)
-stays_headed l Other m = (tt, refl)
-stays_headed l _ m = absurd m
+  line_taken : (k next : ChildrenValue) (l : LineValue) (c : Class) → IsPlainClass c → on_children k l c ≡ Ok next → on (at k) l c ≡ Ok (at next)
+  unfolding on_line
+  line_taken k next l c i e =
+      takes_plain (F k) (F next) l c i
+      (ap (λ (j : ChildrenValue). (on_children j l c >>= λ next. let r : Result FeatureValue ReadFault = Ok (with_children (F k) next) in r) >>= λ f. let r : Result (Option FeatureValue) ReadFault = Ok (Some f) in r) (gets k)
+      ∙ ap (λ (r : Result ChildrenValue ReadFault). (r >>= λ next. let r : Result FeatureValue ReadFault = Ok (with_children (F k) next) in r) >>= λ f. let r : Result (Option FeatureValue) ReadFault = Ok (Some f) in r) e
+      ∙ ap (λ (f : FeatureValue). let r : Result (Option FeatureValue) ReadFault = Ok (Some f) in r) (puts k next))
 
-stays_bodied : (owner : Owner) (l : LineValue) (c : Class) → MayDescribeScenario c → IsPlainClass c × (on_open (InBody owner NoSteps) l c ≡ Ok (InBody owner NoSteps))
-unfolding on_open on_body
-stays_bodied owner l RowLine m = (tt, refl)
-stays_bodied owner l (FenceLine fence) m = (tt, refl)
-stays_bodied owner l Other m = (tt, refl)
-stays_bodied owner l _ m = absurd m
+  heading_taken : (k : ChildrenValue) (scenarios : List ScenarioValue) (tags : List (List ℕ)) (l : LineValue) (c : Class) → heading_in k.scenarios tags l c ≡ Ok scenarios → heading_in_feature (F k) tags l c ≡ Ok (F (with_scenarios k scenarios))
+  heading_taken k scenarios tags l c e =
+      ap (λ (j : ChildrenValue). heading_in j.scenarios tags l c >>= λ scenarios. let r : Result FeatureValue ReadFault = Ok (with_children (F k) (with_scenarios j scenarios)) in r) (gets k)
+      ∙ ap (λ (r : Result (List ScenarioValue) ReadFault). r >>= λ scenarios. let r : Result FeatureValue ReadFault = Ok (with_children (F k) (with_scenarios k scenarios)) in r) e
+      ∙ ap (λ (f : FeatureValue). let r : Result FeatureValue ReadFault = Ok f in r) (puts k (with_scenarios k scenarios))
 
--- the steps of a background or a scenario
-module _ (top : Top) (owner : Owner) where
-  abbrev at : Body → FeatureReader
-  at body = Untagged (InFeature top (InBody owner body))
+  run_scenario_heading : {ls rest : Lines} {tags : List (List ℕ)} (k : ChildrenValue) (l : LineValue) → IsTaggedHeading IsIgnored ScenarioHeading ls tags l rest → runs_over (at k) ls ≡ runs_over (at (with_scenarios k (k.scenarios ++ scenario_from tags l ∷ []))) rest
+  unfolding on_heading heading_in
+  run_scenario_heading {tags = tags} k l h =
+      let next : List ScenarioValue = k.scenarios ++ scenario_from tags l ∷ [] in
+      run_heading (Some (F k)) (Some (F (with_scenarios k next))) ScenarioHeading l tt h (ap (λ (r : Result FeatureValue ReadFault). r >>= λ f. let r : Result (Option FeatureValue) ReadFault = Ok (Some f) in r) (heading_taken k next tags l ScenarioHeading refl))
 
-  on_plain : (body next : Body) (l : LineValue) (c : Class) → class l ≡ c → IsPlainClass c → on_body body l c ≡ Ok next → on (at body) l (class l) ≡ Ok (at next)
-  unfolding on_open
-  on_plain body next l c is i e = ap (on (at body) l) is ∙ takes_plain top (InBody owner body) (InBody owner next) l c i (ap (λ (r : Result Body ReadFault). r >>= λ next. Ok (InBody owner next)) e)
+  run_examples_heading : {ls rest : Lines} {tags : List (List ℕ)} (k : ChildrenValue) (next : List ScenarioValue) (l : LineValue) → IsTaggedHeading IsIgnored ExamplesHeading ls tags l rest → heading_in k.scenarios tags l ExamplesHeading ≡ Ok next → runs_over (at k) ls ≡ runs_over (at (with_scenarios k next)) rest
+  unfolding on_heading
+  run_examples_heading {tags = tags} k next l h e =
+      run_heading (Some (F k)) (Some (F (with_scenarios k next))) ExamplesHeading l tt h (ap (λ (r : Result FeatureValue ReadFault). r >>= λ f. let r : Result (Option FeatureValue) ReadFault = Ok (Some f) in r) (heading_taken k next tags l ExamplesHeading e))
 
-  run_steps_at : {ls rest : Lines} {sts : List StepValue} → AreSteps ls sts rest → (body : Body) × (runs_over (at NoSteps) ls ≡ runs_over (at body) rest) × (steps_of body ≡ sts)
-  run_steps_at s = run_steps feature_readers at (λ body l i. quiet (at body) l i) (λ body next l is e. on_plain body next l StepLine is tt e) (λ steps st next l is e. on_plain (Steps steps st) next l RowLine is tt e) (λ body. refl) (λ body text. refl) NoSteps s.parts s.types
+  run_plain : {ls rest : Lines} (k next : ChildrenValue) (l : LineValue) (c : Class) → Next IsIgnored ls l rest → class l ≡ c → IsPlainClass c → opening (children_take_text k) c ≡ None → on_children k l c ≡ Ok next → runs_over (at k) ls ≡ runs_over (at next) rest
+  run_plain k next l c n is i o e = run_next (at k) (at next) l c n is (ap (λ (k : ChildrenValue). opening (children_take_text k) c) (gets k) ∙ o) (line_taken k next l c i e)
 
-run_body : {ls mid rest : Lines} {sts : List StepValue} (top : Top) (owner : Owner) → Describes MayDescribeScenario ls mid → AreSteps mid sts rest
-    → (body : Body) × (runs_over (Untagged (InFeature top (InBody owner NoSteps))) ls ≡ runs_over (Untagged (InFeature top (InBody owner body))) rest) × (steps_of body ≡ sts)
-run_body top owner d s =
-    let r = run_steps_at top owner s in
-    (r.0, run_describes top (InBody owner NoSteps) (stays_bodied owner) d ∙ r.1, r.2)
+  -- descriptions
+  run_describes : {May : Class → Type 0} (k : ChildrenValue) → children_take_text k ≡ false → ((l : LineValue) (c : Class) → May c → IsPlainClass c × (on_children k l c ≡ Ok k)) → {ls rest : Lines} → Describes May ls rest → runs_over (at k) ls ≡ runs_over (at k) rest
+  run_describes k free stays described = refl
+  run_describes k free stays (describe {l = l} n may d) =
+      let s = stays l (class l) may in
+      run_plain k k l (class l) n refl s.0 (ap (λ (b : Bool). opening b (class l)) free) s.1 ∙ run_describes k free stays d
 
--- what a heading says
-same_head : (head : HeadValue) (l : LineValue) → head.name ≡ heading_name l → head.line ≡ l.line → head_from head.tags l ≡ head
-same_head head l e n = rw (← e, ← n) refl
+  -- B: the children with some steps of the last scenario, or of the background
+  module _ (B : List StepValue → ChildrenValue)
+      (goes : (steps next : List StepValue) (l : LineValue) (c : Class) → on_body steps l c ≡ Ok next → on_children (B steps) l c ≡ Ok (B next))
+      (takes : (steps : List StepValue) → children_take_text (B steps) ≡ steps_take_text steps)
+      (texts : (steps : List StepValue) (text : List ℕ) → children_with_text (B steps) text ≡ B (steps_with_text steps text))
+    where
+    stays_bodied : (l : LineValue) (c : Class) → MayDescribeScenario c → IsPlainClass c × (on_children (B []) l c ≡ Ok (B []))
+    unfolding on_body
+    stays_bodied l RowLine m = (tt, goes [] [] l RowLine refl)
+    stays_bodied l (FenceLine fence) m = (tt, goes [] [] l (FenceLine fence) refl)
+    stays_bodied l Other m = (tt, goes [] [] l Other refl)
+    stays_bodied l _ m = absurd m
 
--- scenarios
--- examples
-stays_exampled : (children : ChildrenValue) (s : ScenarioValue) (head : HeadValue) (l : LineValue) (c : Class) → MayDescribeExamples c → IsPlainClass c × (on_open (InExamples children s head NoRows) l c ≡ Ok (InExamples children s head NoRows))
-unfolding on_open on_grid
-stays_exampled children s head l StepLine m = (tt, refl)
-stays_exampled children s head l (FenceLine fence) m = (tt, refl)
-stays_exampled children s head l Other m = (tt, refl)
-stays_exampled children s head l _ m = absurd m
+    steps_taken : (steps next : List StepValue) (l : LineValue) (c : Class) → class l ≡ c → on_steps steps l c ≡ Ok next → on (at (B steps)) l (class l) ≡ Ok (at (B next))
+    steps_taken steps next l c is e = ap (on (at (B steps)) l) is ∙ line_taken (B steps) (B next) l c (steps_plain steps next l c e) (goes steps next l c (body_taken steps next l c e))
 
-run_grid_row : {ls rest : Lines} (top : Top) (children : ChildrenValue) (s : ScenarioValue) (head : HeadValue) (grid next : Grid) (row : RowValue) → (i : IsRow ls row rest) → on_grid grid i.line RowLine ≡ Ok next
-    → runs_over (Untagged (InFeature top (InExamples children s head grid))) ls ≡ runs_over (Untagged (InFeature top (InExamples children s head next))) rest
-unfolding on_open
-run_grid_row top children s head grid next row i e =
-    run_plain top (InExamples children s head grid) (InExamples children s head next) i.line RowLine i.next i.is tt (ap (λ (r : Result Grid ReadFault). r >>= λ next. Ok (InExamples children s head next)) e)
+    with_text_at : (k : ChildrenValue) (text : List ℕ) → after_text (at k) text ≡ at (children_with_text k text)
+    with_text_at k text = ap (λ (j : ChildrenValue). Untagged (Some (with_children (F k) (children_with_text j text)))) (gets k) ∙ ap (λ (f : FeatureValue). Untagged (Some f)) (puts k (children_with_text k text))
 
-same_row : (row : RowValue) (l : LineValue) → row.line ≡ l.line → row_from l row.cells ≡ row
-same_row row l n = rw (← n) refl
+    run_body : {ls mid rest : Lines} {sts : List StepValue} → Describes MayDescribeScenario ls mid → AreSteps mid sts rest → runs_over (at (B [])) ls ≡ runs_over (at (B sts)) rest
+    run_body d s =
+        run_describes (B []) (takes []) stays_bodied d
+        ∙ run_steps feature_readers (λ steps. at (B steps)) (λ steps l i. quiet (at (B steps)) l i) steps_taken (λ steps. ap children_take_text (gets (B steps)) ∙ takes steps) (λ steps text. with_text_at (B steps) text ∙ ap at (texts steps text)) [] s.parts s.types
 
-run_grid : {ls rest : Lines} {more_rows : List RowValue} (top : Top) (children : ChildrenValue) (s : ScenarioValue) (head : HeadValue) (header : List (List ℕ)) (rows : List RowValue) → Many IsRow ls more_rows rest → AllAre (length header) more_rows
-    → runs_over (Untagged (InFeature top (InExamples children s head (Rows header rows)))) ls ≡ runs_over (Untagged (InFeature top (InExamples children s head (Rows header (rows ++ more_rows))))) rest
-unfolding on_grid
-run_grid {rest = rest} top children s head header rows none w = ap (λ (rows : List RowValue). runs_over (Untagged (InFeature top (InExamples children s head (Rows header rows)))) rest) (sym (append-nil rows))
-run_grid {rest = rest} top children s head header rows (more {x = x} {xs = xs} p many) w =
-    let taken : on_grid (Rows header rows) p.line RowLine ≡ Ok (Rows header (rows ++ x ∷ [])) =
-    ap (λ (r : Result (List (List ℕ)) ReadFault). r >>= λ cells. let g : Result Grid ReadFault = Ok (Rows header (rows ++ row_from p.line cells ∷ [])) in g) (row_takes (Some (length header)) p.line x.cells p.cells w.0)
-    ∙ ap (λ (row : RowValue). let g : Result Grid ReadFault = Ok (Rows header (rows ++ row ∷ [])) in g) (same_row x p.line p.number) in
-    run_grid_row top children s head (Rows header rows) (Rows header (rows ++ x ∷ [])) x p taken
-    ∙ run_grid top children s head header (rows ++ x ∷ []) many w.1
-    ∙ ap (λ (rows : List RowValue). runs_over (Untagged (InFeature top (InExamples children s head (Rows header rows)))) rest) (append_assoc rows (x ∷ []) xs)
+  -- the last scenario of some children
+  module _ (k : ChildrenValue) where
+    abbrev Z : ScenarioValue → ChildrenValue
+    Z s = with_scenarios k (k.scenarios ++ s ∷ [])
 
-run_table_of : {ls rest : Lines} (top : Top) (children : ChildrenValue) (s : ScenarioValue) (head : HeadValue) (first : RowValue) (rows : List RowValue) → Many IsRow ls (first ∷ rows) rest → AllAre (length first.cells) rows
-    → runs_over (Untagged (InFeature top (InExamples children s head NoRows))) ls ≡ runs_over (Untagged (InFeature top (InExamples children s head (Rows first.cells rows)))) rest
-unfolding on_grid
-run_table_of top children s head first rows (more p many) w =
-    run_grid_row top children s head NoRows (Rows first.cells []) first p (ap (λ (r : Result (List (List ℕ)) ReadFault). r >>= λ cells. let g : Result Grid ReadFault = Ok (Rows cells []) in g) (row_takes None p.line first.cells p.cells tt))
-    ∙ run_grid top children s head first.cells [] many w
+    scenario_goes : (s next : ScenarioValue) (l : LineValue) (c : Class) → on_scenario s l c ≡ Ok next → on_children (Z s) l c ≡ Ok (Z next)
+    scenario_goes s next l c e =
+        ap (λ (o : Option ScenarioValue). in_scenario o (Z s) l c) (last_or-push None k.scenarios s)
+        ∙ ap (λ (r : Result ScenarioValue ReadFault). r >>= λ t. let r : Result ChildrenValue ReadFault = Ok (with_scenarios k (with_last t (k.scenarios ++ s ∷ []))) in r) e
+        ∙ ap (λ (scenarios : List ScenarioValue). let r : Result ChildrenValue ReadFault = Ok (with_scenarios k scenarios) in r) (with_last-push next k.scenarios s)
 
-run_has_table : (ls rest : Lines) (top : Top) (children : ChildrenValue) (s : ScenarioValue) (head : HeadValue) (header : List (List ℕ)) (rows : List RowValue) → HasTable ls header rows rest
-    → (grid : Grid) × (runs_over (Untagged (InFeature top (InExamples children s head NoRows))) ls ≡ runs_over (Untagged (InFeature top (InExamples children s head grid))) rest) × (header_of grid ≡ header) × (rows_of grid ≡ rows)
-run_has_table ls rest top children s head header rows (inl e) = (NoRows, ap (runs_over (Untagged (InFeature top (InExamples children s head NoRows)))) e.2, sym e.0, sym e.1)
-run_has_table ls rest top children s head header rows (inr t) = (Rows t.0.cells rows, run_table_of top children s head t.0 rows t.2.lines t.2.width, sym t.1, refl)
+    scenario_takes : (s : ScenarioValue) → children_take_text (Z s) ≡ scenario_takes_text s.examples s
+    scenario_takes s = ap (λ (o : Option ScenarioValue). last_takes_text o (Z s)) (last_or-push None k.scenarios s)
 
-abbrev outline : ChildrenValue → ScenarioValue → Option OutlineValue
-outline children s = Some (record { children = children; scenario = s })
+    scenario_texts : (s : ScenarioValue) (text : List ℕ) → children_with_text (Z s) text ≡ Z (with_steps s (steps_with_text s.steps text))
+    scenario_texts s text =
+        ap (λ (o : Option ScenarioValue). last_with_text o (Z s) text) (last_or-push None k.scenarios s)
+        ∙ ap (λ (scenarios : List ScenarioValue). with_scenarios k scenarios) (with_last-push (with_steps s (steps_with_text s.steps text)) k.scenarios s)
 
-run_example : {ls rest : Lines} (top : Top) (part : Open) (children : ChildrenValue) (s : ScenarioValue) (x : ExamplesValue) → outline_of part ≡ outline children s → AreExamples ls x rest
-    → (next : Open) × (runs_over (Untagged (InFeature top part)) ls ≡ runs_over (Untagged (InFeature top next)) rest) × (outline_of next ≡ outline children (with_examples s x))
-unfolding on_heading
-run_example top part children s x same i =
-    let head : HeadValue = record { tags = x.tags; name = x.name; line = x.line } in
-    let start : Open = InExamples children s head NoRows in
-    let made : on_heading (InFeature top part) x.tags i.line ExamplesHeading ≡ Ok (InFeature top start) = ap (λ (o : Option OutlineValue). examples_after o top x.tags i.line) same ∙ rw (← i.name, ← i.number) refl in
-    let t = run_has_table i.after_description _ top children s head x.header x.rows i.table in
-    let whole : examples_of head t.0 ≡ x = ap (λ (header : List (List ℕ)). let e : ExamplesValue = record { name = x.name; line = x.line; tags = x.tags; header = header; rows = rows_of t.0 } in e) t.2 ∙ ap (λ (rows : List RowValue). let e : ExamplesValue = record { name = x.name; line = x.line; tags = x.tags; header = x.header; rows = rows } in e) t.3 in (
-      InExamples children s head t.0,
-      run_heading (InFeature top part) (InFeature top start) ExamplesHeading i.line tt i.heading made ∙ run_describes top start (stays_exampled children s head) i.description ∙ t.1,
-      ap (λ (x : ExamplesValue). outline children (with_examples s x)) whole,
-    )
+    -- the last examples of the last scenario
+    module _ (s : ScenarioValue) where
+      abbrev E : ExamplesValue → ChildrenValue
+      E x = Z (with_examples s (s.examples ++ x ∷ []))
 
-more_examples : ScenarioValue → List ExamplesValue → ScenarioValue
-more_examples s xs = record { keyword = s.keyword; name = s.name; line = s.line; tags = s.tags; steps = s.steps; examples = s.examples ++ xs }
+      examples_goes : (x next : ExamplesValue) (l : LineValue) (c : Class) → on_examples x l c ≡ Ok next → on_children (E x) l c ≡ Ok (E next)
+      examples_goes x next l c e =
+          scenario_goes (with_examples s (s.examples ++ x ∷ [])) (with_examples s (s.examples ++ next ∷ [])) l c
+          (ap (λ (o : Option ExamplesValue). in_examples o (with_examples s (s.examples ++ x ∷ [])) l c) (last_or-push None s.examples x)
+          ∙ ap (λ (r : Result ExamplesValue ReadFault). r >>= λ y. let r : Result ScenarioValue ReadFault = Ok (with_examples s (with_last y (s.examples ++ x ∷ []))) in r) e
+          ∙ ap (λ (examples : List ExamplesValue). let r : Result ScenarioValue ReadFault = Ok (with_examples s examples) in r) (with_last-push next s.examples x))
 
-run_examples : {ls rest : Lines} {xs : List ExamplesValue} (top : Top) (part : Open) (children : ChildrenValue) (s : ScenarioValue) → outline_of part ≡ outline children s → Many AreExamples ls xs rest
-    → (next : Open) × (runs_over (Untagged (InFeature top part)) ls ≡ runs_over (Untagged (InFeature top next)) rest) × (outline_of next ≡ outline children (more_examples s xs))
-unfolding more_examples
-run_examples top part children s same none = (part, refl, same ∙ ap (λ (xs : List ExamplesValue). outline children (record { keyword = s.keyword; name = s.name; line = s.line; tags = s.tags; steps = s.steps; examples = xs })) (sym (append-nil s.examples)))
-run_examples top part children s same (more {x = x} {xs = xs} p many) =
-    let one = run_example top part children s x same p in
-    let r = run_examples top one.0 children (with_examples s x) one.2 many in
-    (r.0, one.1 ∙ r.1, r.2 ∙ ap (λ (xs : List ExamplesValue). outline children (record { keyword = s.keyword; name = s.name; line = s.line; tags = s.tags; steps = s.steps; examples = xs })) (append_assoc s.examples (x ∷ []) xs))
+      no_text : (xs : List ExamplesValue) (x : ExamplesValue) → scenario_takes_text (xs ++ x ∷ []) (with_examples s (xs ++ x ∷ [])) ≡ false
+      no_text [] x = refl
+      no_text (y ∷ xs) x = refl
 
-some_same : {A : Type 0} {x y : A} → ◌≡◌ {A = Option A} (Some x) (Some y) → x ≡ y
-some_same e = cc
+      examples_take : (x : ExamplesValue) → children_take_text (E x) ≡ false
+      examples_take x = scenario_takes (with_examples s (s.examples ++ x ∷ [])) ∙ no_text s.examples x
 
-outline_children : (part : Open) (children : ChildrenValue) (s : ScenarioValue) → outline_of part ≡ outline children s → children_of part ≡ with_scenario children s
-outline_children InDescription children s e = let no : ⊥ = cc in absurd no
-outline_children (InBody (OfBackground n) body) children s e = let no : ⊥ = cc in absurd no
-outline_children (InBody (OfScenario before keyword head) body) children s e = ap (λ (o : OutlineValue). with_scenario o.children o.scenario) (some_same e)
-outline_children (InExamples before scenario head grid) children s e = ap (λ (o : OutlineValue). with_scenario o.children o.scenario) (some_same e)
+      examples_begin : (tags : List (List ℕ)) (l : LineValue) → heading_in (k.scenarios ++ s ∷ []) tags l ExamplesHeading ≡ Ok (k.scenarios ++ with_examples s (s.examples ++ examples_from tags l ∷ []) ∷ [])
+      unfolding heading_in
+      examples_begin tags l =
+          ap (λ (o : Option ScenarioValue). examples_under o (k.scenarios ++ s ∷ []) tags l) (last_or-push None k.scenarios s)
+          ∙ ap (λ (scenarios : List ScenarioValue). let r : Result (List ScenarioValue) ReadFault = Ok scenarios in r) (with_last-push (with_examples s (s.examples ++ examples_from tags l ∷ [])) k.scenarios s)
 
-run_scenario : {ls rest : Lines} (top : Top) (part : Open) (children : ChildrenValue) (s : ScenarioValue) → children_of part ≡ children → IsScenario ls s rest
-    → (next : Open) × (runs_over (Untagged (InFeature top part)) ls ≡ runs_over (Untagged (InFeature top next)) rest) × (children_of next ≡ with_scenario children s)
-unfolding on_heading more_examples
-run_scenario {ls} {rest} top part children s same i =
-    let head : HeadValue = record { tags = s.tags; name = s.name; line = s.line } in
-    let owner : Owner = OfScenario children s.keyword head in
-    let made : on_heading (InFeature top part) s.tags i.line ScenarioHeading ≡ Ok (InFeature top (InBody owner NoSteps)) = rw (same, ← i.keyword, ← i.name, ← i.number) refl in
-    let r = run_body top owner i.description i.steps in
-    let e = run_examples top (InBody owner r.0) children (scenario_of s.keyword head s.steps) (ap (λ (steps : List StepValue). outline children (scenario_of s.keyword head steps)) r.2) i.examples in (
-      e.0,
-      run_heading (InFeature top part) (InFeature top (InBody owner NoSteps)) ScenarioHeading i.line tt i.heading made ∙ r.1 ∙ e.1,
-      outline_children e.0 children s e.2,
-    )
+      stays_exampled : (tags : List (List ℕ)) (head l : LineValue) (c : Class) → MayDescribeExamples c → IsPlainClass c × (on_children (E (examples_from tags head)) l c ≡ Ok (E (examples_from tags head)))
+      unfolding on_examples
+      stays_exampled tags head l StepLine m = (tt, examples_goes (examples_from tags head) (examples_from tags head) l StepLine refl)
+      stays_exampled tags head l (FenceLine fence) m = (tt, examples_goes (examples_from tags head) (examples_from tags head) l (FenceLine fence) refl)
+      stays_exampled tags head l Other m = (tt, examples_goes (examples_from tags head) (examples_from tags head) l Other refl)
+      stays_exampled tags head l _ m = absurd m
 
-with_scenarios : ChildrenValue → List ScenarioValue → ChildrenValue
-with_scenarios children ss = record { background = children.background; scenarios = children.scenarios ++ ss }
+      run_row : {ls rest : Lines} (x next : ExamplesValue) (row : RowValue) → (i : IsRow ls row rest) → row_in x.header x i.line ≡ Ok next → runs_over (at (E x)) ls ≡ runs_over (at (E next)) rest
+      unfolding on_examples
+      run_row x next row i e = run_plain (E x) (E next) i.line RowLine i.next i.is tt (ap (λ (b : Bool). opening b RowLine) (examples_take x)) (examples_goes x next i.line RowLine e)
 
-run_scenarios : {ls rest : Lines} {ss : List ScenarioValue} (top : Top) (part : Open) (children : ChildrenValue) → children_of part ≡ children → Many IsScenario ls ss rest
-    → (next : Open) × (runs_over (Untagged (InFeature top part)) ls ≡ runs_over (Untagged (InFeature top next)) rest) × (children_of next ≡ with_scenarios children ss)
-unfolding with_scenarios
-run_scenarios top part children same none = (part, refl, same ∙ ap (λ (ss : List ScenarioValue). let s : ChildrenValue = record { background = children.background; scenarios = ss } in s) (sym (append-nil children.scenarios)))
-run_scenarios top part children same (more {x = x} {xs = xs} p many) =
-    let one = run_scenario top part children x same p in
-    let r = run_scenarios top one.0 (with_scenario children x) one.2 many in
-    (r.0, one.1 ∙ r.1, r.2 ∙ ap (λ (ss : List ScenarioValue). let s : ChildrenValue = record { background = children.background; scenarios = ss } in s) (append_assoc children.scenarios (x ∷ []) xs))
+      same_row : (row : RowValue) (l : LineValue) → row.line ≡ l.line → row_from l row.cells ≡ row
+      same_row row l n = rw (← n) refl
 
--- backgrounds
-run_background : (ls rest : Lines) (top : Top) (background : Option BackgroundValue) → Perhaps IsBackground ls background rest
-    → (next : Open) × (runs_over (Untagged (InFeature top InDescription)) ls ≡ runs_over (Untagged (InFeature top next)) rest) × (children_of next ≡ record { background = background; scenarios = [] })
-unfolding on_open
-run_background ls rest top None p = (InDescription, ap (runs_over (Untagged (InFeature top InDescription))) p, refl)
-run_background ls rest top (Some b) i =
-    let r = run_body top (OfBackground i.line.line) i.description i.steps in (
-      InBody (OfBackground i.line.line) r.0,
-      run_plain top InDescription (InBody (OfBackground i.line.line) NoSteps) i.line BackgroundHeading i.heading.next i.heading.is tt refl ∙ r.1,
-      ap (background_children i.line.line) r.2 ∙ ap (λ (n : ℕ). background_children n b.steps) (sym i.number),
-    )
+      run_rows : {ls rest : Lines} {more_rows : List RowValue} (x : ExamplesValue) (cell : List ℕ) (cells : List (List ℕ)) (rows : List RowValue) → Many IsRow ls more_rows rest → AllAre (length (cell ∷ cells)) more_rows → runs_over (at (E (with_table x (cell ∷ cells) rows))) ls ≡ runs_over (at (E (with_table x (cell ∷ cells) (rows ++ more_rows)))) rest
+      run_rows {rest = rest} x cell cells rows none w = ap (λ (rows : List RowValue). runs_over (at (E (with_table x (cell ∷ cells) rows))) rest) (sym (append-nil rows))
+      run_rows {rest = rest} x cell cells rows (more {x = row} {xs = others} p many) w =
+          let before : ExamplesValue = with_table x (cell ∷ cells) rows in
+          let taken : row_in (cell ∷ cells) before p.line ≡ Ok (with_table x (cell ∷ cells) (rows ++ row ∷ [])) =
+          ap (λ (r : Result (List (List ℕ)) ReadFault). r >>= λ found. let r : Result ExamplesValue ReadFault = Ok (with_table x (cell ∷ cells) (rows ++ row_from p.line found ∷ [])) in r) (row_takes (Some (length (cell ∷ cells))) p.line row.cells p.cells w.0)
+          ∙ ap (λ (row : RowValue). let r : Result ExamplesValue ReadFault = Ok (with_table x (cell ∷ cells) (rows ++ row ∷ [])) in r) (same_row row p.line p.number) in
+          run_row before (with_table x (cell ∷ cells) (rows ++ row ∷ [])) row p taken
+          ∙ run_rows x cell cells (rows ++ row ∷ []) many w.1
+          ∙ ap (λ (rows : List RowValue). runs_over (at (E (with_table x (cell ∷ cells) rows))) rest) (append_assoc rows (row ∷ []) others)
 
-run_children : {ls a b rest : Lines} (top : Top) (background : Option BackgroundValue) (ss : List ScenarioValue) → Describes MayDescribeFeature ls a → Perhaps IsBackground a background b → Many IsScenario b ss rest
-    → (next : Open) × (runs_over (Untagged (InFeature top InDescription)) ls ≡ runs_over (Untagged (InFeature top next)) rest) × (children_of next ≡ record { background = background; scenarios = ss })
-unfolding with_scenarios
-run_children top background ss d p many =
-    let one = run_background _ _ top background p in
-    let r = run_scenarios top one.0 (record { background = background; scenarios = [] }) one.2 many in
-    (r.0, run_describes top InDescription stays_headed d ∙ one.1 ∙ r.1, r.2)
+      run_table : {ls rest : Lines} (x : ExamplesValue) (first : List (List ℕ)) (row : RowValue) (rows : List RowValue) → row.cells ≡ first → Many IsRow ls (row ∷ rows) rest → AllAre (length first) rows → runs_over (at (E (with_table x [] []))) ls ≡ runs_over (at (E (with_table x first rows))) rest
+      run_table x [] row rows is (more p many) w = some_cells p.line (p.cells ∙ ap Some is)
+      run_table x (cell ∷ cells) row rows is (more p many) w =
+          run_row (with_table x [] []) (with_table x (cell ∷ cells) []) row p (ap (λ (r : Result (List (List ℕ)) ReadFault). r >>= λ found. let r : Result ExamplesValue ReadFault = Ok (with_table x found []) in r) (row_takes None p.line (cell ∷ cells) (p.cells ∙ ap Some is) tt))
+          ∙ run_rows x cell cells [] many w
+
+      run_has_table : (ls rest : Lines) (x : ExamplesValue) (header : List (List ℕ)) (rows : List RowValue) → HasTable ls header rows rest → runs_over (at (E (with_table x [] []))) ls ≡ runs_over (at (E (with_table x header rows))) rest
+      run_has_table ls rest x header rows (inl e) = ap (runs_over (at (E (with_table x [] [])))) e.2 ∙ ap (λ (header : List (List ℕ)). runs_over (at (E (with_table x header []))) rest) (sym e.0) ∙ ap (λ (rows : List RowValue). runs_over (at (E (with_table x header rows))) rest) (sym e.1)
+      run_has_table ls rest x header rows (inr t) = run_table x header t.0 rows (sym t.1) t.2.lines (subst (λ (cells : List (List ℕ)). AllAre (length cells) rows) (sym t.1) t.2.width)
+
+      same_examples : (x : ExamplesValue) (l : LineValue) → x.name ≡ heading_name l → x.line ≡ l.line → examples_from x.tags l ≡ with_table x [] []
+      same_examples x l e n = rw (← e, ← n) refl
+
+      run_example : {ls rest : Lines} (x : ExamplesValue) → AreExamples ls x rest → runs_over (at (Z s)) ls ≡ runs_over (at (E x)) rest
+      run_example {rest = rest} x i =
+          run_examples_heading (Z s) (k.scenarios ++ with_examples s (s.examples ++ examples_from x.tags i.line ∷ []) ∷ []) i.line i.heading (examples_begin x.tags i.line)
+          ∙ run_describes (E (examples_from x.tags i.line)) (examples_take (examples_from x.tags i.line)) (stays_exampled x.tags i.line) i.description
+          ∙ ap (λ (x : ExamplesValue). runs_over (at (E x)) i.after_description) (same_examples x i.line i.name i.number)
+          ∙ run_has_table i.after_description rest x x.header x.rows i.table
+
+    run_examples : {ls rest : Lines} {xs : List ExamplesValue} (s : ScenarioValue) → Many AreExamples ls xs rest → runs_over (at (Z s)) ls ≡ runs_over (at (Z (with_examples s (s.examples ++ xs)))) rest
+    run_examples {rest = rest} s none = ap (λ (xs : List ExamplesValue). runs_over (at (Z (with_examples s xs))) rest) (sym (append-nil s.examples))
+    run_examples {rest = rest} s (more {x = x} {xs = xs} p many) =
+        run_example s x p
+        ∙ run_examples (with_examples s (s.examples ++ x ∷ [])) many
+        ∙ ap (λ (xs : List ExamplesValue). runs_over (at (Z (with_examples s xs))) rest) (append_assoc s.examples (x ∷ []) xs)
+
+    -- A scenario without examples, and with these steps.
+    abbrev begun : ScenarioValue → List StepValue → ScenarioValue
+    begun s steps = with_examples (with_steps s steps) []
+
+    begun_goes : (s : ScenarioValue) (steps next : List StepValue) (l : LineValue) (c : Class) → on_body steps l c ≡ Ok next → on_children (Z (begun s steps)) l c ≡ Ok (Z (begun s next))
+    begun_goes s steps next l c e = scenario_goes (begun s steps) (begun s next) l c (ap (λ (r : Result (List StepValue) ReadFault). r >>= λ steps. let r : Result ScenarioValue ReadFault = Ok (begun s steps) in r) e)
+
+    same_scenario : (s : ScenarioValue) (l : LineValue) → s.keyword ≡ heading_keyword l → s.name ≡ heading_name l → s.line ≡ l.line → scenario_from s.tags l ≡ begun s []
+    same_scenario s l w e n = rw (← w, ← e, ← n) refl
+
+    run_scenario : {ls rest : Lines} (s : ScenarioValue) → IsScenario ls s rest → runs_over (at k) ls ≡ runs_over (at (Z s)) rest
+    run_scenario s i =
+        run_scenario_heading k i.line i.heading
+        ∙ ap (λ (s : ScenarioValue). runs_over (at (Z s)) i.after_heading) (same_scenario s i.line i.keyword i.name i.number)
+        ∙ run_body (λ steps. Z (begun s steps)) (begun_goes s) (λ steps. scenario_takes (begun s steps)) (λ steps text. scenario_texts (begun s steps) text) i.description i.steps
+        ∙ run_examples (begun s s.steps) i.examples
+
+  run_scenarios : {ls rest : Lines} {ss : List ScenarioValue} (k : ChildrenValue) → Many IsScenario ls ss rest → runs_over (at k) ls ≡ runs_over (at (with_scenarios k (k.scenarios ++ ss))) rest
+  run_scenarios {rest = rest} k none = ap (λ (ss : List ScenarioValue). runs_over (at (with_scenarios k ss)) rest) (sym (append-nil k.scenarios))
+  run_scenarios {rest = rest} k (more {x = x} {xs = xs} p many) =
+      run_scenario k x p
+      ∙ run_scenarios (with_scenarios k (k.scenarios ++ x ∷ [])) many
+      ∙ ap (λ (ss : List ScenarioValue). runs_over (at (with_scenarios k ss)) rest) (append_assoc k.scenarios (x ∷ []) xs)
+
+  -- the background
+  stays_headed : (l : LineValue) (c : Class) → MayDescribeFeature c → IsPlainClass c × (on_children no_children l c ≡ Ok no_children)
+  unfolding on_background
+  stays_headed l StepLine m = (tt, refl)
+  stays_headed l RowLine m = (tt, refl)
+  stays_headed l (FenceLine fence) m = (tt, refl)
+  stays_headed l Other m = (tt, refl)
+  stays_headed l _ m = absurd m
+
+  abbrev backed : ℕ → List StepValue → ChildrenValue
+  backed n steps = record { background = Some (record { line = n; steps = steps }); scenarios = [] }
+
+  backed_goes : (n : ℕ) (steps next : List StepValue) (l : LineValue) (c : Class) → on_body steps l c ≡ Ok next → on_children (backed n steps) l c ≡ Ok (backed n next)
+  unfolding on_background
+  backed_goes n steps next l c e = ap (λ (r : Result (List StepValue) ReadFault). (r >>= λ steps. let r : Result (Option BackgroundValue) ReadFault = Ok (Some (record { line = n; steps = steps })) in r) >>= λ b. let r : Result ChildrenValue ReadFault = Ok (record { background = b; scenarios = [] }) in r) e
+
+  run_background : (ls rest : Lines) (background : Option BackgroundValue) → Perhaps IsBackground ls background rest → runs_over (at no_children) ls ≡ runs_over (at (record { background = background; scenarios = [] })) rest
+  unfolding on_background
+  run_background ls rest None p = ap (runs_over (at no_children)) p
+  run_background ls rest (Some b) i =
+      run_plain no_children (backed i.line.line []) i.line BackgroundHeading i.heading.next i.heading.is tt refl refl
+      ∙ run_body (backed i.line.line) (backed_goes i.line.line) (λ steps. refl) (λ steps text. refl) i.description i.steps
+      ∙ ap (λ (n : ℕ). runs_over (at (backed n b.steps)) rest) (sym i.number)
+
+  pub run_children : {ls a b rest : Lines} (background : Option BackgroundValue) (ss : List ScenarioValue) → Describes MayDescribeFeature ls a → Perhaps IsBackground a background b → Many IsScenario b ss rest → runs_over (at no_children) ls ≡ runs_over (at (record { background = background; scenarios = ss })) rest
+  run_children background ss d p many = run_describes no_children refl stays_headed d ∙ run_background _ _ background p ∙ run_scenarios (record { background = background; scenarios = [] }) many
 
 -- rules
-record Reached (s : FeatureReader) (ls : Lines) (f : FeatureValue) (rest : Lines) : Type 0 where
-  top : Top
-  part : Open
-  runs_to : runs_over s ls ≡ runs_over (Untagged (InFeature top part)) rest
-  says : feature_of top (children_of part) ≡ f
+module _ (f : FeatureValue) (r : RuleValue) where
+  abbrev ruled : ChildrenValue → FeatureValue
+  ruled k = with_rules f (f.rules ++ rule_with r k ∷ [])
 
-run_rule : {ls rest : Lines} (top : Top) (part : Open) (f : FeatureValue) (r : RuleValue) → feature_of top (children_of part) ≡ f → IsRule ls r rest → Reached (Untagged (InFeature top part)) ls (with_rule f r) rest
-unfolding on_heading
-run_rule top part f r same i =
-    let head : HeadValue = record { tags = r.tags; name = r.name; line = r.line } in
-    let made : on_heading (InFeature top part) r.tags i.line RuleHeading ≡ Ok (InFeature (OfRule f head) InDescription) = rw (same, ← i.name, ← i.number) refl in
-    let s = run_children (OfRule f head) r.background r.scenarios i.description i.background i.scenarios in
-    record { top = OfRule f head; part = s.0; runs_to = run_heading (InFeature top part) (InFeature (OfRule f head) InDescription) RuleHeading i.line tt i.heading made ∙ s.1; says = ap (λ (s : ChildrenValue). with_rule f (rule_of head s)) s.2 }
+  ruled_gets : (k : ChildrenValue) → last_children (ruled k) ≡ k
+  ruled_gets k = ap (λ (o : Option RuleValue). children_in o (ruled k)) (last_or-push None f.rules (rule_with r k))
 
-with_rules : FeatureValue → List RuleValue → FeatureValue
-with_rules f rules = record { name = f.name; line = f.line; tags = f.tags; background = f.background; scenarios = f.scenarios; rules = f.rules ++ rules }
+  ruled_puts : (k next : ChildrenValue) → with_children (ruled k) next ≡ ruled next
+  ruled_puts k next =
+      ap (λ (o : Option RuleValue). children_put o (ruled k) next) (last_or-push None f.rules (rule_with r k))
+      ∙ ap (with_rules f) (with_last-push (rule_with r next) f.rules (rule_with r k))
 
-run_rules : {ls rest : Lines} {rules : List RuleValue} (top : Top) (part : Open) (f : FeatureValue) → feature_of top (children_of part) ≡ f → Many IsRule ls rules rest → Reached (Untagged (InFeature top part)) ls (with_rules f rules) rest
-unfolding with_rules
-run_rules top part f same none = record { top = top; part = part; runs_to = refl; says = same ∙ ap (λ (rules : List RuleValue). let f : FeatureValue = record { name = f.name; line = f.line; tags = f.tags; background = f.background; scenarios = f.scenarios; rules = rules } in f) (sym (append-nil f.rules)) }
-run_rules top part f same (more {x = x} {xs = xs} p many) =
-    let one = run_rule top part f x same p in
-    let r = run_rules one.top one.part (with_rule f x) one.says many in
-    record { top = r.top; part = r.part; runs_to = one.runs_to ∙ r.runs_to; says = r.says ∙ ap (λ (rules : List RuleValue). let f : FeatureValue = record { name = f.name; line = f.line; tags = f.tags; background = f.background; scenarios = f.scenarios; rules = rules } in f) (append_assoc f.rules (x ∷ []) xs) }
+  same_rule : (l : LineValue) → r.name ≡ heading_name l → r.line ≡ l.line → rule_from r.tags l ≡ rule_with r no_children
+  same_rule l e n = rw (← e, ← n) refl
 
-run_feature : {ls rest : Lines} (f : FeatureValue) → IsFeature ls f rest → Reached (Untagged Above) ls f rest
-unfolding on_heading with_rules
-run_feature f i =
-    let head : HeadValue = record { tags = f.tags; name = f.name; line = f.line } in
-    let c = i.container in
-    let made : on_heading Above f.tags c.line FeatureHeading ≡ Ok (InFeature (OfFeature head) InDescription) = rw (← c.name, ← c.number) refl in
-    let s = run_children (OfFeature head) f.background f.scenarios c.description c.background c.scenarios in
-    let r = run_rules (OfFeature head) s.0 (feature_of (OfFeature head) (record { background = f.background; scenarios = f.scenarios })) (ap (feature_of (OfFeature head)) s.2) i.rules in
-    record { top = r.top; part = r.part; runs_to = run_heading Above (InFeature (OfFeature head) InDescription) FeatureHeading c.line tt c.heading made ∙ s.1 ∙ r.runs_to; says = r.says }
+  run_rule : {ls rest : Lines} → IsRule ls r rest → runs_over (Untagged (Some f)) ls ≡ runs_over (Untagged (Some (with_rules f (f.rules ++ r ∷ [])))) rest
+  unfolding on_heading
+  run_rule i =
+      run_heading (Some f) (Some (with_rules f (f.rules ++ rule_from r.tags i.line ∷ []))) RuleHeading i.line tt i.heading refl
+      ∙ ap (λ (r : RuleValue). runs_over (Untagged (Some (with_rules f (f.rules ++ r ∷ [])))) i.after_heading) (same_rule i.line i.name i.number)
+      ∙ run_children ruled ruled_gets ruled_puts r.background r.scenarios i.description i.background i.scenarios
 
--- What has a reading is run over, up to a reader that says it.
-pub runs : (ls : Lines) (g : Option FeatureValue) → Reads ls g → (feature : OpenFeature) × (run feature_readers (Outside feature_readers.first) ls ≡ Ok (Outside (Untagged feature))) × (feature_in feature ≡ g)
-runs ls None r = (Above, run_skips (Untagged Above) r ∙ run_nil (step feature_readers) (Outside (Untagged Above)), refl)
-runs ls (Some f) r =
-    let a = run_feature f r.1 in
-    let t : FeatureReader = Untagged (InFeature a.top a.part) in
-    (InFeature a.top a.part, a.runs_to ∙ run_skips t r.2 ∙ run_nil (step feature_readers) (Outside t), ap Some a.says)
+run_rules : {ls rest : Lines} {rules : List RuleValue} (f : FeatureValue) → Many IsRule ls rules rest → runs_over (Untagged (Some f)) ls ≡ runs_over (Untagged (Some (with_rules f (f.rules ++ rules)))) rest
+run_rules {rest = rest} f none = ap (λ (rules : List RuleValue). runs_over (Untagged (Some (with_rules f rules))) rest) (sym (append-nil f.rules))
+run_rules {rest = rest} f (more {x = r} {xs = rules} p many) =
+    run_rule f r p
+    ∙ run_rules (with_rules f (f.rules ++ r ∷ [])) many
+    ∙ ap (λ (rules : List RuleValue). runs_over (Untagged (Some (with_rules f rules))) rest) (append_assoc f.rules (r ∷ []) rules)
+
+-- features
+module _ (f : FeatureValue) where
+  abbrev alone : ChildrenValue → FeatureValue
+  alone k = record { name = f.name; line = f.line; tags = f.tags; background = k.background; scenarios = k.scenarios; rules = [] }
+
+  same_feature : (l : LineValue) → f.name ≡ heading_name l → f.line ≡ l.line → feature_from f.tags l ≡ alone no_children
+  same_feature l e n = rw (← e, ← n) refl
+
+  run_feature : {ls rest : Lines} → IsFeature ls f rest → runs_over (Untagged None) ls ≡ runs_over (Untagged (Some f)) rest
+  unfolding on_heading
+  run_feature i =
+      let c = i.container in
+      run_heading None (Some (feature_from f.tags c.line)) FeatureHeading c.line tt c.heading refl
+      ∙ ap (λ (f : FeatureValue). runs_over (Untagged (Some f)) c.after_heading) (same_feature c.line c.name c.number)
+      ∙ run_children alone (λ k. refl) (λ k next. refl) f.background f.scenarios c.description c.background c.scenarios
+      ∙ run_rules (alone (record { background = f.background; scenarios = f.scenarios })) i.rules
+
+-- What has a reading is run over, up to the feature that it says.
+pub runs : (ls : Lines) (g : Option FeatureValue) → Reads ls g → run feature_readers (Outside feature_readers.first) ls ≡ Ok (Outside (Untagged g))
+runs ls None r = run_skips (Untagged None) r ∙ run_nil (step feature_readers) (Outside (Untagged None))
+runs ls (Some f) r = run_feature f r.1 ∙ run_skips (Untagged (Some f)) r.2 ∙ run_nil (step feature_readers) (Outside (Untagged (Some f)))
 
 pub complete : (ls : Lines) (g : Option FeatureValue) → Reads ls g → reading feature_readers ls ≡ Ok g
 unfolding reading finish
-complete ls g r = let a = runs ls g r in ap (λ (r : Result (State FeatureReader) ReadFault). r >>= finish feature_readers) a.1 ∙ ap Ok a.2
+complete ls g r = ap (λ (r : Result (State FeatureReader) ReadFault). r >>= finish feature_readers) (runs ls g r)
 
 pub one_reading : HasOneReading
 one_reading ls one other r s = ok_same (sym (complete ls one r) ∙ complete ls other s)

@@ -1,9 +1,9 @@
 -- What has a reading as hooks is read so, and so no lines have two.
-use Rattle.gk_gherkin.proofs.Common.{◌≡◌, false, List, [], ◌∷◌, Some, Result, Ok, refl, sym, subst, ◌++◌, ap, ◌∙◌, append_assoc, arith, common_steps, append-nil, HookLine, Blank, Comment, RowLine, StepLine, Class, ReadFault, HooksReader, InHook, NoHook, OpenedValue, hook_of, hooks_of, hooks_readers, on_hook, on_hook_body, on_plain_line, has_heading, Outside, State, finish, reading, run, step, Body, NoSteps, Steps, on_body, steps_of, HookValue, hook_heading, hooks_class, AreDistinct, HaveOneHooksReading, IsHook, ReadsHooks, heading_of, LineValue, Lines, class, StepValue, AreSteps, IsIgnored, IsIgnoredClass, Many, Skips, more, none, skip, skip_none, ◌>>=◌}
+use Rattle.gk_gherkin.proofs.Common.{◌≡◌, false, List, [], ◌∷◌, Some, Result, Ok, refl, sym, subst, ◌++◌, ap, ◌∙◌, append_assoc, arith, common_steps, append-nil, HookLine, Blank, Comment, RowLine, StepLine, Class, ReadFault, HooksReader, InHook, NoHook, OpenedValue, hooks_of, hooks_readers, on_hook, on_plain_line, on_steps, has_heading, Outside, State, finish, reading, run, step, Plain, HookValue, hook_heading, hooks_class, AreDistinct, HaveOneHooksReading, IsHook, ReadsHooks, heading_of, LineValue, Lines, class, StepValue, AreSteps, IsIgnored, IsIgnoredClass, Many, Skips, more, none, skip, skip_none, ◌>>=◌}
 use Rattle.gk_gherkin.specs.HooksReader.{on, takes_text}
-use Rattle.gk_gherkin.proofs.ReadingRuns.{ok_same, run_nil, run_over}
+use Rattle.gk_gherkin.proofs.ReadingRuns.{no_ok, ok_same, run_nil, run_over}
 use Rattle.gk_gherkin.proofs.ReadingStates.{ignored_no_fence, no_fence, step_plain}
-use Rattle.gk_gherkin.proofs.ReadingSteps.{run_steps}
+use Rattle.gk_gherkin.proofs.ReadingSteps.{IsStepsClass, run_steps}
 use Rattle.gk_gherkin.proofs.HookClasses.{class_plain, hook_opens_none}
 use Rattle.gk_gherkin.proofs.HookHeadingsDecided.{fresh_after, fresh_stands}
 
@@ -24,29 +24,20 @@ run_skips reader (skip {l = l} {ls = ls} n sk) =
 
 -- the steps of a hook
 module _ (opened : OpenedValue) where
-  opened_next : (body next : Body) (l : LineValue) (c : Class) → on_hook_body body l c ≡ Ok next → on_plain_line (InHook opened body) l c ≡ Ok (InHook opened next)
-  unfolding on_plain_line
-  opened_next body next l c e = ap (λ (r : Result Body ReadFault). r >>= λ next. Ok (InHook opened next)) e
+  plain_taken : (steps next : List StepValue) (l : LineValue) (c : Class) → hooks_class l ≡ Plain c → IsStepsClass c → on_steps steps l c ≡ Ok next → on (InHook opened steps) l (hooks_class l) ≡ Ok (InHook opened next)
+  unfolding on on_plain_line
+  plain_taken steps next l StepLine is i e = ap (on (InHook opened steps) l) is ∙ ap (λ (r : Result (List StepValue) ReadFault). r >>= λ next. Ok (InHook opened next)) e
+  plain_taken steps next l RowLine is i e = ap (on (InHook opened steps) l) is ∙ ap (λ (r : Result (List StepValue) ReadFault). r >>= λ next. Ok (InHook opened next)) e
+  plain_taken steps next l _ is i e = absurd i
 
-  step_body : (body next : Body) (l : LineValue) → on_body body l StepLine ≡ Ok next → on_hook_body body l StepLine ≡ Ok next
-  unfolding on_hook_body
-  step_body NoSteps next l e = e
-  step_body (Steps steps st) next l e = e
+  taken : (steps next : List StepValue) (l : LineValue) (c : Class) → class l ≡ c → on_steps steps l c ≡ Ok next → on (InHook opened steps) l (hooks_class l) ≡ Ok (InHook opened next)
+  unfolding on_steps
+  taken steps next l StepLine is e = plain_taken steps next l StepLine (class_plain l StepLine is (λ e. cc)) tt e
+  taken steps next l RowLine is e = plain_taken steps next l RowLine (class_plain l RowLine is (λ e. cc)) tt e
+  taken steps next l _ is e = no_ok e
 
-  row_body : (steps : List StepValue) (st : StepValue) (next : Body) (l : LineValue) → on_body (Steps steps st) l RowLine ≡ Ok next → on_hook_body (Steps steps st) l RowLine ≡ Ok next
-  unfolding on_hook_body
-  row_body steps st next l e = e
-
-  on_step : (body next : Body) (l : LineValue) → class l ≡ StepLine → on_body body l StepLine ≡ Ok next → on (InHook opened body) l (hooks_class l) ≡ Ok (InHook opened next)
-  unfolding on
-  on_step body next l is e = ap (on (InHook opened body) l) (class_plain l StepLine is (λ e. cc)) ∙ opened_next body next l StepLine (step_body body next l e)
-
-  on_row_under : (steps : List StepValue) (st : StepValue) (next : Body) (l : LineValue) → class l ≡ RowLine → on_body (Steps steps st) l RowLine ≡ Ok next → on (InHook opened (Steps steps st)) l (hooks_class l) ≡ Ok (InHook opened next)
-  unfolding on
-  on_row_under steps st next l is e = ap (on (InHook opened (Steps steps st)) l) (class_plain l RowLine is (λ e. cc)) ∙ opened_next (Steps steps st) next l RowLine (row_body steps st next l e)
-
-  run_steps_at : {ls rest : Lines} {sts : List StepValue} → AreSteps ls sts rest → (body : Body) × (run hooks_readers (Outside (InHook opened NoSteps)) ls ≡ run hooks_readers (Outside (InHook opened body)) rest) × (steps_of body ≡ sts)
-  run_steps_at s = run_steps hooks_readers (InHook opened) (λ body l i. quiet (InHook opened body) l i) on_step on_row_under (λ body. refl) (λ body text. refl) NoSteps s.parts s.types
+  run_steps_at : {ls rest : Lines} {sts : List StepValue} → AreSteps ls sts rest → run hooks_readers (Outside (InHook opened [])) ls ≡ run hooks_readers (Outside (InHook opened sts)) rest
+  run_steps_at s = run_steps hooks_readers (InHook opened) (λ steps l i. quiet (InHook opened steps) l i) taken (λ steps. refl) (λ steps text. refl) [] s.parts s.types
 
 -- a heading
 pub hook_line : (reader next : HooksReader) (l : LineValue) → hooks_class l ≡ HookLine → on_hook reader l ≡ Ok next → step hooks_readers (Outside reader) l ≡ Ok (Outside next)
@@ -54,7 +45,7 @@ unfolding on
 hook_line reader next l is e = step_plain hooks_readers reader next l (hook_opens_none (takes_text reader) l is) (ap (on reader l) is ∙ e)
 
 heading_step : (reader : HooksReader) (hook : HookValue) (l : LineValue) → hooks_class l ≡ HookLine → hook_heading l ≡ Some (heading_of hook) → hook.line ≡ l.line → has_heading (heading_of hook) (hooks_of reader) ≡ false
-    → step hooks_readers (Outside reader) l ≡ Ok (Outside (InHook (record { before = hooks_of reader; kind = hook.kind; tag = hook.tag; line = hook.line }) NoSteps))
+    → step hooks_readers (Outside reader) l ≡ Ok (Outside (InHook (record { before = hooks_of reader; kind = hook.kind; tag = hook.tag; line = hook.line }) []))
 unfolding on_hook
 heading_step reader hook l is w n f = grind (arith, common_steps, hook_line)
 
@@ -63,9 +54,9 @@ run_hook : {ls rest : Lines} (reader : HooksReader) (hook : HookValue) → IsHoo
 run_hook reader hook i f =
     let opened : OpenedValue = record { before = hooks_of reader; kind = hook.kind; tag = hook.tag; line = hook.line } in
     let r = run_steps_at opened i.steps in (
-      InHook opened r.0,
-      run_skips reader i.next ∙ run_over (step hooks_readers) (Outside reader) (Outside (InHook opened NoSteps)) i.line i.after_heading (heading_step reader hook i.line i.is i.heading i.number f) ∙ r.1,
-      ap (λ (steps : List StepValue). hooks_of reader ++ hook_of opened steps ∷ []) r.2,
+      InHook opened hook.steps,
+      run_skips reader i.next ∙ run_over (step hooks_readers) (Outside reader) (Outside (InHook opened [])) i.line i.after_heading (heading_step reader hook i.line i.is i.heading i.number f) ∙ r,
+      refl,
     )
 
 run_hooks : {ls rest : Lines} {hooks : List HookValue} (reader : HooksReader) → Many IsHook ls hooks rest → AreDistinct (hooks_of reader ++ hooks)

@@ -1,9 +1,9 @@
 -- What a reader of a hooks file means, and that each line keeps it: what is read has that reading.
-use Rattle.gk_gherkin.proofs.Common.{◌≡◌, ℕ, Bool, true, false, List, [], ◌∷◌, Option, Some, None, Ok, refl, sym, subst, arith, common_steps, HookLine, Plain, Blank, Comment, StepLine, Class, HooksClass, HooksReader, InHook, NoHook, OpenedValue, hook_begun, hook_after, hooks_of, hooks_readers, on_hook, on_hook_body, on_plain_line, has_heading, Outside, InText, State, finish, opened, reading, run, Body, NoSteps, Steps, HookValue, HookHeadingValue, hook_heading, hooks_class, AreDistinct, IsHook, ReadsHooks, LineValue, Lines, class, IsDocString, IsIgnored, IsIgnoredClass, Many, Next, Skips, none, skip_none}
+use Rattle.gk_gherkin.proofs.Common.{◌≡◌, ℕ, Bool, true, false, List, [], ◌∷◌, Option, Some, None, Ok, refl, sym, subst, arith, common_steps, HookLine, Plain, Blank, Comment, Class, HooksClass, HooksReader, InHook, NoHook, OpenedValue, hook_begun, hook_after, hooks_of, hooks_readers, on_hook, on_plain_line, on_steps, hook_of, has_heading, Outside, InText, State, finish, opened_from, reading, run, AreSteps, HookValue, HookHeadingValue, hook_heading, hooks_class, AreDistinct, IsHook, ReadsHooks, LineValue, Lines, class, IsDocString, IsIgnored, IsIgnoredClass, Many, Next, Skips, none, skip_none}
 use Rattle.gk_gherkin.specs.HooksReader.{on}
 use Rattle.gk_gherkin.proofs.ReadingRuns.{bind_is, bind_ok, no_ok, ok_same}
 use Rattle.gk_gherkin.proofs.ReadingSound.{Built, built_run}
-use Rattle.gk_gherkin.proofs.OpenPartsSound.{Many-push, Skips-more, StepsBuilt, closed_steps, first_step-built, stepped-built, text_under}
+use Rattle.gk_gherkin.proofs.OpenPartsSound.{Many-push, Skips-more, StepsBuilt, on_steps-built, text_under}
 use Rattle.gk_gherkin.proofs.HookClasses.{plain_class}
 use Rattle.gk_gherkin.proofs.HookHeadingsDecided.{IsFresh, distinct_push, fresh_so}
 
@@ -28,17 +28,23 @@ pub record OpenedBuilt (opened : OpenedValue) (whole rest : Lines) : Type 0 wher
 
 abbrev pub ReaderBuilt : HooksReader → Lines → Lines → Type 0
 ReaderBuilt NoHook whole rest = whole ≡ rest
-ReaderBuilt (InHook opened body) whole rest = (mid : Lines) × OpenedBuilt opened whole mid × StepsBuilt Same body mid rest
+ReaderBuilt (InHook opened steps) whole rest = (mid : Lines) × OpenedBuilt opened whole mid × StepsBuilt Same steps mid rest
 
 -- closing what is open
 pub closed_hooks : (reader : HooksReader) (whole rest : Lines) → ReaderBuilt reader whole rest → Many IsHook whole (hooks_of reader) rest × AreDistinct (hooks_of reader)
 closed_hooks NoHook whole rest p = (subst (λ rest. Many IsHook whole [] rest) p none, tt)
-closed_hooks (InHook opened body) whole rest p = grind (arith, common_steps, closed_steps, Many-push, distinct_push)
+closed_hooks (InHook opened steps) whole rest p =
+    let o = p.1 in
+    let under = subst (λ from. AreSteps from steps rest) (sym p.2.1) p.2.2 in
+    let made : IsHook o.mid (hook_of opened steps) rest = record { line = o.line; after_heading = p.0; next = o.next; is = o.is; heading = o.heading; number = o.number; steps = under } in
+    (Many-push o.hooks made, distinct_push opened.before (hook_of opened steps) o.distinct o.fresh)
 
 -- a heading
 hook_begun-built : (b : Bool) (hooks : List HookValue) (heading : HookHeadingValue) (whole mid rest : Lines) (l : LineValue) (t : HooksReader) → has_heading heading hooks ≡ b → hooks_class l ≡ HookLine → hook_heading l ≡ Some heading → Many IsHook whole hooks mid → AreDistinct hooks → Next IsIgnored mid l rest → hook_begun b hooks heading l ≡ Ok t → ReaderBuilt t whole rest
 hook_begun-built true hooks heading whole mid rest l t s c w many d n e = no_ok e
-hook_begun-built false hooks heading whole mid rest l t s c w many d n e = grind (arith, common_steps, fresh_so, ok_same)
+hook_begun-built false hooks heading whole mid rest l t s c w many d n e =
+    let opened : OpenedBuilt (opened_from hooks heading l) whole rest = record { mid = mid; hooks = many; line = l; next = n; is = c; heading = w; number = refl; distinct = d; fresh = fresh_so heading hooks s } in
+    subst (λ t. ReaderBuilt t whole rest) (ok_same e) (rest, opened, (rest, refl, record { parts = none; types = tt }))
 
 heading-built : (r : Option HookHeadingValue) (hooks : List HookValue) (whole mid rest : Lines) (l : LineValue) (t : HooksReader) → hook_heading l ≡ r → hooks_class l ≡ HookLine → Many IsHook whole hooks mid → AreDistinct hooks → Next IsIgnored mid l rest → hook_after r hooks l ≡ Ok t → ReaderBuilt t whole rest
 heading-built None hooks whole mid rest l t w c many d n e = no_ok e
@@ -49,16 +55,12 @@ unfolding on_hook
 on_hook-built reader whole mid rest l t c p n e = grind (arith, common_steps, closed_hooks, heading-built)
 
 -- a line that is no hook line
-on_hook_body-built : (body : Body) (ls mid rest : Lines) (l : LineValue) (c : Class) (t : Body) → class l ≡ c → StepsBuilt Same body ls mid → Next IsIgnored mid l rest → on_hook_body body l c ≡ Ok t → StepsBuilt Same t ls rest
-unfolding on_hook_body
-on_hook_body-built NoSteps ls mid rest l StepLine t c b n e = first_step-built Same ls mid rest l t c b n e
-on_hook_body-built NoSteps ls mid rest l _ t c b n e = no_ok e
-on_hook_body-built (Steps steps st) ls mid rest l k t c b n e = stepped-built Same steps st ls mid rest l k t c b n e
-
 on_plain_line-built : (reader : HooksReader) (whole mid rest : Lines) (l : LineValue) (c : Class) (t : HooksReader) → class l ≡ c → ReaderBuilt reader whole mid → Next IsIgnored mid l rest → on_plain_line reader l c ≡ Ok t → ReaderBuilt t whole rest
 unfolding on_plain_line
 on_plain_line-built NoHook whole mid rest l k t c p n e = no_ok e
-on_plain_line-built (InHook opened body) whole mid rest l k t c p n e = grind (arith, common_steps, bind_is, on_hook_body-built)
+on_plain_line-built (InHook opened steps) whole mid rest l k t c p n e =
+    let r = bind_is (on_steps steps l k) (InHook opened) t e in
+    subst (λ t. ReaderBuilt t whole rest) r.2 (p.0, p.1, on_steps-built Same steps p.0 mid rest l k r.0 c p.2 n r.1)
 
 ignored : (l : LineValue) (c : Class) → IsIgnoredClass c → hooks_class l ≡ Plain c → IsIgnored l
 ignored l c i e = subst IsIgnoredClass (sym (plain_class l c e)) i
@@ -79,9 +81,9 @@ keeps reader next whole rest l b e = on-built reader next whole rest l (hooks_cl
 
 after : (reader : HooksReader) (whole ls rest : Lines) (text : List ℕ) → hooks_readers.takes_text reader ≡ true → Holds reader whole ls → IsDocString ls text rest → Holds (hooks_readers.after_text reader text) whole rest
 after NoHook whole ls rest text t b d = let no : ⊥ = cc in absurd no
-after (InHook opened body) whole ls rest text t b d =
+after (InHook opened steps) whole ls rest text t b d =
     let p = b.1 in
-    (rest, (p.0, p.1, text_under Same body p.0 b.0 ls rest text t p.2 b.2 d), skip_none)
+    (rest, (p.0, p.1, text_under Same steps p.0 b.0 ls rest text t p.2 b.2 d), skip_none)
 
 -- What is reached stands in the state.
 pub reached_built : (before : Lines) (s : State HooksReader) → run hooks_readers (Outside NoHook) before ≡ Ok s → Built hooks_readers Holds s before []

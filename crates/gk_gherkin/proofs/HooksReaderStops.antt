@@ -1,14 +1,13 @@
 -- Where a run over the lines of a hooks file stops, and what the fault there says.
-use Rattle.gk_gherkin.proofs.Common.{◌≡◌, ℕ, Bool, true, false, List, [], ◌∷◌, Option, Some, None, Result, Ok, Err, refl, sym, subst, ◌++◌, ap, ◌∙◌, ◌⊎◌, inl, inr, ◌||◌, ◌≢◌, IfOk, IfErr, arith, common_steps, append-nil, HookLine, Plain, BeforeTag, Blank, Comment, RowLine, StepLine, BadHook, Memory, UnclosedText, Unexpected, Class, ReadFault, HooksClass, HooksReader, InHook, Needs, NoHook, hook_begun, hook_after, hooks_of, hooks_readers, on_hook, on_hook_body, on_plain_line, opened_from, has_heading, Outside, FailsAs, FailsBy, InText, State, finish, opened, opening, reading, run, step, Body, NoSteps, Steps, on_body, HookValue, hooks_value, HookHeadingValue, hook_heading, hooks_class, AreHooksReadable, ReadsHooks, heading_of, IsText, LineValue, Lines, lines_of, class, cells_of, IsIgnored, IsIgnoredClass, skip, skip_none, AnswersOrLacksMemory, BeginsNone, BeginsSome, FaultSays, HooksFault, HooksLineSays, HooksNeedMemory, IsHooksLineFault, NoneLikeIt, SomeLikeIt, StoodBefore, line_of_fault, ◌>>=◌, HookFile}
+use Rattle.gk_gherkin.proofs.Common.{◌≡◌, ℕ, Bool, true, false, List, [], ◌∷◌, Option, Some, None, Result, Ok, Err, refl, sym, subst, ◌++◌, ap, ◌∙◌, ◌⊎◌, inl, inr, ◌||◌, ◌≢◌, IfOk, IfErr, arith, common_steps, append-nil, HookLine, Plain, BeforeTag, Blank, Comment, RowLine, BadHook, Memory, UnclosedText, Unexpected, Class, ReadFault, HooksClass, HooksReader, InHook, Needs, NoHook, hook_begun, hook_after, hooks_of, hooks_readers, on_hook, on_plain_line, on_steps, opened_from, has_heading, Outside, FailsAs, FailsBy, InText, State, finish, opened, opening, reading, run, step, HookValue, hooks_value, HookHeadingValue, hook_heading, hooks_class, AreHooksReadable, ReadsHooks, heading_of, IsText, LineValue, Lines, lines_of, class, cells_of, IsIgnored, IsIgnoredClass, skip, skip_none, AnswersOrLacksMemory, BeginsNone, BeginsSome, FaultSays, HooksFault, HooksLineSays, HooksNeedMemory, IsHooksLineFault, NoneLikeIt, SomeLikeIt, StoodBefore, line_of_fault, ◌>>=◌, HookFile}
 use Rattle.gk_gherkin.specs.HooksReader.{after_text, on, takes_text}
 use Rattle.gk_gherkin.proofs.ReadingRuns.{Halts, bind_err, err_same, halts, no_err, no_ok, ok_same, one_more_line}
 use Rattle.gk_gherkin.proofs.ReadingStates.{never, no_fence, refused_at, step_plain, step_refused}
 use Rattle.gk_gherkin.proofs.ReadingStops.{ends_in_text, halted, marks, needed}
 use Rattle.gk_gherkin.proofs.ReadingWhole.{only_memory, said}
-use Rattle.gk_gherkin.proofs.OpenPartsSound.{StepsBuilt}
 use Rattle.gk_gherkin.proofs.HooksReaderSound.{ReaderBuilt, Same, hooks_sound, reached_built}
 use Rattle.gk_gherkin.proofs.HooksReaderComplete.{hook_line, hooks_complete, hooks_run}
-use Rattle.gk_gherkin.proofs.RowStops.{Refuses, Stopped, row_says, row_stops, stepped_stops, stopped_then}
+use Rattle.gk_gherkin.proofs.RowStops.{Refuses, Stopped, row_says, row_stops, steps_stop, stopped_then}
 use Rattle.gk_gherkin.proofs.HookClasses.{class_plain, opens_alike, plain_class}
 use Rattle.gk_gherkin.proofs.HookHeadingsDecided.{fresh_stands, heading_so, is_same_heading}
 use Rattle.gk_gherkin.proofs.FreshHookHeadings.{fresh_class, fresh_heading, fresh_line, is_fresh, size_of, tag_of}
@@ -43,16 +42,10 @@ abbrev Says : ReadFault → Lines → LineValue → Type 0
 Says e before l = (line_of_fault e ≡ Some l.line) × HooksLineSays e before l
 
 -- lines that are refused
-hook_body_stops : (body : Body) (ls mid : Lines) (l : LineValue) (c : Class) (e : ReadFault) → StepsBuilt Same body ls mid → on_hook_body body l c ≡ Err e → Stopped (λ o. on_hook_body body o c) l c e
-unfolding on_hook_body on_body
-hook_body_stops NoSteps ls mid l StepLine e b h = no_err h
-hook_body_stops NoSteps ls mid l _ e b h = inl (err_same h, λ o. refl)
-hook_body_stops (Steps steps st) ls mid l k e b h = stepped_stops Same steps st ls mid l k e b h
-
 plain_line_stops : (reader : HooksReader) (ls mid : Lines) (l : LineValue) (c : Class) (e : ReadFault) → ReaderBuilt reader ls mid → on_plain_line reader l c ≡ Err e → Stopped (λ o. on_plain_line reader o c) l c e
 unfolding on_plain_line
 plain_line_stops NoHook ls mid l k e b h = inl (err_same h, λ o. refl)
-plain_line_stops (InHook opened body) ls mid l k e b h = stopped_then (λ o. on_hook_body body o k) (InHook opened) l k e (hook_body_stops body b.0 mid l k e b.2 (bind_err (on_hook_body body l k) (InHook opened) e h))
+plain_line_stops (InHook opened steps) ls mid l k e b h = stopped_then (λ o. on_steps steps o k) (InHook opened) l k e (steps_stop Same steps b.0 mid l k e b.2 (bind_err (on_steps steps l k) (InHook opened) e h))
 
 -- a line that opens no doc string
 says : (before : Lines) (reader : HooksReader) (l : LineValue) (c : HooksClass) (e : ReadFault) (g : LineValue → Result HooksReader ReadFault) → run hooks_readers (Outside NoHook) before ≡ Ok (Outside reader) → hooks_class l ≡ c → opening (takes_text reader) (class l) ≡ None → ((o : LineValue) → on reader o c ≡ g o) → Refuses g l e → Says e before l
@@ -76,9 +69,9 @@ plain_says before reader l c e r is bare same h =
     stopped_says before reader l c e r is bare same (plain_line_stops reader before built.0 l c e built.1 h)
 
 -- where a hook line stands, one with a fresh heading may
-heading_step : (reader : HooksReader) (l : LineValue) (heading : HookHeadingValue) → hooks_class l ≡ HookLine → hook_heading l ≡ Some heading → has_heading heading (hooks_of reader) ≡ false → step hooks_readers (Outside reader) l ≡ Ok (Outside (InHook (opened_from (hooks_of reader) heading l) NoSteps))
+heading_step : (reader : HooksReader) (l : LineValue) (heading : HookHeadingValue) → hooks_class l ≡ HookLine → hook_heading l ≡ Some heading → has_heading heading (hooks_of reader) ≡ false → step hooks_readers (Outside reader) l ≡ Ok (Outside (InHook (opened_from (hooks_of reader) heading l) []))
 unfolding on_hook
-heading_step reader l heading is w f = hook_line reader (InHook (opened_from (hooks_of reader) heading l) NoSteps) l is (ap (λ (r : Option HookHeadingValue). hook_after r (hooks_of reader) l) w ∙ ap (λ (b : Bool). hook_begun b (hooks_of reader) heading l) f)
+heading_step reader l heading is w f = hook_line reader (InHook (opened_from (hooks_of reader) heading l) []) l is (ap (λ (r : Option HookHeadingValue). hook_after r (hooks_of reader) l) w ∙ ap (λ (b : Bool). hook_begun b (hooks_of reader) heading l) f)
 
 may_stand : (before : Lines) (reader : HooksReader) (l : LineValue) → run hooks_readers (Outside NoHook) before ≡ Ok (Outside reader) → hooks_class l ≡ HookLine → SomeLikeIt AreHooksReadable hooks_class before l
 may_stand before reader l r is =
@@ -86,7 +79,7 @@ may_stand before reader l r is =
     let fresh = fresh_line n in
     let heading : HookHeadingValue = record { kind = BeforeTag; tag = Some (tag_of n) } in
     let taken = heading_step reader fresh heading (fresh_class n) (fresh_heading n) (fresh_stands heading (hooks_of reader) (is_fresh (hooks_of reader))) in
-    (fresh, fresh_class n ∙ sym is, begins_more before fresh (readable_more before reader (InHook (opened_from (hooks_of reader) heading fresh) NoSteps) fresh r taken))
+    (fresh, fresh_class n ∙ sym is, begins_more before fresh (readable_more before reader (InHook (opened_from (hooks_of reader) heading fresh) []) fresh r taken))
 
 -- a heading that stands among some hooks
 record Among (heading : HookHeadingValue) (hooks : List HookValue) : Type 0 where

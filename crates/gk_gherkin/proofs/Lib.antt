@@ -1,5 +1,6 @@
 pub mod Common
 pub mod LineNumbering
+pub mod LastItems
 pub mod LineCuts
 pub mod ClassWords
 pub mod TextEnds

@@ -1,5 +1,5 @@
 -- No lines have two faults of a feature file.
-use Rattle.gk_gherkin.proofs.Common.{codes, ◌≡◌, ◌≢◌, ◌⊎◌, inl, inr, ℕ, Bool, true, false, ◌&&◌, ◌==◌, length, List, [], ◌∷◌, ◌++◌, Option, Some, None, Result, Ok, Err, refl, ap, sym, subst, ◌∙◌, append_assoc, arith, nat_tests, append-nil, Comment, FenceLine, RowLine, TagLine, Class, Backticks, Quotes, Fence, ReadFault, Above, FeatureReader, InFeature, OpenFeature, Tagged, Untagged, by_language, feature_readers, on, on_comment, takes_text, Outside, InText, State, longer, opening, run, step, begins, trim, LineValue, Lines, line_at, class, class_of, class_of_words, fence_text, closes, cells_of, language_of, IsIgnored, IsIgnoredClass, IsReadable, Skips, skip, skip_none, BeginsSome, EndsInDocString, EndsInTags, FeatureFault, IsLineFault, LineSays, TakesTags, line_of_fault, ◌>>=◌}
+use Rattle.gk_gherkin.proofs.Common.{codes, ◌≡◌, ◌≢◌, ◌⊎◌, inl, inr, ℕ, Bool, true, false, ◌&&◌, ◌==◌, length, List, [], ◌∷◌, ◌++◌, Option, Some, None, Result, Ok, Err, refl, ap, sym, subst, ◌∙◌, append_assoc, arith, nat_tests, append-nil, Comment, FenceLine, RowLine, TagLine, Class, Backticks, Quotes, Fence, ReadFault, FeatureReader, FeatureValue, Tagged, Untagged, by_language, feature_readers, on, on_comment, takes_text, Outside, InText, State, longer, opening, run, step, begins, trim, LineValue, Lines, line_at, class, class_of, class_of_words, fence_text, closes, cells_of, language_of, IsIgnored, IsIgnoredClass, IsReadable, Skips, skip, skip_none, BeginsSome, EndsInDocString, EndsInTags, FeatureFault, IsLineFault, LineSays, TakesTags, line_of_fault, ◌>>=◌}
 use Rattle.gk_gherkin.specs.declared.read_fault.ReadFault.TheVariants as faults
 use Rattle.gk_gherkin.proofs.ReadingRuns.{no_ok, one_more_line, run-append}
 use Rattle.gk_gherkin.proofs.ReadingStates.{no_fence, step_plain, step_stays}
@@ -25,9 +25,9 @@ unfolding closes
 comment_open Quotes = refl
 comment_open Backticks = refl
 
-commented : (feature : OpenFeature) (s : FeatureReader) → on_comment feature s comment ≡ Ok s
-commented Above s = ap (λ (r : Option (List ℕ)). by_language r s comment) comment_language
-commented (InFeature top part) s = refl
+commented : (feature : Option FeatureValue) (s : FeatureReader) → on_comment feature s comment ≡ Ok s
+commented None s = ap (λ (r : Option (List ℕ)). by_language r s comment) comment_language
+commented (Some f) s = refl
 
 comment_on : (reader : FeatureReader) → on reader comment (class comment) ≡ Ok reader
 unfolding on

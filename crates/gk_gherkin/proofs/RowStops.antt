@@ -1,5 +1,6 @@
 -- Lines that are refused, and rows among them.
-use Rattle.gk_gherkin.proofs.Common.{◌≡◌, ◌≢◌, ℕ, Bool, true, false, cond, ◌==◌, length, map, List, [], ◌∷◌, ◌++◌, Option, Some, None, Result, Ok, Err, refl, ap, sym, subst, ◌∙◌, ◌⊎◌, inl, inr, arith, IfSome, codes, append-nil, nat_tests, RowLine, StepLine, BadRow, CellCount, Unexpected, Class, ReadFault, Steps, on_block, on_body, on_row, row_of, width_of, with_block, LineValue, Lines, class, class_of, class_of_words, cells_of, parts_of, unescaped, BlockValue, Empty, RowValue, StepValue, Table, Text, IsBlock, IsRow, IsTable, Many, more, BeginsNone, BeginsSome, IsBadRow, IsOtherWidth, ◌>>=◌, common_steps}
+use Rattle.gk_gherkin.proofs.Common.{◌≡◌, ◌≢◌, ℕ, Bool, true, false, cond, ◌==◌, length, map, List, [], ◌∷◌, ◌++◌, Option, Some, None, Result, Ok, Err, refl, ap, sym, subst, ◌∙◌, ◌⊎◌, inl, inr, arith, IfSome, codes, append-nil, nat_tests, RowLine, StepLine, BadRow, CellCount, Unexpected, Class, ReadFault, on_block, on_row, on_steps, row_of, row_under_last, width_of, with_block, with_last, last_or, LineValue, Lines, class, class_of, class_of_words, cells_of, parts_of, unescaped, BlockValue, Empty, RowValue, StepValue, Table, Text, IsBlock, IsRow, IsTable, Many, more, BeginsNone, BeginsSome, IsBadRow, IsOtherWidth, ◌>>=◌, common_steps}
+use Rattle.gk_gherkin.proofs.LastItems.{Many-last}
 use Rattle.gk_gherkin.proofs.ReadingRuns.{bind_err, err_same, no_err}
 use Rattle.gk_gherkin.proofs.OpenPartsSound.{Fits, StepsBuilt, eqb_same}
 
@@ -107,12 +108,17 @@ block_stops (Table cells) ls mid l e b h =
     inr (subst (λ (c : List (List (List ℕ))). RowStop (λ o. on_row (width_of c) o >>= λ new. Ok (Table (cells ++ new ∷ []))) l RowLine e) (sym b.2) (rows_stop b.0 ls mid l e b.1 cells k2))
 block_stops (Text text) ls mid l e b h = inl (err_same h, λ o. refl)
 
-pub stepped_stops : (Before : Lines → Lines → Type 0) (steps : List StepValue) (st : StepValue) (ls mid : Lines) (l : LineValue) (c : Class) (e : ReadFault) → StepsBuilt Before (Steps steps st) ls mid → on_body (Steps steps st) l c ≡ Err e → Stopped (λ o. on_body (Steps steps st) o c) l c e
-unfolding on_body
-stepped_stops Before steps st ls mid l StepLine e b h = no_err h
-stepped_stops Before steps st ls mid l RowLine e b h =
-    stopped_then (on_block st.block) (λ block. Steps steps (with_block st block)) l RowLine e (block_stops st.block b.4.after_line mid l e b.4.block (bind_err (on_block st.block l) (λ (block : BlockValue). Steps steps (with_block st block)) e h))
-stepped_stops Before steps st ls mid l _ e b h = inl (err_same h, λ o. refl)
+row_under_stops : (Before : Lines → Lines → Type 0) (last : Option StepValue) (steps : List StepValue) (ls mid : Lines) (l : LineValue) (e : ReadFault) → last_or None steps ≡ last → StepsBuilt Before steps ls mid → row_under_last last steps l ≡ Err e → Stopped (λ o. row_under_last last steps o) l RowLine e
+row_under_stops Before None steps ls mid l e is b h = inl (err_same h, λ o. refl)
+row_under_stops Before (Some st) steps ls mid l e is b h =
+    let i = (Many-last steps b.0 mid st is b.2.parts).1 in
+    stopped_then (on_block st.block) (λ block. with_last (with_block st block) steps) l RowLine e (block_stops st.block i.after_line mid l e i.block (bind_err (on_block st.block l) (λ (block : BlockValue). with_last (with_block st block) steps) e h))
+
+pub steps_stop : (Before : Lines → Lines → Type 0) (steps : List StepValue) (ls mid : Lines) (l : LineValue) (c : Class) (e : ReadFault) → StepsBuilt Before steps ls mid → on_steps steps l c ≡ Err e → Stopped (λ o. on_steps steps o c) l c e
+unfolding on_steps
+steps_stop Before steps ls mid l StepLine e b h = no_err h
+steps_stop Before steps ls mid l RowLine e b h = row_under_stops Before (last_or None steps) steps ls mid l e refl b h
+steps_stop Before steps ls mid l _ e b h = inl (err_same h, λ o. refl)
 
 no_cells : (width : Option ℕ) (l : LineValue) (e : ReadFault) → row_of width l None ≡ Err e → BadRow l.line ≡ e
 no_cells None l e h = err_same h

@@ -1,7 +1,8 @@
--- Proof machinery: the open parts of a file, and the effect of each line on them. No public contract cites it.
--- A body is the part under the heading of a background, a scenario or a hook. An open part is the part under the heading of a feature or a rule, with the finished children before it.
+-- Proof machinery: the effect of a line on the last parts of what was read so far. No public contract cites it.
+-- The last part of a background or a scenario is its last step, or its last examples. That of a feature or a rule is its last scenario, or its background if it has no scenario.
 pub mod Views
-use Rattle.std.specs.Prelude.{ℕ, Bool, true, false, ◌==◌, if◌then◌else◌, List, [], ◌∷◌, ◌++◌, length, Option, Some, None, Result, Ok, Err}
+use Rattle.std.specs.Prelude.{ℕ, Bool, true, false, ◌==◌, if◌then◌else◌, List, [], ◌∷◌, ◌++◌, length, Option, Some, None, option_map, Result, Ok, Err}
+use Rattle.std.specs.List.{last_or}
 use Rattle.gk_gherkin.specs.declared.class.Class.{Class}
 use Rattle.gk_gherkin.specs.declared.class.Class.TheVariants.{Blank, Comment, TagLine, FeatureHeading, RuleHeading, BackgroundHeading, ScenarioHeading, ExamplesHeading, StepLine, RowLine, FenceLine, Other}
 use Rattle.gk_gherkin.specs.declared.read_fault.ReadFault.{ReadFault}
@@ -15,115 +16,20 @@ use Rattle.gk_gherkin.specs.StepTypes.{type_after}
 use Rattle.gk_gherkin.specs.Feature.{BlockValue, Empty, Text, Table, StepValue, RowValue, ExamplesValue, BackgroundValue, ScenarioValue}
 use Rattle.gk_gherkin.specs.Results.{◌>>=◌}
 
--- The heading of a feature, a rule, a scenario or examples.
-pub record HeadValue : Type 0 where
-  pub tags : List (List ℕ)
-  pub name : List ℕ
-  pub line : ℕ
-
--- The finished children of a feature or a rule: its background and its scenarios.
+-- The background and the scenarios of a feature or a rule.
 pub record ChildrenValue : Type 0 where
   pub background : Option BackgroundValue
   pub scenarios : List ScenarioValue
 
--- A body: in its description, or after steps, the last of them open.
-pub data Body : Type 0 where
-  NoSteps : Body
-  Steps : List StepValue → StepValue → Body
-
--- The owner of steps: a background, or a scenario with the finished children before it.
-pub data Owner : Type 0 where
-  OfBackground : ℕ → Owner
-  OfScenario : ChildrenValue → List ℕ → HeadValue → Owner
-
--- The rows of examples: none while in the description, or the header and the rows under it.
-pub data Grid : Type 0 where
-  NoRows : Grid
-  Rows : List (List ℕ) → List RowValue → Grid
-
--- The open part of a feature or a rule: its description, or steps, or examples with the scenario before them.
-pub data Open : Type 0 where
-  InDescription : Open
-  InBody : Owner → Body → Open
-  InExamples : ChildrenValue → ScenarioValue → HeadValue → Grid → Open
-
--- A scenario, with the finished children before it.
-pub record OutlineValue : Type 0 where
-  pub children : ChildrenValue
-  pub scenario : ScenarioValue
-
--- The heading that a line spells, with these tags.
-abbrev pub head_from : List (List ℕ) → LineValue → HeadValue
-head_from tags line = record { tags = tags; name = heading_name line; line = line.line }
+-- A list with its last item replaced. An empty list stays.
+unfoldable pub with_last : {A : Type 0} → A → List A → List A
+with_last y [] = []
+with_last y (x ∷ []) = y ∷ []
+with_last y (x ∷ z ∷ xs) = x ∷ with_last y (z ∷ xs)
 
 -- The step that a line spells, after a step of this type.
 abbrev pub step_from : StepType → LineValue → StepValue
 step_from before line = record { keyword = step_keyword line; step_type = type_after before (step_keyword line); text = step_text line; block = Empty; line = line.line }
-
--- The steps of a body. The open one is the last.
-abbrev pub steps_of : Body → List StepValue
-steps_of NoSteps = []
-steps_of (Steps steps step) = steps ++ step ∷ []
-
--- A scenario without examples.
-abbrev pub scenario_of : List ℕ → HeadValue → List StepValue → ScenarioValue
-scenario_of keyword head steps = record { keyword = keyword; name = head.name; line = head.line; tags = head.tags; steps = steps; examples = [] }
-
--- No children yet.
-abbrev pub no_children : ChildrenValue
-no_children = record { background = None; scenarios = [] }
-
--- Children with one more scenario.
-abbrev pub with_scenario : ChildrenValue → ScenarioValue → ChildrenValue
-with_scenario children scenario = record { background = children.background; scenarios = children.scenarios ++ scenario ∷ [] }
-
--- Children with a background and no scenarios.
-abbrev pub background_children : ℕ → List StepValue → ChildrenValue
-background_children n steps = record { background = Some (record { line = n; steps = steps }); scenarios = [] }
-
--- The finished children after an owner with these steps.
-abbrev pub owner_children : Owner → List StepValue → ChildrenValue
-owner_children (OfBackground n) steps = background_children n steps
-owner_children (OfScenario children keyword head) steps = with_scenario children (scenario_of keyword head steps)
-
--- The header of a grid.
-abbrev pub header_of : Grid → List (List ℕ)
-header_of NoRows = []
-header_of (Rows header rows) = header
-
--- The rows under the header of a grid.
-abbrev pub rows_of : Grid → List RowValue
-rows_of NoRows = []
-rows_of (Rows header rows) = rows
-
--- Examples with this heading and these rows.
-abbrev pub examples_of : HeadValue → Grid → ExamplesValue
-examples_of head grid = record { name = head.name; line = head.line; tags = head.tags; header = header_of grid; rows = rows_of grid }
-
--- A scenario with one more table of examples.
-abbrev pub with_examples : ScenarioValue → ExamplesValue → ScenarioValue
-with_examples s examples = record { keyword = s.keyword; name = s.name; line = s.line; tags = s.tags; steps = s.steps; examples = s.examples ++ examples ∷ [] }
-
--- The finished children after an open part.
-abbrev pub children_of : Open → ChildrenValue
-children_of InDescription = no_children
-children_of (InBody owner body) = owner_children owner (steps_of body)
-children_of (InExamples children scenario head grid) = with_scenario children (with_examples scenario (examples_of head grid))
-
--- The scenario that examples may follow, if there is one.
-abbrev pub outline_of : Open → Option OutlineValue
-outline_of InDescription = None
-outline_of (InBody (OfBackground n) body) = None
-outline_of (InBody (OfScenario children keyword head) body) = Some (record { children = children; scenario = scenario_of keyword head (steps_of body) })
-outline_of (InExamples children scenario head grid) = Some (record { children = children; scenario = with_examples scenario (examples_of head grid) })
-
--- A scenario that begins after these children, with this keyword and this heading.
-abbrev pub begun_scenario : ChildrenValue → List ℕ → HeadValue → Open
-begun_scenario children keyword head = InBody (OfScenario children keyword head) NoSteps
-
--- The same, given the line of its heading and the tags above it.
-abbrev pub scenario_from : ChildrenValue → List (List ℕ) → LineValue → Open
-scenario_from children tags line = begun_scenario children (heading_keyword line) (head_from tags line)
 
 -- The cells of a row with this width, or with any width if none is given; or the row's fault.
 abbrev pub row_of : Option ℕ → LineValue → Option (List (List ℕ)) → Result (List (List ℕ)) ReadFault
@@ -151,71 +57,185 @@ on_block Empty line = on_row None line >>= λ cells. Ok (Table (cells ∷ []))
 on_block (Table rows) line = on_row (width_of rows) line >>= λ cells. Ok (Table (rows ++ cells ∷ []))
 on_block (Text text) line = Err (Unexpected line.line)
 
+-- The type of this last step, or `Given` if there is none.
+abbrev pub type_of_last : Option StepValue → StepType
+type_of_last None = Given
+type_of_last (Some step) = step.step_type
+
+-- The type of the last of these steps, or `Given` if there is none.
+abbrev pub last_type : List StepValue → StepType
+last_type steps = type_of_last (last_or None steps)
+
+-- These steps and the step that a line spells after them.
+abbrev pub step_after : List StepValue → LineValue → List StepValue
+step_after steps line = steps ++ step_from (last_type steps) line ∷ []
+
+-- These steps with a row under this last one, or the row's fault. There is no row before the first step.
+abbrev pub row_under_last : Option StepValue → List StepValue → LineValue → Result (List StepValue) ReadFault
+row_under_last None steps line = Err (Unexpected line.line)
+row_under_last (Some step) steps line = on_block step.block line >>= λ block. Ok (with_last (with_block step block) steps)
+
+-- These steps with a row under the last of them, or the row's fault.
+abbrev pub row_below : List StepValue → LineValue → Result (List StepValue) ReadFault
+row_below steps line = row_under_last (last_or None steps) steps line
+
+-- These steps after a line, or the line's fault.
+unfoldable pub on_steps : List StepValue → LineValue → Class → Result (List StepValue) ReadFault
+on_steps steps line StepLine = Ok (step_after steps line)
+on_steps steps line RowLine = row_below steps line
+on_steps steps line _ = Err (Unexpected line.line)
+
+-- The steps of a background or a scenario after a line. Lines of a description may come before the first step.
+unfoldable pub on_body : List StepValue → LineValue → Class → Result (List StepValue) ReadFault
+on_body [] line RowLine = Ok []
+on_body [] line (FenceLine fence) = Ok []
+on_body [] line Other = Ok []
+on_body steps line class = on_steps steps line class
+
 -- A row of examples.
 abbrev pub row_from : LineValue → List (List ℕ) → RowValue
 row_from line cells = record { line = line.line; cells = cells }
 
--- The grid after the header of examples.
-abbrev pub header_row : LineValue → Result Grid ReadFault
-header_row line = on_row None line >>= λ cells. Ok (Rows cells [])
+-- Examples with this header and these rows.
+abbrev pub with_table : ExamplesValue → List (List ℕ) → List RowValue → ExamplesValue
+with_table e header rows = record { name = e.name; line = e.line; tags = e.tags; header = header; rows = rows }
 
--- The grid after a row under a header, and after these rows.
-abbrev pub row_under : List (List ℕ) → List RowValue → LineValue → Result Grid ReadFault
-row_under header rows line = on_row (Some (length header)) line >>= λ cells. Ok (Rows header (rows ++ row_from line cells ∷ []))
+-- Examples with this header and a row under it, or the row's fault. If there is no header, the row is the header.
+abbrev pub row_in : List (List ℕ) → ExamplesValue → LineValue → Result ExamplesValue ReadFault
+row_in [] e line = on_row None line >>= λ cells. Ok (with_table e cells e.rows)
+row_in (cell ∷ cells) e line = on_row (Some (length (cell ∷ cells))) line >>= λ found. Ok (with_table e e.header (e.rows ++ row_from line found ∷ []))
 
--- The grid after a line under an Examples heading.
-unfoldable pub on_grid : Grid → LineValue → Class → Result Grid ReadFault
-on_grid NoRows line StepLine = Ok NoRows
-on_grid NoRows line RowLine = header_row line
-on_grid NoRows line (FenceLine fence) = Ok NoRows
-on_grid NoRows line Other = Ok NoRows
-on_grid NoRows line _ = Err (Unexpected line.line)
-on_grid (Rows header rows) line RowLine = row_under header rows line
-on_grid (Rows header rows) line _ = Err (Unexpected line.line)
+-- Examples with a line of their description. After the header there is none.
+abbrev pub described_in : List (List ℕ) → ExamplesValue → LineValue → Result ExamplesValue ReadFault
+described_in [] e line = Ok e
+described_in (cell ∷ cells) e line = Err (Unexpected line.line)
 
--- The body after a line in a description or after steps.
-unfoldable pub on_body : Body → LineValue → Class → Result Body ReadFault
-on_body NoSteps line StepLine = Ok (Steps [] (step_from Given line))
-on_body NoSteps line RowLine = Ok NoSteps
-on_body NoSteps line (FenceLine fence) = Ok NoSteps
-on_body NoSteps line Other = Ok NoSteps
-on_body NoSteps line _ = Err (Unexpected line.line)
-on_body (Steps steps step) line StepLine = Ok (Steps (steps ++ step ∷ []) (step_from step.step_type line))
-on_body (Steps steps step) line RowLine = on_block step.block line >>= λ block. Ok (Steps steps (with_block step block))
-on_body (Steps steps step) line _ = Err (Unexpected line.line)
+-- Examples after a line, or the line's fault.
+unfoldable pub on_examples : ExamplesValue → LineValue → Class → Result ExamplesValue ReadFault
+on_examples e line RowLine = row_in e.header e line
+on_examples e line StepLine = described_in e.header e line
+on_examples e line (FenceLine fence) = described_in e.header e line
+on_examples e line Other = described_in e.header e line
+on_examples e line _ = Err (Unexpected line.line)
 
--- The open part after a line that takes no tags.
-unfoldable pub on_open : Open → LineValue → Class → Result Open ReadFault
-on_open InDescription line BackgroundHeading = Ok (InBody (OfBackground line.line) NoSteps)
-on_open InDescription line StepLine = Ok InDescription
-on_open InDescription line RowLine = Ok InDescription
-on_open InDescription line (FenceLine fence) = Ok InDescription
-on_open InDescription line Other = Ok InDescription
-on_open InDescription line _ = Err (Unexpected line.line)
-on_open (InBody owner body) line class = on_body body line class >>= λ next. Ok (InBody owner next)
-on_open (InExamples children scenario head grid) line class = on_grid grid line class >>= λ next. Ok (InExamples children scenario head next)
+-- A scenario with these steps.
+abbrev pub with_steps : ScenarioValue → List StepValue → ScenarioValue
+with_steps s steps = record { keyword = s.keyword; name = s.name; line = s.line; tags = s.tags; steps = steps; examples = s.examples }
+
+-- A scenario with these examples.
+abbrev pub with_examples : ScenarioValue → List ExamplesValue → ScenarioValue
+with_examples s examples = record { keyword = s.keyword; name = s.name; line = s.line; tags = s.tags; steps = s.steps; examples = examples }
+
+-- A scenario with these last examples after a line, or the line's fault.
+abbrev pub in_examples : Option ExamplesValue → ScenarioValue → LineValue → Class → Result ScenarioValue ReadFault
+in_examples None s line class = on_body s.steps line class >>= λ steps. Ok (with_steps s steps)
+in_examples (Some e) s line class = on_examples e line class >>= λ e. Ok (with_examples s (with_last e s.examples))
+
+-- A scenario after a line, or the line's fault.
+abbrev pub on_scenario : ScenarioValue → LineValue → Class → Result ScenarioValue ReadFault
+on_scenario s line class = in_examples (last_or None s.examples) s line class
+
+-- A background with these steps.
+abbrev pub background_with : BackgroundValue → List StepValue → BackgroundValue
+background_with b steps = record { line = b.line; steps = steps }
+
+-- The background of a feature or a rule after a line, or the line's fault. Lines of a description may come before the background.
+unfoldable pub on_background : Option BackgroundValue → LineValue → Class → Result (Option BackgroundValue) ReadFault
+on_background None line BackgroundHeading = Ok (Some (record { line = line.line; steps = [] }))
+on_background None line StepLine = Ok None
+on_background None line RowLine = Ok None
+on_background None line (FenceLine fence) = Ok None
+on_background None line Other = Ok None
+on_background None line _ = Err (Unexpected line.line)
+on_background (Some b) line class = on_body b.steps line class >>= λ steps. Ok (Some (background_with b steps))
+
+-- Children with this background.
+abbrev pub with_background : ChildrenValue → Option BackgroundValue → ChildrenValue
+with_background children background = record { background = background; scenarios = children.scenarios }
+
+-- Children with these scenarios.
+abbrev pub with_scenarios : ChildrenValue → List ScenarioValue → ChildrenValue
+with_scenarios children scenarios = record { background = children.background; scenarios = scenarios }
+
+-- Children with this last scenario after a line, or the line's fault.
+abbrev pub in_scenario : Option ScenarioValue → ChildrenValue → LineValue → Class → Result ChildrenValue ReadFault
+in_scenario None children line class = on_background children.background line class >>= λ background. Ok (with_background children background)
+in_scenario (Some s) children line class = on_scenario s line class >>= λ s. Ok (with_scenarios children (with_last s children.scenarios))
+
+-- Children after a line that takes no tags, or the line's fault.
+abbrev pub on_children : ChildrenValue → LineValue → Class → Result ChildrenValue ReadFault
+on_children children line class = in_scenario (last_or None children.scenarios) children line class
+
+-- The scenario that a heading begins, with these tags.
+abbrev pub scenario_from : List (List ℕ) → LineValue → ScenarioValue
+scenario_from tags line = record { keyword = heading_keyword line; name = heading_name line; line = line.line; tags = tags; steps = []; examples = [] }
+
+-- The examples that a heading begins, with these tags.
+abbrev pub examples_from : List (List ℕ) → LineValue → ExamplesValue
+examples_from tags line = record { name = heading_name line; line = line.line; tags = tags; header = []; rows = [] }
+
+-- Scenarios with examples under this last one, or the fault of the heading of examples. There are none before the first scenario.
+abbrev pub examples_under : Option ScenarioValue → List ScenarioValue → List (List ℕ) → LineValue → Result (List ScenarioValue) ReadFault
+examples_under None scenarios tags line = Err (Unexpected line.line)
+examples_under (Some s) scenarios tags line = Ok (with_last (with_examples s (s.examples ++ examples_from tags line ∷ [])) scenarios)
+
+-- Scenarios after a heading with these tags, or its fault.
+unfoldable pub heading_in : List ScenarioValue → List (List ℕ) → LineValue → Class → Result (List ScenarioValue) ReadFault
+heading_in scenarios tags line ScenarioHeading = Ok (scenarios ++ scenario_from tags line ∷ [])
+heading_in scenarios tags line ExamplesHeading = examples_under (last_or None scenarios) scenarios tags line
+heading_in scenarios tags line _ = Err (Unexpected line.line)
 
 -- Whether a step has no block yet.
 abbrev pub is_empty : BlockValue → Bool
 is_empty Empty = true
 is_empty _ = false
 
--- Whether a doc string is allowed under the last step of a body.
-abbrev pub body_takes_text : Body → Bool
-body_takes_text NoSteps = false
-body_takes_text (Steps steps step) = is_empty step.block
+-- Whether a doc string is allowed under this last step.
+abbrev pub takes_text_under : Option StepValue → Bool
+takes_text_under None = false
+takes_text_under (Some step) = is_empty step.block
 
--- A body with this doc string under its last step.
-abbrev pub body_with_text : Body → List ℕ → Body
-body_with_text NoSteps text = NoSteps
-body_with_text (Steps steps step) text = Steps steps (with_block step (Text text))
+-- Whether a doc string is allowed under the last of these steps.
+abbrev pub steps_take_text : List StepValue → Bool
+steps_take_text steps = takes_text_under (last_or None steps)
 
--- Whether a doc string is allowed under the last step of an open part.
-abbrev pub open_takes_text : Open → Bool
-open_takes_text (InBody owner body) = body_takes_text body
-open_takes_text _ = false
+-- These steps with this doc string under this last one.
+abbrev pub text_under_last : Option StepValue → List StepValue → List ℕ → List StepValue
+text_under_last None steps text = steps
+text_under_last (Some step) steps text = with_last (with_block step (Text text)) steps
 
--- An open part with this doc string under its last step.
-abbrev pub open_with_text : Open → List ℕ → Open
-open_with_text (InBody owner body) text = InBody owner (body_with_text body text)
-open_with_text part text = part
+-- These steps with this doc string under the last of them.
+abbrev pub steps_with_text : List StepValue → List ℕ → List StepValue
+steps_with_text steps text = text_under_last (last_or None steps) steps text
+
+-- Whether a doc string is allowed under the steps of a scenario with these examples.
+abbrev pub scenario_takes_text : List ExamplesValue → ScenarioValue → Bool
+scenario_takes_text [] s = steps_take_text s.steps
+scenario_takes_text (e ∷ examples) s = false
+
+-- Whether a doc string is allowed under the steps of this background.
+abbrev pub background_takes_text : Option BackgroundValue → Bool
+background_takes_text None = false
+background_takes_text (Some b) = steps_take_text b.steps
+
+-- Whether a doc string is allowed under the last step of children with this last scenario.
+abbrev pub last_takes_text : Option ScenarioValue → ChildrenValue → Bool
+last_takes_text None children = background_takes_text children.background
+last_takes_text (Some s) children = scenario_takes_text s.examples s
+
+-- Whether a doc string is allowed under the last step of children.
+abbrev pub children_take_text : ChildrenValue → Bool
+children_take_text children = last_takes_text (last_or None children.scenarios) children
+
+-- A background with this doc string under its last step.
+abbrev pub background_with_text : List ℕ → BackgroundValue → BackgroundValue
+background_with_text text b = background_with b (steps_with_text b.steps text)
+
+-- Children with this doc string under the last step of this last scenario, or of the background if there is no scenario.
+abbrev pub last_with_text : Option ScenarioValue → ChildrenValue → List ℕ → ChildrenValue
+last_with_text None children text = with_background children (option_map (background_with_text text) children.background)
+last_with_text (Some s) children text = with_scenarios children (with_last (with_steps s (steps_with_text s.steps text)) children.scenarios)
+
+-- Children with this doc string under their last step.
+abbrev pub children_with_text : ChildrenValue → List ℕ → ChildrenValue
+children_with_text children text = last_with_text (last_or None children.scenarios) children text

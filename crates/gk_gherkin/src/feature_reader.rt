@@ -1,5 +1,4 @@
-//! The reader of a feature file: the finished parts and the open part at each depth, and the effect
-//! of each line.
+//! The reader of a feature file: the feature so far, and the effect of each line.
 ghost use Rattle.std.specs.Prelude.{Option, option_map, map, Ok, IfOk, IfErr, ◌≡◌, ◌≢◌};
 ghost use Rattle.std.specs.String.{string_bytes};
 ghost use Rattle.gk_gherkin.specs.Lines.{borrowed_value, lines_of, IsText};
@@ -9,21 +8,17 @@ ghost use Rattle.gk_gherkin.specs.Grammar.{Reads};
 ghost use Rattle.gk_gherkin.specs.ReadFault.{AnswersOrLacksMemory, BeginsWithTag, FaultSays, FeatureFault};
 ghost use Rattle.gk_gherkin.specs.Results.{Agrees};
 ghost use Rattle.gk_gherkin.specs.OpenParts as parts;
-ghost use Rattle.gk_gherkin.specs.OpenParts.Views.{head_value, children_value, open_value};
 ghost use Rattle.gk_gherkin.specs.FeatureReader as spec;
-ghost use Rattle.gk_gherkin.specs.FeatureReader.Views.{top_value, open_feature_value};
-ghost use Rattle.gk_gherkin.specs.FeatureReader.Views.{tagged_value, reader_value, answer_value};
-ghost use Rattle.gk_gherkin.specs.FeatureReader.Views.{AddsExamples, TakesHeading, AddsTags};
-ghost use Rattle.gk_gherkin.specs.declared.class.Class.TheVariants.{RuleHeading};
+ghost use Rattle.gk_gherkin.specs.FeatureReader.Views.{so_far_value, tagged_value, reader_value};
+ghost use Rattle.gk_gherkin.specs.FeatureReader.Views.{TakesHeading, AddsTags};
 ghost use Rattle.gk_gherkin.specs.declared.read_fault.ReadFault.TheVariants.{Memory};
 
-use crate::class::Class;
+use crate::class::{Class, heading_name};
 use crate::feature::{Feature, Rule};
 use crate::language::language_of;
 use crate::lines::BorrowedLine;
 use crate::open_parts::{
-    Children, Grid, Head, Open, children_of, head_from, on_open, open_takes_text, outline_of, put,
-    put_text_in, scenario_heading, unexpected,
+    children_take_text, heading_in, on_children, put, put_text_in, unexpected,
 };
 use crate::read_fault::ReadFault;
 use crate::reading::{FileReader, read};
@@ -32,20 +27,6 @@ use crate::text::is_word;
 use std::alloc::Global;
 use std::mem;
 
-/// The open feature, or the open rule with the feature before it.
-#[derive(Drop)]
-pub enum Top {
-    OfFeature { head: Head },
-    OfRule { feature: Feature, head: Head },
-}
-
-/// The state above the feature's heading, or in the feature.
-#[derive(Drop)]
-pub enum OpenFeature {
-    Above,
-    InFeature { top: Top, part: Open },
-}
-
 /// The tags of some lines, and the number of the last of these lines.
 #[derive(Drop)]
 pub struct TagLines {
@@ -53,193 +34,152 @@ pub struct TagLines {
     pub last: u32,
 }
 
-/// The open feature, and the tags that wait for their heading, if there are any.
+/// The feature so far, and the tags that wait for their heading, if there are any. Without these
+/// tags and outside of doc strings, the lines so far read as the feature so far.
 #[derive(Drop)]
 pub struct FeatureReader {
-    pub feature: OpenFeature,
+    pub feature: Option<Feature>,
     pub tags: Option<TagLines>,
 }
 
-fn rule_of(head: Head, children: Children) -> Rule
-    ensures { rule_value result ≡ spec.rule_of (head_value head) (children_value children) }
-{
-    Rule {
-        name: head.name,
-        line: head.line,
-        tags: head.tags,
-        background: children.background,
-        scenarios: children.scenarios,
-    }
-}
-
-fn with_rule(feature: Feature, rule: Rule) -> Result<Feature, ReadFault>
+#[inline(never)]
+fn feature_from(
+    alloc: Global,
+    tags: Vec<String>,
+    line: &BorrowedLine<'_>,
+) -> Result<Feature, ReadFault>
     ensures { Agrees feature_value result
-        (Ok (spec.with_rule (feature_value feature) (rule_value rule))) }
+        (Ok (spec.feature_from (texts tags.items) (borrowed_value line.now))) }
 {
-    let mut feature = feature;
-    feature.rules.push(rule)?;
-    Ok(feature)
-}
-
-fn feature_of(alloc: Global, top: Top, children: Children) -> Result<Feature, ReadFault>
-    ensures { Agrees feature_value result
-        (Ok (spec.feature_of (top_value top) (children_value children))) }
-{
-    match top {
-        Top::OfFeature { head } => Ok(Feature {
-            name: head.name,
-            line: head.line,
-            tags: head.tags,
-            background: children.background,
-            scenarios: children.scenarios,
-            rules: Vec::new(alloc),
-        }),
-        Top::OfRule { feature, head } => with_rule(feature, rule_of(head, children)),
-    }
-}
-
-// Returns the feature that ends with the lines, or `None` above its heading.
-fn feature_at(alloc: Global, state: OpenFeature) -> Result<Option<Feature>, ReadFault>
-    ensures says { Agrees answer_value result (Ok (spec.feature_in (open_feature_value state))) }
-    ensures memory { IfErr result (λ e.
-        spec.NeedsAtEnd (spec.Untagged (open_feature_value state))) }
-{
-    match state {
-        OpenFeature::Above => Ok(None),
-        OpenFeature::InFeature { top, part } => {
-            Ok(Some(feature_of(alloc, top, children_of(alloc, part)?)?))
-        }
-    }
+    Ok(Feature {
+        name: String::from_str(alloc, heading_name(line))?,
+        line: line.place.line,
+        tags,
+        background: None,
+        scenarios: Vec::new(alloc),
+        rules: Vec::new(alloc),
+    })
 }
 
 #[inline(never)]
-fn feature_heading(
-    alloc: Global,
-    state: &mut OpenFeature,
-    tags: Vec<String>,
-    line: &BorrowedLine<'_>,
-) -> Result<(), ReadFault>
-    ensures { let head = parts.head_from (texts tags.items) (borrowed_value line.now) in
-        Agrees (λ _. open_feature_value state.new) result
-        (Ok (spec.InFeature (spec.OfFeature head) parts.InDescription)) }
+fn rule_from(alloc: Global, tags: Vec<String>, line: &BorrowedLine<'_>) -> Result<Rule, ReadFault>
+    ensures { Agrees rule_value result
+        (Ok (spec.rule_from (texts tags.items) (borrowed_value line.now))) }
 {
-    let head = head_from(alloc, tags, line)?;
-    put(
-        state,
-        OpenFeature::InFeature {
-            top: Top::OfFeature { head },
-            part: Open::InDescription,
-        },
-    );
-    Ok(())
+    Ok(Rule {
+        name: String::from_str(alloc, heading_name(line))?,
+        line: line.place.line,
+        tags,
+        background: None,
+        scenarios: Vec::new(alloc),
+    })
 }
 
-#[inline(never)]
-#[tactic(auto, unfolding(crate::specs::FeatureReader::on_heading))]
-fn rule_heading(
+// Takes the heading of a scenario or of examples.
+fn heading_in_feature(
     alloc: Global,
-    state: &mut OpenFeature,
+    feature: &mut Feature,
     tags: Vec<String>,
     line: &BorrowedLine<'_>,
+    class: Class,
 ) -> Result<(), ReadFault>
-    ensures { TakesHeading state.old tags.items line.now RuleHeading result state.new }
+    requires { class ≡ words.class (borrowed_value line.now) }
+    ensures { let old = feature_value feature.old in
+        Agrees (λ _. feature_value feature.new) result
+        (spec.heading_in_feature old (texts tags.items) (borrowed_value line.now) class) }
 {
-    match feature_at(alloc, mem::replace(state, OpenFeature::Above))? {
-        Some(feature) => {
-            let head = head_from(alloc, tags, line)?;
-            put(
-                state,
-                OpenFeature::InFeature {
-                    top: Top::OfRule { feature, head },
-                    part: Open::InDescription,
-                },
-            );
-            Ok(())
-        }
-        None => Err(unexpected(line)),
-    }
-}
-
-#[inline(never)]
-fn examples_heading(
-    alloc: Global,
-    part: &mut Open,
-    tags: Vec<String>,
-    line: &BorrowedLine<'_>,
-) -> Result<(), ReadFault>
-    ensures { AddsExamples part.old (texts tags.items) (borrowed_value line.now) result part.new }
-{
-    match outline_of(alloc, mem::replace(part, Open::InDescription))? {
-        Some(outline) => {
-            let head = head_from(alloc, tags, line)?;
-            put(
-                part,
-                Open::InExamples {
-                    children: outline.children,
-                    scenario: outline.scenario,
-                    head,
-                    grid: Grid::NoRows,
-                },
-            );
-            Ok(())
-        }
-        None => Err(unexpected(line)),
+    match feature.rules.last_mut() {
+        Some(rule) => heading_in(alloc, &mut rule.scenarios, tags, line, class),
+        None => heading_in(alloc, &mut feature.scenarios, tags, line, class),
     }
 }
 
 #[tactic(auto, unfolding(crate::specs::FeatureReader::on_heading))]
 fn on_heading(
     alloc: Global,
-    state: &mut OpenFeature,
+    feature: &mut Option<Feature>,
     tags: Vec<String>,
     line: &BorrowedLine<'_>,
     class: Class,
 ) -> Result<(), ReadFault>
     requires { class ≡ words.class (borrowed_value line.now) }
-    ensures says { TakesHeading state.old tags.items line.now class result state.new }
+    ensures says { TakesHeading feature.old tags.items line.now class result feature.new }
     ensures memory { IfErr result (λ e. e ≡ Memory →
-        spec.NeedsAt (open_feature_value state.old) (borrowed_value line.now) class) }
+        spec.NeedsAt (so_far_value feature.old) (borrowed_value line.now) class) }
 {
-    match state {
-        OpenFeature::Above => match class {
-            Class::FeatureHeading => feature_heading(alloc, state, tags, line),
+    match feature {
+        None => match class {
+            Class::FeatureHeading => {
+                put(feature, Some(feature_from(alloc, tags, line)?));
+                Ok(())
+            }
             _ => Err(unexpected(line)),
         },
-        OpenFeature::InFeature { part, .. } => match class {
-            Class::RuleHeading => rule_heading(alloc, state, tags, line),
-            Class::ScenarioHeading => scenario_heading(alloc, part, tags, line),
-            Class::ExamplesHeading => examples_heading(alloc, part, tags, line),
-            _ => Err(unexpected(line)),
+        Some(feature) => match class {
+            Class::RuleHeading => {
+                feature.rules.push(rule_from(alloc, tags, line)?)?;
+                Ok(())
+            }
+            _ => heading_in_feature(alloc, feature, tags, line, class),
         },
+    }
+}
+
+fn line_in_feature(
+    alloc: Global,
+    feature: &mut Feature,
+    line: &BorrowedLine<'_>,
+    class: Class,
+) -> Result<(), ReadFault>
+    requires { class ≡ words.class (borrowed_value line.now) }
+    ensures { let old = feature_value feature.old in
+        Agrees (λ _. feature_value feature.new) result
+        (spec.line_in_feature old (borrowed_value line.now) class) }
+{
+    match feature.rules.last_mut() {
+        Some(rule) => on_children(
+            alloc,
+            &mut rule.background,
+            &mut rule.scenarios,
+            line,
+            class,
+        ),
+        None => on_children(
+            alloc,
+            &mut feature.background,
+            &mut feature.scenarios,
+            line,
+            class,
+        ),
     }
 }
 
 #[tactic(auto, unfolding(crate::specs::FeatureReader::on_line))]
 fn on_line(
     alloc: Global,
-    state: &mut OpenFeature,
+    feature: &mut Option<Feature>,
     line: &BorrowedLine<'_>,
     class: Class,
 ) -> Result<(), ReadFault>
     requires { class ≡ words.class (borrowed_value line.now) }
-    ensures says { Agrees (λ _. open_feature_value state.new) result
-        (spec.on_line (open_feature_value state.old) (borrowed_value line.now) class) }
+    ensures says { Agrees (λ _. so_far_value feature.new) result
+        (spec.on_line (so_far_value feature.old) (borrowed_value line.now) class) }
     ensures memory { IfErr result (λ e. e ≡ Memory →
-        spec.NeedsAt (open_feature_value state.old) (borrowed_value line.now) class) }
+        spec.NeedsAt (so_far_value feature.old) (borrowed_value line.now) class) }
 {
-    match state {
-        OpenFeature::Above => Err(unexpected(line)),
-        OpenFeature::InFeature { part, .. } => on_open(alloc, part, line, class),
+    match feature {
+        None => Err(unexpected(line)),
+        Some(feature) => line_in_feature(alloc, feature, line, class),
     }
 }
 
-fn check_comment(state: &OpenFeature, line: &BorrowedLine<'_>) -> Result<(), ReadFault>
+fn check_comment(feature: &Option<Feature>, line: &BorrowedLine<'_>) -> Result<(), ReadFault>
     ensures says { (old : spec.FeatureReader) → Agrees (λ _. old) result
-        (spec.on_comment (open_feature_value state.now) old (borrowed_value line.now)) }
+        (spec.on_comment (so_far_value feature.now) old (borrowed_value line.now)) }
     ensures free { IfErr result (λ e. e ≢ Memory) }
 {
-    match state {
-        OpenFeature::Above => match language_of(line) {
+    match feature {
+        None => match language_of(line) {
             Some(word) => {
                 if is_word(word, "en") {
                     Ok(())
@@ -251,7 +191,7 @@ fn check_comment(state: &OpenFeature, line: &BorrowedLine<'_>) -> Result<(), Rea
             }
             None => Ok(()),
         },
-        OpenFeature::InFeature { .. } => Ok(()),
+        Some(_) => Ok(()),
     }
 }
 
@@ -283,32 +223,32 @@ fn tag_line(
 #[tactic(auto, unfolding(crate::specs::FeatureReader::on))]
 fn after_no_tags(
     alloc: Global,
-    state: &mut OpenFeature,
+    feature: &mut Option<Feature>,
     line: &BorrowedLine<'_>,
     class: Class,
 ) -> Result<Option<TagLines>, ReadFault>
     requires { class ≡ words.class (borrowed_value line.now) }
-    ensures says { Agrees (λ tags. tagged_value state.new tags) result
-        (spec.on (spec.Untagged (open_feature_value state.old)) (borrowed_value line.now) class) }
+    ensures says { Agrees (λ tags. tagged_value feature.new tags) result
+        (spec.on (spec.Untagged (so_far_value feature.old)) (borrowed_value line.now) class) }
     ensures memory { IfErr result (λ e. e ≡ Memory →
-        spec.NeedsAt (open_feature_value state.old) (borrowed_value line.now) class) }
+        spec.NeedsAt (so_far_value feature.old) (borrowed_value line.now) class) }
 {
     match class {
         Class::Blank => Ok(None),
         Class::TagLine => Ok(Some(tag_line(alloc, Vec::new(alloc), line)?)),
         Class::Comment => {
-            check_comment(state, line)?;
+            check_comment(feature, line)?;
             Ok(None)
         }
         Class::FeatureHeading
         | Class::RuleHeading
         | Class::ScenarioHeading
         | Class::ExamplesHeading => {
-            on_heading(alloc, state, Vec::new(alloc), line, class)?;
+            on_heading(alloc, feature, Vec::new(alloc), line, class)?;
             Ok(None)
         }
         _ => {
-            on_line(alloc, state, line, class)?;
+            on_line(alloc, feature, line, class)?;
             Ok(None)
         }
     }
@@ -318,37 +258,46 @@ fn after_no_tags(
 #[tactic(auto, unfolding(crate::specs::FeatureReader::on))]
 fn after_tags(
     alloc: Global,
-    state: &mut OpenFeature,
+    feature: &mut Option<Feature>,
     before: TagLines,
     line: &BorrowedLine<'_>,
     class: Class,
 ) -> Result<Option<TagLines>, ReadFault>
     requires { class ≡ words.class (borrowed_value line.now) }
-    ensures { let old = spec.Tagged (open_feature_value state.old) (texts before.tags.items) in
-        Agrees (λ tags. tagged_value state.new tags) result
+    ensures { let old = spec.Tagged (so_far_value feature.old) (texts before.tags.items) in
+        Agrees (λ tags. tagged_value feature.new tags) result
         (spec.on (old before.last) (borrowed_value line.now) class) }
 {
     match class {
         Class::Blank => Ok(Some(before)),
         Class::TagLine => Ok(Some(tag_line(alloc, before.tags, line)?)),
         Class::Comment => {
-            check_comment(state, line)?;
+            check_comment(feature, line)?;
             Ok(Some(before))
         }
         _ => {
-            on_heading(alloc, state, before.tags, line, class)?;
+            on_heading(alloc, feature, before.tags, line, class)?;
             Ok(None)
         }
     }
 }
 
-// Puts a doc string under the last step of an open feature, if it has one.
-fn put_text_below(state: &mut OpenFeature, text: String)
-    ensures { open_feature_value state.new
-        ≡ spec.with_text (open_feature_value state.old) (string_bytes text) }
+fn feature_takes_text(feature: &Feature) -> bool
+    ensures { result ≡ parts.children_take_text (spec.last_children (feature_value feature.now)) }
 {
-    if let OpenFeature::InFeature { part, .. } = state {
-        put_text_in(part, text);
+    match feature.rules.last() {
+        Some(rule) => children_take_text(&rule.background, &rule.scenarios),
+        None => children_take_text(&feature.background, &feature.scenarios),
+    }
+}
+
+fn put_text_below(feature: &mut Feature, text: String)
+    ensures { feature_value feature.new
+        ≡ spec.with_text (string_bytes text) (feature_value feature.old) }
+{
+    match feature.rules.last_mut() {
+        Some(rule) => put_text_in(&mut rule.background, &mut rule.scenarios, text),
+        None => put_text_in(&mut feature.background, &mut feature.scenarios, text),
     }
 }
 
@@ -361,27 +310,29 @@ impl FileReader for FeatureReader {
 
     ghost value = { reader_value };
 
-    ghost answer_value = { answer_value };
+    ghost answer_value = { so_far_value };
 
     ghost readers = { spec.feature_readers };
 
     fn first() -> FeatureReader {
         FeatureReader {
-            feature: OpenFeature::Above,
+            feature: None,
             tags: None,
         }
     }
 
     fn takes_text(&self) -> bool {
         match &self.feature {
-            OpenFeature::Above => false,
-            OpenFeature::InFeature { part, .. } => self.tags.is_none() && open_takes_text(part),
+            None => false,
+            Some(feature) => self.tags.is_none() && feature_takes_text(feature),
         }
     }
 
     fn put_text(&mut self, text: String) {
-        if let None = &self.tags {
-            put_text_below(&mut self.feature, text);
+        if self.tags.is_none() {
+            if let Some(feature) = &mut self.feature {
+                put_text_below(feature, text);
+            }
         }
     }
 
@@ -399,10 +350,10 @@ impl FileReader for FeatureReader {
         Ok(())
     }
 
-    fn answer(self, alloc: Global) -> Result<Option<Feature>, ReadFault> {
+    fn answer(self, _: Global) -> Result<Option<Feature>, ReadFault> {
         let FeatureReader { feature, tags } = self;
         match tags {
-            None => feature_at(alloc, feature),
+            None => Ok(feature),
             Some(lines) => Err(ReadFault::TagsAtEnd { line: lines.last }),
         }
     }

@@ -8,7 +8,6 @@ ghost use Rattle.gk_gherkin.specs.HookHeadings.{heading_value, hooks_class};
 ghost use Rattle.gk_gherkin.specs.HooksGrammar.{ReadsHooks};
 ghost use Rattle.gk_gherkin.specs.ReadFault.{AnswersOrLacksMemory, FaultSays, HooksFault};
 ghost use Rattle.gk_gherkin.specs.Results.{Agrees};
-ghost use Rattle.gk_gherkin.specs.OpenParts.Views.{body_value};
 ghost use Rattle.gk_gherkin.specs.HooksReader as spec;
 ghost use Rattle.gk_gherkin.specs.HooksReader.Views.{reader_value};
 ghost use Rattle.gk_gherkin.specs.HooksSoFar.{so_far_value};
@@ -16,11 +15,12 @@ ghost use Rattle.gk_gherkin.specs.declared.hook_headings.HooksClass.TheVariants.
 ghost use Rattle.gk_gherkin.specs.declared.read_fault.ReadFault.TheVariants.{BadHook, Memory};
 
 use crate::class::Class;
+use crate::feature::Step;
 use crate::hook_headings::{HookHeading, HooksClass, hook_heading, hooks_class};
 use crate::hooks::{Hook, HookFile, HookKind};
 use crate::hooks_so_far::HooksSoFar;
 use crate::lines::BorrowedLine;
-use crate::open_parts::{Body, body_takes_text, on_body, put, put_text, steps_of, unexpected};
+use crate::open_parts::{on_steps, put, put_text, steps_take_text, unexpected};
 use crate::read_fault::ReadFault;
 use crate::reading::{FileReader, read};
 use std::alloc::Global;
@@ -39,7 +39,7 @@ pub struct Opened {
 #[derive(Drop)]
 pub enum HooksReader {
     NoHook,
-    InHook { opened: Opened, body: Body },
+    InHook { opened: Opened, steps: Vec<Step> },
 }
 
 // Returns the hooks read so far. The open one is the last.
@@ -49,8 +49,7 @@ fn hooks_of(alloc: Global, reader: HooksReader) -> Result<HooksSoFar, ReadFault>
 {
     match reader {
         HooksReader::NoHook => Ok(HooksSoFar::new(alloc)),
-        HooksReader::InHook { opened, body } => {
-            let steps = steps_of(alloc, body)?;
+        HooksReader::InHook { opened, steps } => {
             let mut hooks = opened.before;
             hooks.push(Hook {
                 kind: opened.kind,
@@ -116,32 +115,11 @@ fn on_hook(
                 reader,
                 HooksReader::InHook {
                     opened,
-                    body: Body::NoSteps,
+                    steps: Vec::new(alloc),
                 },
             );
             Ok(())
         }
-    }
-}
-
-#[tactic(auto, unfolding(crate::specs::HooksReader::on_hook_body))]
-fn on_hook_body(
-    alloc: Global,
-    body: &mut Body,
-    line: &BorrowedLine<'_>,
-    class: Class,
-) -> Result<(), ReadFault>
-    requires { class ≡ words.class (borrowed_value line.now) }
-    ensures { let said = borrowed_value line.now in
-        Agrees (λ _. body_value body.new) result
-        (spec.on_hook_body (body_value body.old) said class) }
-{
-    match body {
-        Body::NoSteps => match class {
-            Class::StepLine => on_body(alloc, body, line, class),
-            _ => Err(unexpected(line)),
-        },
-        Body::Steps { .. } => on_body(alloc, body, line, class),
     }
 }
 
@@ -161,7 +139,7 @@ fn on_plain_line(
 {
     match reader {
         HooksReader::NoHook => Err(unexpected(line)),
-        HooksReader::InHook { body, .. } => on_hook_body(alloc, body, line, class),
+        HooksReader::InHook { steps, .. } => on_steps(alloc, steps, line, class),
     }
 }
 
@@ -207,13 +185,13 @@ impl FileReader for HooksReader {
     fn takes_text(&self) -> bool {
         match self {
             HooksReader::NoHook => false,
-            HooksReader::InHook { body, .. } => body_takes_text(body),
+            HooksReader::InHook { steps, .. } => steps_take_text(steps),
         }
     }
 
     fn put_text(&mut self, text: String) {
-        if let HooksReader::InHook { body, .. } = self {
-            put_text(body, text);
+        if let HooksReader::InHook { steps, .. } = self {
+            put_text(steps, text);
         }
     }
 

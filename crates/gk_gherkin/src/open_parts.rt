@@ -1,96 +1,24 @@
-//! The open parts of a file, and the effect of each line on them.
-ghost use Rattle.std.specs.Prelude.{option_map, map, Ok, ◌≡◌, ◌++◌, ◌∷◌, []};
+//! The effect of each line on the last parts of what was read so far.
+ghost use Rattle.std.specs.Prelude.{None, option_map, map, Ok, ◌≡◌};
+ghost use Rattle.std.specs.List.{last_or};
 ghost use Rattle.std.specs.String.{string_bytes};
 ghost use Rattle.gk_gherkin.specs.Lines.{borrowed_value};
-ghost use Rattle.gk_gherkin.specs.Feature.{texts, block_value, step_value, row_value};
-ghost use Rattle.gk_gherkin.specs.Feature.{examples_value, scenario_value};
+ghost use Rattle.gk_gherkin.specs.Feature.{texts, block_value, step_value};
+ghost use Rattle.gk_gherkin.specs.Feature.{examples_value, scenario_value, background_value};
 ghost use Rattle.gk_gherkin.specs.Results.{Agrees};
 ghost use Rattle.gk_gherkin.specs.Class as words;
-ghost use Rattle.gk_gherkin.specs.Keyword.{keyword_text};
 ghost use Rattle.gk_gherkin.specs.OpenParts as spec;
+ghost use Rattle.gk_gherkin.specs.OpenParts.Views.{children_value};
 ghost use Rattle.gk_gherkin.specs.declared.class.Class.TheVariants.{ScenarioHeading, StepLine};
-ghost use Rattle.gk_gherkin.specs.OpenParts.Views.{head_value, children_value, body_value};
-ghost use Rattle.gk_gherkin.specs.OpenParts.Views.{owner_value, grid_value, outline_value};
-ghost use Rattle.gk_gherkin.specs.OpenParts.Views.{open_value, bodied_value, begun_after};
-ghost use Rattle.gk_gherkin.specs.declared.feature.StepType.TheVariants.{Given};
 ghost use Rattle.gk_gherkin.specs.declared.read_fault.ReadFault.TheVariants.{Unexpected};
 
 use crate::class::{Class, heading_name, scenario_keyword, step_parts};
 use crate::feature::{Background, Block, Examples, Row, Scenario, Step, StepType};
-use crate::keyword::Keyword;
 use crate::lines::BorrowedLine;
 use crate::read_fault::ReadFault;
 use crate::rows::cells_of;
 use crate::step_types::type_after;
 use std::alloc::Global;
-use std::mem;
-
-/// The heading of a feature, a rule, a scenario or examples.
-#[derive(Drop)]
-pub struct Head {
-    pub tags: Vec<String>,
-    pub name: String,
-    pub line: u32,
-}
-
-/// The finished children of a feature or a rule: its background and its scenarios.
-#[derive(Drop)]
-pub struct Children {
-    pub background: Option<Background>,
-    pub scenarios: Vec<Scenario>,
-}
-
-/// The body of a background, a scenario or a hook: in its description, or after steps, the last of
-/// them open.
-#[derive(Drop)]
-pub enum Body {
-    NoSteps,
-    Steps { steps: Vec<Step>, step: Step },
-}
-
-/// The owner of steps: a background, or a scenario with the finished children before it.
-#[derive(Drop)]
-pub enum Owner {
-    OfBackground {
-        line: u32,
-    },
-    OfScenario {
-        children: Children,
-        keyword: Keyword,
-        head: Head,
-    },
-}
-
-/// The rows of examples: none while in the description, or the header and the rows under it.
-#[derive(Drop)]
-pub enum Grid {
-    NoRows,
-    Rows { header: Vec<String>, rows: Vec<Row> },
-}
-
-/// A scenario, with the finished children before it.
-#[derive(Drop)]
-pub struct Outline {
-    pub children: Children,
-    pub scenario: Scenario,
-}
-
-/// The open part of a feature or a rule: its description, or steps, or examples with the scenario
-/// before them.
-#[derive(Drop)]
-pub enum Open {
-    InDescription,
-    InBody {
-        owner: Owner,
-        body: Body,
-    },
-    InExamples {
-        children: Children,
-        scenario: Scenario,
-        head: Head,
-        grid: Grid,
-    },
-}
 
 /// Replaces a value and drops the old one.
 pub fn put<T: Drop>(slot: &mut T, next: T)
@@ -108,23 +36,6 @@ pub fn unexpected(line: &BorrowedLine<'_>) -> ReadFault
     }
 }
 
-/// Returns the head that a heading begins: its tags, its name and its line.
-pub fn head_from(
-    alloc: Global,
-    tags: Vec<String>,
-    line: &BorrowedLine<'_>,
-) -> Result<Head, ReadFault>
-    ensures { Agrees head_value result
-        (Ok (spec.head_from (texts tags.items) (borrowed_value line.now))) }
-{
-    let name = String::from_str(alloc, heading_name(line))?;
-    Ok(Head {
-        tags,
-        name,
-        line: line.place.line,
-    })
-}
-
 fn step_from(alloc: Global, before: StepType, line: &BorrowedLine<'_>) -> Result<Step, ReadFault>
     requires { words.class (borrowed_value line.now) ≡ StepLine }
     ensures { Agrees step_value result (Ok (spec.step_from before (borrowed_value line.now))) }
@@ -139,240 +50,6 @@ fn step_from(alloc: Global, before: StepType, line: &BorrowedLine<'_>) -> Result
         block: Block::Empty,
         line: line.place.line,
     })
-}
-
-/// Returns the steps of a body, the open one included.
-pub fn steps_of(alloc: Global, body: Body) -> Result<Vec<Step>, ReadFault>
-    ensures { Agrees (λ v. map step_value v.items) result (Ok (spec.steps_of (body_value body))) }
-{
-    match body {
-        Body::NoSteps => Ok(Vec::new(alloc)),
-        Body::Steps { steps, step } => {
-            let mut steps = steps;
-            steps.push(step)?;
-            Ok(steps)
-        }
-    }
-}
-
-fn with_scenario(children: Children, scenario: Scenario) -> Result<Children, ReadFault>
-    ensures { Agrees children_value result
-        (Ok (spec.with_scenario (children_value children) (scenario_value scenario))) }
-{
-    let mut children = children;
-    children.scenarios.push(scenario)?;
-    Ok(children)
-}
-
-fn scenario_of(alloc: Global, keyword: Keyword, head: Head, steps: Vec<Step>) -> Scenario
-    ensures { scenario_value result
-        ≡ spec.scenario_of (keyword_text keyword) (head_value head) (map step_value steps.items) }
-{
-    Scenario {
-        keyword,
-        name: head.name,
-        line: head.line,
-        tags: head.tags,
-        steps,
-        examples: Vec::new(alloc),
-    }
-}
-
-fn owner_children(alloc: Global, owner: Owner, steps: Vec<Step>) -> Result<Children, ReadFault>
-    ensures { Agrees children_value result
-        (Ok (spec.owner_children (owner_value owner) (map step_value steps.items))) }
-{
-    match owner {
-        Owner::OfBackground { line } => Ok(Children {
-            background: Some(Background { line, steps }),
-            scenarios: Vec::new(alloc),
-        }),
-        Owner::OfScenario {
-            children,
-            keyword,
-            head,
-        } => with_scenario(children, scenario_of(alloc, keyword, head, steps)),
-    }
-}
-
-fn examples_of(alloc: Global, head: Head, grid: Grid) -> Examples
-    ensures { examples_value result ≡ spec.examples_of (head_value head) (grid_value grid) }
-{
-    match grid {
-        Grid::NoRows => Examples {
-            name: head.name,
-            line: head.line,
-            tags: head.tags,
-            header: Vec::new(alloc),
-            rows: Vec::new(alloc),
-        },
-        Grid::Rows { header, rows } => Examples {
-            name: head.name,
-            line: head.line,
-            tags: head.tags,
-            header,
-            rows,
-        },
-    }
-}
-
-fn with_examples(scenario: Scenario, examples: Examples) -> Result<Scenario, ReadFault>
-    ensures { Agrees scenario_value result
-        (Ok (spec.with_examples (scenario_value scenario) (examples_value examples))) }
-{
-    let mut scenario = scenario;
-    scenario.examples.push(examples)?;
-    Ok(scenario)
-}
-
-/// Returns the scenario that examples may follow, if there is one, with the finished children before
-/// it.
-pub fn outline_of(alloc: Global, part: Open) -> Result<Option<Outline>, ReadFault>
-    ensures { Agrees (λ o. option_map outline_value o) result
-        (Ok (spec.outline_of (open_value part))) }
-{
-    match part {
-        Open::InDescription => Ok(None),
-        Open::InBody { owner, body } => match owner {
-            Owner::OfBackground { .. } => Ok(None),
-            Owner::OfScenario {
-                children,
-                keyword,
-                head,
-            } => {
-                let steps = steps_of(alloc, body)?;
-                let scenario = scenario_of(alloc, keyword, head, steps);
-                Ok(Some(Outline { children, scenario }))
-            }
-        },
-        Open::InExamples {
-            children,
-            scenario,
-            head,
-            grid,
-        } => {
-            let scenario = with_examples(scenario, examples_of(alloc, head, grid))?;
-            Ok(Some(Outline { children, scenario }))
-        }
-    }
-}
-
-/// Returns the finished children after an open part.
-pub fn children_of(alloc: Global, part: Open) -> Result<Children, ReadFault>
-    ensures { Agrees children_value result (Ok (spec.children_of (open_value part))) }
-{
-    match part {
-        Open::InDescription => Ok(Children {
-            background: None,
-            scenarios: Vec::new(alloc),
-        }),
-        Open::InBody { owner, body } => owner_children(alloc, owner, steps_of(alloc, body)?),
-        Open::InExamples {
-            children,
-            scenario,
-            head,
-            grid,
-        } => {
-            let scenario = with_examples(scenario, examples_of(alloc, head, grid))?;
-            with_scenario(children, scenario)
-        }
-    }
-}
-
-// Returns the open part after the heading of a background or a scenario, without steps.
-fn bodied(owner: Owner) -> Open
-    ensures { open_value result ≡ spec.InBody (owner_value owner) spec.NoSteps }
-{
-    Open::InBody {
-        owner,
-        body: Body::NoSteps,
-    }
-}
-
-// Takes a scenario's heading after anything except steps.
-#[inline(never)]
-fn first_scenario(
-    alloc: Global,
-    part: &mut Open,
-    keyword: Keyword,
-    head: Head,
-) -> Result<(), ReadFault>
-    ensures { let children = spec.children_of (open_value part.old) in
-        Agrees (λ _. open_value part.new) result
-        (Ok (spec.begun_scenario children (keyword_text keyword) (head_value head))) }
-{
-    let children = children_of(alloc, mem::replace(part, Open::InDescription))?;
-    let owner = Owner::OfScenario {
-        children,
-        keyword,
-        head,
-    };
-    put(part, bodied(owner));
-    Ok(())
-}
-
-// Takes a scenario's heading after steps.
-fn scenario_after_steps(
-    alloc: Global,
-    owner: &mut Owner,
-    body: &mut Body,
-    keyword: Keyword,
-    head: Head,
-) -> Result<(), ReadFault>
-    ensures { Agrees (λ _. bodied_value owner.new body.new) result
-        (begun_after owner.old body.old (keyword_text keyword) (head_value head)) }
-{
-    let steps = steps_of(alloc, mem::replace(body, Body::NoSteps))?;
-    match owner {
-        Owner::OfBackground { line } => {
-            let background = Some(Background { line: *line, steps });
-            let children = Children {
-                background,
-                scenarios: Vec::new(alloc),
-            };
-            put(
-                owner,
-                Owner::OfScenario {
-                    children,
-                    keyword,
-                    head,
-                },
-            );
-            Ok(())
-        }
-        Owner::OfScenario {
-            children,
-            keyword: before,
-            head: head_before,
-        } => {
-            let keyword = mem::replace(before, keyword);
-            let head = mem::replace(head_before, head);
-            children
-                .scenarios
-                .push(scenario_of(alloc, keyword, head, steps))?;
-            Ok(())
-        }
-    }
-}
-
-/// Takes a scenario's heading, with the tags above it. The part before it is finished.
-pub fn scenario_heading(
-    alloc: Global,
-    part: &mut Open,
-    tags: Vec<String>,
-    line: &BorrowedLine<'_>,
-) -> Result<(), ReadFault>
-    requires { words.class (borrowed_value line.now) ≡ ScenarioHeading }
-    ensures { let children = spec.children_of (open_value part.old) in
-        Agrees (λ _. open_value part.new) result
-        (Ok (spec.scenario_from children (texts tags.items) (borrowed_value line.now))) }
-{
-    let keyword = scenario_keyword(line);
-    let head = head_from(alloc, tags, line)?;
-    match part {
-        Open::InBody { owner, body } => scenario_after_steps(alloc, owner, body, keyword, head),
-        _ => first_scenario(alloc, part, keyword, head),
-    }
 }
 
 #[tactic(auto, unfolding(crate::specs::OpenParts::on_row))]
@@ -434,182 +111,336 @@ fn on_block(alloc: Global, block: &mut Block, line: &BorrowedLine<'_>) -> Result
     }
 }
 
-// Takes the header of examples.
-fn header_row(alloc: Global, grid: &mut Grid, line: &BorrowedLine<'_>) -> Result<(), ReadFault>
-    ensures { Agrees (λ _. grid_value grid.new) result (spec.header_row (borrowed_value line.now)) }
+// Returns the type of the last step, or `Given` if there is none.
+fn last_type(steps: &Vec<Step>) -> StepType
+    ensures { result ≡ spec.last_type (map step_value steps.now.items) }
 {
-    let header = on_row(alloc, None, line)?;
-    let rows = Vec::new(alloc);
-    put(grid, Grid::Rows { header, rows });
-    Ok(())
-}
-
-// Takes a row under a header.
-fn row_under(
-    alloc: Global,
-    header: &[String],
-    rows: &mut Vec<Row>,
-    line: &BorrowedLine<'_>,
-) -> Result<(), ReadFault>
-    ensures { let header = texts header.now in
-        Agrees (λ _. spec.Rows header (map row_value rows.new.items)) result
-        (spec.row_under header (map row_value rows.old.items) (borrowed_value line.now)) }
-{
-    let cells = on_row(alloc, Some(header.len()), line)?;
-    let line = line.place.line;
-    rows.push(Row { line, cells })?;
-    Ok(())
-}
-
-#[tactic(auto, unfolding(crate::specs::OpenParts::on_grid))]
-fn on_grid(
-    alloc: Global,
-    grid: &mut Grid,
-    line: &BorrowedLine<'_>,
-    class: Class,
-) -> Result<(), ReadFault>
-    ensures { Agrees (λ _. grid_value grid.new) result
-        (spec.on_grid (grid_value grid.old) (borrowed_value line.now) class) }
-{
-    match grid {
-        Grid::NoRows => match class {
-            Class::StepLine | Class::FenceLine(_) | Class::Other => Ok(()),
-            Class::RowLine => header_row(alloc, grid, line),
-            _ => Err(unexpected(line)),
-        },
-        Grid::Rows { header, rows } => match class {
-            Class::RowLine => row_under(alloc, header, rows, line),
-            _ => Err(unexpected(line)),
-        },
+    match steps.last() {
+        Some(step) => step.step_type,
+        None => StepType::Given,
     }
 }
 
-// Takes the first step of a body.
-fn first_step(alloc: Global, body: &mut Body, line: &BorrowedLine<'_>) -> Result<(), ReadFault>
-    requires { words.class (borrowed_value line.now) ≡ StepLine }
-    ensures { Agrees (λ _. body_value body.new) result
-        (Ok (spec.Steps [] (spec.step_from Given (borrowed_value line.now)))) }
-{
-    let step = step_from(alloc, StepType::Given, line)?;
-    let steps = Vec::new(alloc);
-    put(body, Body::Steps { steps, step });
-    Ok(())
-}
-
-// Takes the step after an open one.
-fn next_step(
+// Takes a step.
+fn step_after(
     alloc: Global,
     steps: &mut Vec<Step>,
-    step: &mut Step,
     line: &BorrowedLine<'_>,
 ) -> Result<(), ReadFault>
     requires { words.class (borrowed_value line.now) ≡ StepLine }
-    ensures { let before = step_value step.old in
-        Agrees (λ _. spec.Steps (map step_value steps.new.items) (step_value step.new)) result
-        (Ok (spec.Steps (map step_value steps.old.items ++ before ∷ [])
-        (spec.step_from before.step_type (borrowed_value line.now)))) }
+    ensures { Agrees (λ _. map step_value steps.new.items) result
+        (Ok (spec.step_after (map step_value steps.old.items) (borrowed_value line.now))) }
 {
-    let next = step_from(alloc, step.step_type, line)?;
-    steps.push(mem::replace(step, next))?;
+    let step = step_from(alloc, last_type(steps), line)?;
+    steps.push(step)?;
     Ok(())
 }
 
-/// Takes a line in a description or after steps. The line isn't content of a doc string.
-#[tactic(auto, unfolding(crate::specs::OpenParts::on_body))]
-pub fn on_body(
-    alloc: Global,
-    body: &mut Body,
-    line: &BorrowedLine<'_>,
-    class: Class,
-) -> Result<(), ReadFault>
-    requires { class ≡ words.class (borrowed_value line.now) }
-    ensures { Agrees (λ _. body_value body.new) result
-        (spec.on_body (body_value body.old) (borrowed_value line.now) class) }
+// Takes a row under the last step.
+#[tactic(auto, unfolding(crate::specs::OpenParts::on_steps))]
+fn row_below(alloc: Global, steps: &mut Vec<Step>, line: &BorrowedLine<'_>) -> Result<(), ReadFault>
+    ensures { Agrees (λ _. map step_value steps.new.items) result
+        (spec.row_below (map step_value steps.old.items) (borrowed_value line.now)) }
 {
-    match body {
-        Body::NoSteps => match class {
-            Class::StepLine => first_step(alloc, body, line),
-            Class::RowLine | Class::FenceLine(_) | Class::Other => Ok(()),
-            _ => Err(unexpected(line)),
-        },
-        Body::Steps { steps, step } => match class {
-            Class::StepLine => next_step(alloc, steps, step, line),
-            Class::RowLine => on_block(alloc, &mut step.block, line),
-            _ => Err(unexpected(line)),
-        },
+    match steps.last_mut() {
+        Some(step) => on_block(alloc, &mut step.block, line),
+        None => Err(unexpected(line)),
     }
 }
 
-fn background_heading(part: &mut Open, line: &BorrowedLine<'_>)
-    ensures { open_value part.new
-        ≡ spec.InBody (spec.OfBackground line.now.place.line) spec.NoSteps }
-{
-    let owner = Owner::OfBackground {
-        line: line.place.line,
-    };
-    put(part, bodied(owner));
-}
-
-/// Takes a line that takes no tags. The line isn't content of a doc string.
-#[tactic(auto, unfolding(crate::specs::OpenParts::on_open))]
-pub fn on_open(
+/// Takes a line after steps. The line isn't content of a doc string.
+#[tactic(auto, unfolding(crate::specs::OpenParts::on_steps))]
+pub fn on_steps(
     alloc: Global,
-    part: &mut Open,
+    steps: &mut Vec<Step>,
     line: &BorrowedLine<'_>,
     class: Class,
 ) -> Result<(), ReadFault>
     requires { class ≡ words.class (borrowed_value line.now) }
-    ensures { let said = borrowed_value line.now in
-        Agrees (λ _. open_value part.new) result (spec.on_open (open_value part.old) said class) }
+    ensures { let old = map step_value steps.old.items in
+        Agrees (λ _. map step_value steps.new.items) result
+        (spec.on_steps old (borrowed_value line.now) class) }
 {
-    match part {
-        Open::InDescription => match class {
+    match class {
+        Class::StepLine => step_after(alloc, steps, line),
+        Class::RowLine => row_below(alloc, steps, line),
+        _ => Err(unexpected(line)),
+    }
+}
+
+// Takes a line after the heading of a background or a scenario, or after its steps.
+#[tactic(auto, unfolding(crate::specs::OpenParts::on_body))]
+fn on_body(
+    alloc: Global,
+    steps: &mut Vec<Step>,
+    line: &BorrowedLine<'_>,
+    class: Class,
+) -> Result<(), ReadFault>
+    requires { class ≡ words.class (borrowed_value line.now) }
+    ensures { let old = map step_value steps.old.items in
+        Agrees (λ _. map step_value steps.new.items) result
+        (spec.on_body old (borrowed_value line.now) class) }
+{
+    match class {
+        Class::RowLine | Class::FenceLine(_) | Class::Other => {
+            if steps.is_empty() {
+                Ok(())
+            } else {
+                on_steps(alloc, steps, line, class)
+            }
+        }
+        _ => on_steps(alloc, steps, line, class),
+    }
+}
+
+// Takes a row of examples. The first is the header.
+fn row_in(alloc: Global, examples: &mut Examples, line: &BorrowedLine<'_>) -> Result<(), ReadFault>
+    ensures { let old = examples_value examples.old in
+        Agrees (λ _. examples_value examples.new) result
+        (spec.row_in old.header old (borrowed_value line.now)) }
+{
+    if examples.header.is_empty() {
+        let header = on_row(alloc, None, line)?;
+        put(&mut examples.header, header);
+    } else {
+        let cells = on_row(alloc, Some(examples.header.len()), line)?;
+        let line = line.place.line;
+        examples.rows.push(Row { line, cells })?;
+    }
+    Ok(())
+}
+
+#[tactic(auto, unfolding(crate::specs::OpenParts::on_examples))]
+fn on_examples(
+    alloc: Global,
+    examples: &mut Examples,
+    line: &BorrowedLine<'_>,
+    class: Class,
+) -> Result<(), ReadFault>
+    ensures { let old = examples_value examples.old in
+        Agrees (λ _. examples_value examples.new) result
+        (spec.on_examples old (borrowed_value line.now) class) }
+{
+    match class {
+        Class::RowLine => row_in(alloc, examples, line),
+        Class::StepLine | Class::FenceLine(_) | Class::Other => {
+            if examples.header.is_empty() {
+                Ok(())
+            } else {
+                Err(unexpected(line))
+            }
+        }
+        _ => Err(unexpected(line)),
+    }
+}
+
+fn on_scenario(
+    alloc: Global,
+    scenario: &mut Scenario,
+    line: &BorrowedLine<'_>,
+    class: Class,
+) -> Result<(), ReadFault>
+    requires { class ≡ words.class (borrowed_value line.now) }
+    ensures { let old = scenario_value scenario.old in
+        Agrees (λ _. scenario_value scenario.new) result
+        (spec.on_scenario old (borrowed_value line.now) class) }
+{
+    match scenario.examples.last_mut() {
+        Some(examples) => on_examples(alloc, examples, line, class),
+        None => on_body(alloc, &mut scenario.steps, line, class),
+    }
+}
+
+#[tactic(auto, unfolding(crate::specs::OpenParts::on_background))]
+fn on_background(
+    alloc: Global,
+    background: &mut Option<Background>,
+    line: &BorrowedLine<'_>,
+    class: Class,
+) -> Result<(), ReadFault>
+    requires { class ≡ words.class (borrowed_value line.now) }
+    ensures { let old = option_map background_value background.old in
+        Agrees (λ _. option_map background_value background.new) result
+        (spec.on_background old (borrowed_value line.now) class) }
+{
+    match background {
+        Some(background) => on_body(alloc, &mut background.steps, line, class),
+        None => match class {
             Class::BackgroundHeading => {
-                background_heading(part, line);
+                let line = line.place.line;
+                let steps = Vec::new(alloc);
+                put(background, Some(Background { line, steps }));
                 Ok(())
             }
             Class::StepLine | Class::RowLine | Class::FenceLine(_) | Class::Other => Ok(()),
             _ => Err(unexpected(line)),
         },
-        Open::InBody { body, .. } => on_body(alloc, body, line, class),
-        Open::InExamples { grid, .. } => on_grid(alloc, grid, line, class),
     }
 }
 
-/// Returns whether a doc string is allowed under the last step of a body.
-pub fn body_takes_text(body: &Body) -> bool
-    ensures { result ≡ spec.body_takes_text (body_value body.now) }
+/// Takes a line that takes no tags, in a feature or a rule with this background and these
+/// scenarios. The line isn't content of a doc string.
+pub fn on_children(
+    alloc: Global,
+    background: &mut Option<Background>,
+    scenarios: &mut Vec<Scenario>,
+    line: &BorrowedLine<'_>,
+    class: Class,
+) -> Result<(), ReadFault>
+    requires { class ≡ words.class (borrowed_value line.now) }
+    ensures { let old = children_value background.old scenarios.old in
+        Agrees (λ _. children_value background.new scenarios.new) result
+        (spec.on_children old (borrowed_value line.now) class) }
 {
-    match body {
-        Body::NoSteps => false,
-        Body::Steps { step, .. } => matches!(step.block, Block::Empty),
+    match scenarios.last_mut() {
+        Some(scenario) => on_scenario(alloc, scenario, line, class),
+        None => on_background(alloc, background, line, class),
     }
 }
 
-/// Puts a doc string under the last step of a body, if it has one.
-pub fn put_text(body: &mut Body, text: String)
-    ensures { body_value body.new ≡ spec.body_with_text (body_value body.old) (string_bytes text) }
+#[inline(never)]
+fn scenario_from(
+    alloc: Global,
+    tags: Vec<String>,
+    line: &BorrowedLine<'_>,
+) -> Result<Scenario, ReadFault>
+    requires { words.class (borrowed_value line.now) ≡ ScenarioHeading }
+    ensures { Agrees scenario_value result
+        (Ok (spec.scenario_from (texts tags.items) (borrowed_value line.now))) }
 {
-    if let Body::Steps { step, .. } = body {
+    Ok(Scenario {
+        keyword: scenario_keyword(line),
+        name: String::from_str(alloc, heading_name(line))?,
+        line: line.place.line,
+        tags,
+        steps: Vec::new(alloc),
+        examples: Vec::new(alloc),
+    })
+}
+
+#[inline(never)]
+fn examples_from(
+    alloc: Global,
+    tags: Vec<String>,
+    line: &BorrowedLine<'_>,
+) -> Result<Examples, ReadFault>
+    ensures { Agrees examples_value result
+        (Ok (spec.examples_from (texts tags.items) (borrowed_value line.now))) }
+{
+    Ok(Examples {
+        name: String::from_str(alloc, heading_name(line))?,
+        line: line.place.line,
+        tags,
+        header: Vec::new(alloc),
+        rows: Vec::new(alloc),
+    })
+}
+
+// Takes the heading of examples.
+fn examples_under(
+    alloc: Global,
+    scenarios: &mut Vec<Scenario>,
+    tags: Vec<String>,
+    line: &BorrowedLine<'_>,
+) -> Result<(), ReadFault>
+    ensures { let old = map scenario_value scenarios.old.items in
+        Agrees (λ _. map scenario_value scenarios.new.items) result
+        (spec.examples_under (last_or None old) old (texts tags.items) (borrowed_value line.now)) }
+{
+    match scenarios.last_mut() {
+        Some(scenario) => {
+            scenario.examples.push(examples_from(alloc, tags, line)?)?;
+            Ok(())
+        }
+        None => Err(unexpected(line)),
+    }
+}
+
+/// Takes a heading with the tags above it, in a feature or a rule with these scenarios.
+#[tactic(auto, unfolding(crate::specs::OpenParts::heading_in))]
+pub fn heading_in(
+    alloc: Global,
+    scenarios: &mut Vec<Scenario>,
+    tags: Vec<String>,
+    line: &BorrowedLine<'_>,
+    class: Class,
+) -> Result<(), ReadFault>
+    requires { class ≡ words.class (borrowed_value line.now) }
+    ensures { let old = map scenario_value scenarios.old.items in
+        Agrees (λ _. map scenario_value scenarios.new.items) result
+        (spec.heading_in old (texts tags.items) (borrowed_value line.now) class) }
+{
+    match class {
+        Class::ScenarioHeading => {
+            scenarios.push(scenario_from(alloc, tags, line)?)?;
+            Ok(())
+        }
+        Class::ExamplesHeading => examples_under(alloc, scenarios, tags, line),
+        _ => Err(unexpected(line)),
+    }
+}
+
+fn is_empty(block: &Block) -> bool
+    ensures { result ≡ spec.is_empty (block_value block.now) }
+{
+    matches!(block, Block::Empty)
+}
+
+/// Returns whether a doc string is allowed under the last of these steps.
+pub fn steps_take_text(steps: &Vec<Step>) -> bool
+    ensures { result ≡ spec.steps_take_text (map step_value steps.now.items) }
+{
+    match steps.last() {
+        Some(step) => is_empty(&step.block),
+        None => false,
+    }
+}
+
+/// Puts a doc string under the last of these steps, if there is one.
+pub fn put_text(steps: &mut Vec<Step>, text: String)
+    ensures { map step_value steps.new.items
+        ≡ spec.steps_with_text (map step_value steps.old.items) (string_bytes text) }
+{
+    if let Some(step) = steps.last_mut() {
         put(&mut step.block, Block::Text(text));
     }
 }
 
-/// Returns whether a doc string is allowed under the last step of an open part.
-pub fn open_takes_text(part: &Open) -> bool
-    ensures { result ≡ spec.open_takes_text (open_value part.now) }
+// Returns whether a doc string is allowed under the steps of a scenario.
+fn scenario_takes_text(scenario: &Scenario) -> bool
+    ensures { let s = scenario_value scenario.now in
+        result ≡ spec.scenario_takes_text s.examples s }
 {
-    match part {
-        Open::InBody { body, .. } => body_takes_text(body),
-        _ => false,
+    scenario.examples.is_empty() && steps_take_text(&scenario.steps)
+}
+
+/// Returns whether a doc string is allowed under the last step of a feature or a rule with this
+/// background and these scenarios.
+pub fn children_take_text(background: &Option<Background>, scenarios: &Vec<Scenario>) -> bool
+    ensures { result ≡ spec.children_take_text (children_value background.now scenarios.now) }
+{
+    match scenarios.last() {
+        Some(scenario) => scenario_takes_text(scenario),
+        None => match background {
+            Some(background) => steps_take_text(&background.steps),
+            None => false,
+        },
     }
 }
 
-/// Puts a doc string under the last step of an open part, if it has one.
-pub fn put_text_in(part: &mut Open, text: String)
-    ensures { open_value part.new ≡ spec.open_with_text (open_value part.old) (string_bytes text) }
+/// Puts a doc string under the last step of a feature or a rule with this background and these
+/// scenarios, if there is a step.
+pub fn put_text_in(background: &mut Option<Background>, scenarios: &mut Vec<Scenario>, text: String)
+    ensures { let old = children_value background.old scenarios.old in
+        children_value background.new scenarios.new
+        ≡ spec.children_with_text old (string_bytes text) }
 {
-    if let Open::InBody { body, .. } = part {
-        put_text(body, text);
+    match scenarios.last_mut() {
+        Some(scenario) => put_text(&mut scenario.steps, text),
+        None => {
+            if let Some(background) = background {
+                put_text(&mut background.steps, text);
+            }
+        }
     }
 }

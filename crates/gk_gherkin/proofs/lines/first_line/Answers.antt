@@ -1,4 +1,4 @@
-use Rattle.gk_gherkin.proofs.Common.{◌-◌, arith, common_steps, IsCharBoundary-after_ascii}
+use Rattle.gk_gherkin.proofs.Common.{arith, common_steps, IsCharBoundary-after_ascii}
 use Rattle.gk_gherkin.proofs.FirstLines.{up_to_end, without_end}
 use Rattle.gk_gherkin.proofs.lines.first_line.Goals as goal
 
