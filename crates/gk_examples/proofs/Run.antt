@@ -20,10 +20,10 @@ use Rattle.gk_gherkin.specs.Rows.{cells_of, parts_of, unescaped}
 use Rattle.gk_gherkin.specs.DocStrings.{closes, content_of}
 use Rattle.gk_gherkin.specs.Language.{language_of}
 use Rattle.gk_gherkin.specs.StepTypes.{type_after}
-use Rattle.gk_gherkin.specs.OpenParts.{on_row, on_block, on_grid, on_body, on_open}
+use Rattle.gk_gherkin.specs.OpenParts.{on_row, on_block, on_steps, on_body, on_examples, on_background, heading_in, with_last}
 use Rattle.gk_gherkin.specs.Reading.{step, run_by, finish, reading}
 use Rattle.gk_gherkin.specs.FeatureReader.{on_heading, on_line, on}
-use Rattle.gk_gherkin.specs.HooksReader.{on_hook, on_hook_body, on_plain_line, on as on_hooks_line}
+use Rattle.gk_gherkin.specs.HooksReader.{on_hook, on_plain_line, on as on_hooks_line}
 use Rattle.gk_gherkin.proofs.FeatureReaderSound.{sound}
 use Rattle.gk_gherkin.proofs.HooksReaderSound.{hooks_sound}
 use Rattle.gk_select.specs.Expansion.{cases}
@@ -55,7 +55,7 @@ use Rattle.gk_cli.specs.Writing.{Device}
 
 -- What a proof unfolds to compute the reading, the results and the report of files that are written out.
 unfoldable pub on_literals : ⊤
-unfolding is_utf8 chars lib.Utf8.encode digits class class_of class_of_words heading_keyword heading_name step_keyword step_text tags_of cells_of parts_of unescaped closes content_of language_of type_after on_heading on_row on_block on_grid on_body on_open on_line on hooks_class hook_heading on_hook on_hook_body on_plain_line on_hooks_line step run_by finish reading cases filled filled_from cell_of is_chosen found match_of act plain_on_literals
+unfolding is_utf8 chars lib.Utf8.encode digits class class_of class_of_words heading_keyword heading_name step_keyword step_text tags_of cells_of parts_of unescaped closes content_of language_of type_after on_heading on_row on_block on_steps on_body on_examples on_background heading_in with_last on_line on hooks_class hook_heading on_hook on_plain_line on_hooks_line step run_by finish reading cases filled filled_from cell_of is_chosen found match_of act plain_on_literals
 on_literals = tt
 
 -- The state of a new sandbox: no file, no variable, no value.
