@@ -31,7 +31,7 @@ unfoldable pub use Rattle.gk_gherkin.specs.Class.{class, class_of, class_of_word
 pub use Rattle.gk_gherkin.specs.DocStrings.{ReadsFences, ReadsOneWay, a_byte, a_fence, content_of, escaped_fence, fences_read, nothing}
 unfoldable pub use Rattle.gk_gherkin.specs.DocStrings.{closes, doc_string}
 pub use Rattle.gk_gherkin.specs.Feature.{BackgroundValue, BlockValue, ContainerValue, Empty, ExamplesValue, FeatureValue, RowValue, RuleValue, ScenarioValue, StepValue, Table, Text, background_value, block_value, examples_value, feature_container, feature_value, row_value, rule_container, rule_value, scenario_value, step_value, texts}
-pub use Rattle.gk_gherkin.specs.FeatureReader.{FeatureReader, NeedsAt, Tagged, Untagged, after_text, by_language, children_in, children_put, feature_from, feature_readers, heading_in_feature, last_children, line_in_feature, on_comment, own_children, rule_from, rule_with, tag_line, takes_text, with_children, with_rules, with_text, without_tags}
+pub use Rattle.gk_gherkin.specs.FeatureReader.{FeatureReader, NeedsAt, Tagged, Untagged, after_text, by_language, children_in, children_put, feature_from, feature_readers, heading_in_feature, last_children, line_in_feature, on_comment, rule_from, rule_with, tag_line, takes_text, with_children, with_rules, with_text, without_tags}
 unfoldable pub use Rattle.gk_gherkin.specs.FeatureReader.{on, on_heading, on_line}
 pub use Rattle.gk_gherkin.specs.Grammar.{AreExamples, AreOfOneWidth, AreSteps, AreTags, Describes, HasOneReading, HasTable, IsBackground, IsBlock, IsConcatenation, IsContainer, IsDocString, IsFeature, IsHeading, IsIgnored, IsIgnoredAbove, IsIgnoredClass, IsReadable, IsRow, IsRule, IsScenario, IsStep, IsTable, IsTagLine, IsTaggedHeading, Many, MayDescribeExamples, MayDescribeFeature, MayDescribeScenario, Next, Perhaps, Reads, Skips, describe, described, more, none, skip, skip_none, tagged, untagged}
 pub use Rattle.gk_gherkin.specs.HookHeadings.{HookHeadingValue, plain_heading, tag_alone, tag_between}
@@ -46,7 +46,7 @@ pub use Rattle.gk_gherkin.specs.HooksSoFar.{so_far_value}
 pub use Rattle.gk_gherkin.specs.Language.{IsEnglishOrNone, language_word, rest_after}
 unfoldable pub use Rattle.gk_gherkin.specs.Language.{language_of}
 pub use Rattle.gk_gherkin.specs.Lines.{IsNotUtf8At, IsText, IsTooLong, LineValue, Lines, borrowed_value, byte_order_mark, limit, line_at, line_value, lines_of, numbered_from, without_mark}
-pub use Rattle.gk_gherkin.specs.OpenParts.{ChildrenValue, background_takes_text, background_with, background_with_text, children_take_text, children_with_text, described_in, examples_from, examples_under, in_examples, in_scenario, is_empty, last_takes_text, last_type, last_with_text, on_children, on_scenario, row_below, row_from, row_in, row_of, row_under_last, scenario_from, scenario_takes_text, step_after, step_from, steps_take_text, steps_with_text, takes_text_under, text_under_last, type_of_last, width_of, with_background, with_block, with_examples, with_scenarios, with_steps, with_table}
+pub use Rattle.gk_gherkin.specs.OpenParts.{ChildrenValue, background_takes_text, background_with, background_with_text, children_take_text, children_with_text, described_in, examples_from, examples_under, in_examples, in_scenario, is_empty, last_takes_text, last_type, last_with_text, on_children, on_scenario, row_from, row_in, row_of, row_under_last, scenario_from, scenario_takes_text, step_from, steps_take_text, steps_with_text, takes_text_under, text_under_last, type_of_last, width_of, with_background, with_block, with_examples, with_scenarios, with_steps, with_table}
 pub use Rattle.gk_gherkin.specs.OpenParts.Views.{children_value}
 unfoldable pub use Rattle.gk_gherkin.specs.OpenParts.{heading_in, on_background, on_block, on_body, on_examples, on_row, on_steps, with_last}
 pub use Rattle.gk_gherkin.specs.ReadFault.{AnswersOrLacksMemory, AnyLineSays, BeginsNone, BeginsSome, BeginsWithTag, EndsInDocString, EndsInTags, FaultSays, FeatureFault, HaveOneFault, HooksFault, HooksLineSays, HooksNeedMemory, IsBadRow, IsBadTag, IsHooksLineFault, IsLineFault, IsOtherWidth, LineSays, LinesFaultSays, NeedsMemory, NoneLikeIt, SomeLikeIt, StoodBefore, StopsAt, TakesTags, line_of_fault}
@@ -56,7 +56,7 @@ pub use Rattle.gk_gherkin.specs.Reading.Views.{state_value, text_value}
 pub use Rattle.gk_gherkin.specs.Results.{Agrees, Fails, ◌>>=◌}
 pub use Rattle.gk_gherkin.specs.Rows.{cell_of, cells_of_parts, into_first, no_bar, part_before, parts_after}
 unfoldable pub use Rattle.gk_gherkin.specs.Rows.{cells_of, parts_of, unescaped}
-pub use Rattle.gk_gherkin.specs.StepTypes.{AreTyped, AreTypedAfter, type_after}
+pub use Rattle.gk_gherkin.specs.StepTypes.{AreTypedAfter, type_after}
 pub use Rattle.gk_gherkin.specs.Tags.{is_tag, words_of}
 unfoldable pub use Rattle.gk_gherkin.specs.Tags.{tags_of}
 pub use Rattle.gk_gherkin.specs.Text.{begins, is_blank, contains, trim, trim_front}

@@ -37,3 +37,4 @@ pub mod OneFault
 pub mod OneFeatureFault
 pub mod OneHooksFault
 pub mod OneFaultOfBytes
+pub mod Copies

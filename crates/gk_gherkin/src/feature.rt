@@ -5,7 +5,7 @@ use crate::keyword::Keyword;
 
 /// A feature: its name, the line of its heading, its own tags, its background, the scenarios before
 /// its first rule, and its rules. (Cucumber's Gherkin reference: feature)
-#[derive(Debug, Drop)]
+#[derive(Clone, Debug, Drop)]
 pub struct Feature {
     pub name: String,
     pub line: u32,
@@ -17,7 +17,7 @@ pub struct Feature {
 
 /// A rule: its name, the line of its heading, its own tags, its background and its scenarios.
 /// (Cucumber's Gherkin reference: rule)
-#[derive(Debug, Drop)]
+#[derive(Clone, Debug, Drop)]
 pub struct Rule {
     pub name: String,
     pub line: u32,
@@ -29,7 +29,7 @@ pub struct Rule {
 /// A scenario or an outline: its keyword as written, its name, the line of its heading, its own
 /// tags, its steps and its examples in order. (Cucumber's Gherkin reference: example, scenario
 /// outline)
-#[derive(Debug, Drop)]
+#[derive(Clone, Debug, Drop)]
 pub struct Scenario {
     pub keyword: Keyword,
     pub name: String,
@@ -41,7 +41,7 @@ pub struct Scenario {
 
 /// A background: the line of its heading, and its steps in order. (Cucumber's Gherkin reference:
 /// background)
-#[derive(Debug, Drop)]
+#[derive(Clone, Debug, Drop)]
 pub struct Background {
     pub line: u32,
     pub steps: Vec<Step>,
@@ -49,7 +49,7 @@ pub struct Background {
 
 /// A step: its keyword as written, its type, its text after the keyword, the block under it, and
 /// its line. (Cucumber's Gherkin reference: steps)
-#[derive(Debug, Drop)]
+#[derive(Clone, Debug, Drop)]
 pub struct Step {
     pub keyword: Keyword,
     pub step_type: StepType,
@@ -60,7 +60,7 @@ pub struct Step {
 
 /// The block under a step: nothing, a doc string's text, or a table's cells, row by row.
 /// (Cucumber's Gherkin reference: step arguments)
-#[derive(Debug, Drop)]
+#[derive(Clone, Debug, Drop)]
 pub enum Block {
     Empty,
     Text(String),
@@ -78,7 +78,7 @@ pub enum StepType {
 }
 
 /// A row under the header of examples. (Cucumber's Gherkin reference: examples)
-#[derive(Debug, Drop)]
+#[derive(Clone, Debug, Drop)]
 pub struct Row {
     pub line: u32,
     pub cells: Vec<String>,
@@ -86,7 +86,7 @@ pub struct Row {
 
 /// Examples: a header and the rows under it. If there is no table, the header has no cells and
 /// there are no rows. (Cucumber's Gherkin reference: examples)
-#[derive(Debug, Drop)]
+#[derive(Clone, Debug, Drop)]
 pub struct Examples {
     pub name: String,
     pub line: u32,
