@@ -52,7 +52,7 @@ unfoldable pub use Rattle.gk_select.specs.ExampleRows.{outline_rows}
 pub use Rattle.gk_select.specs.Expansion.{ArePlain, HasNoOutline, IsExpandable, RowsFit, RowsFitHeader, case_count, case_count_of, cases_of_rows, cases_of_rules, examples_cases, plain_case, plain_cases, row_case, rule_cases, scenario_cases, step_count}
 unfoldable pub use Rattle.gk_select.specs.Expansion.{cases}
 pub use Rattle.gk_select.specs.FileOrder.{CasesAreInFileOrder, IsInFileOrder, case_lines, feature_lines, rule_lines}
-pub use Rattle.gk_select.specs.Filling.{BeginsWithNone, Byte, FillsByCut, IsCut, IsPlaceholder, Placeholder, can_stand, cell_or_byte, cell_under, filled_at, filled_block, filled_part, filled_step, header_at, placeholder}
+pub use Rattle.gk_select.specs.Filling.{BeginsWithNone, Byte, FillsByCut, IsCut, IsPlaceholder, Placeholder, can_stand, cell_or_byte, cell_under, filled_at, filled_part, filled_step, header_at, placeholder}
 unfoldable pub use Rattle.gk_select.specs.Filling.{cell_of, filled, filled_from, filled_piece}
 pub use Rattle.gk_select.specs.Inherited.{InheritedValue, background_steps, inherited_in_feature, inherited_in_rule, inherited_value}
 pub use Rattle.gk_select.specs.Outline.{AllFit, has_examples, is_outline}

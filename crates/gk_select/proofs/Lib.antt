@@ -4,7 +4,6 @@ pub mod OneCut
 pub mod FillingLoops
 pub mod IndexedNames
 pub mod Rooms
-pub mod Unfilled
 pub mod AlternativeWords
 pub mod TagMachine
 pub mod TagDepths

@@ -122,11 +122,19 @@ pub fn push_filled_steps(
     Ok(())
 }
 
-/// Appends copies of steps. They are filled under an empty header, which changes nothing.
-#[tactic(auto, using(crate::proofs::Unfilled::unfilled_steps))]
-pub fn push_steps(alloc: Global, into: &mut Vec<Step>, from: &[Step]) -> Result<(), AllocError>
+#[tactic(auto, using(gk_gherkin::proofs::Copies::step_copy))]
+fn copied_step(step: &Step) -> Result<Step, AllocError>
+    ensures { IfOk result (λ s. step_value s ≡ step_value step.now) }
+{
+    step.clone()
+}
+
+/// Appends copies of steps.
+pub fn push_steps(into: &mut Vec<Step>, from: &[Step]) -> Result<(), AllocError>
     ensures { Appends step_value result into.old.items into.new.items (map step_value from.now) }
 {
-    let columns = Names::scanned(&[]);
-    push_filled_steps(alloc, into, from, &columns, &[])
+    for step in from {
+        into.push(copied_step(step)?)?;
+    }
+    Ok(())
 }

@@ -15,7 +15,7 @@ ghost use Rattle.gk_select.specs.Outline.{FitsHeader, AllFit};
 ghost use Rattle.gk_select.specs.declared.select_fault.SelectFault.TheVariants.{TooMany, Memory};
 
 use crate::case::Case;
-use crate::copies::{copied_texts, push_filled_steps, push_steps, push_texts};
+use crate::copies::{copied_texts, push_filled_steps, push_texts};
 use crate::counting::has_room;
 use crate::filling::push_filled;
 use crate::inherited::{
@@ -124,7 +124,7 @@ fn row_steps(
     let inherited_count = feature_count.saturating_add(inherited.rule_steps.len());
     let count = inherited_count.saturating_add(scenario.steps.len());
     let mut steps = Vec::with_capacity(alloc, count)?;
-    push_inherited_steps(alloc, &mut steps, inherited)?;
+    push_inherited_steps(&mut steps, inherited)?;
     push_filled_steps(alloc, &mut steps, &scenario.steps, columns, cells)?;
     Ok(steps)
 }
@@ -302,80 +302,11 @@ fn moved_cases(alloc: Global, feature: Feature) -> Result<Vec<Case>, AllocError>
     Ok(cases)
 }
 
-// Returns the case of a plain scenario, whose texts are copied.
-fn copied_case(
-    alloc: Global,
-    inherited: &Inherited<'_>,
-    scenario: &Scenario,
-) -> Result<Case, AllocError>
-    ensures { IfOk result (λ c. case_value c ≡
-        spec.plain_case (inherited_value inherited.now) (scenario_value scenario.now)) }
+#[tactic(auto, using(gk_gherkin::proofs::Copies::feature_copy))]
+fn copied(feature: &Feature) -> Result<Feature, AllocError>
+    ensures { IfOk result (λ f. feature_value f ≡ feature_value feature.now) }
 {
-    let own_tags = copied_texts(alloc, &scenario.tags)?;
-    let tags = case_tags(alloc, inherited, own_tags)?;
-    let mut steps = Vec::new(alloc);
-    push_inherited_steps(alloc, &mut steps, inherited)?;
-    push_steps(alloc, &mut steps, &scenario.steps)?;
-    Ok(Case {
-        name: String::from_str(alloc, scenario.name.as_str())?,
-        keyword: scenario.keyword,
-        line: scenario.line,
-        rule: inherited.rule,
-        tags: tags.all,
-        own_tags: tags.own,
-        steps,
-    })
-}
-
-fn push_copied_scenario(
-    alloc: Global,
-    cases: &mut Vec<Case>,
-    inherited: &Inherited<'_>,
-    scenario: &Scenario,
-) -> Result<(), AllocError>
-    requires { AllByRecursion AllFit (map examples_value scenario.now.examples.items) }
-    ensures { Appends case_value result cases.old.items cases.new.items
-        (spec.scenario_cases (inherited_value inherited.now) (scenario_value scenario.now)) }
-{
-    if is_outline(scenario) {
-        return push_outline_cases(alloc, cases, inherited, scenario, &scenario.examples);
-    }
-    cases.push(copied_case(alloc, inherited, scenario)?)?;
-    Ok(())
-}
-
-fn push_copied_scenarios(
-    alloc: Global,
-    cases: &mut Vec<Case>,
-    inherited: &Inherited<'_>,
-    scenarios: &[Scenario],
-) -> Result<(), AllocError>
-    requires { RowsFit (map scenario_value scenarios.now) }
-    ensures cases { Appends case_value result cases.old.items cases.new.items
-        (cases_of_scenarios inherited.now scenarios.now) }
-    ensures memory { IfErr result (λ e. 0 < length scenarios.now) }
-{
-    for scenario in scenarios {
-        push_copied_scenario(alloc, cases, inherited, scenario)?;
-    }
-    Ok(())
-}
-
-// Returns the cases of a feature that is kept: each text is copied.
-#[tactic(auto, unfolding(crate::specs::Expansion::cases))]
-fn copied_cases(alloc: Global, feature: &Feature) -> Result<Vec<Case>, AllocError>
-    requires { IsExpandable (feature_value feature.now) }
-    ensures cases { IfOk result (λ v. map case_value v.items ≡ cases (feature_value feature.now)) }
-    ensures memory { IfErr result (λ e. HasPart (feature_value feature.now)) }
-{
-    let mut cases = Vec::new(alloc);
-    let inherited = inherited_in_feature(feature);
-    push_copied_scenarios(alloc, &mut cases, &inherited, &feature.scenarios)?;
-    for (index, rule) in feature.rules.iter().enumerate() {
-        let inherited = inherited_in_rule(feature, index as u32, rule);
-        push_copied_scenarios(alloc, &mut cases, &inherited, &rule.scenarios)?;
-    }
-    Ok(cases)
+    feature.clone()
 }
 
 /// Returns the cases of a feature in file order: each plain scenario once, and each row of an outline once.
@@ -389,6 +320,7 @@ fn copied_cases(alloc: Global, feature: &Feature) -> Result<Vec<Case>, AllocErro
 /// are returned. The feature's texts are copied; `into_cases` moves them. Each row has to be as wide as its
 /// header, and there have to be fewer than 2^32 rules, as in every feature that was read. (Cucumber's Gherkin
 /// reference: scenario outline, background, tag inheritance)
+#[tactic(auto, unfolding(crate::specs::Expansion::cases))]
 pub fn expand(alloc: Global, feature: &Feature) -> Result<Vec<Case>, SelectFault>
     requires { IsExpandable (feature_value feature.now) }
     // The result is the feature's cases.
@@ -404,7 +336,10 @@ pub fn expand(alloc: Global, feature: &Feature) -> Result<Vec<Case>, SelectFault
     if !has_room(feature) {
         return Err(SelectFault::TooMany);
     }
-    Ok(copied_cases(alloc, feature)?)
+    if feature.scenarios.is_empty() && feature.rules.is_empty() {
+        return Ok(Vec::new(alloc));
+    }
+    Ok(moved_cases(alloc, copied(feature)?)?)
 }
 
 /// Returns the same cases as `expand`, but consumes the feature: the texts of a plain scenario are moved into

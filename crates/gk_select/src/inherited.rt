@@ -60,15 +60,14 @@ pub fn inherited_in_rule<'a>(feature: &'a Feature, index: u32, rule: &'a Rule) -
 
 /// Appends copies of the inherited steps.
 pub fn push_inherited_steps(
-    alloc: Global,
     steps: &mut Vec<Step>,
     inherited: &Inherited<'_>,
 ) -> Result<(), AllocError>
     ensures { Appends step_value result steps.old.items steps.new.items
         (inherited_value inherited.now).steps }
 {
-    push_steps(alloc, steps, inherited.feature_steps)?;
-    push_steps(alloc, steps, inherited.rule_steps)
+    push_steps(steps, inherited.feature_steps)?;
+    push_steps(steps, inherited.rule_steps)
 }
 
 /// Returns copies of the inherited steps, followed by the own steps.
@@ -85,7 +84,7 @@ pub fn after_inherited_steps(
     }
     let mut own = own;
     let mut steps = Vec::new(alloc);
-    push_inherited_steps(alloc, &mut steps, inherited)?;
+    push_inherited_steps(&mut steps, inherited)?;
     steps.append(&mut own)?;
     Ok(steps)
 }
