@@ -46,14 +46,14 @@ unfoldable pub use Rattle.gk_run.specs.Acting.{act}
 pub use Rattle.gk_run.specs.Chosen.{CasesFallIntoRules, ChosenValue, FormedCasesFallIntoRules, Group, GroupsAreAll, HeadValue, MemberValue, bare_group, chosen_value, group_value, groups_from, groups_in, has_selected, head_value, member_of, members_in, members_of, members_of_groups, members_of_rank, own_members, rule_groups}
 pub use Rattle.gk_run.specs.DryRun.{AreDrySteps, IsDryStep, dry_case_of, dry_cases_of, dry_events, dry_feature_of, dry_features_of, dry_row, dry_rules_of, dry_step, dry_verdict}
 pub use Rattle.gk_run.specs.Ending.{around_status, ending_of, has_passed, is_memory_ending, is_memory_mark, verdict_status, worse}
-pub use Rattle.gk_run.specs.Events.{EndTold, Event, IsCutOff, IsRan, Ran, SectionNow, SoFar, Told, after_event, cut_at, ended_in, event_marks, happens, has_cleanup, has_ended, left_by, mark_of, of_case, of_cleanup, of_rule, of_step, outcomes_of, refused, result_of, section_now, tells, used_in}
-pub use Rattle.gk_run.specs.Features.{FeatureCuts, FeaturesWithoutRulesHaveTheirCases, Inside, IsFeatureResult, IsToldInPart, PrecedesCase, ResultsStandInFileOrder, RuleCuts, StopsBeforeCase, feature_of, feature_row_of, feature_verdict, features_of, inside_by, inside_of, rule_of, rule_statuses, rule_stays_open, rules_inside, rules_of, rules_told, uncut_feature, uncut_rule, verdict_by}
+pub use Rattle.gk_run.specs.Events.{Ended, Event, IsCutOff, IsRan, Ran, SectionNow, SoFar, Message, after_event, cut_at, ended_in, event_marks, happens, has_cleanup, has_ended, left_by, mark_of, of_case, of_cleanup, of_rule, of_step, outcomes_of, refused, result_of, section_now, notifies, used_in}
+pub use Rattle.gk_run.specs.Features.{FeatureCuts, FeaturesWithoutRulesHaveTheirCases, Inside, IsFeatureResult, NotifiesInPart, PrecedesCase, ResultsStandInFileOrder, RuleCuts, StopsBeforeCase, feature_of, feature_row_of, feature_verdict, features_of, inside_by, inside_of, rule_of, rule_statuses, rule_stays_open, rules_inside, rules_of, rules_messages, uncut_feature, uncut_rule, verdict_by}
 pub use Rattle.gk_run.specs.Judged.{Cuts, DryRunsAreJudged, Each, IsGoodCase, IsGoodFeature, IsGoodRule, IsHeaded, Judged, JudgedCase, JudgedCases, JudgedDryCase, JudgedDryFeature, JudgedDryRun, JudgedFeature, JudgedFeatures, JudgedHoldPartByPart, JudgedInside, JudgedPartByPart, JudgedRule, JudgedSection, OneList, StepsHaveTheirResults, UnfinishedDryRunsAreJudged, dry_results, has_memory, is_memory_case, is_memory_feature, is_memory_rule, results_from, results_of, rule_rows, uncut}
 pub use Rattle.gk_run.specs.OpenRun.{FinishedRunsAreJudged, SuiteValue, UnfinishedRunsAreJudged, opens_features}
 pub use Rattle.gk_run.specs.OpenSection.{EndsAround, IsBegun, IsOpened, IsSectionEnd, Run, SectionRow, closing_events, happened_in, no_events, run_of, run_value, section_events, section_of, section_state}
 pub use Rattle.gk_run.specs.PrivateContracts.{AreCases, AreCasesInPart, AreDivided, AreRulesInPart, Goes, Happens, IsClosing, IsDoneBy, IsFeatureEnd, IsFeatureEndInPart, IsInside, IsInsideInPart, IsMember, IsNext, IsRule, IsRuleInPart, IsStepRun, RunsCases, RunsFeature, RunsRule, RunsRules, StopsFeature, happened_as, inside_value, next_event}
 pub use Rattle.gk_run.specs.Results.{CaseRow, FeatureRow, Results, RuleRow, StepRow, case_row, feature_row, is_failed, is_memory, is_passed, is_status, is_untested, rule_row, step_row}
-pub use Rattle.gk_run.specs.Running.{AreEventsTold, all_stay_open, alone, case_events, case_of, case_rows, case_statuses, cases_of, cases_told, first_or, is_failed_or_memory, reached_row, row_of_case, same_marks, stays_open, stays_open_by, unreached_row, unrun_row, unselected_row, verdict_of, without_first}
+pub use Rattle.gk_run.specs.Running.{NotifiesEvents, all_stay_open, alone, case_events, case_of, case_rows, case_statuses, cases_of, cases_messages, first_or, is_failed_or_memory, reached_row, row_of_case, same_marks, stays_open, stays_open_by, unreached_row, unrun_row, unselected_row, verdict_of, without_first}
 pub use Rattle.gk_run.specs.Section.{Cut, Events, after_of, around_events, around_of, before_of, before_passed, happened, has_event, in_after, in_before, in_cleanups, in_order, in_steps, nowhere, site_of, steps_of_case}
 pub use Rattle.gk_run.specs.SectionHooks.{after_lists, before_events, before_kind, before_list, clean_each, cleaned, cleanup_done, entered, hook_steps, tag_lists, walk_each}
 pub use Rattle.gk_run.specs.Walk.{CarriesOut, EndsAt, EndsAtTheLeastStop, HasNoStop, IsLookedUp, IsStop, LaterSteps, Stepped, StepsEndAtTheLeastStop, StoppedCasesRunNoStep, Stops, StopsAt, WalksEndAtTheLeastStop, after, carried_on, event_at, event_of, looked_up, one_step, outcome_from, place_of, row_of_step, rows_of_steps, stepped, steps_from, unrun_step, unrun_steps, walk}

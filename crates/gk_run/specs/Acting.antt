@@ -16,7 +16,7 @@ use Rattle.gk_gherkin.specs.declared.feature.Block.{Block}
 use Rattle.gk_steps.specs.declared.finding.Found.{Found}
 use Rattle.gk_steps.specs.declared.library.Library.{Library}
 use Rattle.gk_steps.specs.declared.used_fields.UsedFields.{UsedFields}
-use Rattle.gk_steps.specs.Finding.{LibraryValue, FoundValue, library_value, action_of, found_value, text_field, number_field, found_any, lent_text, HasCandidate}
+use Rattle.gk_steps.specs.Finding.{LibraryValue, FoundValue, library_value, action_of, found_value, text_field, number_field, found_any, borrowed_text, HasCandidate}
 use Rattle.gk_world.specs.declared.refusals.WorldFault.{WorldFault}
 use Rattle.gk_world.specs.declared.refusals.WorldFault.TheVariants as faults
 use Rattle.gk_world.specs.State.{State, with_text, without, see, state_of}
@@ -396,7 +396,7 @@ Performs action arguments old outcome new = IsActed (table action (arguments_val
 
 -- The arguments for these used fields and this block.
 abbrev pub arguments_by_uses : UsedFields → BlockValue → ArgumentsValue
-arguments_by_uses used = arguments_with (lent_text used.name) (lent_text used.to) (lent_text used.step) used.number (lent_text used.text)
+arguments_by_uses used = arguments_with (borrowed_text used.name) (borrowed_text used.to) (borrowed_text used.step) used.number (borrowed_text used.text)
 
 -- What a `Used` leaves and registers at a site.
 abbrev pub called : Library → Site → Used → State → ActionEffect

@@ -223,16 +223,16 @@ abbrev pub number_field : LibraryValue → FoundValue → List ℕ → Option �
 number_field library f name = option_and_then as_number (field_of library f name)
 
 -- The content of a borrowed text, if there is one.
-abbrev pub lent_text : Option (Bor (List ℕ)) → Option (List ℕ)
-lent_text text = option_map (λ (t : Bor (List ℕ)). t.now) text
+abbrev pub borrowed_text : Option (Bor (List ℕ)) → Option (List ℕ)
+borrowed_text text = option_map (λ (t : Bor (List ℕ)). t.now) text
 
 -- The values of a found entry's fields that actions use. (behave's documentation: step parameters)
 pub record HasUsedFields (library : LibraryValue) (f : FoundValue) (u : UsedFields) : Type 0 where
-  pub name : lent_text u.name ≡ text_field library f (codes "name")
-  pub to : lent_text u.to ≡ text_field library f (codes "to")
-  pub step : lent_text u.step ≡ text_field library f (codes "step")
+  pub name : borrowed_text u.name ≡ text_field library f (codes "name")
+  pub to : borrowed_text u.to ≡ text_field library f (codes "to")
+  pub step : borrowed_text u.step ≡ text_field library f (codes "step")
   pub number : u.number ≡ number_field library f (codes "n")
-  pub text : lent_text u.text ≡ text_field library f (codes "text")
+  pub text : borrowed_text u.text ≡ text_field library f (codes "text")
 
 -- The action of a found entry, and the values of its fields that actions use.
 pub record HasUse (library : LibraryValue) (f : FoundValue) (u : FoundUse) : Type 0 where

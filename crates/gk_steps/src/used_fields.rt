@@ -135,7 +135,7 @@ fn joined<'a>(so_far: FirstFields<'a>, later: FirstFields<'a>) -> FirstFields<'a
 
 // Returns the value of a field, with its text borrowed.
 #[inline(always)]
-fn lent<'a>(field: &'a Field) -> Capture<'a>
+fn borrowed<'a>(field: &'a Field) -> Capture<'a>
     ensures { capture_value result ≡ field_value field.now }
 {
     match field {
@@ -157,7 +157,7 @@ fn first_fields<'a>(pieces: &[Piece], fields: &'a [Field]) -> FirstFields<'a>
             let Some((field, later)) = rest.split_first() else {
                 return firsts;
             };
-            add_field(&mut firsts, name.as_str(), lent(field));
+            add_field(&mut firsts, name.as_str(), borrowed(field));
             rest = later;
         }
     }
