@@ -24,7 +24,7 @@ copies v C [] (y ∷ ys) each h = absurd h
 copies v C (x ∷ xs) [] each h = absurd h
 copies v C (x ∷ xs) (y ∷ ys) each h = rw (each x y h.0, copies v C xs ys each h.1) refl
 
-block_copy : (a b : Block) → block.by_variants a b → block_value b ≡ block_value a
+pub block_copy : (a b : Block) → block.by_variants a b → block_value b ≡ block_value a
 block_copy blocks.Empty blocks.Empty h = refl
 block_copy (blocks.Text x) (blocks.Text y) h = ap Text h
 block_copy (blocks.Table x) (blocks.Table y) h = ap Table (copies (λ row. texts row.items) _ x.items y.items (λ x y h. copies string_bytes _ x.items y.items (λ x y h. h) h.0) h.0)

@@ -48,14 +48,12 @@ impl Model for Cleanups {
         × (length c.list.items ≤ vec_capacity c.outcomes) };
 }
 
-fn copy_block(block: &Block) -> Result<Block, AllocError>
+// Returns a copy of a block.
+#[tactic(auto, using(gk_gherkin::proofs::Copies::block_copy))]
+fn copied_block(block: &Block) -> Result<Block, AllocError>
     ensures { IfOk result (λ b. block_value b ≡ block_value block.now) }
 {
-    match block {
-        Block::Empty => Ok(Block::Empty),
-        Block::Text(text) => Ok(Block::Text(text.clone()?)),
-        Block::Table(rows) => Ok(Block::Table(rows.clone()?)),
-    }
+    block.clone()
 }
 
 impl Cleanups {
@@ -90,7 +88,7 @@ impl Cleanups {
     {
         self.outcomes.reserve(self.list.len() + 1)?;
         self.list.reserve(1)?;
-        let block = copy_block(block)?;
+        let block = copied_block(block)?;
         self.list.push_reserved(Cleanup { found, block, at });
         Ok(())
     }
