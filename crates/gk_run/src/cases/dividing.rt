@@ -53,7 +53,7 @@ fn add_member(
     }
 }
 
-/// Divides the cases of a feature, and reserves room for the results of all of them.
+/// Divides the cases of a feature. Reserves room for the results of all of them, and as if none were in a rule.
 pub fn divide(
     alloc: Global,
     heads: Vec<RuleHead>,
@@ -66,7 +66,10 @@ pub fn divide(
         (members_of cases.items selected.items) content.own.items content.rules.list.items) }
 {
     let Reserved { list, results } = reserve(alloc, cases)?;
-    let mut own = Vec::new(alloc);
+    let Reserved {
+        list,
+        results: mut own,
+    } = reserve(alloc, list)?;
     let mut rules = without_cases(alloc, heads)?;
     for (case, selected) in list.into_iter().zip(selected) {
         add_member(&mut own, &mut rules, Member { case, selected })?;

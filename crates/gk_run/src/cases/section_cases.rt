@@ -3,7 +3,7 @@ ghost use Rattle.std.specs.Prelude.{◌≡◌, ◌+◌, ◌≤◌, ◌<◌, leng
 ghost use Rattle.std.specs.List.{list_any};
 ghost use Rattle.gk_world.specs.State.{state_of, layers};
 ghost use Rattle.gk_world.specs.Sandbox.{depth, IsSame};
-ghost use Rattle.gk_run.specs.Events.{tells};
+ghost use Rattle.gk_run.specs.Events.{notifies};
 ghost use Rattle.gk_run.specs.PrivateContracts.{AreCasesInPart, IsMember, RunsCases};
 ghost use Rattle.gk_run.specs.Chosen.{member_of, members_in};
 ghost use Rattle.gk_run.specs.Results.{case_row};
@@ -36,7 +36,7 @@ fn run_member<O: Observer>(
     ensures ran { IfOk result (λ r. IsMember O.hears (run_value run.now)
         (state_of sandbox.old.now) is_open (member_of member.case member.selected) (case_row r)
         observer.old observer.new) }
-    ensures untold { OnErr result (observer.new ≡ observer.old) }
+    ensures silent { OnErr result (observer.new ≡ observer.old) }
     ensures same { IsSame sandbox.old sandbox.new }
 {
     let Member { case, selected } = member;
@@ -68,7 +68,7 @@ pub fn run_cases<O: Observer>(
     ensures counted { OnOk result (length results.new.items
         ≡ length results.old.items + length members.items) }
     ensures capacity { vec_capacity results.new ≡ vec_capacity results.old }
-    ensures stopped { OnErr result (AreCasesInPart (tells O.hears O.ends)
+    ensures stopped { OnErr result (AreCasesInPart (notifies O.hears O.ends)
         (length results.old.items) (run_value run.now) (state_of sandbox.old.now) is_open
         (members_in members.items) observer.old observer.new) }
     ensures same { IsSame sandbox.old sandbox.new }

@@ -6,17 +6,17 @@ use Rattle.gk_run.proofs.cases.dividing.divide.Goals as goal
 pub loop-case-init : goal.loop-case-init
 loop-case-init c =
     let heads = map head_value c.args.heads.items in
-    let here : into_iter_items c.into_iter-case-iterator.result.a ≡ c.args.cases.items = ap (λ z. into_iter_items z.a) c.into_iter-case-iterator.ensures.into_iter_gives ∙ ap into_iter_items c.zip-case-items.ensures.first ∙ c.into_iter.ensures.rest ∙ ap (λ cs. cs.items) c.in_ok-list.ensures in
+    let here : into_iter_items c.into_iter-case-iterator.result.a ≡ c.args.cases.items = ap (λ z. into_iter_items z.a) c.into_iter-case-iterator.ensures.into_iter_gives ∙ ap into_iter_items c.zip-case-items.ensures.first ∙ c.into_iter.ensures.rest ∙ ap (λ cs. cs.items) c.in_ok-list-2.ensures ∙ ap (λ cs. cs.items) c.in_ok-list.ensures in
     let there : into_iter_items c.into_iter-case-iterator.result.b ≡ c.args.selected.items = ap (λ z. into_iter_items z.b) c.into_iter-case-iterator.ensures.into_iter_gives ∙ c.zip-case-items.ensures.second.0 in
     let first_len = ap (λ z. into_iter_len z.a) c.into_iter-case-iterator.ensures.into_iter_gives ∙ ap into_iter_len c.zip-case-items.ensures.first ∙ c.into_iter.ensures.len in
     let second_len = ap (λ z. into_iter_len z.b) c.into_iter-case-iterator.ensures.into_iter_gives ∙ c.zip-case-items.ensures.second.1 in
     let all = members_of c.args.cases.items c.args.selected.items in
     let falls = subst (λ (n : ℕ). FallFrom n 0 (map (λ (x : Case). x.rule) c.args.cases.items)) (sym (length-map c.args.heads.items head_value)) c.requires.falls in
     record {
-      goes = subst (λ (own : List Member). GoesDividing heads all own c.in_ok-rules.rules.items (into_iter_items c.into_iter-case-iterator.result.a) (into_iter_items c.into_iter-case-iterator.result.b)) (sym c.new-own.ensures.items)
+      goes = subst (λ (own : List Member). GoesDividing heads all own c.in_ok-rules.rules.items (into_iter_items c.into_iter-case-iterator.result.a) (into_iter_items c.into_iter-case-iterator.result.b)) (sym c.in_ok-list-2.field-0.empty)
           (subst (λ (ss : List Bool). GoesDividing heads all [] c.in_ok-rules.rules.items (into_iter_items c.into_iter-case-iterator.result.a) ss) (sym there)
           (subst (λ (cs : List Case). GoesDividing heads all [] c.in_ok-rules.rules.items cs c.args.selected.items) (sym here) (dividing_first heads c.in_ok-rules.rules.items c.args.cases.items c.args.selected.items c.in_ok-rules.ensures falls)));
-      cases_counted = omega (arith, c.in_ok-list.list.ok.0, ap length here, ap (λ cs. length cs.items) c.in_ok-list.ensures, first_len);
+      cases_counted = omega (arith, c.in_ok-list-2.list.ok.0, ap length here, ap (λ cs. length cs.items) c.in_ok-list-2.ensures, ap (λ cs. length cs.items) c.in_ok-list.ensures, first_len);
       choices_counted = omega (arith, c.args.selected.ok.0, ap length there, second_len);
     }
 
