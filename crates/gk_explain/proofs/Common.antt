@@ -55,7 +55,7 @@ pub use Rattle.gk_explain.specs.DifferingLines.{DifferingLinesAreShown, IsLine}
 pub use Rattle.gk_explain.specs.Event.{event_value, level_of}
 pub use Rattle.gk_explain.specs.Explainer.{CasesAreExplained, Hears, is_cut, said}
 pub use Rattle.gk_explain.specs.Explanation.{ExplanationValue, explanation_value, with_case, with_case_of, with_event, with_section}
-pub use Rattle.gk_explain.specs.Nearest.{nearest_told, pattern_shown}
+pub use Rattle.gk_explain.specs.Nearest.{nearest_text, pattern_shown}
 pub use Rattle.gk_explain.specs.NearestLines.{AreNearest}
 pub use Rattle.gk_explain.specs.RowLines.{cell_text, cells_text}
 pub use Rattle.gk_explain.specs.EventLines.{event_lines, kept_of, kept_value, names_value}

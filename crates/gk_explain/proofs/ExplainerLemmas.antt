@@ -100,12 +100,12 @@ hears_all (t ∷ ts) old new a h uncut =
     )
 
 pub explained_by_its_events : CasesAreExplained
-explained_by_its_events run section index c row old new told uncut none =
-    let events = told.1 in
-    let ended = told.2.0 uncut in
+explained_by_its_events run section index c row old new messages uncut none =
+    let events = messages.1 in
+    let ended = messages.2.0 uncut in
     let at = at_order levels.Scenario _ (are_happened levels.Scenario events.cut (alone run section c) (are_case run section c)) in
     let ts = in_order (happened events.cut (alone run section c)) in
-    let all = hears_all ts old told.0 at events.told ended.0 in
+    let all = hears_all ts old messages.0 at events.messages ended.0 in
     let e = said old in (
       events.cut,
       events.is,

@@ -21,7 +21,7 @@ use Rattle.gk_run.specs.Events.{Event as RunEvent, of_step, of_cleanup}
 use Rattle.gk_report.specs.ReportTexts.{line_feed}
 use Rattle.gk_explain.specs.declared.differences.Position.{Position}
 use Rattle.gk_explain.specs.Differences.{first_difference}
-use Rattle.gk_explain.specs.Nearest.{nearest_told}
+use Rattle.gk_explain.specs.Nearest.{nearest_text}
 use Rattle.gk_explain.specs.Shown.{shown, marked_text, marked_text_with}
 use Rattle.gk_explain.specs.Tables.{other_table, refused_file}
 
@@ -126,7 +126,7 @@ reason_details library action g reasons.OtherLayer s = in_outer_layer (found_tex
 reason_details library action g reasons.BadTable s = other_table g.block
 reason_details library action g reasons.BadName s = name_length (length (given_name action g))
 reason_details library action g reasons.TextTooLong s = text_length (length (new_text action g s))
-reason_details library action g reasons.NoStep s = nearest_told library g.step
+reason_details library action g reasons.NoStep s = nearest_text library g.step
 reason_details library action g _ s = []
 
 -- What a reason means for an action that was carried out.
@@ -146,7 +146,7 @@ details_if_used library (Some used) outcome s = outcome_details library used out
 -- What a step's mark means. For an undefined step, the entry that may be meant is named.
 abbrev pub mark_details : LibraryValue → StepValue → Mark → Option UseValue → State → List ℕ
 mark_details library step (Acted outcome) used s = details_if_used library used outcome s
-mark_details library step Undefined used s = nearest_told library step.text
+mark_details library step Undefined used s = nearest_text library step.text
 mark_details library step mark used s = []
 
 -- The text below the line of an event. The state is the one that the event left. A check, or a change that is refused, leaves what it found.

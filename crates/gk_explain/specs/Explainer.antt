@@ -3,10 +3,10 @@ use Rattle.std.specs.Prelude.{◌≡◌, ◌≤◌, ℕ, Bool, false, List, leng
 use Rattle.gk_select.specs.Case.{CaseValue}
 use Rattle.gk_world.specs.State.{State}
 use Rattle.gk_run.specs.declared.results.Status.{Status}
-use Rattle.gk_run.specs.Running.{is_failed_or_memory, IsCaseTold, alone, reached_row}
+use Rattle.gk_run.specs.Running.{is_failed_or_memory, NotifiesCase, alone, reached_row}
 use Rattle.gk_run.specs.Results.{CaseRow}
 use Rattle.gk_run.specs.OpenSection.{Run}
-use Rattle.gk_run.specs.Events.{Event as RunEvent, EndTold, of_case, of_rule}
+use Rattle.gk_run.specs.Events.{Event as RunEvent, Ended, of_case, of_rule}
 use Rattle.gk_run.specs.Section.{Cut, happened, in_order}
 use Rattle.gk_explain.specs.declared.explainer.Explainer.{Explainer}
 use Rattle.gk_explain.specs.SectionEvents.{SectionValue, no_event, after_events, section_lines}
@@ -37,12 +37,12 @@ abbrev pub IsCutOnlyByLongName : List ℕ → Explainer → Explainer → Type 0
 IsCutOnlyByLongName source old new = length source ≤ name_room old.explanation → is_cut new ≡ is_cut old
 
 -- The status with which a scenario, or the hooks and cleanups of a rule, ended.
-abbrev pub ended_status : EndTold → Status
+abbrev pub ended_status : Ended → Status
 ended_status (of_case index c) = c.status
 ended_status (of_rule r) = r.around
 
 -- An explainer received that a scenario or a rule has ended.
-abbrev pub HearsEnd : Explainer → EndTold → Explainer → Type 0
+abbrev pub HearsEnd : Explainer → Ended → Explainer → Type 0
 HearsEnd old ended new = Becomes old (with_ended ended) new × IsCutOnlyByFailure (ended_status ended) old new
 
 -- What is kept of a case after its events, in order, with these cut at one of them.
@@ -52,6 +52,6 @@ kept_of_case e run section c cut = after_events (said e).library (in_order (happ
 -- A case is explained by an explainer that received it, kept nothing of a scenario before and isn't cut now. It says what it said before and, if the case's result failed or was refused memory, the explanation of this case by the lines of all its events.
 abbrev pub CasesAreExplained : Type 0
 CasesAreExplained = (run : Run) (section : State) (index : ℕ) (c : CaseValue) (row : CaseRow) (old new : Explainer) →
-    IsCaseTold Hears HearsEnd run section index c row old new → is_cut new ≡ false → (said old).scenario ≡ no_event →
+    NotifiesCase Hears HearsEnd run section index c row old new → is_cut new ≡ false → (said old).scenario ≡ no_event →
     (cut : Cut) × (row ≡ reached_row run section cut c)
     × (is_cut old ≡ false) × (said new ≡ with_case_of (section_lines (said old).names (kept_of_case old run section c cut)) index row (said old))

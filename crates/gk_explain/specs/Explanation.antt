@@ -6,7 +6,7 @@ use Rattle.gk_run.specs.declared.results.Status.{Status}
 use Rattle.gk_run.specs.declared.section.Level.{Level}
 use Rattle.gk_run.specs.declared.section.Level.TheVariants as levels
 use Rattle.gk_run.specs.Results.{CaseRow, RuleRow, FeatureRow}
-use Rattle.gk_run.specs.Events.{Event as RunEvent, EndTold, of_case, of_rule}
+use Rattle.gk_run.specs.Events.{Event as RunEvent, Ended, of_case, of_rule}
 use Rattle.gk_explain.specs.declared.explanation.Explained.{Explained}
 use Rattle.gk_explain.specs.declared.explanation.Explanation.{Explanation}
 use Rattle.gk_explain.specs.Event.{level_of}
@@ -83,7 +83,7 @@ abbrev pub with_rule : RuleRow → ExplanationValue → ExplanationValue
 with_rule r e = let ended = with_end (rule_heading e.names.source r) r.around (section_lines e.names e.rule) e in record ended { rule = no_event }
 
 -- A scenario or a rule has ended.
-abbrev pub with_ended : EndTold → ExplanationValue → ExplanationValue
+abbrev pub with_ended : Ended → ExplanationValue → ExplanationValue
 with_ended (of_case index c) e = with_case index c e
 with_ended (of_rule r) e = with_rule r e
 

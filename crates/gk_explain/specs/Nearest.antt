@@ -60,11 +60,11 @@ other_type_line None = []
 other_type_line (Some e) = before_other_type ++ (entry_shown e ++ after_other_type)
 
 -- The line for a hint.
-abbrev pub hint_told : LibraryValue → EntryHint → List ℕ
-hint_told library Unlike = []
-hint_told library (Nearest place) = nearest_line (slice_get library place)
-hint_told library (OtherType place) = other_type_line (slice_get library place)
+abbrev pub hint_text : LibraryValue → EntryHint → List ℕ
+hint_text library Unlike = []
+hint_text library (Nearest place) = nearest_line (slice_get library place)
+hint_text library (OtherType place) = other_type_line (slice_get library place)
 
 -- The line that names the entry that the author of an undefined step with this text may have meant: one for steps of another type that matches, and otherwise the nearest, as `--lint` finds it.
-abbrev pub nearest_told : LibraryValue → List ℕ → List ℕ
-nearest_told library text = hint_told library (entry_hint library text)
+abbrev pub nearest_text : LibraryValue → List ℕ → List ℕ
+nearest_text library text = hint_text library (entry_hint library text)

@@ -120,7 +120,7 @@ fn push_other_type_line(out: &mut String, entry: Option<&Entry>) -> Result<(), A
 /// appended if there is neither. An error comes only if a growth was refused; a part of the line may have been appended
 /// then.
 pub fn push_hint(out: &mut String, library: &Library, hint: EntryHint) -> Result<(), AllocError>
-    ensures { Pushes out.old (spec.hint_told (library_value library.now) hint) result out.new }
+    ensures { Pushes out.old (spec.hint_text (library_value library.now) hint) result out.new }
 {
     match hint {
         EntryHint::Unlike => Ok(()),

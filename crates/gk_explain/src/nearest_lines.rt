@@ -2,7 +2,7 @@
 ghost use Rattle.std.specs.Prelude.{◌≡◌, IfOk, IfSome, string_bytes};
 ghost use Rattle.gk_steps.specs.Finding.{library_value};
 ghost use Rattle.gk_report.specs.ReportTexts.{Pushes};
-ghost use Rattle.gk_explain.specs.Nearest.{nearest_told};
+ghost use Rattle.gk_explain.specs.Nearest.{nearest_text};
 
 use crate::nearest::push_hint;
 use gk_lint::EntryHints;
@@ -56,7 +56,7 @@ impl<'a> NearestLines<'a> {
 
     // Returns the line kept for a text, if any.
     fn kept(&self, text: &str) -> Option<&str>
-        ensures { IfSome result (λ line. line.now ≡ nearest_told self.now text.now) }
+        ensures { IfSome result (λ line. line.now ≡ nearest_text self.now text.now) }
     {
         match self.lines.get(text) {
             Some(line) => Some(line.as_str()),
@@ -66,7 +66,7 @@ impl<'a> NearestLines<'a> {
 
     // Keeps the line for a text.
     fn keep(&mut self, alloc: Global, text: &str, line: String) -> Result<(), AllocError>
-        requires { string_bytes line ≡ nearest_told self.old text.now }
+        requires { string_bytes line ≡ nearest_text self.old text.now }
         ensures kept { self.new ≡ self.old }
     {
         let text = String::from_str(alloc, text)?;
@@ -92,7 +92,7 @@ impl<'a> NearestLines<'a> {
         out: &mut String,
         text: &str,
     ) -> Result<(), AllocError>
-        ensures pushed { Pushes out.old (nearest_told self.old text.now) result out.new }
+        ensures pushed { Pushes out.old (nearest_text self.old text.now) result out.new }
         ensures kept { self.new ≡ self.old }
     {
         let hints = self.take_hints(alloc)?;
@@ -104,7 +104,7 @@ impl<'a> NearestLines<'a> {
     /// Appends the line that names the entry that a text may mean, as `gk_lint::EntryHints` finds it. An error comes only
     /// if a growth was refused; a part of the line may have been appended then.
     pub fn push(&mut self, alloc: Global, out: &mut String, text: &str) -> Result<(), AllocError>
-        ensures pushed { Pushes out.old (nearest_told self.old text.now) result out.new }
+        ensures pushed { Pushes out.old (nearest_text self.old text.now) result out.new }
         ensures kept { self.new ≡ self.old }
     {
         if let Some(line) = self.kept(text) {

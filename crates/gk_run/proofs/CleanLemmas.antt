@@ -8,7 +8,7 @@ use Rattle.gk_run.proofs.WalkLemmas.{at}
 
 -- one cleanup happened, with this outcome
 abbrev OneCleanup : {S : Type 0} → (S → Event → S → Type 0) → Event → Outcome → SectionNow → SectionNow → S → S → Type 0
-OneCleanup hears event o start now first last = (g : Happens hears endings.Passed (event ∷ []) start now (ending_of (Acted o)) first last) × (outcomes_of g.told ≡ o ∷ [])
+OneCleanup hears event o start now first last = (g : Happens hears endings.Passed (event ∷ []) start now (ending_of (Acted o)) first last) × (outcomes_of g.messages ≡ o ∷ [])
 
 -- what a cleanup leaves, as an event
 abbrev event_by : Level → CleanupValue → Outcome → State → Event
@@ -21,7 +21,7 @@ one_goes : {S : Type 0} (hears : S → Event → S → Type 0) (level : Level) (
     OneCleanup hears (event_by level c done.outcome done.state) o (at s cs) (at new cs) first last
 one_goes hears level c done outcomes.Memory s new cs first last d h = (
   record {
-    told = of_cleanup level c outcomes.Memory new ∷ [];
+    messages = of_cleanup level c outcomes.Memory new ∷ [];
     heard = (last, h, refl);
     so_far = record { front = []; event = event_by level c done.outcome done.state; rest = []; left = new; whole = refl; cut = refl };
     ends = refl;
@@ -30,11 +30,11 @@ one_goes hears level c done outcomes.Memory s new cs first last d h = (
   refl,
 )
 one_goes hears level c done outcomes.Passed s new cs first last d h =
-    (record { told = of_cleanup level c outcomes.Passed new ∷ []; heard = (last, h, refl); so_far = ap (λ x. x ∷ []) (exactly level c done outcomes.Passed new d); ends = refl; leaves = refl }, refl)
+    (record { messages = of_cleanup level c outcomes.Passed new ∷ []; heard = (last, h, refl); so_far = ap (λ x. x ∷ []) (exactly level c done outcomes.Passed new d); ends = refl; leaves = refl }, refl)
 one_goes hears level c done outcomes.Skip s new cs first last d h =
-    (record { told = of_cleanup level c outcomes.Skip new ∷ []; heard = (last, h, refl); so_far = ap (λ x. x ∷ []) (exactly level c done outcomes.Skip new d); ends = refl; leaves = refl }, refl)
+    (record { messages = of_cleanup level c outcomes.Skip new ∷ []; heard = (last, h, refl); so_far = ap (λ x. x ∷ []) (exactly level c done outcomes.Skip new d); ends = refl; leaves = refl }, refl)
 one_goes hears level c done (outcomes.Failed why) s new cs first last d h =
-    (record { told = of_cleanup level c (outcomes.Failed why) new ∷ []; heard = (last, h, refl); so_far = ap (λ x. x ∷ []) (exactly level c done (outcomes.Failed why) new d); ends = refl; leaves = refl }, refl)
+    (record { messages = of_cleanup level c (outcomes.Failed why) new ∷ []; heard = (last, h, refl); so_far = ap (λ x. x ∷ []) (exactly level c done (outcomes.Failed why) new d); ends = refl; leaves = refl }, refl)
 
 -- where memory wasn't refused, the state is the one that the cleanup leaves
 left_state : (done : Done) (o : Outcome) (new : State) → is_memory_ending (ending_of (Acted o)) ≡ false → IsDone done o new → new ≡ done.state
@@ -46,7 +46,7 @@ left_state done (outcomes.Failed why) new n d = d.1
 -- what a loop over cleanups keeps: what happened so far, and that the outcomes are those of it
 pub record CleansSoFar {S : Type 0} (hears : S → Event → S → Type 0) (all rest : List Event) (start now : SectionNow) (ended : Ending) (reported : List Outcome) (first last : S) : Type 0 where
   pub goes : Goes hears endings.Passed all rest start now ended first last
-  pub outcomes : reported ≡ outcomes_of goes.told
+  pub outcomes : reported ≡ outcomes_of goes.messages
 
 pub cleans_first : {S : Type 0} (hears : S → Event → S → Type 0) (all : List Event) (start : SectionNow) (first : S) → CleansSoFar hears all all start start endings.Passed [] first first
 cleans_first hears all start first = record { goes = begin hears endings.Passed all start first; outcomes = refl }
@@ -60,5 +60,5 @@ cleans_on hears library level c left o s new cs all start ended reported more fi
     record {
       goes = with_rest (clean_each library level new left) (chain (clean_each library level done.state left) so_far.goes (λ _. refl) (behind ended m one.0))
           (λ n. sym (ap (λ x. clean_each library level x left) (left_state done o new (unrefused ended (ending_of (Acted o)) m ∙ n) d)));
-      outcomes = pushed ∙ ap (λ os. os ++ o ∷ []) so_far.outcomes ∙ sym (outcomes_append so_far.goes.told one.0.told ∙ ap (λ os. outcomes_of so_far.goes.told ++ os) one.1);
+      outcomes = pushed ∙ ap (λ os. os ++ o ∷ []) so_far.outcomes ∙ sym (outcomes_append so_far.goes.messages one.0.messages ∙ ap (λ os. outcomes_of so_far.goes.messages ++ os) one.1);
     }

@@ -21,7 +21,7 @@ pub left_both : (section : SectionNow) (xs ys : List Event) → left_by section 
 left_both section [] ys = refl
 left_both section (x ∷ xs) ys = left_both (after_event section x) xs ys
 
--- telling one after another
+-- messages one after another
 pub heard_both : {S A : Type 0} (hears : S → A → S → Type 0) (a : S) (xs : List A) (b : S) (ys : List A) (c : S) → FoldsTo hears a xs b → FoldsTo hears b ys c → FoldsTo hears a (xs ++ ys) c
 heard_both hears a [] b ys c p q = subst (λ s. FoldsTo hears s ys c) (sym p) q
 heard_both hears a (x ∷ xs) b ys c p q = (p.0, p.1, heard_both hears p.0 xs b ys c p.2 q)

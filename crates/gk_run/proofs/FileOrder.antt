@@ -8,8 +8,8 @@ abbrev lines_in : List MemberValue → List ℕ
 lines_in ms = map (λ (m : MemberValue). m.scenario.line) ms
 
 -- the lines of their results
-abbrev lines_told : List CaseRow → List ℕ
-lines_told rows = map (λ (row : CaseRow). row.line) rows
+abbrev lines_messages : List CaseRow → List ℕ
+lines_messages rows = map (λ (row : CaseRow). row.line) rows
 
 either_line : (b : Bool) (x y : CaseRow) (line : ℕ) → x.line ≡ line → y.line ≡ line → (let row = cond b x y in row.line) ≡ line
 either_line true x y line this that = this
@@ -21,19 +21,19 @@ case_line run section is_open cut m =
     let reached = reached_row run section cut c in
     either_line m.selected (cond is_open reached (unreached_row c)) (unselected_row c) c.line (either_line is_open reached (unreached_row c) c.line refl refl) refl
 
-case_lines : (run : Run) (section : State) (is_open : Bool) (cuts : List Cut) (ms : List MemberValue) → lines_told (result_of (cases_of 0 run section is_open cuts ms)) ≡ lines_in ms
+case_lines : (run : Run) (section : State) (is_open : Bool) (cuts : List Cut) (ms : List MemberValue) → lines_messages (result_of (cases_of 0 run section is_open cuts ms)) ≡ lines_in ms
 case_lines run section is_open cuts [] = refl
 case_lines run section is_open cuts (m ∷ ms) =
     let row = case_of run section is_open (first_or nowhere cuts) m in
     let opens = is_open && stays_open run row.status in
-    ap (λ (line : ℕ). line ∷ lines_told (result_of (cases_of 0 run section opens (without_first cuts) ms))) (case_line run section is_open (first_or nowhere cuts) m)
+    ap (λ (line : ℕ). line ∷ lines_messages (result_of (cases_of 0 run section opens (without_first cuts) ms))) (case_line run section is_open (first_or nowhere cuts) m)
     ∙ ap (λ (lines : List ℕ). m.scenario.line ∷ lines) (case_lines run section opens (without_first cuts) ms)
 
 -- the lines of cases that come one after another
-lines_joined : (rows more : List CaseRow) (ms others : List MemberValue) → lines_told rows ≡ lines_in ms → lines_told more ≡ lines_in others → lines_told (rows ++ more) ≡ lines_in (ms ++ others)
+lines_joined : (rows more : List CaseRow) (ms others : List MemberValue) → lines_messages rows ≡ lines_in ms → lines_messages more ≡ lines_in others → lines_messages (rows ++ more) ≡ lines_in (ms ++ others)
 lines_joined rows more ms others these those = grind (arith, common_steps)
 
-lines_in_rules : (run : Run) (outside : State) (is_open : Bool) (cuts : List RuleCuts) (gs : List Group) → (let inside = result_of (rules_of 0 run outside is_open cuts gs) in lines_told inside.cases) ≡ lines_in (members_of_groups gs)
+lines_in_rules : (run : Run) (outside : State) (is_open : Bool) (cuts : List RuleCuts) (gs : List Group) → (let inside = result_of (rules_of 0 run outside is_open cuts gs) in lines_messages inside.cases) ≡ lines_in (members_of_groups gs)
 lines_in_rules run outside is_open cuts [] = refl
 lines_in_rules run outside is_open cuts (g ∷ gs) =
     let these = first_or uncut_rule cuts in

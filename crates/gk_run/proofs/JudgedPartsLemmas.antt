@@ -172,15 +172,15 @@ ends_of run outside b cuts (g ∷ gs) =
     let end = result_of (rule_of 0 run outside b (first_or uncut_rule cuts) g) in
     end ∷ ends_of run outside (b && rule_stays_open run end) (without_first cuts) gs
 
-abbrev told_of : List Group → RuleEnds → Inside
-told_of groups ends = record { rules = rule_rows groups ends; cases = flat_map (λ (end : SectionRow (List CaseRow)). end.inside) ends }
+abbrev messages_of : List Group → RuleEnds → Inside
+messages_of groups ends = record { rules = rule_rows groups ends; cases = flat_map (λ (end : SectionRow (List CaseRow)). end.inside) ends }
 
-rules_told : (run : Run) (outside : State) (b : Bool) (cuts : List RuleCuts) (gs : List Group) → result_of (rules_of 0 run outside b cuts gs) ≡ told_of gs (ends_of run outside b cuts gs)
-rules_told run outside b cuts [] = refl
-rules_told run outside b cuts (g ∷ gs) =
+rules_messages : (run : Run) (outside : State) (b : Bool) (cuts : List RuleCuts) (gs : List Group) → result_of (rules_of 0 run outside b cuts gs) ≡ messages_of gs (ends_of run outside b cuts gs)
+rules_messages run outside b cuts [] = refl
+rules_messages run outside b cuts (g ∷ gs) =
     let end = result_of (rule_of 0 run outside b (first_or uncut_rule cuts) g) in
     let before : Inside → Inside = λ next. record { rules = record { line = g.head.line; around = end.around } ∷ next.rules; cases = end.inside ++ next.cases } in
-    ap before (rules_told run outside (b && rule_stays_open run end) (without_first cuts) gs)
+    ap before (rules_messages run outside (b && rule_stays_open run end) (without_first cuts) gs)
 
 stays_rule_is : (run : Run) (end : SectionRow (List CaseRow)) → Decides (rule_stays_open run end) (run.stop ≡ true → IsGoodRule end)
 stays_rule_is run end = grind (arith, common_steps, Decides-like, Decides-and, stays, cases_stay)
@@ -229,18 +229,18 @@ inside_words run section b P f inside d =
           let with_rules : List RuleRow → Inside = λ rows. record { rules = rows; cases = mine ++ flat_map (λ (end : SectionRow (List CaseRow)). end.inside) w.ends } in
           let by_own : List CaseRow → Inside = λ rows. inside_with rows (result_of (rules_of 0 run section (b && all_stay_open run rows) ruled.0 groups)) in (
             (own.0, ruled.0),
-            ap with_cases w.case_results ∙ ap with_rules w.rule_results ∙ ap (λ (ends : RuleEnds). inside_with mine (told_of groups ends)) ruled.1
-                ∙ sym (ap (inside_with mine) (rules_told run section (b && all_stay_open run mine) ruled.0 groups)) ∙ ap by_own own.1,
+            ap with_cases w.case_results ∙ ap with_rules w.rule_results ∙ ap (λ (ends : RuleEnds). inside_with mine (messages_of groups ends)) ruled.1
+                ∙ sym (ap (inside_with mine) (rules_messages run section (b && all_stay_open run mine) ruled.0 groups)) ∙ ap by_own own.1,
           )
           ),
       λ c. (
           let mine = result_of (cases_of 0 run section b c.0.0 (own_members f)) in
           let opens = b && all_stay_open run mine in
           let theirs = ends_of run section opens c.0.1 groups in
-          let told = c.1 ∙ ap (inside_with mine) (rules_told run section opens c.0.1 groups) in
+          let messages = c.1 ∙ ap (inside_with mine) (rules_messages run section opens c.0.1 groups) in
           let own = cases mine in
           let ruled = rules mine theirs in
-          record { own = mine; ends = theirs; cases = own.1 (c.0.0, refl); rules = ruled.1 (c.0.1, refl); case_results = ap (λ (i : Inside). i.cases) told; rule_results = ap (λ (i : Inside). i.rules) told }
+          record { own = mine; ends = theirs; cases = own.1 (c.0.0, refl); rules = ruled.1 (c.0.1, refl); case_results = ap (λ (i : Inside). i.cases) messages; rule_results = ap (λ (i : Inside). i.rules) messages }
           ),
     )
 

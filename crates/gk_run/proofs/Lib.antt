@@ -8,7 +8,7 @@ pub mod WalkLemmas
 pub mod WordsLemmas
 pub mod CleanLemmas
 pub mod SectionLemmas
-pub mod ToldLemmas
+pub mod NotifiedLemmas
 pub mod PartLemmas
 pub mod GroupingLemmas
 pub mod CasesLemmas

@@ -1,10 +1,10 @@
--- What was told of a part of a run that didn't come to its end.
-use Rattle.gk_run.proofs.Common.{◌⊎◌, Bool, Err, List, Ok, OnErr, Result, [], ap, append_assoc, cond, false, length, map, refl, subst, suc, sym, true, zero, ℕ, ◌++◌, ◌∙◌, ◌∷◌, ◌≡◌, append-nil, arith, common_steps, FoldsTo, StepValue, LibraryValue, State, enter, Ending, Level, Stage, ending_of, has_passed, is_memory_ending, Event, EndTold, IsRan, Ran, SoFar, SectionNow, Told, cut_at, ended_in, happens, tells, IsToldInPart, PrecedesCase, StopsBeforeCase, IsBegun, section_events, section_of, section_state, Run, Cut, before_of, before_passed, happened, site_of, before_list, event_of, one_step, walk}
+-- The messages about a part of a run that didn't come to its end.
+use Rattle.gk_run.proofs.Common.{◌⊎◌, Bool, Err, List, Ok, OnErr, Result, [], ap, append_assoc, cond, false, length, map, refl, subst, suc, sym, true, zero, ℕ, ◌++◌, ◌∙◌, ◌∷◌, ◌≡◌, append-nil, arith, common_steps, FoldsTo, StepValue, LibraryValue, State, enter, Ending, Level, Stage, ending_of, has_passed, is_memory_ending, Event, Ended, IsRan, Ran, SoFar, SectionNow, Message, cut_at, ended_in, happens, notifies, NotifiesInPart, PrecedesCase, StopsBeforeCase, IsBegun, section_events, section_of, section_state, Run, Cut, before_of, before_passed, happened, site_of, before_list, event_of, one_step, walk}
 use Rattle.gk_run.specs.declared.section.Level.TheVariants as levels
 use Rattle.gk_run.proofs.EventLemmas.{heard_both}
-use Rattle.gk_run.proofs.GoesLemmas.{all_told}
-use Rattle.gk_run.proofs.SectionLemmas.{cut_told, opened_cut}
-use Rattle.gk_run.proofs.ToldLemmas.{heard_told}
+use Rattle.gk_run.proofs.GoesLemmas.{all_messages}
+use Rattle.gk_run.proofs.SectionLemmas.{cut_messages, opened_cut}
+use Rattle.gk_run.proofs.NotifiedLemmas.{heard_messages}
 
 -- what is so at an error, whatever is returned
 pub at_err : {A E P : Type 0} (x : Result A E) → P → OnErr x P
@@ -13,16 +13,16 @@ at_err (Err e) h = h
 
 -- ---- where a case may begin
 
-stops_on : (x : Told) (xs : List Told) → PrecedesCase x → StopsBeforeCase xs → StopsBeforeCase (x ∷ xs)
+stops_on : (x : Message) (xs : List Message) → PrecedesCase x → StopsBeforeCase xs → StopsBeforeCase (x ∷ xs)
 stops_on x [] p h = p
 stops_on x (y ∷ ys) p h = h
 
-pub stops_behind : (xs : List Told) (x : Told) (ys : List Told) → PrecedesCase x → StopsBeforeCase ys → StopsBeforeCase (xs ++ x ∷ ys)
+pub stops_behind : (xs : List Message) (x : Message) (ys : List Message) → PrecedesCase x → StopsBeforeCase ys → StopsBeforeCase (xs ++ x ∷ ys)
 stops_behind [] x ys p h = stops_on x ys p h
 stops_behind (y ∷ []) x ys p h = stops_on x ys p h
 stops_behind (y ∷ z ∷ zs) x ys p h = stops_behind (z ∷ zs) x ys p h
 
-pub stops_both : (xs ys : List Told) → StopsBeforeCase xs → StopsBeforeCase ys → StopsBeforeCase (xs ++ ys)
+pub stops_both : (xs ys : List Message) → StopsBeforeCase xs → StopsBeforeCase ys → StopsBeforeCase (xs ++ ys)
 stops_both [] ys p q = q
 stops_both (x ∷ []) ys p q = stops_on x ys p q
 stops_both (x ∷ y ∷ xs) ys p q = stops_both (y ∷ xs) ys p q
@@ -62,71 +62,71 @@ stops_cut library stage s (step ∷ steps) (suc n) left o =
     stops_on (happens (event_of stage step this)) (map happens (cut_at n left (cond passes rest []))) o (cut_if passes n left rest (stops_cut library stage this.state steps n left o))
 
 -- the events of a walk, up to one in which memory was refused
-stops_told : (library : LibraryValue) (stage : Stage) (s : State) (steps : List StepValue) (b : Bool) (told : List Event) → OpensCases stage → SoFar false b (walk library stage s steps) [] told → events_stop told
-stops_told library stage s steps true told o h = subst events_stop (sym (cut_told (walk library stage s steps) told h)) (stops_cut library stage s steps (length h.front) h.left o)
-stops_told library stage s steps false told o h = subst events_stop (sym (all_told false (walk library stage s steps) told refl h)) (stops_walk library stage s steps o)
+stops_messages : (library : LibraryValue) (stage : Stage) (s : State) (steps : List StepValue) (b : Bool) (messages : List Event) → OpensCases stage → SoFar false b (walk library stage s steps) [] messages → events_stop messages
+stops_messages library stage s steps true messages o h = subst events_stop (sym (cut_messages (walk library stage s steps) messages h)) (stops_cut library stage s steps (length h.front) h.left o)
+stops_messages library stage s steps false messages o h = subst events_stop (sym (all_messages false (walk library stage s steps) messages refl h)) (stops_walk library stage s steps o)
 
 -- ---- parts of a run, one after another
 
--- a part of a run with this result and this telling
-abbrev pub ran_of : {A : Type 0} → A → List Told → Ran A
-ran_of result told = record { result = result; told = told }
+-- a part of a run with this result and these messages
+abbrev pub ran_of : {A : Type 0} → A → List Message → Ran A
+ran_of result messages = record { result = result; messages = messages }
 
--- this was told so far, and however what is left is cut, the whole has cuts whose telling begins so
-pub record GoesFrom {S C A : Type 0} (told : S → Told → S → Type 0) (whole rest : List C → Ran A) (behind : A → A) (begin here : S) : Type 0 where
-  pub front : List Told
-  pub heard : FoldsTo told begin front here
+-- these are the messages so far, and however what is left is cut, the whole has cuts whose messages begin so
+pub record GoesFrom {S C A : Type 0} (gets : S → Message → S → Type 0) (whole rest : List C → Ran A) (behind : A → A) (begin here : S) : Type 0 where
+  pub front : List Message
+  pub heard : FoldsTo gets begin front here
   pub stops : StopsBeforeCase front
-  pub cuts : (left : List C) → (all : List C) × (whole all ≡ (let next = rest left in ran_of (behind next.result) (front ++ next.told)))
+  pub cuts : (left : List C) → (all : List C) × (whole all ≡ (let next = rest left in ran_of (behind next.result) (front ++ next.messages)))
 
 -- with nothing left
-pub ran_whole : {S C A : Type 0} (told : S → Told → S → Type 0) (whole rest : List C → Ran A) (behind : A → A) (row : A) (begin here : S) → ((left : List C) → rest left ≡ ran_of row []) →
-    GoesFrom told whole rest behind begin here → (all : List C) × IsRan told (whole all) (behind row) begin here
-ran_whole {S} {C} {A} told whole rest behind row begin here none goes =
+pub ran_whole : {S C A : Type 0} (gets : S → Message → S → Type 0) (whole rest : List C → Ran A) (behind : A → A) (row : A) (begin here : S) → ((left : List C) → rest left ≡ ran_of row []) →
+    GoesFrom gets whole rest behind begin here → (all : List C) × IsRan gets (whole all) (behind row) begin here
+ran_whole {S} {C} {A} gets whole rest behind row begin here none goes =
     let all = goes.cuts [] in
-    let put : Ran A → Ran A = λ next. ran_of (behind next.result) (goes.front ++ next.told) in
+    let put : Ran A → Ran A = λ next. ran_of (behind next.result) (goes.front ++ next.messages) in
     let is : whole all.0 ≡ ran_of (behind row) (goes.front ++ []) = all.1 ∙ ap put (none []) in
-    (all.0, record { is = sym (ap (λ (r : Ran A). r.result) is); heard = subst (λ xs. FoldsTo told begin xs here) (sym (ap (λ (r : Ran A). r.told) is ∙ append-nil goes.front)) goes.heard })
+    (all.0, record { is = sym (ap (λ (r : Ran A). r.result) is); heard = subst (λ xs. FoldsTo gets begin xs here) (sym (ap (λ (r : Ran A). r.messages) is ∙ append-nil goes.front)) goes.heard })
 
--- what is left isn't told
-pub told_so_far : {S C A : Type 0} (told : S → Told → S → Type 0) (whole rest : List C → Ran A) (behind : A → A) (begin here : S) → GoesFrom told whole rest behind begin here → (all : List C) × IsToldInPart told (whole all) begin here
-told_so_far {S} {C} {A} told whole rest behind begin here goes =
+-- no message is about what is left
+pub messages_so_far : {S C A : Type 0} (gets : S → Message → S → Type 0) (whole rest : List C → Ran A) (behind : A → A) (begin here : S) → GoesFrom gets whole rest behind begin here → (all : List C) × NotifiesInPart gets (whole all) begin here
+messages_so_far {S} {C} {A} gets whole rest behind begin here goes =
     let all = goes.cuts [] in
     let next = rest [] in
-    (all.0, record { front = goes.front; rest = next.told; whole = ap (λ (r : Ran A). r.told) all.1; heard = goes.heard; stops = goes.stops })
+    (all.0, record { front = goes.front; rest = next.messages; whole = ap (λ (r : Ran A). r.messages) all.1; heard = goes.heard; stops = goes.stops })
 
 -- a part between others
-pub told_between : {S A B : Type 0} (told : S → Told → S → Type 0) (part : Ran A) (whole : Ran B) (before behind : List Told) (begin here last : S) → whole.told ≡ before ++ (part.told ++ behind) → FoldsTo told begin before here → StopsBeforeCase before →
-    IsToldInPart told part here last → IsToldInPart told whole begin last
-told_between told part whole before behind begin here last is heard stops in_part = grind (arith, common_steps, append_assoc, heard_both, stops_both)
+pub messages_between : {S A B : Type 0} (gets : S → Message → S → Type 0) (part : Ran A) (whole : Ran B) (before behind : List Message) (begin here last : S) → whole.messages ≡ before ++ (part.messages ++ behind) → FoldsTo gets begin before here → StopsBeforeCase before →
+    NotifiesInPart gets part here last → NotifiesInPart gets whole begin last
+messages_between gets part whole before behind begin here last is heard stops in_part = grind (arith, common_steps, append_assoc, heard_both, stops_both)
 
--- of what is left a part is told
-pub told_further : {S C A B : Type 0} (told : S → Told → S → Type 0) (whole rest : List C → Ran A) (behind : A → A) (begin here last : S) (left : List C) (part : Ran B) (others : List Told) → (let next = rest left in next.told ≡ part.told ++ others) →
-    GoesFrom told whole rest behind begin here → IsToldInPart told part here last → (all : List C) × IsToldInPart told (whole all) begin last
-told_further {S} {C} {A} told whole rest behind begin here last left part others is goes in_part =
+-- the messages are about a part of what is left
+pub messages_further : {S C A B : Type 0} (gets : S → Message → S → Type 0) (whole rest : List C → Ran A) (behind : A → A) (begin here last : S) (left : List C) (part : Ran B) (others : List Message) → (let next = rest left in next.messages ≡ part.messages ++ others) →
+    GoesFrom gets whole rest behind begin here → NotifiesInPart gets part here last → (all : List C) × NotifiesInPart gets (whole all) begin last
+messages_further {S} {C} {A} gets whole rest behind begin here last left part others is goes in_part =
     let all = goes.cuts left in
-    let next = ap (λ (r : Ran A). r.told) all.1 ∙ ap (λ xs. goes.front ++ xs) is in
-    (all.0, told_between told part (whole all.0) goes.front others begin here last next goes.heard goes.stops in_part)
+    let next = ap (λ (r : Ran A). r.messages) all.1 ∙ ap (λ xs. goes.front ++ xs) is in
+    (all.0, messages_between gets part (whole all.0) goes.front others begin here last next goes.heard goes.stops in_part)
 
 -- ---- a section
 
 -- a section that was begun and didn't come to its end
-pub section_in_part : {S A : Type 0} (hears : S → Event → S → Type 0) (ends : S → EndTold → S → Type 0) (run : Run) (level : Level) (tags : List (List ℕ)) (outside : State) (first : List Event) (ended : Ending) (now : SectionNow) (passed : Bool) (inside : State → Bool → Ran A) (begin opened last : S) →
+pub section_in_part : {S A : Type 0} (hears : S → Event → S → Type 0) (ends : S → Ended → S → Type 0) (run : Run) (level : Level) (tags : List (List ℕ)) (outside : State) (first : List Event) (ended : Ending) (now : SectionNow) (passed : Bool) (inside : State → Bool → Ran A) (begin opened last : S) →
     OpensCases (before_of level) → IsBegun run level tags outside first ended now → passed ≡ has_passed ended → FoldsTo hears begin first opened →
-    IsToldInPart (tells hears ends) (inside (section_state run level tags outside) passed) opened last →
-    (cut : Cut) × IsToldInPart (tells hears ends) (section_of run level tags outside true cut inside) begin last
+    NotifiesInPart (notifies hears ends) (inside (section_state run level tags outside) passed) opened last →
+    (cut : Cut) × NotifiesInPart (notifies hears ends) (section_of run level tags outside true cut inside) begin last
 section_in_part {S} {A} hears ends run level tags outside first ended now passed inside begin opened last opens begins passes heard within =
-    let told_by = tells hears ends in
+    let messages_by = notifies hears ends in
     let section = section_state run level tags outside in
     let es = section_events run level tags outside in
     let cut = opened_cut es first (is_memory_ending ended) begins.so_far in
     let events = happened cut.0 es in
     let closing = map happens (events.after ++ events.cleanups) in
     let ready : passed ≡ before_passed events = passes ∙ ap has_passed begins.ends ∙ ap (λ xs. has_passed (ended_in xs)) cut.1 in
-    let here : IsToldInPart told_by (inside section (before_passed events)) opened last = subst (λ b. IsToldInPart told_by (inside section b) opened last) ready within in
-    let stops = stops_told run.library (before_of level) (enter outside) (before_list run.hooks level tags) (is_memory_ending ended) first opens begins.so_far in (
+    let here : NotifiesInPart messages_by (inside section (before_passed events)) opened last = subst (λ b. NotifiesInPart messages_by (inside section b) opened last) ready within in
+    let stops = stops_messages run.library (before_of level) (enter outside) (before_list run.hooks level tags) (is_memory_ending ended) first opens begins.so_far in (
       cut.0,
-      told_between told_by (inside section (before_passed events)) (section_of run level tags outside true cut.0 inside) (map happens events.before) closing begin opened last refl
-          (heard_told hears ends begin events.before opened (subst (λ xs. FoldsTo hears begin xs opened) cut.1 heard))
+      messages_between messages_by (inside section (before_passed events)) (section_of run level tags outside true cut.0 inside) (map happens events.before) closing begin opened last refl
+          (heard_messages hears ends begin events.before opened (subst (λ xs. FoldsTo hears begin xs opened) cut.1 heard))
           (subst events_stop cut.1 stops) here,
     )

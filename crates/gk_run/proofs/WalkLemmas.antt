@@ -4,7 +4,7 @@ use Rattle.std.proofs.lemmas.List.{append-nil}
 use Rattle.gk_run.specs.declared.ending.Ending.TheVariants as endings
 use Rattle.gk_run.specs.declared.results.Outcome.TheVariants as outcomes
 use Rattle.gk_run.proofs.ActingLemmas.{called_is, used_given}
-use Rattle.gk_run.proofs.GoesLemmas.{all_told, begin, behind, chain, unrefused, with_rest}
+use Rattle.gk_run.proofs.GoesLemmas.{all_messages, begin, behind, chain, unrefused, with_rest}
 
 -- where a section stands
 abbrev pub at : State → List CleanupValue → SectionNow
@@ -24,18 +24,18 @@ exact_step this cs Untested new left n t = t
 
 -- one event happened, of which this became
 abbrev pub OneEvent : {S : Type 0} → (S → Event → S → Type 0) → Ending → Event → Mark → SectionNow → SectionNow → Ending → S → S → Type 0
-OneEvent hears before event m start now ended first last = (g : Happens hears before (event ∷ []) start now ended first last) × (event_marks g.told ≡ m ∷ [])
+OneEvent hears before event m start now ended first last = (g : Happens hears before (event ∷ []) start now ended first last) × (event_marks g.messages ≡ m ∷ [])
 
-told_exactly : (m : Mark) (event told : Event) → is_memory_ending (ending_of m) ≡ false → event ≡ told → SoFar false (is_memory_ending (ending_of m)) (event ∷ []) [] (told ∷ [])
-told_exactly m event told n is = subst (λ b. SoFar false b (event ∷ []) [] (told ∷ [])) (sym n) (ap (λ x. x ∷ []) is)
+messages_exactly : (m : Mark) (event messages : Event) → is_memory_ending (ending_of m) ≡ false → event ≡ messages → SoFar false (is_memory_ending (ending_of m)) (event ∷ []) [] (messages ∷ [])
+messages_exactly m event messages n is = subst (λ b. SoFar false b (event ∷ []) [] (messages ∷ [])) (sym n) (ap (λ x. x ∷ []) is)
 
 exact_goes : {S : Type 0} (hears : S → Event → S → Type 0) (stage : Stage) (step : StepValue) (this : Stepped) (s new : State) (cs left : List CleanupValue) (m : Mark) (first last : S) → is_memory_ending (ending_of m) ≡ false →
     (m ≡ this.mark) × (new ≡ this.state) × (left ≡ cs ++ this.registered) → FoldsTo hears first (of_step stage step m this.used this.registered new ∷ []) last → OneEvent hears endings.Passed (event_of stage step this) m (at s cs) (at new left) (ending_of m) first last
 exact_goes hears stage step this s new cs left m first last n t h = (
   record {
-    told = of_step stage step m this.used this.registered new ∷ [];
+    messages = of_step stage step m this.used this.registered new ∷ [];
     heard = h;
-    so_far = told_exactly m (event_of stage step this) (of_step stage step m this.used this.registered new) n (sym (ap (λ x. of_step stage step x this.used this.registered new) t.0 ∙ ap (λ x. of_step stage step this.mark this.used this.registered x) t.1));
+    so_far = messages_exactly m (event_of stage step this) (of_step stage step m this.used this.registered new) n (sym (ap (λ x. of_step stage step x this.used this.registered new) t.0 ∙ ap (λ x. of_step stage step this.mark this.used this.registered x) t.1));
     ends = refl;
     leaves = ap (at new) t.2;
   },
@@ -47,7 +47,7 @@ pub step_goes : {S : Type 0} (hears : S → Event → S → Type 0) (stage : Sta
     FoldsTo hears first (happened_as stage step this m new ∷ []) last → OneEvent hears endings.Passed (event_of stage step this) m (at s cs) (at new left) (ending_of m) first last
 step_goes hears stage step this s new cs left (Acted outcomes.Memory) first last t h = (
   record {
-    told = of_step stage step (Acted outcomes.Memory) None [] new ∷ [];
+    messages = of_step stage step (Acted outcomes.Memory) None [] new ∷ [];
     heard = h;
     so_far = record { front = []; event = event_of stage step this; rest = []; left = new; whole = refl; cut = refl };
     ends = refl;
@@ -103,8 +103,8 @@ list_on hears library stage xs ys s cs now e all start first here last g h =
     let w = walk library stage s xs in
     let rest : Ending → SectionNow → List Event = λ x left. cond (has_passed x) (walk library stage left.state ys) [] in
     with_rest (rest e now) (chain (rest (ended_in w) (left_by (at s cs) w)) g (λ _. walk_append library stage s cs xs ys) h)
-    (λ n. let told = all_told (is_memory_ending e) w h.told n h.so_far in
-    sym (ap (λ x. rest x now) h.ends ∙ ap (rest (ended_in h.told)) h.leaves ∙ ap (λ es. rest (ended_in es) (left_by (at s cs) es)) told))
+    (λ n. let messages = all_messages (is_memory_ending e) w h.messages n h.so_far in
+    sym (ap (λ x. rest x now) h.ends ∙ ap (rest (ended_in h.messages)) h.leaves ∙ ap (λ es. rest (ended_in es) (left_by (at s cs) es)) messages))
 
 -- ---- lists that are walked each by itself
 
@@ -114,8 +114,8 @@ pub each_on : {S : Type 0} (hears : S → Event → S → Type 0) (library : Lib
 each_on hears library level xs others mid now ended e all start first here last m g h =
     let w = walk library (after_of level) mid.state xs in
     with_rest (walk_each library level now others) (chain (walk_each library level (left_by mid w) others) g (λ _. refl) (behind ended m h))
-    (λ n. let told = all_told (is_memory_ending e) w h.told (unrefused ended e m ∙ n) h.so_far in
-    sym (ap (λ left. walk_each library level left others) h.leaves ∙ ap (λ es. walk_each library level (left_by mid es) others) told))
+    (λ n. let messages = all_messages (is_memory_ending e) w h.messages (unrefused ended e m ∙ n) h.so_far in
+    sym (ap (λ left. walk_each library level left others) h.leaves ∙ ap (λ es. walk_each library level (left_by mid es) others) messages))
 
 -- ---- the steps of a case
 
@@ -130,7 +130,7 @@ pub record Next {S : Type 0} (hears : S → Event → S → Type 0) (library : L
   pub more : List Event
   pub splits : steps_from library stood s (step ∷ steps) ≡ part ++ more
   pub goes : Happens hears stood part (at s cs) (at new left) (worse stood (ending_of m)) first last
-  pub marks : event_marks goes.told ≡ next_marks stood m
+  pub marks : event_marks goes.messages ≡ next_marks stood m
   pub later : is_memory_ending (worse stood (ending_of m)) ≡ false → more ≡ steps_from library (worse stood (ending_of m)) new steps
 
 -- where it stands that nothing was changed
@@ -142,7 +142,7 @@ unrun_goes : {S : Type 0} (hears : S → Event → S → Type 0) (stood : Ending
     FoldsTo hears first (of_step steps_of_case step m None [] new ∷ []) last → OneEvent hears stood (unrun_step step planned s) m (at s cs) (at new left) (worse stood (ending_of m)) first last
 unrun_goes hears stood s new cs left step m planned first last n stays is p q h = (
   record {
-    told = of_step steps_of_case step m None [] new ∷ [];
+    messages = of_step steps_of_case step m None [] new ∷ [];
     heard = h;
     so_far = subst (λ b. SoFar b (is_memory_ending (worse stood (ending_of m))) (unrun_step step planned s ∷ []) [] (of_step steps_of_case step m None [] new ∷ [])) (sym n)
         (subst (λ b. SoFar false b (unrun_step step planned s ∷ []) [] (of_step steps_of_case step m None [] new ∷ [])) (sym (ap is_memory_ending stays ∙ n))
@@ -167,7 +167,7 @@ refused_goes : {S : Type 0} (hears : S → Event → S → Type 0) (s new : Stat
 refused_goes hears s new cs left step m planned first last is p q h =
     subst (λ x. OneEvent hears endings.Failed (unrun_step step planned s) x (at s cs) (at new left) (worse endings.Failed (ending_of x)) first last) (sym is) (
       record {
-        told = of_step steps_of_case step (Acted outcomes.Memory) None [] new ∷ [];
+        messages = of_step steps_of_case step (Acted outcomes.Memory) None [] new ∷ [];
         heard = subst (λ x. FoldsTo hears first (of_step steps_of_case step x None [] new ∷ []) last) is h;
         so_far = record { front = []; event = unrun_step step planned s; rest = []; left = new; whole = refl; cut = refl };
         ends = refl;
@@ -182,7 +182,7 @@ next_goes hears library endings.Memory s new cs left step steps m first last t h
   part = steps_from library endings.Memory s (step ∷ steps);
   more = [];
   splits = sym (append-nil (steps_from library endings.Memory s (step ∷ steps)));
-  goes = record { told = []; heard = h; so_far = refl; ends = refl; leaves = ap (λ x. at x left) t.1 ∙ ap (at s) t.2 };
+  goes = record { messages = []; heard = h; so_far = refl; ends = refl; leaves = ap (λ x. at x left) t.1 ∙ ap (at s) t.2 };
   marks = refl;
   later = λ n. absurd (true≢false n);
 }
@@ -257,7 +257,7 @@ shown_last endings.Skipped rows all ms h = sym (append-nil rows) ∙ h [] ∙ ap
 -- what a loop over a case's steps keeps
 pub record StepsSoFar {S : Type 0} (hears : S → Event → S → Type 0) (library : LibraryValue) (before : Ending) (start : SectionNow) (all : List StepValue) (stood : Ending) (now : SectionNow) (left : List StepValue) (rows : List StepRow) (first last : S) : Type 0 where
   pub goes : Goes hears before (steps_from library before start.state all) (steps_from library stood now.state left) start now stood first last
-  pub shown : Shows stood left rows all (event_marks goes.told)
+  pub shown : Shows stood left rows all (event_marks goes.messages)
 
 pub steps_first : {S : Type 0} (hears : S → Event → S → Type 0) (library : LibraryValue) (before : Ending) (start : SectionNow) (all : List StepValue) (first : S) → StepsSoFar hears library before start all before start all [] first first
 steps_first hears library before start all first =
@@ -270,11 +270,11 @@ steps_on hears library before start all stood next s new cs left step steps m ro
     let one = next_goes hears library stood s new cs left step steps m here last t h in
     let e = worse stood (ending_of m) in
     let goes = with_rest (steps_from library e new steps) (chain one.more so_far.goes (λ _. one.splits) one.goes) one.later in
-    let marks : event_marks (so_far.goes.told ++ one.goes.told) ≡ event_marks so_far.goes.told ++ next_marks stood m =
-    map-append mark_of so_far.goes.told one.goes.told ∙ ap (λ ms. event_marks so_far.goes.told ++ ms) one.marks in
+    let marks : event_marks (so_far.goes.messages ++ one.goes.messages) ≡ event_marks so_far.goes.messages ++ next_marks stood m =
+    map-append mark_of so_far.goes.messages one.goes.messages ∙ ap (λ ms. event_marks so_far.goes.messages ++ ms) one.marks in
     let whole : StepsSoFar hears library before start all e (at new left) steps (rows ++ row_of_step step m ∷ []) first last = record {
       goes = goes;
-      shown = subst (Shows e steps (rows ++ row_of_step step m ∷ []) all) (sym marks) (shown_next library stood s new cs left step steps all rows (event_marks so_far.goes.told) m t so_far.shown);
+      shown = subst (Shows e steps (rows ++ row_of_step step m ∷ []) all) (sym marks) (shown_next library stood s new cs left step steps all rows (event_marks so_far.goes.messages) m t so_far.shown);
     } in
     subst (λ x. StepsSoFar hears library before start all x (at new left) steps more first last) (sym ends)
     (subst (λ rs. StepsSoFar hears library before start all e (at new left) steps rs first last) (sym pushed) whole)
@@ -282,13 +282,13 @@ steps_on hears library before start all stood next s new cs left step steps m ro
 -- after the last step
 pub record AllSteps {S : Type 0} (hears : S → Event → S → Type 0) (library : LibraryValue) (before : Ending) (start now : SectionNow) (all : List StepValue) (ended : Ending) (rows : List StepRow) (first last : S) : Type 0 where
   pub goes : Happens hears before (steps_from library before start.state all) start now ended first last
-  pub rows_are : rows ≡ rows_of_steps all (event_marks goes.told)
+  pub rows_are : rows ≡ rows_of_steps all (event_marks goes.messages)
 
 pub steps_last : {S : Type 0} (hears : S → Event → S → Type 0) (library : LibraryValue) (before : Ending) (start now : SectionNow) (all : List StepValue) (ended : Ending) (left : List StepValue) (rows : List StepRow) (first last : S) → left ≡ [] →
     StepsSoFar hears library before start all ended now left rows first last → AllSteps hears library before start now all ended rows first last
 steps_last hears library before start now all ended left rows first last none so_far =
     let here : StepsSoFar hears library before start all ended now [] rows first last = subst (λ xs. StepsSoFar hears library before start all ended now xs rows first last) none so_far in
-    record { goes = here.goes; rows_are = shown_last ended rows all (event_marks here.goes.told) here.shown }
+    record { goes = here.goes; rows_are = shown_last ended rows all (event_marks here.goes.messages) here.shown }
 
 -- ---- the code's loops
 

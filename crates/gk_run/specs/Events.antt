@@ -1,4 +1,4 @@
--- The events of a run: what happens in it, one after another, what each leaves, and what an observer is told.
+-- The events of a run: what happens in it, one after another, what each leaves, and the messages to an observer.
 use denote.Ref.{Bor}
 use Rattle.std.specs.Prelude.{zero, suc, Bool, true, false, List, [], ◌∷◌, ◌++◌, map, Option, None, option_map, ℕ, ◌≡◌}
 use Rattle.gk_gherkin.specs.Feature.{StepValue}
@@ -82,45 +82,45 @@ cut_at zero s (event ∷ events) = refused s event ∷ []
 cut_at (suc n) s (event ∷ events) = event ∷ cut_at n s events
 
 -- The events of `all` that happened, up to one in which memory was refused.
-pub record IsCutOff (all told : List Event) : Type 0 where
+pub record IsCutOff (all messages : List Event) : Type 0 where
   pub front : List Event
   pub event : Event
   pub rest : List Event
   pub left : State
   pub whole : all ≡ front ++ (event ∷ rest)
-  pub cut : told ≡ front ++ (refused left event ∷ [])
+  pub cut : messages ≡ front ++ (refused left event ∷ [])
 
 -- The events of `all` that happened so far. If memory was refused before them, none did. If it is refused now, those up to the refused one did. Otherwise all except `rest` did.
 abbrev pub SoFar : Bool → Bool → List Event → List Event → List Event → Type 0
-SoFar true now all rest told = told ≡ []
-SoFar false true all rest told = IsCutOff all told
-SoFar false false all rest told = all ≡ told ++ rest
+SoFar true now all rest messages = messages ≡ []
+SoFar false true all rest messages = IsCutOff all messages
+SoFar false false all rest messages = all ≡ messages ++ rest
 
 -- The end of a case, with its index among the cases of its feature and its result, or that of a rule, with its result.
-pub data EndTold : Type 0 where
-  of_case : ℕ → CaseRow → EndTold
-  of_rule : RuleRow → EndTold
+pub data Ended : Type 0 where
+  of_case : ℕ → CaseRow → Ended
+  of_rule : RuleRow → Ended
 
--- What an observer is told: an event, or that a case or a rule has ended.
-pub data Told : Type 0 where
-  happens : Event → Told
-  has_ended : EndTold → Told
+-- A message to an observer: an event, or that a case or a rule has ended.
+pub data Message : Type 0 where
+  happens : Event → Message
+  has_ended : Ended → Message
 
--- The result of a part of a run, and what is told of it, in order.
+-- The result of a part of a run, and the messages about it, in order.
 pub record Ran (A : Type 0) : Type 0 where
   pub result : A
-  pub told : List Told
+  pub messages : List Message
 
 -- The result of a part of a run.
 abbrev pub result_of : {A : Type 0} → Ran A → A
 result_of ran = ran.result
 
--- What an observer may become when it is told this, given what it may become when it is told an event or an end.
-abbrev pub tells : {S : Type 0} → (S → Event → S → Type 0) → (S → EndTold → S → Type 0) → S → Told → S → Type 0
-tells hears ends old (happens event) new = hears old event new
-tells hears ends old (has_ended ended) new = ends old ended new
+-- What an observer may become when it gets this message, given what it may become when it is notified of an event or an end.
+abbrev pub notifies : {S : Type 0} → (S → Event → S → Type 0) → (S → Ended → S → Type 0) → S → Message → S → Type 0
+notifies hears ends old (happens event) new = hears old event new
+notifies hears ends old (has_ended ended) new = ends old ended new
 
--- A part of a run had this result, and an observer was told all of it.
-pub record IsRan {S A : Type 0} (told : S → Told → S → Type 0) (ran : Ran A) (row : A) (first last : S) : Type 0 where
+-- A part of a run had this result, and an observer got all messages about it.
+pub record IsRan {S A : Type 0} (gets : S → Message → S → Type 0) (ran : Ran A) (row : A) (first last : S) : Type 0 where
   pub is : row ≡ ran.result
-  pub heard : FoldsTo told first ran.told last
+  pub heard : FoldsTo gets first ran.messages last

@@ -7,7 +7,7 @@ use Rattle.gk_run.specs.declared.results.Status.TheVariants as statuses
 use Rattle.gk_run.specs.declared.section.Level.TheVariants as levels
 use Rattle.gk_run.specs.Running.{all_stay_open, case_statuses, cases_of, first_or, without_first, stays_open}
 use Rattle.gk_run.specs.Chosen.{HeadValue, MemberValue, ChosenValue, has_selected, CasesFallIntoRules, Group, own_members, rule_groups}
-use Rattle.gk_run.specs.Events.{Event, of_step, of_cleanup, EndTold, IsRan, Ran, Told, result_of, tells, happens, has_ended, of_rule}
+use Rattle.gk_run.specs.Events.{Event, of_step, of_cleanup, Ended, IsRan, Ran, Message, result_of, notifies, happens, has_ended, of_rule}
 use Rattle.gk_run.specs.OpenSection.{section_of, SectionRow, Run}
 use Rattle.gk_run.specs.Results.{CaseRow, RuleRow, FeatureRow, is_passed, is_failed, is_untested, is_memory}
 use Rattle.gk_run.specs.Section.{Cut, before_of, nowhere}
@@ -44,17 +44,17 @@ rules_inside run outside is_open cuts (g ∷ gs) =
     let next = rules_inside run outside (is_open && rule_stays_open run end) (without_first cuts) gs in
     record { rules = row ∷ next.rules; cases = end.inside ++ next.cases }
 
--- What is told of rules, the first of whose cases has this index in its feature: of each what happens in it, and then its end.
-abbrev pub rules_told : ℕ → Run → State → Bool → List RuleCuts → List Group → List Told
-rules_told index run outside is_open cuts [] = []
-rules_told index run outside is_open cuts (g ∷ gs) =
+-- The messages about rules, the first of whose cases has this index in its feature: of each what happens in it, and then its end.
+abbrev pub rules_messages : ℕ → Run → State → Bool → List RuleCuts → List Group → List Message
+rules_messages index run outside is_open cuts [] = []
+rules_messages index run outside is_open cuts (g ∷ gs) =
     let ran = rule_of index run outside is_open (first_or uncut_rule cuts) g in
     let row : RuleRow = record { line = g.head.line; around = ran.result.around } in
-    ran.told ++ has_ended (of_rule row) ∷ rules_told (index + length g.members) run outside (is_open && rule_stays_open run ran.result) (without_first cuts) gs
+    ran.messages ++ has_ended (of_rule row) ∷ rules_messages (index + length g.members) run outside (is_open && rule_stays_open run ran.result) (without_first cuts) gs
 
 -- Rules in order, the first of whose cases has this index in its feature.
 abbrev pub rules_of : ℕ → Run → State → Bool → List RuleCuts → List Group → Ran Inside
-rules_of index run outside is_open cuts groups = record { result = rules_inside run outside is_open cuts groups; told = rules_told index run outside is_open cuts groups }
+rules_of index run outside is_open cuts groups = record { result = rules_inside run outside is_open cuts groups; messages = rules_messages index run outside is_open cuts groups }
 
 -- The cuts of a feature: in its own hooks and cleanups, in each of its own cases, and in each of its rules. A dry run begins no feature and no rule: there, `cases` are the cuts of all its cases, including those of its rules, and the other cuts have no effect. What a list doesn't name isn't cut, and a cut of what isn't reached has no effect.
 pub record FeatureCuts : Type 0 where
@@ -88,7 +88,7 @@ abbrev pub inside_by : Run → State → Bool → List Cut → List RuleCuts →
 inside_by run section is_open cuts rule_cuts own groups =
     let first = cases_of 0 run section is_open cuts own in
     let next = rules_of (length own) run section (is_open && all_stay_open run first.result) rule_cuts groups in
-    record { result = record { rules = next.result.rules; cases = first.result ++ next.result.cases }; told = first.told ++ next.told }
+    record { result = record { rules = next.result.rules; cases = first.result ++ next.result.cases }; messages = first.messages ++ next.messages }
 
 -- What is inside a feature: its own cases, and then its rules. (Cucumber's Gherkin reference: rule)
 abbrev pub inside_of : Run → FeatureCuts → ChosenValue → State → Bool → Ran Inside
@@ -98,53 +98,53 @@ inside_of run cuts f section is_open = inside_by run section is_open cuts.cases 
 abbrev pub feature_of : Run → State → Bool → FeatureCuts → ChosenValue → Ran FeatureRow
 feature_of run outside is_open cuts f =
     let ran = section_of run levels.Feature f.tags outside (is_open && has_selected f.members) cuts.own (inside_of run cuts f) in
-    record { result = feature_row_of f ran.result.around ran.result.inside; told = ran.told }
+    record { result = feature_row_of f ran.result.around ran.result.inside; messages = ran.messages }
 
--- Features in order. Each has a result, and what happens in it is told. A feature is begun only if the run is open so far.
+-- Features in order. Each has a result, and there is a message about each thing that happens in it. A feature is begun only if the run is open so far.
 abbrev pub features_of : Run → State → Bool → List FeatureCuts → List ChosenValue → Ran (List FeatureRow)
-features_of run outside is_open cuts [] = record { result = []; told = [] }
+features_of run outside is_open cuts [] = record { result = []; messages = [] }
 features_of run outside is_open cuts (f ∷ fs) =
     let ran = feature_of run outside is_open (first_or uncut_feature cuts) f in
     let next = features_of run outside (is_open && stays_open run ran.result.status) (without_first cuts) fs in
-    record { result = ran.result ∷ next.result; told = ran.told ++ next.told }
+    record { result = ran.result ∷ next.result; messages = ran.messages ++ next.messages }
 
 -- A feature's result is that of some cuts, from the run's state if the run is open.
 abbrev pub IsFeatureResult : Run → State → Bool → ChosenValue → FeatureRow → Type 0
 IsFeatureResult run now is_open f row = (outside : State) → (is_open ≡ true → now ≡ outside) → (cuts : FeatureCuts) × (row ≡ result_of (feature_of run outside is_open cuts f))
 
--- An observer was told what happens in a feature with this result, for some cuts.
-abbrev pub IsFeatureTold : {S : Type 0} → (S → Event → S → Type 0) → (S → EndTold → S → Type 0) → Run → State → Bool → ChosenValue → FeatureRow → S → S → Type 0
-IsFeatureTold hears ends run outside is_open f row old new = (cuts : FeatureCuts) × IsRan (tells hears ends) (feature_of run outside is_open cuts f) row old new
+-- An observer was notified of what happens in a feature with this result, for some cuts.
+abbrev pub NotifiesFeature : {S : Type 0} → (S → Event → S → Type 0) → (S → Ended → S → Type 0) → Run → State → Bool → ChosenValue → FeatureRow → S → S → Type 0
+NotifiesFeature hears ends run outside is_open f row old new = (cuts : FeatureCuts) × IsRan (notifies hears ends) (feature_of run outside is_open cuts f) row old new
 
--- What is told last before a case begins: a step of the before hooks of a feature or a rule, or the end of a case or a rule. (Which of these steps is the last isn't said.)
-abbrev pub PrecedesCase : Told → Type 0
+-- The last message before a case begins: a step of the before hooks of a feature or a rule, or the end of a case or a rule. (Which of these steps is the last isn't said.)
+abbrev pub PrecedesCase : Message → Type 0
 PrecedesCase (happens (of_step stage step mark used registered s)) = (stage ≡ before_of levels.Feature) ⊎ (stage ≡ before_of levels.Rule)
 PrecedesCase (happens (of_cleanup level cleanup outcome s)) = ⊥
 PrecedesCase (has_ended ended) = ⊤
 
--- The last of these, if there is any, is of a kind that is told last before a case begins.
-abbrev pub StopsBeforeCase : List Told → Type 0
+-- The last of these, if there is any, is of a kind that is the last before a case begins.
+abbrev pub StopsBeforeCase : List Message → Type 0
 StopsBeforeCase [] = ⊤
 StopsBeforeCase (last ∷ []) = PrecedesCase last
 StopsBeforeCase (first ∷ next ∷ others) = StopsBeforeCase (next ∷ others)
 
--- An observer was told a beginning of what a part of a run tells, up to the end of a case or a rule, or into a list of before hooks. So each case was told whole, and no after hook or cleanup of a rule or a feature that hasn't ended was told.
-pub record IsToldInPart {S A : Type 0} (told : S → Told → S → Type 0) (ran : Ran A) (first last : S) : Type 0 where
-  pub front : List Told
-  pub rest : List Told
-  pub whole : ran.told ≡ front ++ rest
-  pub heard : FoldsTo told first front last
+-- An observer got a beginning of the messages about a part of a run, up to the end of a case or a rule, or into a list of before hooks. So it was notified of each case as a whole, and of no after hook or cleanup of a rule or a feature that hasn't ended.
+pub record NotifiesInPart {S A : Type 0} (gets : S → Message → S → Type 0) (ran : Ran A) (first last : S) : Type 0 where
+  pub front : List Message
+  pub rest : List Message
+  pub whole : ran.messages ≡ front ++ rest
+  pub heard : FoldsTo gets first front last
   pub stops : StopsBeforeCase front
 
--- An observer was told a beginning of what happens in a feature, for some cuts, up to the end of a case or a rule, or into a list of before hooks.
-abbrev pub IsFeatureToldInPart : {S : Type 0} → (S → Event → S → Type 0) → (S → EndTold → S → Type 0) → Run → State → Bool → ChosenValue → S → S → Type 0
-IsFeatureToldInPart hears ends run outside is_open f old new = (cuts : FeatureCuts) × IsToldInPart (tells hears ends) (feature_of run outside is_open cuts f) old new
+-- An observer was notified of a beginning of what happens in a feature, for some cuts, up to the end of a case or a rule, or into a list of before hooks.
+abbrev pub NotifiesFeatureInPart : {S : Type 0} → (S → Event → S → Type 0) → (S → Ended → S → Type 0) → Run → State → Bool → ChosenValue → S → S → Type 0
+NotifiesFeatureInPart hears ends run outside is_open f old new = (cuts : FeatureCuts) × NotifiesInPart (notifies hears ends) (feature_of run outside is_open cuts f) old new
 
 -- The result of a feature without rules: its cases run one after another, each from the feature's state.
 abbrev pub feature_without_rules : Run → State → Bool → FeatureCuts → ChosenValue → Ran FeatureRow
 feature_without_rules run outside is_open cuts f =
     let ran = section_of run levels.Feature f.tags outside (is_open && has_selected f.members) cuts.own (λ section is_ready. cases_of 0 run section is_ready cuts.cases f.members) in
-    record { result = feature_row_of f ran.result.around (record { rules = []; cases = ran.result.inside }); told = ran.told }
+    record { result = feature_row_of f ran.result.around (record { rules = []; cases = ran.result.inside }); messages = ran.messages }
 
 -- A feature without rules, whose cases are in none, has the results that its cases have one after another, each from the feature's state.
 abbrev pub FeaturesWithoutRulesHaveTheirCases : Type 0

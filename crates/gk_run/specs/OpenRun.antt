@@ -36,9 +36,9 @@ pub record IsStarted (run : Run) (old new : SandboxValue) (suite : SuiteValue) :
   pub unfailed : suite.has_failed ≡ false
   pub opens : opens_features suite ≡ has_passed suite.before
 
--- A run was begun like this, and an observer was told the events of the before_all hook.
-abbrev pub IsStartTold : {S : Type 0} → (S → Event → S → Type 0) → Run → SandboxValue → SandboxValue → SuiteValue → S → S → Type 0
-IsStartTold hears run old new suite first last = (started : IsStarted run old new suite) × FoldsTo hears first started.opened.first last
+-- A run was begun like this, and an observer was notified of the events of the before_all hook.
+abbrev pub NotifiesStart : {S : Type 0} → (S → Event → S → Type 0) → Run → SandboxValue → SandboxValue → SuiteValue → S → S → Type 0
+NotifiesStart hears run old new suite first last = (started : IsStarted run old new suite) × FoldsTo hears first started.opened.first last
 
 -- All of an open run is as it was, except whether a feature has failed.
 abbrev pub IsKept : SuiteValue → SuiteValue → Type 0
@@ -54,9 +54,9 @@ pub record IsNextRun (run : Run) (now : State) (f : ChosenValue) (row : FeatureR
 abbrev pub IsFinished : Run → SuiteValue → SandboxValue → Status → Type 0
 IsFinished run suite now around = (last : List Event) × IsEndedFrom run levels.Run [] suite.before (section_now now suite.cleanups) around last
 
--- A run was finished like this, and an observer was told the events that happened.
-abbrev pub IsFinishTold : {S : Type 0} → (S → Event → S → Type 0) → Run → SuiteValue → SandboxValue → Status → S → S → Type 0
-IsFinishTold hears run suite now around begin end = EndsAround hears run levels.Run [] suite.before (section_now now suite.cleanups) around begin end
+-- A run was finished like this, and an observer was notified of the events that happened.
+abbrev pub NotifiesFinish : {S : Type 0} → (S → Event → S → Type 0) → Run → SuiteValue → SandboxValue → Status → S → S → Type 0
+NotifiesFinish hears run suite now around begin end = EndsAround hears run levels.Run [] suite.before (section_now now suite.cleanups) around begin end
 
 -- The results of features are those of some cuts, from the run's state if they are begun.
 abbrev pub AreFeatures : Run → State → Bool → List ChosenValue → List FeatureRow → Type 0

@@ -59,14 +59,14 @@ pub record SectionRow (A : Type 0) : Type 0 where
   pub around : Status
   pub inside : A
 
--- A section, and what runs inside it from its state. What is inside is reached if the section was begun and its before list passed whole. The events of the before list are told before what is inside, the others after it. (behave's documentation: environment file functions)
+-- A section, and what runs inside it from its state. What is inside is reached if the section was begun and its before list passed whole. The messages about the before list come before those about what is inside, the others after them. (behave's documentation: environment file functions)
 abbrev pub section_of : {A : Type 0} → Run → Level → List (List ℕ) → State → Bool → Cut → (State → Bool → Ran A) → Ran (SectionRow A)
 section_of run level tags outside is_begun cut inside =
     let events = happened_in run level tags outside is_begun cut in
     let ran = inside (section_state run level tags outside) (is_begun && before_passed events) in
     record {
       result = record { around = around_of events; inside = ran.result };
-      told = map happens events.before ++ (ran.told ++ map happens (events.after ++ events.cleanups));
+      messages = map happens events.before ++ (ran.messages ++ map happens (events.after ++ events.cleanups));
     }
 
 -- The events of a section's before list that happened: all of them, or those up to the one in which memory was refused.
@@ -94,9 +94,9 @@ pub record IsSectionEnd (run : Run) (level : Level) (tags : List (List ℕ)) (ou
   pub opening : first ≡ (let e = happened cut (section_events run level tags outside) in e.before)
   pub closing : last ≡ (let e = happened cut (section_events run level tags outside) in e.after ++ e.cleanups)
 
--- The end of a section was told: all of its events after what is inside it, with the same cut as its before list. Its hooks and cleanups ended like this, and these events of its before list happened.
-abbrev pub IsEndTold : {S : Type 0} → (S → Event → S → Type 0) → Run → Level → List (List ℕ) → State → Status → List Event → S → S → Type 0
-IsEndTold hears run level tags outside around first begin end = (last : List Event) × FoldsTo hears begin last end × IsSectionEnd run level tags outside around first last
+-- An observer was notified of the end of a section: all of its events after what is inside it, with the same cut as its before list. Its hooks and cleanups ended like this, and these events of its before list happened.
+abbrev pub NotifiesEnd : {S : Type 0} → (S → Event → S → Type 0) → Run → Level → List (List ℕ) → State → Status → List Event → S → S → Type 0
+NotifiesEnd hears run level tags outside around first begin end = (last : List Event) × FoldsTo hears begin last end × IsSectionEnd run level tags outside around first last
 
 -- The events that close a section from this state and with these cleanups: those of its after lists, and then those of its cleanups. (behave's documentation: environment file functions, cleanups)
 abbrev pub closing_events : Run → Level → List (List ℕ) → SectionNow → List Event
@@ -110,7 +110,7 @@ pub record IsEndedFrom (run : Run) (level : Level) (tags : List (List ℕ)) (bef
   pub hooks : around ≡ around_status (worse before (ended_in last))
   pub whole : (outside : State) (first : List Event) → IsBegun run level tags outside first before now → IsSectionEnd run level tags outside around first last
 
--- A section was ended like this, and an observer was told the events that happened.
+-- A section was ended like this, and an observer was notified of the events that happened.
 abbrev pub EndsAround : {S : Type 0} → (S → Event → S → Type 0) → Run → Level → List (List ℕ) → Ending → SectionNow → Status → S → S → Type 0
 EndsAround hears run level tags before now around begin end = (last : List Event) × FoldsTo hears begin last end × IsEndedFrom run level tags before now around last
 

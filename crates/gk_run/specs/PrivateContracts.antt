@@ -27,7 +27,7 @@ use Rattle.gk_run.specs.declared.walk.StepsEnd.{StepsEnd}
 use Rattle.gk_run.specs.Acting.{CleanupValue, WritesFirst, use_value}
 use Rattle.gk_run.specs.SectionHooks.{cleaned, after_lists, before_list, walk_each}
 use Rattle.gk_run.specs.Ending.{is_memory_ending, worse}
-use Rattle.gk_run.specs.Events.{Event, SoFar, of_step, SectionNow, ended_in, event_marks, left_by, outcomes_of, section_now, used_in, EndTold, IsRan, Told, tells}
+use Rattle.gk_run.specs.Events.{Event, SoFar, of_step, SectionNow, ended_in, event_marks, left_by, outcomes_of, section_now, used_in, Ended, IsRan, Message, notifies}
 use Rattle.gk_run.specs.OpenSection.{IsOpened, SectionRow, section_of, run_value, Run}
 use Rattle.gk_run.specs.Results.{step_row, CaseRow, FeatureRow, case_row, rule_row}
 use Rattle.gk_run.specs.Section.{steps_of_case, before_of, Cut}
@@ -44,15 +44,15 @@ use Rattle.gk_run.specs.declared.rules.RuleEnd.{RuleEnd}
 use Rattle.gk_run.specs.declared.section.Level.TheVariants as levels
 use Rattle.gk_run.specs.Running.{all_stay_open, case_events, case_of, cases_of}
 use Rattle.gk_run.specs.Chosen.{ChosenValue, HeadValue, MemberValue, Group, groups_from, groups_in, members_in, members_of_rank}
-use Rattle.gk_run.specs.Features.{IsFeatureTold, IsFeatureToldInPart, IsToldInPart, inside_by, Inside, RuleCuts, rule_of, rule_stays_open, rules_of}
+use Rattle.gk_run.specs.Features.{NotifiesFeature, NotifiesFeatureInPart, NotifiesInPart, inside_by, Inside, RuleCuts, rule_of, rule_stays_open, rules_of}
 
--- Events of a section happened and were told, with `rest` left. `before` is how the section had ended before them, `ended` how it has ended now, and `now` its state and cleanups.
+-- Events of a section happened and an observer was notified of them, with `rest` left. `before` is how the section had ended before them, `ended` how it has ended now, and `now` its state and cleanups.
 pub record Goes {S : Type 0} (hears : S → Event → S → Type 0) (before : Ending) (all rest : List Event) (start now : SectionNow) (ended : Ending) (first last : S) : Type 0 where
-  pub told : List Event
-  pub heard : FoldsTo hears first told last
-  pub so_far : SoFar (is_memory_ending before) (is_memory_ending ended) all rest told
-  pub ends : ended ≡ worse before (ended_in told)
-  pub leaves : now ≡ left_by start told
+  pub messages : List Event
+  pub heard : FoldsTo hears first messages last
+  pub so_far : SoFar (is_memory_ending before) (is_memory_ending ended) all rest messages
+  pub ends : ended ≡ worse before (ended_in messages)
+  pub leaves : now ≡ left_by start messages
 
 -- All of these events happened, or those up to the one in which memory was refused.
 abbrev pub Happens : {S : Type 0} → (S → Event → S → Type 0) → Ending → List Event → SectionNow → SectionNow → Ending → S → S → Type 0
@@ -127,10 +127,10 @@ abbrev pub NotifiesNext : {S : Type 0} → (S → Event → S → Type 0) → sh
 NotifiesNext hears run ending step old mark new first last =
     FoldsTo hears first (next_event (library_value run.library.now) ending (state_of old.now) (step_value step) mark (state_of new.now)) last
 
--- The steps of a case whose before list ended with `before` were run, and their results are those of the events that were told.
+-- The steps of a case whose before list ended with `before` were run, and their results are those of the events of which an observer was notified.
 pub record RunsSteps {S : Type 0} (hears : S → Event → S → Type 0) (run : shared.Run) (before : Ending) (steps : Reserved Step StepResult) (old : SandboxValue) (cleanups : List CleanupValue) (end : StepsEnd) (new : SandboxValue) (new_cleanups : List CleanupValue) (first last : S) : Type 0 where
   pub goes : Happens hears before (steps_from (library_value run.library.now) before (state_of old.now) (map step_value steps.list.items)) (section_now old cleanups) (section_now new new_cleanups) end.ending first last
-  pub rows : map step_row end.results.items ≡ rows_of_steps (map step_value steps.list.items) (event_marks goes.told)
+  pub rows : map step_row end.results.items ≡ rows_of_steps (map step_value steps.list.items) (event_marks goes.messages)
 
 -- ---- hooks
 
@@ -146,15 +146,15 @@ WalksAfter hears run section old cleanups ended new new_cleanups first last =
 
 -- ---- a section
 
--- A section was begun, and its before list was told.
+-- A section was begun, and an observer was notified of its before list.
 abbrev pub Opens : {S : Type 0} → (S → Event → S → Type 0) → shared.Run → Section → SandboxValue → OpenSection → SandboxValue → S → S → Type 0
 Opens hears run section old opened new first last =
     (is : IsOpened (run_value run) section.level (texts section.tags.now) old new opened.layer opened.before opened.cleanups) × FoldsTo hears first is.first last
 
--- Cleanups were run, the last first, and their outcomes are those of the events that were told.
+-- Cleanups were run, the last first, and their outcomes are those of the events of which an observer was notified.
 pub record Cleans {S : Type 0} (hears : S → Event → S → Type 0) (run : shared.Run) (level : Level) (registered : List CleanupValue) (old : SandboxValue) (closed : Closed) (new : SandboxValue) (first last : S) : Type 0 where
   pub goes : Happens hears endings.Passed (cleaned (library_value run.library.now) level (section_now old registered)) (section_now old registered) (section_now new registered) closed.ending first last
-  pub outcomes : closed.outcomes.items ≡ outcomes_of goes.told
+  pub outcomes : closed.outcomes.items ≡ outcomes_of goes.messages
 
 -- The after lists of a section and then its cleanups happened. `before` is how the section had ended before them, `ended` how these ended, and `reported` the outcomes of the cleanups.
 pub record IsClosing {S : Type 0} (hears : S → Event → S → Type 0) (library : LibraryValue) (level : Level) (lists : List (List StepValue)) (before : Ending) (start : SectionNow) (ended : Ending) (reported : List Outcome) (first last : S) : Type 0 where
@@ -165,8 +165,8 @@ pub record IsClosing {S : Type 0} (hears : S → Event → S → Type 0) (librar
   pub end : Ending
   pub after : Happens hears before (walk_each library level start lists) start mid between first here
   pub cleanups : Happens hears between (cleaned library level mid) mid now end here last
-  pub ending : ended ≡ ended_in (after.told ++ cleanups.told)
-  pub outcomes : reported ≡ outcomes_of cleanups.told
+  pub ending : ended ≡ ended_in (after.messages ++ cleanups.messages)
+  pub outcomes : reported ≡ outcomes_of cleanups.messages
 
 -- A section that had ended with `before` was closed. After refused memory nothing more happened in it.
 abbrev pub Closes : {S : Type 0} → (S → Event → S → Type 0) → Ending → shared.Run → Section → List CleanupValue → SandboxValue → Closed → S → S → Type 0
@@ -175,26 +175,26 @@ Closes hears before run section registered old closed first last =
 
 -- ---- cases
 
--- The result of a case, and what was told of it, are those of some cut, from its section's state if the section is open.
+-- The result of a case, and the messages about it, are those of some cut, from its section's state if the section is open.
 abbrev pub IsMember : {S : Type 0} → (S → Event → S → Type 0) → Run → State → Bool → MemberValue → CaseRow → S → S → Type 0
 IsMember hears run now is_open m row first last =
     (section : State) → (is_open ≡ true → now ≡ section) → (cut : Cut) × (row ≡ case_of run section is_open cut m) × FoldsTo hears first (case_events run section is_open cut m) last
 
--- The rows of cases, the first of which has this index in its feature, and what was told of them, are those of some cuts, from the section's state if they are reached.
-abbrev pub AreCases : {S : Type 0} → (S → Told → S → Type 0) → ℕ → Run → State → Bool → List MemberValue → List CaseRow → S → S → Type 0
-AreCases told index run now is_open members rows first last =
-    (section : State) → (is_open ≡ true → now ≡ section) → (cuts : List Cut) × IsRan told (cases_of index run section is_open cuts members) rows first last
+-- The rows of cases, the first of which has this index in its feature, and the messages about them, are those of some cuts, from the section's state if they are reached.
+abbrev pub AreCases : {S : Type 0} → (S → Message → S → Type 0) → ℕ → Run → State → Bool → List MemberValue → List CaseRow → S → S → Type 0
+AreCases gets index run now is_open members rows first last =
+    (section : State) → (is_open ≡ true → now ≡ section) → (cuts : List Cut) × IsRan gets (cases_of index run section is_open cuts members) rows first last
 
--- Cases were told in part, for some cuts, from the section's state if they are reached.
-abbrev pub AreCasesInPart : {S : Type 0} → (S → Told → S → Type 0) → ℕ → Run → State → Bool → List MemberValue → S → S → Type 0
-AreCasesInPart told index run now is_open members first last =
-    (section : State) → (is_open ≡ true → now ≡ section) → (cuts : List Cut) × IsToldInPart told (cases_of index run section is_open cuts members) first last
+-- An observer got messages about a part of some cases, for some cuts, from the section's state if they are reached.
+abbrev pub AreCasesInPart : {S : Type 0} → (S → Message → S → Type 0) → ℕ → Run → State → Bool → List MemberValue → S → S → Type 0
+AreCasesInPart gets index run now is_open members first last =
+    (section : State) → (is_open ≡ true → now ≡ section) → (cuts : List Cut) × NotifiesInPart gets (cases_of index run section is_open cuts members) first last
 
 -- Cases were run in a section, and their results were added to those of the cases before them in the feature. `is_open` says whether the section is open, `stays_open` whether what comes after them is still reached.
-pub record RunsCases {S : Type 0} (hears : S → Event → S → Type 0) (ends : S → EndTold → S → Type 0) (run : Run) (now : State) (is_open : Bool) (members : List MemberValue) (old new : List CaseResult) (first last : S) (stays_open : Bool) : Type 0 where
+pub record RunsCases {S : Type 0} (hears : S → Event → S → Type 0) (ends : S → Ended → S → Type 0) (run : Run) (now : State) (is_open : Bool) (members : List MemberValue) (old new : List CaseResult) (first last : S) (stays_open : Bool) : Type 0 where
   pub rows : List CaseRow
   pub added : map case_row new ≡ map case_row old ++ rows
-  pub are : AreCases (tells hears ends) (length old) run now is_open members rows first last
+  pub are : AreCases (notifies hears ends) (length old) run now is_open members rows first last
   pub stay : stays_open ≡ all_stay_open run rows
 
 -- ---- rules
@@ -204,87 +204,87 @@ pub record AreDivided (heads : List HeadValue) (members : List MemberValue) (own
   pub unruled : members_in own ≡ members_of_rank 0 members
   pub ruled : groups_in rules ≡ groups_from 1 heads members
 
--- The result of a rule, whose first case has this index in its feature, and what was told of it, are those of some cuts, from its feature's state if the feature is open.
-abbrev pub IsRule : {S : Type 0} → (S → Told → S → Type 0) → ℕ → Run → State → Bool → Group → SectionRow (List CaseRow) → S → S → Type 0
-IsRule told index run now is_open g end first last =
-    (outside : State) → (is_open ≡ true → now ≡ outside) → (cuts : RuleCuts) × IsRan told (rule_of index run outside is_open cuts g) end first last
+-- The result of a rule, whose first case has this index in its feature, and the messages about it, are those of some cuts, from its feature's state if the feature is open.
+abbrev pub IsRule : {S : Type 0} → (S → Message → S → Type 0) → ℕ → Run → State → Bool → Group → SectionRow (List CaseRow) → S → S → Type 0
+IsRule gets index run now is_open g end first last =
+    (outside : State) → (is_open ≡ true → now ≡ outside) → (cuts : RuleCuts) × IsRan gets (rule_of index run outside is_open cuts g) end first last
 
--- A rule was told in part, for some cuts, from its feature's state if the feature is open.
-abbrev pub IsRuleInPart : {S : Type 0} → (S → Told → S → Type 0) → ℕ → Run → State → Bool → Group → S → S → Type 0
-IsRuleInPart told index run now is_open g first last =
-    (outside : State) → (is_open ≡ true → now ≡ outside) → (cuts : RuleCuts) × IsToldInPart told (rule_of index run outside is_open cuts g) first last
+-- An observer got messages about a part of a rule, for some cuts, from its feature's state if the feature is open.
+abbrev pub IsRuleInPart : {S : Type 0} → (S → Message → S → Type 0) → ℕ → Run → State → Bool → Group → S → S → Type 0
+IsRuleInPart gets index run now is_open g first last =
+    (outside : State) → (is_open ≡ true → now ≡ outside) → (cuts : RuleCuts) × NotifiesInPart gets (rule_of index run outside is_open cuts g) first last
 
--- Rules were told in part, for some cuts, from their feature's state if the feature is open.
-abbrev pub AreRulesInPart : {S : Type 0} → (S → Told → S → Type 0) → ℕ → Run → State → Bool → List Group → S → S → Type 0
-AreRulesInPart told index run now is_open groups first last =
-    (outside : State) → (is_open ≡ true → now ≡ outside) → (cuts : List RuleCuts) × IsToldInPart told (rules_of index run outside is_open cuts groups) first last
+-- An observer got messages about a part of some rules, for some cuts, from their feature's state if the feature is open.
+abbrev pub AreRulesInPart : {S : Type 0} → (S → Message → S → Type 0) → ℕ → Run → State → Bool → List Group → S → S → Type 0
+AreRulesInPart gets index run now is_open groups first last =
+    (outside : State) → (is_open ≡ true → now ≡ outside) → (cuts : List RuleCuts) × NotifiesInPart gets (rules_of index run outside is_open cuts groups) first last
 
 -- A rule was run in a feature, and the results of its cases were added to those of the cases before them. `is_open` says whether the feature is open.
-pub record RunsRule {S : Type 0} (hears : S → Event → S → Type 0) (ends : S → EndTold → S → Type 0) (run : Run) (now : State) (is_open : Bool) (g : Group) (old new : List CaseResult) (first last : S) (end : RuleEnd) : Type 0 where
+pub record RunsRule {S : Type 0} (hears : S → Event → S → Type 0) (ends : S → Ended → S → Type 0) (run : Run) (now : State) (is_open : Bool) (g : Group) (old new : List CaseResult) (first last : S) (end : RuleEnd) : Type 0 where
   pub rows : List CaseRow
   pub added : map case_row new ≡ map case_row old ++ rows
-  pub is : IsRule (tells hears ends) (length old) run now is_open g (record { around = end.around; inside = rows }) first last
+  pub is : IsRule (notifies hears ends) (length old) run now is_open g (record { around = end.around; inside = rows }) first last
   pub stay : end.stays_open ≡ rule_stays_open run (record { around = end.around; inside = rows })
 
--- Rules were run in a feature. Their results, and what was told of them, are those of some cuts, from the feature's state if it is open.
-pub record RunsRules {S : Type 0} (hears : S → Event → S → Type 0) (ends : S → EndTold → S → Type 0) (run : Run) (now : State) (is_open : Bool) (groups : List Group) (old new : List CaseResult) (results : List RuleResult) (first last : S) : Type 0 where
+-- Rules were run in a feature. Their results, and the messages about them, are those of some cuts, from the feature's state if it is open.
+pub record RunsRules {S : Type 0} (hears : S → Event → S → Type 0) (ends : S → Ended → S → Type 0) (run : Run) (now : State) (is_open : Bool) (groups : List Group) (old new : List CaseResult) (results : List RuleResult) (first last : S) : Type 0 where
   pub rows : List CaseRow
   pub added : map case_row new ≡ map case_row old ++ rows
   pub are : (outside : State) → (is_open ≡ true → now ≡ outside) → (cuts : List RuleCuts)
-      × IsRan (tells hears ends) (rules_of (length old) run outside is_open cuts groups) (record { rules = map rule_row results; cases = rows }) first last
+      × IsRan (notifies hears ends) (rules_of (length old) run outside is_open cuts groups) (record { rules = map rule_row results; cases = rows }) first last
 
 -- ---- a feature
 
--- The results of what is inside a section, and what was told of it, are those of some cuts, from the section's state if the section is open.
-abbrev pub IsInside : {S : Type 0} → (S → Told → S → Type 0) → Run → State → Bool → List MemberValue → List Group → Inside → S → S → Type 0
-IsInside told run now is_open own groups inside first last =
-    (section : State) → (is_open ≡ true → now ≡ section) → (cuts : List Cut) × (rule_cuts : List RuleCuts) × IsRan told (inside_by run section is_open cuts rule_cuts own groups) inside first last
+-- The results of what is inside a section, and the messages about it, are those of some cuts, from the section's state if the section is open.
+abbrev pub IsInside : {S : Type 0} → (S → Message → S → Type 0) → Run → State → Bool → List MemberValue → List Group → Inside → S → S → Type 0
+IsInside gets run now is_open own groups inside first last =
+    (section : State) → (is_open ≡ true → now ≡ section) → (cuts : List Cut) × (rule_cuts : List RuleCuts) × IsRan gets (inside_by run section is_open cuts rule_cuts own groups) inside first last
 
--- The result of a feature's section, and what was told of it, are those of some cuts, from the run's state if the feature is begun.
-abbrev pub IsFeatureEnd : {S : Type 0} → (S → Told → S → Type 0) → Run → State → Bool → List (List ℕ) → List MemberValue → List Group → SectionRow Inside → S → S → Type 0
-IsFeatureEnd told run now is_begun tags own groups end first last =
+-- The result of a feature's section, and the messages about it, are those of some cuts, from the run's state if the feature is begun.
+abbrev pub IsFeatureEnd : {S : Type 0} → (S → Message → S → Type 0) → Run → State → Bool → List (List ℕ) → List MemberValue → List Group → SectionRow Inside → S → S → Type 0
+IsFeatureEnd gets run now is_begun tags own groups end first last =
     (outside : State) → (is_begun ≡ true → now ≡ outside) → (cut : Cut) × (cuts : List Cut) × (rule_cuts : List RuleCuts)
-    × IsRan told (section_of run levels.Feature tags outside is_begun cut (λ section is_open. inside_by run section is_open cuts rule_cuts own groups)) end first last
+    × IsRan gets (section_of run levels.Feature tags outside is_begun cut (λ section is_open. inside_by run section is_open cuts rule_cuts own groups)) end first last
 
--- What is inside a section was told in part, for some cuts, from the section's state if the section is open.
-abbrev pub IsInsideInPart : {S : Type 0} → (S → Told → S → Type 0) → Run → State → Bool → List MemberValue → List Group → S → S → Type 0
-IsInsideInPart told run now is_open own groups first last =
-    (section : State) → (is_open ≡ true → now ≡ section) → (cuts : List Cut) × (rule_cuts : List RuleCuts) × IsToldInPart told (inside_by run section is_open cuts rule_cuts own groups) first last
+-- An observer got messages about a part of what is inside a section, for some cuts, from the section's state if the section is open.
+abbrev pub IsInsideInPart : {S : Type 0} → (S → Message → S → Type 0) → Run → State → Bool → List MemberValue → List Group → S → S → Type 0
+IsInsideInPart gets run now is_open own groups first last =
+    (section : State) → (is_open ≡ true → now ≡ section) → (cuts : List Cut) × (rule_cuts : List RuleCuts) × NotifiesInPart gets (inside_by run section is_open cuts rule_cuts own groups) first last
 
--- A feature's section was told in part, for some cuts, from the run's state if the feature is begun.
-abbrev pub IsFeatureEndInPart : {S : Type 0} → (S → Told → S → Type 0) → Run → State → Bool → List (List ℕ) → List MemberValue → List Group → S → S → Type 0
-IsFeatureEndInPart told run now is_begun tags own groups first last =
+-- An observer got messages about a part of a feature's section, for some cuts, from the run's state if the feature is begun.
+abbrev pub IsFeatureEndInPart : {S : Type 0} → (S → Message → S → Type 0) → Run → State → Bool → List (List ℕ) → List MemberValue → List Group → S → S → Type 0
+IsFeatureEndInPart gets run now is_begun tags own groups first last =
     (outside : State) → (is_begun ≡ true → now ≡ outside) → (cut : Cut) × (cuts : List Cut) × (rule_cuts : List RuleCuts)
-    × IsToldInPart told (section_of run levels.Feature tags outside is_begun cut (λ section is_open. inside_by run section is_open cuts rule_cuts own groups)) first last
+    × NotifiesInPart gets (section_of run levels.Feature tags outside is_begun cut (λ section is_open. inside_by run section is_open cuts rule_cuts own groups)) first last
 
 -- The value of an `InsideResults`.
 abbrev pub inside_value : InsideResults → Inside
 inside_value i = record { rules = map rule_row i.rules.items; cases = map case_row i.cases.items }
 
 -- What is inside a feature was run. `is_open` says whether the feature is open.
-abbrev pub RunsInside : {S : Type 0} → (S → Event → S → Type 0) → (S → EndTold → S → Type 0) → shared.Run → State → Bool → Content → S → S → InsideResults → Type 0
+abbrev pub RunsInside : {S : Type 0} → (S → Event → S → Type 0) → (S → Ended → S → Type 0) → shared.Run → State → Bool → Content → S → S → InsideResults → Type 0
 RunsInside hears ends run now is_open content first last inside =
-    IsInside (tells hears ends) (run_value run) now is_open (members_in content.own.items) (groups_in content.rules.list.items) (inside_value inside) first last
+    IsInside (notifies hears ends) (run_value run) now is_open (members_in content.own.items) (groups_in content.rules.list.items) (inside_value inside) first last
 
--- What is inside a feature was told in part.
-abbrev pub StopsInside : {S : Type 0} → (S → Event → S → Type 0) → (S → EndTold → S → Type 0) → shared.Run → State → Bool → Content → S → S → Type 0
+-- An observer got messages about a part of what is inside a feature.
+abbrev pub StopsInside : {S : Type 0} → (S → Event → S → Type 0) → (S → Ended → S → Type 0) → shared.Run → State → Bool → Content → S → S → Type 0
 StopsInside hears ends run now is_open content first last =
-    IsInsideInPart (tells hears ends) (run_value run) now is_open (members_in content.own.items) (groups_in content.rules.list.items) first last
+    IsInsideInPart (notifies hears ends) (run_value run) now is_open (members_in content.own.items) (groups_in content.rules.list.items) first last
 
 -- A feature ran, or wasn't begun, and ended like this.
-abbrev pub EndsFeature : {S : Type 0} → (S → Event → S → Type 0) → (S → EndTold → S → Type 0) → shared.Run → State → Bool → List (String Global) → Content → S → S → FeatureEnd → Type 0
+abbrev pub EndsFeature : {S : Type 0} → (S → Event → S → Type 0) → (S → Ended → S → Type 0) → shared.Run → State → Bool → List (String Global) → Content → S → S → FeatureEnd → Type 0
 EndsFeature hears ends run now is_begun tags content first last end =
-    IsFeatureEnd (tells hears ends) (run_value run) now is_begun (texts tags) (members_in content.own.items) (groups_in content.rules.list.items) (record { around = end.around; inside = inside_value end.inside }) first last
+    IsFeatureEnd (notifies hears ends) (run_value run) now is_begun (texts tags) (members_in content.own.items) (groups_in content.rules.list.items) (record { around = end.around; inside = inside_value end.inside }) first last
 
--- A feature that ran, or wasn't begun, was told in part.
-abbrev pub StopsFeatureEnd : {S : Type 0} → (S → Event → S → Type 0) → (S → EndTold → S → Type 0) → shared.Run → State → Bool → List (String Global) → Content → S → S → Type 0
+-- An observer got messages about a part of a feature that ran, or wasn't begun.
+abbrev pub StopsFeatureEnd : {S : Type 0} → (S → Event → S → Type 0) → (S → Ended → S → Type 0) → shared.Run → State → Bool → List (String Global) → Content → S → S → Type 0
 StopsFeatureEnd hears ends run now is_begun tags content first last =
-    IsFeatureEndInPart (tells hears ends) (run_value run) now is_begun (texts tags) (members_in content.own.items) (groups_in content.rules.list.items) first last
+    IsFeatureEndInPart (notifies hears ends) (run_value run) now is_begun (texts tags) (members_in content.own.items) (groups_in content.rules.list.items) first last
 
--- The result of a feature, and what was told of it, are those of some cuts, from the run's state if the run is open.
-abbrev pub RunsFeature : {S : Type 0} → (S → Event → S → Type 0) → (S → EndTold → S → Type 0) → Run → State → Bool → ChosenValue → S → S → FeatureRow → Type 0
-RunsFeature hears ends run now is_open f first last row = (outside : State) → (is_open ≡ true → now ≡ outside) → IsFeatureTold hears ends run outside is_open f row first last
+-- The result of a feature, and the messages about it, are those of some cuts, from the run's state if the run is open.
+abbrev pub RunsFeature : {S : Type 0} → (S → Event → S → Type 0) → (S → Ended → S → Type 0) → Run → State → Bool → ChosenValue → S → S → FeatureRow → Type 0
+RunsFeature hears ends run now is_open f first last row = (outside : State) → (is_open ≡ true → now ≡ outside) → NotifiesFeature hears ends run outside is_open f row first last
 
--- A feature was told in part, for some cuts, from the run's state if the run is open.
-abbrev pub StopsFeature : {S : Type 0} → (S → Event → S → Type 0) → (S → EndTold → S → Type 0) → Run → State → Bool → ChosenValue → S → S → Type 0
-StopsFeature hears ends run now is_open f first last = (outside : State) → (is_open ≡ true → now ≡ outside) → IsFeatureToldInPart hears ends run outside is_open f first last
+-- An observer got messages about a part of a feature, for some cuts, from the run's state if the run is open.
+abbrev pub StopsFeature : {S : Type 0} → (S → Event → S → Type 0) → (S → Ended → S → Type 0) → Run → State → Bool → ChosenValue → S → S → Type 0
+StopsFeature hears ends run now is_open f first last = (outside : State) → (is_open ≡ true → now ≡ outside) → NotifiesFeatureInPart hears ends run outside is_open f first last

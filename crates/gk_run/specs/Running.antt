@@ -9,7 +9,7 @@ use Rattle.gk_run.specs.declared.results.Status.{Status}
 use Rattle.gk_run.specs.declared.results.Status.TheVariants as statuses
 use Rattle.gk_run.specs.declared.section.Level.TheVariants as levels
 use Rattle.gk_run.specs.Ending.{verdict_status}
-use Rattle.gk_run.specs.Events.{Event, ended_in, event_marks, outcomes_of, EndTold, of_case, Ran, Told, happens, has_ended}
+use Rattle.gk_run.specs.Events.{Event, ended_in, event_marks, outcomes_of, Ended, of_case, Ran, Message, happens, has_ended}
 use Rattle.gk_run.specs.Results.{CaseRow, is_failed, is_memory}
 use Rattle.gk_run.specs.OpenSection.{Run, events_with}
 use Rattle.gk_run.specs.Section.{Events, Cut, around_of, happened, in_order, nowhere}
@@ -52,15 +52,15 @@ unreached_row c = unrun_row c statuses.Untested []
 abbrev pub IsReached : Run → State → CaseValue → CaseRow → Type 0
 IsReached run section c row = (cut : Cut) × (row ≡ reached_row run section cut c)
 
--- An observer was told the events of a case with this result, in order: those of the case alone, or these cut at one. The result is that of the same cut.
-pub record AreEventsTold {S : Type 0} (hears : S → Event → S → Type 0) (run : Run) (section : State) (c : CaseValue) (row : CaseRow) (old new : S) : Type 0 where
+-- An observer was notified of the events of a case with this result, in order: those of the case alone, or these cut at one. The result is that of the same cut.
+pub record NotifiesEvents {S : Type 0} (hears : S → Event → S → Type 0) (run : Run) (section : State) (c : CaseValue) (row : CaseRow) (old new : S) : Type 0 where
   pub cut : Cut
   pub is : row ≡ reached_row run section cut c
-  pub told : FoldsTo hears old (in_order (happened cut (alone run section c))) new
+  pub messages : FoldsTo hears old (in_order (happened cut (alone run section c))) new
 
--- An observer was told of the case at an index of its feature, with this result: its events, and then that it has ended.
-abbrev pub IsCaseTold : {S : Type 0} → (S → Event → S → Type 0) → (S → EndTold → S → Type 0) → Run → State → ℕ → CaseValue → CaseRow → S → S → Type 0
-IsCaseTold {S} hears ends run section index c row old new = (heard : S) × AreEventsTold hears run section c row old heard × ends heard (of_case index row) new
+-- An observer was notified of the case at an index of its feature, with this result: its events, and then that it has ended.
+abbrev pub NotifiesCase : {S : Type 0} → (S → Event → S → Type 0) → (S → Ended → S → Type 0) → Run → State → ℕ → CaseValue → CaseRow → S → S → Type 0
+NotifiesCase {S} hears ends run section index c row old new = (heard : S) × NotifiesEvents hears run section c row old heard × ends heard (of_case index row) new
 
 -- The first element of a list, or another if the list is empty.
 abbrev pub first_or : {A : Type 0} → A → List A → A
@@ -103,17 +103,17 @@ case_rows run section is_open cuts (m ∷ ms) =
     let row = case_of run section is_open (first_or nowhere cuts) m in
     row ∷ case_rows run section (is_open && stays_open run row.status) (without_first cuts) ms
 
--- What is told of a section's cases, the first of which has this index in its feature: of each its events, and then its end.
-abbrev pub cases_told : ℕ → Run → State → Bool → List Cut → List MemberValue → List Told
-cases_told index run section is_open cuts [] = []
-cases_told index run section is_open cuts (m ∷ ms) =
+-- The messages about a section's cases, the first of which has this index in its feature: of each its events, and then its end.
+abbrev pub cases_messages : ℕ → Run → State → Bool → List Cut → List MemberValue → List Message
+cases_messages index run section is_open cuts [] = []
+cases_messages index run section is_open cuts (m ∷ ms) =
     let cut = first_or nowhere cuts in
     let row = case_of run section is_open cut m in
-    map happens (case_events run section is_open cut m) ++ has_ended (of_case index row) ∷ cases_told (suc index) run section (is_open && stays_open run row.status) (without_first cuts) ms
+    map happens (case_events run section is_open cut m) ++ has_ended (of_case index row) ∷ cases_messages (suc index) run section (is_open && stays_open run row.status) (without_first cuts) ms
 
 -- A section's cases in order, the first of which has this index in its feature.
 abbrev pub cases_of : ℕ → Run → State → Bool → List Cut → List MemberValue → Ran (List CaseRow)
-cases_of index run section is_open cuts members = record { result = case_rows run section is_open cuts members; told = cases_told index run section is_open cuts members }
+cases_of index run section is_open cuts members = record { result = case_rows run section is_open cuts members; messages = cases_messages index run section is_open cuts members }
 
 -- The verdicts of cases.
 abbrev pub case_statuses : List CaseRow → List Status

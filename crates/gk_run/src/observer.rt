@@ -4,7 +4,7 @@ ghost use Rattle.gk_gherkin.specs.Feature.{step_value};
 ghost use Rattle.gk_world.specs.State.{state_of};
 ghost use Rattle.gk_run.specs.Acting.{CleanupValue, cleanup_value};
 ghost use Rattle.gk_run.specs.Results.{case_row, rule_row};
-ghost use Rattle.gk_run.specs.Events.{Event, of_step, of_cleanup, has_cleanup, used_in, EndTold, of_case, of_rule};
+ghost use Rattle.gk_run.specs.Events.{Event, of_step, of_cleanup, has_cleanup, used_in, Ended, of_case, of_rule};
 
 use crate::acting::Used;
 use crate::cleanups::Cleanup;
@@ -32,7 +32,7 @@ pub trait Observer {
     ghost hears: { Self → Event → Self → Type 0 };
 
     /// What it may become when a scenario or a rule has ended.
-    ghost ends: { Self → EndTold → Self → Type 0 };
+    ghost ends: { Self → Ended → Self → Type 0 };
 
     /// Receives a step of a scenario or of a hook, with its stage and what was done for it.
     fn step(&mut self, stage: Stage, step: &Step, done: &StepDone<'_>, sandbox: &Sandbox)

@@ -5,9 +5,9 @@ ghost use Rattle.gk_world.specs.Sandbox.{depth, EndsLayer, IsSame};
 ghost use Rattle.gk_run.specs.Results.{feature_row};
 ghost use Rattle.gk_run.specs.OpenSection.{run_of};
 ghost use Rattle.gk_run.specs.Chosen.{chosen_value, IsFormed};
-ghost use Rattle.gk_run.specs.Features.{IsFeatureTold, IsFeatureToldInPart};
+ghost use Rattle.gk_run.specs.Features.{NotifiesFeature, NotifiesFeatureInPart};
 ghost use Rattle.gk_run.specs.OpenRun as spec;
-ghost use Rattle.gk_run.specs.OpenRun.{IsStarted, IsStartTold, IsKept, IsNextRun, IsFinished, IsFinishTold};
+ghost use Rattle.gk_run.specs.OpenRun.{IsStarted, NotifiesStart, IsKept, IsNextRun, IsFinished, NotifiesFinish};
 
 use crate::chosen::Chosen;
 use crate::ending::{either, has_passed, is_failed_or_memory};
@@ -78,7 +78,7 @@ impl Suite {
         Suite::start_watched(alloc, sandbox, library, &hooks, stop, &mut Unwatched)
     }
 
-    /// Begins a run as `start` does, and tells an observer the events of the `before_all` hook. No layer
+    /// Begins a run as `start` does, and notifies an observer of the events of the `before_all` hook. No layer
     /// of the sandbox is open.
     pub fn start_watched<O: Observer>(
         alloc: Global,
@@ -89,7 +89,7 @@ impl Suite {
         observer: &mut O,
     ) -> Suite
         requires { suc (suc (suc (depth sandbox.old))) < layers }
-        ensures { IsStartTold O.hears (run_of library.now hooks.now.file.now stop)
+        ensures { NotifiesStart O.hears (run_of library.now hooks.now.file.now stop)
             sandbox.old sandbox.new result observer.old observer.new }
     {
         let run = Run {
@@ -157,11 +157,11 @@ impl Suite {
         ensures ran { IfOk result (λ r. IsNextRun
             (run_of library.now hooks.now.file.now self.old.stop) (state_of sandbox.old.now)
             (chosen_value chosen) (feature_row r) self.old self.new) }
-        ensures told { IfOk result (λ r. IsFeatureTold O.hears O.ends
+        ensures notified { IfOk result (λ r. NotifiesFeature O.hears O.ends
             (run_of library.now hooks.now.file.now self.old.stop) (state_of sandbox.old.now)
             (spec.opens_features self.old) (chosen_value chosen) (feature_row r)
             observer.old observer.new) }
-        ensures told_in_part { OnErr result (IsFeatureToldInPart O.hears O.ends
+        ensures notified_in_part { OnErr result (NotifiesFeatureInPart O.hears O.ends
             (run_of library.now hooks.now.file.now self.old.stop) (state_of sandbox.old.now)
             (spec.opens_features self.old) (chosen_value chosen) observer.old observer.new) }
         ensures kept { IsKept self.old self.new }
@@ -213,7 +213,7 @@ impl Suite {
         observer: &mut O,
     ) -> Status
         requires innermost { self.layer ≡ depth sandbox.old }
-        ensures told { IsFinishTold O.hears (run_of library.now hooks.now.file.now self.stop) self
+        ensures notified { NotifiesFinish O.hears (run_of library.now hooks.now.file.now self.stop) self
             sandbox.old result observer.old observer.new }
         ensures ends { EndsLayer sandbox.old sandbox.new }
     {

@@ -3,7 +3,7 @@ ghost use Rattle.std.specs.Prelude.{◌≡◌, ◌+◌, ◌<◌, ◌≤◌, suc,
 ghost use Rattle.gk_world.specs.State.{state_of, layers};
 ghost use Rattle.gk_world.specs.Sandbox.{depth, IsSame};
 ghost use Rattle.gk_run.specs.Chosen.{group_value, groups_in, members_of_groups};
-ghost use Rattle.gk_run.specs.Events.{tells};
+ghost use Rattle.gk_run.specs.Events.{notifies};
 ghost use Rattle.gk_run.specs.PrivateContracts.{AreRulesInPart, IsRuleInPart, RunsRule, RunsRules};
 ghost use Rattle.gk_run.specs.OpenSection.{run_value};
 
@@ -42,7 +42,7 @@ fn run_rule<O: Observer>(
     ensures counted { OnOk result (length results.new.items
         ≡ length results.old.items + length rule.members.items) }
     ensures capacity { vec_capacity results.new ≡ vec_capacity results.old }
-    ensures stopped { OnErr result (IsRuleInPart (tells O.hears O.ends)
+    ensures stopped { OnErr result (IsRuleInPart (notifies O.hears O.ends)
         (length results.old.items) (run_value run.now) (state_of sandbox.old.now) is_open
         (group_value rule) observer.old observer.new) }
     ensures same { IsSame sandbox.old sandbox.new }
@@ -92,7 +92,7 @@ pub fn run_rules<O: Observer>(
     ensures rules { IfOk result (λ results. RunsRules O.hears O.ends (run_value run.now)
         (state_of sandbox.old.now) is_open (groups_in rules.list.items)
         cases.old.items cases.new.items results.items observer.old observer.new) }
-    ensures stopped { OnErr result (AreRulesInPart (tells O.hears O.ends)
+    ensures stopped { OnErr result (AreRulesInPart (notifies O.hears O.ends)
         (length cases.old.items) (run_value run.now) (state_of sandbox.old.now) is_open
         (groups_in rules.list.items) observer.old observer.new) }
     ensures same { IsSame sandbox.old sandbox.new }

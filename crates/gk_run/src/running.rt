@@ -6,7 +6,7 @@ ghost use Rattle.gk_world.specs.State.{state_of, layers};
 ghost use Rattle.gk_world.specs.Sandbox.{depth, IsSame};
 ghost use Rattle.gk_run.specs.Results.{step_row, case_row};
 ghost use Rattle.gk_run.specs.OpenSection.{run_of, run_value};
-ghost use Rattle.gk_run.specs.Running.{unrun_row, AreEventsTold, IsCaseTold, IsReached, same_marks};
+ghost use Rattle.gk_run.specs.Running.{unrun_row, NotifiesEvents, NotifiesCase, IsReached, same_marks};
 ghost use Rattle.gk_run.specs.Walk.{row_of_step};
 
 use crate::ending::{around_status, verdict_status, worse};
@@ -29,9 +29,9 @@ pub(crate) fn case_in<O: Observer>(
     observer: &mut O,
 ) -> Result<CaseResult, NoRoom>
     requires room { depth sandbox.old < layers }
-    ensures told { IfOk result (λ r. AreEventsTold O.hears (run_value run.now)
+    ensures notified { IfOk result (λ r. NotifiesEvents O.hears (run_value run.now)
         (state_of sandbox.old.now) (case_value case) (case_row r) observer.old observer.new) }
-    ensures untold { OnErr result (observer.new ≡ observer.old) }
+    ensures silent { OnErr result (observer.new ≡ observer.old) }
     ensures same { IsSame sandbox.old sandbox.new }
 {
     let Case {
@@ -102,10 +102,10 @@ pub fn run_case_watched<O: Observer>(
     requires room { depth sandbox.old < layers }
     ensures row { IfOk result (λ r. IsReached (run_of library.now hooks.now false)
         (state_of sandbox.old.now) (case_value case) (case_row r)) }
-    ensures told { IfOk result (λ r. IsCaseTold O.hears O.ends
+    ensures notified { IfOk result (λ r. NotifiesCase O.hears O.ends
         (run_of library.now hooks.now false) (state_of sandbox.old.now)
         0 (case_value case) (case_row r) observer.old observer.new) }
-    ensures untold { OnErr result (observer.new ≡ observer.old) }
+    ensures silent { OnErr result (observer.new ≡ observer.old) }
     ensures same { IsSame sandbox.old sandbox.new }
 {
     let hooks = HookTable::without_index(hooks);

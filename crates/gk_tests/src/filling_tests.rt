@@ -85,7 +85,7 @@ const KEYWORDS: [(Keyword, bool); 4] = [
 ];
 
 #[test]
-fn outlines_are_told_from_scenarios(rt: HostRuntime) -> Result<(), AllocError> {
+fn outlines_are_messages_from_scenarios(rt: HostRuntime) -> Result<(), AllocError> {
     for (keyword, wanted) in KEYWORDS {
         let scenario = scenario_with(rt.alloc(), keyword, Vec::new(rt.alloc()));
         equal(&rt, &is_outline(&scenario), &wanted);

@@ -83,7 +83,7 @@ fn the_built_in_library_has_its_entries(rt: HostRuntime) -> Result<(), Fail> {
 }
 
 #[test]
-fn known_steps_are_told_from_others(rt: HostRuntime) -> Result<(), Fail> {
+fn known_steps_are_messages_from_others(rt: HostRuntime) -> Result<(), Fail> {
     let library = read_library(rt.alloc(), LIBRARY.as_bytes())?;
     for (text, wanted) in [("a b", true), ("a c", false)] {
         let known = library.knows(rt.alloc(), StepType::When, text)?;

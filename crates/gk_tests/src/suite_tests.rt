@@ -17,7 +17,7 @@ use std::alloc::Global;
 use std::test::Fail;
 
 #[test]
-fn failures_are_told_from_the_rest(rt: HostRuntime) {
+fn failures_are_messages_from_the_rest(rt: HostRuntime) {
     holds(
         &rt,
         is_failed_or_memory(Status::Failed) && is_failed_or_memory(Status::Memory),
@@ -97,7 +97,7 @@ fn steps_are_looked_up(rt: HostRuntime) -> Result<(), Fail> {
 /// registered a cleanup, and the value `n` after it.
 #[derive(Debug, Drop)]
 struct Teller {
-    told: String,
+    messages: String,
 }
 
 impl Observer for Teller {
@@ -115,7 +115,7 @@ impl Observer for Teller {
         } = *done;
         let is_used = done.used.is_some();
         let _ = write!(
-            self.told,
+            self.messages,
             "{level:?} {part:?} {} {mark:?} {is_used} {registered} {value:?}\n",
             step.line
         );
@@ -124,7 +124,7 @@ impl Observer for Teller {
     fn cleanup(&mut self, level: Level, cleanup: &Cleanup, outcome: Outcome, sandbox: &Sandbox) {
         let value = sandbox.value("n");
         let _ = write!(
-            self.told,
+            self.messages,
             "{level:?} cleanup of {:?} {} {:?} {outcome:?} {value:?}\n",
             cleanup.at.part, cleanup.at.line, cleanup.found.fields
         );
@@ -132,14 +132,14 @@ impl Observer for Teller {
 
     fn case_ended(&mut self, index: usize, row: &CaseResult) {
         let _ = write!(
-            self.told,
+            self.messages,
             "scenario {index} {} {:?}\n",
             row.line, row.status
         );
     }
 
     fn rule_ended(&mut self, row: &RuleResult) {
-        let _ = write!(self.told, "rule {} {:?}\n", row.line, row.around);
+        let _ = write!(self.messages, "rule {} {:?}\n", row.line, row.around);
     }
 }
 
@@ -151,7 +151,7 @@ const FEATURE: &str =
 const HOOKS: &str =
     "before_all:\n  Given it passes\nafter_rule:\n  Then it fails\nafter_all:\n  Then it passes\n";
 
-// What is told of its first scenario, and of the whole run.
+// What is messages of its first scenario, and of the whole run.
 const CASE_TOLD: &str =
     "Scenario Steps 3 Acted(Passed) true false Some(\"1\")\nScenario Steps 4 Acted(Passed) true true Some(\"1\")\nScenario cleanup of Steps 4 [Text(\"n\"), Text(\"1\")] Passed Some(\"1\")\nscenario 0 2 Passed\n";
 
@@ -166,8 +166,8 @@ fn first_case(alloc: Global, text: &str) -> Result<Case, Fail> {
     }
 }
 
-// Runs a scenario alone in a new sandbox, and tells of it.
-fn told_case(
+// Runs a scenario alone in a new sandbox, and notifies of it.
+fn messages_case(
     alloc: Global,
     library: &Library,
     hooks: &HookFile,
@@ -178,23 +178,23 @@ fn told_case(
     run_case_watched(alloc, &mut sandbox, library, hooks, case, teller)
 }
 
-// Runs the first scenario of a feature alone without hooks. Returns its status, and what was told.
-fn first_told(alloc: Global, library: &Library, text: &str) -> Result<(Status, String), Fail> {
+// Runs the first scenario of a feature alone without hooks. Returns its status, and what was messages.
+fn first_messages(alloc: Global, library: &Library, text: &str) -> Result<(Status, String), Fail> {
     let mut teller = Teller {
-        told: String::new(alloc),
+        messages: String::new(alloc),
     };
     let hooks = read_hooks(alloc, b"")?;
     let case = first_case(alloc, text)?;
-    let result = told_case(alloc, library, &hooks, case, &mut teller)?;
-    Ok((result.status, teller.told))
+    let result = messages_case(alloc, library, &hooks, case, &mut teller)?;
+    Ok((result.status, teller.messages))
 }
 
 #[test]
-fn events_of_a_case_are_told(rt: HostRuntime) -> Result<(), Fail> {
+fn events_of_a_case_are_messages(rt: HostRuntime) -> Result<(), Fail> {
     let library = default_library(rt.alloc())?;
-    let (status, told) = first_told(rt.alloc(), &library, FEATURE)?;
+    let (status, messages) = first_messages(rt.alloc(), &library, FEATURE)?;
     equal(&rt, &status, &Status::Passed);
-    same(&rt, told.as_str(), CASE_TOLD);
+    same(&rt, messages.as_str(), CASE_TOLD);
     Ok(())
 }
 
@@ -207,8 +207,8 @@ fn statuses_of(ran: Result<FeatureResult, NoRoom>) -> Option<(Status, Status)> {
 }
 
 // Tells a run of one feature. Returns the feature's statuses, how the run's hooks and cleanups ended, and what was
-// told.
-fn run_told(
+// messages.
+fn run_messages(
     alloc: Global,
     library: &Library,
     hooks: &HookFile,
@@ -219,24 +219,24 @@ fn run_told(
     let hooks = HookTable::new(alloc, hooks);
     let mut sandbox = Sandbox::new(alloc);
     let mut teller = Teller {
-        told: String::new(alloc),
+        messages: String::new(alloc),
     };
     let mut suite = Suite::start_watched(alloc, &mut sandbox, library, &hooks, false, &mut teller);
     let ran = suite.feature_watched(alloc, &mut sandbox, library, &hooks, chosen, &mut teller);
     let statuses = statuses_of(ran);
     let around = suite.finish_watched(alloc, &mut sandbox, library, &hooks, &mut teller);
-    (statuses, around, teller.told)
+    (statuses, around, teller.messages)
 }
 
 #[test]
-fn events_of_a_run_are_told(rt: HostRuntime) -> Result<(), Fail> {
+fn events_of_a_run_are_messages(rt: HostRuntime) -> Result<(), Fail> {
     let library = default_library(rt.alloc())?;
     let hooks = read_hooks(rt.alloc(), HOOKS.as_bytes())?;
     let chosen = chosen(rt.alloc(), FEATURE)?;
-    let (statuses, around, told) = run_told(rt.alloc(), &library, &hooks, chosen);
+    let (statuses, around, messages) = run_messages(rt.alloc(), &library, &hooks, chosen);
     equal(&rt, &statuses, &Some((Status::Failed, Status::Passed)));
     equal(&rt, &around, &Status::Passed);
-    same(&rt, told.as_str(), RUN_TOLD);
+    same(&rt, messages.as_str(), RUN_TOLD);
     Ok(())
 }
 

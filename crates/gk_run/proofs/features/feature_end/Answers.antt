@@ -1,15 +1,15 @@
-use Rattle.gk_run.proofs.Common.{◌∙◌, Bool, inl, refl, subst, sym, texts, State, state_of, groups_in, inside_value, members_in, inside_by, Inside, IsToldInPart, section_now, IsRan, Ran, tells, IsBegun, section_of, section_state, run_value}
+use Rattle.gk_run.proofs.Common.{◌∙◌, Bool, inl, refl, subst, sym, texts, State, state_of, groups_in, inside_value, members_in, inside_by, Inside, NotifiesInPart, section_now, IsRan, Ran, notifies, IsBegun, section_of, section_state, run_value}
 use Rattle.gk_run.specs.declared.section.Level.TheVariants as levels
 use Rattle.gk_run.proofs.FeaturesLemmas.{feature_unbegun, unbegun_in_part}
 use Rattle.gk_run.proofs.PartLemmas.{at_err, section_in_part}
 use Rattle.gk_run.proofs.SectionLemmas.{begun_still, passed_state, ready}
-use Rattle.gk_run.proofs.ToldLemmas.{section_ran}
+use Rattle.gk_run.proofs.NotifiedLemmas.{section_ran}
 use Rattle.gk_run.proofs.features.feature_end.Goals as goal
 
 pub returns-then-not-is_begun-clause-end : goal.returns-then-not-is_begun-clause-end
 returns-then-not-is_begun-clause-end g c =
     let content = c.args.content in
-    feature_unbegun (tells g.O.Observer.hears g.O.Observer.ends) (run_value c.args.run.now) (state_of c.args.sandbox.now.now) c.args.is_begun (texts c.args.tags.now) (members_in content.own.items) (groups_in content.rules.list.items) (inside_value c.in_ok-inside.inside)
+    feature_unbegun (notifies g.O.Observer.hears g.O.Observer.ends) (run_value c.args.run.now) (state_of c.args.sandbox.now.now) c.args.is_begun (texts c.args.tags.now) (members_in content.own.items) (groups_in content.rules.list.items) (inside_value c.in_ok-inside.inside)
     c.args.observer.now c.run_inside.new.observer c.if-not-is_begun.true c.in_ok-inside.ensures.inside
 
 pub returns-in-Ok-clause-end : goal.returns-in-Ok-clause-end
@@ -37,14 +37,14 @@ returns-in-Ok-clause-end g c = λ there open_at.
       end.cut,
       known.0,
       known.1,
-      subst (λ (b : Bool). IsRan (tells hears ends) (section_of run levels.Feature tags there b end.cut inside) (record { around = around; inside = end_inside }) c.args.observer.now c.end_around.new.observer) (sym c.if-not-is_begun.false)
+      subst (λ (b : Bool). IsRan (notifies hears ends) (section_of run levels.Feature tags there b end.cut inside) (record { around = around; inside = end_inside }) c.args.observer.now c.end_around.new.observer) (sym c.if-not-is_begun.false)
           (section_ran hears ends run levels.Feature tags there c.has_passed.result around first ended.0 end_inside inside c.args.observer.now c.open_section-opened.new.observer c.run_inside-2.new.observer c.end_around.new.observer end passes opens.1 known.2 ended.1),
     )
 
 pub returns-in_err-inside-clause-stopped : goal.returns-in_err-inside-clause-stopped
 returns-in_err-inside-clause-stopped g c =
     let content = c.args.content in
-    at_err _ (unbegun_in_part (tells g.O.Observer.hears g.O.Observer.ends) (run_value c.args.run.now) (state_of c.args.sandbox.now.now) c.args.is_begun (texts c.args.tags.now) (members_in content.own.items) (groups_in content.rules.list.items)
+    at_err _ (unbegun_in_part (notifies g.O.Observer.hears g.O.Observer.ends) (run_value c.args.run.now) (state_of c.args.sandbox.now.now) c.args.is_begun (texts c.args.tags.now) (members_in content.own.items) (groups_in content.rules.list.items)
     c.args.observer.now c.run_inside.new.observer c.if-not-is_begun.true c.in_err-inside.ensures.stopped)
 
 pub returns-in-Err-clause-stopped : goal.returns-in-Err-clause-stopped
@@ -67,5 +67,5 @@ returns-in-Err-clause-stopped g c = λ there open_at.
       part.0,
       known.0,
       known.1,
-      subst (λ (b : Bool). IsToldInPart (tells g.O.Observer.hears g.O.Observer.ends) (section_of run levels.Feature tags there b part.0 inside) begin last) (sym c.if-not-is_begun.false) part.1,
+      subst (λ (b : Bool). NotifiesInPart (notifies g.O.Observer.hears g.O.Observer.ends) (section_of run levels.Feature tags there b part.0 inside) begin last) (sym c.if-not-is_begun.false) part.1,
     )

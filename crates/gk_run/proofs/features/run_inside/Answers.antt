@@ -1,4 +1,4 @@
-use Rattle.gk_run.proofs.Common.{◌≡◌, ap, arith, length, length-map, state_of, groups_in, member_of, members_in, Member, tells, run_value}
+use Rattle.gk_run.proofs.Common.{◌≡◌, ap, arith, length, length-map, state_of, groups_in, member_of, members_in, Member, notifies, run_value}
 use Rattle.gk_run.proofs.FeaturesLemmas.{inside_is, own_in_part, rules_in_part}
 use Rattle.gk_run.proofs.PartLemmas.{at_err}
 use Rattle.gk_run.proofs.features.run_inside.Goals as goal
@@ -21,7 +21,7 @@ returns-clause-inside g c =
 pub returns-in_err-all_stay-clause-stopped : goal.returns-in_err-all_stay-clause-stopped
 returns-in_err-all_stay-clause-stopped g c =
     let content = c.args.content in
-    at_err _ (own_in_part (tells g.O.Observer.hears g.O.Observer.ends) (length content.results.items) (run_value c.args.run.now) (state_of c.args.sandbox.now.now) c.args.is_open (members_in content.own.items) (groups_in content.rules.list.items) c.args.observer.now c.run_cases.new.observer
+    at_err _ (own_in_part (notifies g.O.Observer.hears g.O.Observer.ends) (length content.results.items) (run_value c.args.run.now) (state_of c.args.sandbox.now.now) c.args.is_open (members_in content.own.items) (groups_in content.rules.list.items) c.args.observer.now c.run_cases.new.observer
     (ap length content.empty) c.in_err-all_stay.ensures.stopped)
 
 pub returns-in_err-rules-clause-stopped : goal.returns-in_err-rules-clause-stopped

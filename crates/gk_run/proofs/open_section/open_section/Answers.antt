@@ -16,7 +16,7 @@ returns g c =
     let now = section_now c.walk_before-before.new.sandbox c.walk_before-before.new.cleanups in
     let walked = subst (λ (x : SectionNow). Happens hears endings.Passed (walk library (before_of level) x.state list) x now c.walk_before-before.result c.args.observer.now c.walk_before-before.new.observer) start c.walk_before-before.ensures.walked in (
       record {
-        first = walked.told;
+        first = walked.messages;
         begins = record { so_far = walked.so_far; ends = walked.ends; leaves = walked.leaves };
         layer = search rules;
         saved = search rules;

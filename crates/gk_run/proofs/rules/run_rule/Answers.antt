@@ -1,10 +1,10 @@
-use Rattle.gk_run.proofs.Common.{◌∙◌, ◌&&◌, Bool, List, ap, inr, length, refl, sym, texts, State, state_of, all_stay_open, cases_of, stays_open, group_value, section_now, Ran, tells, section_state, run_value, CaseRow}
+use Rattle.gk_run.proofs.Common.{◌∙◌, ◌&&◌, Bool, List, ap, inr, length, refl, sym, texts, State, state_of, all_stay_open, cases_of, stays_open, group_value, section_now, Ran, notifies, section_state, run_value, CaseRow}
 use Rattle.gk_run.specs.declared.section.Level.TheVariants as levels
 use Rattle.gk_run.proofs.CasesLemmas.{begins_by}
 use Rattle.gk_run.proofs.PartLemmas.{at_err, section_in_part}
 use Rattle.gk_run.proofs.RulesLemmas.{passed_stays, rule_begun, rule_begun_in_part, rule_unbegun, rule_unbegun_in_part}
 use Rattle.gk_run.proofs.SectionLemmas.{begun_still, passed_state, ready}
-use Rattle.gk_run.proofs.ToldLemmas.{section_ran}
+use Rattle.gk_run.proofs.NotifiedLemmas.{section_ran}
 use Rattle.gk_run.proofs.rules.run_rule.Goals as goal
 
 pub returns-then-not-both-clause-rule : goal.returns-then-not-both-clause-rule
@@ -15,7 +15,7 @@ returns-then-not-both-clause-rule g c =
     record {
       rows = ran.rows;
       added = ran.added;
-      is = rule_unbegun (tells g.O.Observer.hears g.O.Observer.ends) (length c.args.results.now.items) run (state_of c.args.sandbox.now.now) c.args.is_open c.both.result (group_value c.args.rule) ran.rows c.args.observer.now c.run_cases.new.observer begins c.if-not-both.true ran.are;
+      is = rule_unbegun (notifies g.O.Observer.hears g.O.Observer.ends) (length c.args.results.now.items) run (state_of c.args.sandbox.now.now) c.args.is_open c.both.result (group_value c.args.rule) ran.rows c.args.observer.now c.run_cases.new.observer begins c.if-not-both.true ran.are;
       stay = ran.stay ∙ ap (λ (b : Bool). b && all_stay_open run ran.rows) (sym (passed_stays run));
     }
 
@@ -46,14 +46,14 @@ returns-clause-rule g c =
     record {
       rows = ran.rows;
       added = ran.added;
-      is = rule_begun (tells hears ends) index run outside c.args.is_open c.both.result tags group (record { around = around; inside = ran.rows }) c.args.observer.now c.end_around-around.new.observer begins_so c.if-not-both.false (ap texts c.as_slice-2.ensures.value) (end.cut, known.0, is);
+      is = rule_begun (notifies hears ends) index run outside c.args.is_open c.both.result tags group (record { around = around; inside = ran.rows }) c.args.observer.now c.end_around-around.new.observer begins_so c.if-not-both.false (ap texts c.as_slice-2.ensures.value) (end.cut, known.0, is);
       stay = c.both-in-Ok.ensures ∙ ap (λ (x : Bool). x && c.in-Ok.all_stay) c.stays_open.ensures ∙ ap (λ (x : Bool). stays_open run around && x) ran.stay;
     }
 
 pub returns-in_err-all_stay-clause-stopped : goal.returns-in_err-all_stay-clause-stopped
 returns-in_err-all_stay-clause-stopped g c =
     let begins = begins_by _ c.args.is_open _ c.args.rule.members.items _ c.both.ensures c.selects.ensures c.as_slice.ensures.value in
-    at_err _ (rule_unbegun_in_part (tells g.O.Observer.hears g.O.Observer.ends) (length c.args.results.now.items) (run_value c.args.run.now) (state_of c.args.sandbox.now.now) c.args.is_open c.both.result (group_value c.args.rule) c.args.observer.now c.run_cases.new.observer begins c.if-not-both.true c.in_err-all_stay.ensures.stopped)
+    at_err _ (rule_unbegun_in_part (notifies g.O.Observer.hears g.O.Observer.ends) (length c.args.results.now.items) (run_value c.args.run.now) (state_of c.args.sandbox.now.now) c.args.is_open c.both.result (group_value c.args.rule) c.args.observer.now c.run_cases.new.observer begins c.if-not-both.true c.in_err-all_stay.ensures.stopped)
 
 pub returns-in-Err-clause-stopped : goal.returns-in-Err-clause-stopped
 returns-in-Err-clause-stopped g c =
@@ -75,4 +75,4 @@ returns-in-Err-clause-stopped g c =
     let inside : State → Bool → Ran (List CaseRow) = λ section is_ready. cases_of index run section is_ready known.0 group.members in
     let part = section_in_part hears ends run levels.Rule tags outside first opened.before now c.has_passed-is_ready.result inside begin c.open_section-opened.new.observer last (inr refl) begins c.has_passed-is_ready.ensures opens.1 known.1 in
     let begins_so = begins_by _ c.args.is_open _ c.args.rule.members.items _ c.both.ensures c.selects.ensures c.as_slice.ensures.value in
-    rule_begun_in_part (tells hears ends) index run outside c.args.is_open c.both.result tags group begin last begins_so c.if-not-both.false (ap texts c.as_slice-2.ensures.value) (part.0, known.0, part.1)
+    rule_begun_in_part (notifies hears ends) index run outside c.args.is_open c.both.result tags group begin last begins_so c.if-not-both.false (ap texts c.as_slice-2.ensures.value) (part.0, known.0, part.1)

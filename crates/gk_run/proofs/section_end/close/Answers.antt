@@ -1,5 +1,5 @@
 use Rattle.gk_run.proofs.Common.{◌∙◌, ap, refl, sym, append-nil, texts, hooks_value, library_value, cleaned, after_lists, walk_each, ended_in, section_now, worse}
-use Rattle.gk_run.proofs.GoesLemmas.{behind, nothing, under, unrefused, worse_told}
+use Rattle.gk_run.proofs.GoesLemmas.{behind, nothing, under, unrefused, worse_messages}
 use Rattle.gk_run.proofs.section_end.close.Goals as goal
 
 pub returns-then-is_memory-clause-closed : goal.returns-then-is_memory-clause-closed
@@ -39,7 +39,7 @@ returns-then-is_memory-2-clause-closed g c =
       end = e;
       after = behind before goes_on after;
       cleanups = nothing g.O.Observer.hears e (cleaned (library_value c.args.run.now.library.now) c.args.section.now.level mid) mid c.walk_after-after.new.observer refused;
-      ending = after.ends ∙ ap ended_in (sym (append-nil after.told));
+      ending = after.ends ∙ ap ended_in (sym (append-nil after.messages));
       outcomes = c.none-then-is_memory-2.ensures;
     }
 
@@ -58,6 +58,6 @@ returns-clause-closed g c =
       end = worse before (worse between c.clean-ending.result.ending);
       after = behind before goes_on after;
       cleanups = under before (worse before between) goes_on refl (behind between (sym c.is_memory-2.ensures ∙ c.if-is_memory-2.false) cleaned.goes);
-      ending = c.worse.ensures ∙ worse_told after.told cleaned.goes.told after.ends cleaned.goes.ends;
+      ending = c.worse.ensures ∙ worse_messages after.messages cleaned.goes.messages after.ends cleaned.goes.ends;
       outcomes = cleaned.outcomes;
     }

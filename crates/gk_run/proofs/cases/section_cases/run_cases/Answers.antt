@@ -43,4 +43,4 @@ returns-clause-cases g c =
 pub returns-in_err-row-clause-stopped : goal.returns-in_err-row-clause-stopped
 returns-in_err-row-clause-stopped g c =
     at_err _ (goes_stopped g.O.Observer.hears g.O.Observer.ends (run_value c.args.run.now) (state_of c.args.sandbox.now.now) c.args.is_open (members_in c.args.members.items) c.args.results.now.items c.loop-member.results.items (members_in (into_iter_items c.loop-member.member-iterator)) c.loop-member.all_stay
-    c.args.observer.now c.loop-member.observer c.run_member.new.observer c.in_err-row.ensures.untold c.loop-member.invariant.goes)
+    c.args.observer.now c.loop-member.observer c.run_member.new.observer c.in_err-row.ensures.silent c.loop-member.invariant.goes)

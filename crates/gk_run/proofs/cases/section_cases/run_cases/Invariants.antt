@@ -2,7 +2,7 @@ use Rattle.gk_run.proofs.Common.{◌≡◌, ◌+◌, length, vec_capacity, into_
 use Rattle.gk_run.proofs.CasesLemmas.{GoesOn}
 use Rattle.gk_run.proofs.cases.section_cases.run_cases.Given as goal
 
--- the cases so far are told, and however those that are left are cut, all have cuts with these rows
+-- the messages so far are about the cases so far, and however those that are left are cut, all have cuts with these rows
 abbrev pub invariant-loop-member : goal.invariant-loop-member
 invariant-loop-member g l = record {
   goes : GoesOn g.O.Observer.hears g.O.Observer.ends (run_of l.run.library.now l.run.hooks.now.file.now l.run.stop) (state_of l.fn.sandbox.now) l.is_open (members_in l.fn.members.items) l.fn.results.items l.results.items (members_in (into_iter_items l.member-iterator)) l.all_stay l.fn.observer l.observer;

@@ -22,14 +22,14 @@ returns-clause-ran g c =
     let now = state_of c.args.sandbox.now.now in
     let first = c.args.observer.now in
     let last = c.case_in.new.observer in
-    of_ok (λ (r : CaseResult). IsMember g.O.Observer.hears run now c.args.is_open m (case_row r) first last) c.case_in.result c.case_in.ensures.told
-    (λ r told. member_reached g.O.Observer.hears run now c.args.is_open m (case_row r) first last c.if-not-selected.false c.if-not-is_open.false told)
+    of_ok (λ (r : CaseResult). IsMember g.O.Observer.hears run now c.args.is_open m (case_row r) first last) c.case_in.result c.case_in.ensures.notified
+    (λ r messages. member_reached g.O.Observer.hears run now c.args.is_open m (case_row r) first last c.if-not-selected.false c.if-not-is_open.false messages)
 
-pub returns-then-not-selected-clause-untold : goal.returns-then-not-selected-clause-untold
-returns-then-not-selected-clause-untold g c = at_err c.unrun_case.result refl
+pub returns-then-not-selected-clause-silent : goal.returns-then-not-selected-clause-silent
+returns-then-not-selected-clause-silent g c = at_err c.unrun_case.result refl
 
-pub returns-then-not-is_open-clause-untold : goal.returns-then-not-is_open-clause-untold
-returns-then-not-is_open-clause-untold g c = at_err c.unrun_case-then-not-is_open.result refl
+pub returns-then-not-is_open-clause-silent : goal.returns-then-not-is_open-clause-silent
+returns-then-not-is_open-clause-silent g c = at_err c.unrun_case-then-not-is_open.result refl
 
-pub returns-clause-untold : goal.returns-clause-untold
-returns-clause-untold g c = c.case_in.ensures.untold
+pub returns-clause-silent : goal.returns-clause-silent
+returns-clause-silent g c = c.case_in.ensures.silent
