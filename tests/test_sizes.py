@@ -212,6 +212,24 @@ class Sizes(Checks):
         for troubles in driver.in_processes(of_row, [it for it in ROWS if it not in GROWING]):
             self.check_all(troubles)
 
+    def test_one_look_up(self):
+        """A step is looked up once, however a run is shown. Here look-ups take nearly all of the time."""
+        fields = "".join(f"{{a{it}}}1{{n{it}:d}}2" for it in range(20))
+        digits = "".join(random.Random(0).choices("0123456789", k=8000))
+        steps = f"step go {fields}{{text}} => pass\nstep no {fields}{{text}} => fail\n"
+        made = "Feature: f\n" + "".join(f"Scenario: s\nGiven go {digits}z\nThen {it} {digits}z\n" for it in ["go", "no"] * 10)
+        driver.write(self.room, {"slow.steps": steps, "slow.feature": made})
+        times = {}
+        for option in ("plain", "progress", "json", "--explain", "--dry-run"):
+            words = [option] if option.startswith("-") else ["--format", option]
+            for _ in range(3):
+                before = driver.processor_time()
+                driver.start(self.program, [*words, "--library", "slow.steps", "slow.feature"], self.room)
+                times.setdefault(option, []).append(driver.processor_time() - before)
+        once = min(times["plain"])
+        for option, tried in times.items():
+            self.check(driver.unless(f"{option}: {min(tried):.3f} s, and a plain report {once:.3f} s", min(tried) <= 1.5 * once))
+
     def test_pipe(self):
         """The program reads a pipe that gives one byte at a time."""
         run, path = Run({"pipe": f"Feature: f\n{scenario('it passes')}"}), os.path.join(self.room, "pipe")
