@@ -65,12 +65,14 @@ def as_id(text: str) -> str:
 
 
 @contextlib.contextmanager
-def told(failure: Callable[[str], BaseException]) -> Iterator[None]:
+def shown(failure: Callable[[str], BaseException]) -> Iterator[None]:
     """Raises another exception for a wrong or missing file, of which pytest shows the text alone."""
     try:
         yield
     except (Fault, ImportError, OSError) as error:
-        raise failure(printable(str(error))) from None
+        hint = error.hint if isinstance(error, Fault) else ""
+        line = printable(str(error)[:len(str(error)) - len(hint)].rstrip("\n"))
+        raise failure(f"{line}\n{printable_lines(hint)}".rstrip("\n")) from None
 
 
 def read(config: pytest.Config, path: pathlib.Path) -> Source:
@@ -179,7 +181,7 @@ class FeatureFile(pytest.File):
         return self.statuses[line]
 
     def collect(self) -> Iterator[Scenario]:
-        with told(self.CollectError):
+        with shown(self.CollectError):
             self.source = read(self.config, self.path)
             scenarios = scenarios_of(self.run(dry_run=True))
         tags = marks(self.source, scenarios)
@@ -205,7 +207,7 @@ class Scenario(pytest.Function):
             self.add_marker(tag)
 
     def judge(self, world: World) -> None:
-        with told(functools.partial(pytest.fail.Exception, pytrace=False)):
+        with shown(functools.partial(pytest.fail.Exception, pytrace=False)):
             status = self.file.status(self.line, world)
             if status == "passed":
                 return

@@ -107,24 +107,33 @@ class Fault(Exception):
 
     `file` is the name of the faulty file and `line` the line in it, from 1. Each is None if the fault has none.
     `reason` says what is wrong. `status` is the program's: 2 for wrong arguments, 3 for a wrong file, 4 if memory ran
-    out. The message is what the program writes, without its name and the last line feed.
+    out. `hint` has the faulty line and how to mend it, or is empty. The message is what the program writes, without its
+    name and the last line feed, and then the hint.
     """
 
-    def __init__(self, text: str, status: int, file: Optional[str] = None, line: Optional[int] = None) -> None:
-        super().__init__(text, status, file, line)
-        self.status, self.file, self.line = status, file, line
+    def __init__(self, text: str, status: int, file: Optional[str] = None, line: Optional[int] = None, hint: str = "") -> None:
+        super().__init__(text, status, file, line, hint)
+        self.status, self.file, self.line, self.hint = status, file, line, hint
         place = "" if file is None else f"{file}: " if line is None else f"{file}:{line}: "
         self.reason = text[len(place):]
 
     def __str__(self) -> str:
-        return str(self.args[0])
+        return f"{self.args[0]}\n{self.hint}".rstrip("\n")
 
 
-def _fault(ended: calls.Ended) -> Fault:
-    """Builds the fault of what the program wrote to standard error."""
+def _below(errors: bytes) -> str:
+    """Returns the notes below the line of a fault that an explanation or findings end with."""
+    return errors.decode("utf-8").partition("\n")[2].rstrip("\n") if errors.startswith(PROGRAM.encode()) else ""
+
+
+def _fault(ended: calls.Ended, notes: str) -> Fault:
+    """Builds the fault of what the program wrote to standard error, with these notes, which may end that."""
     written = ended.errors[len(PROGRAM):] if ended.errors.startswith(PROGRAM.encode()) else ended.errors
     file = written[:ended.name_length].decode("utf-8") if ended.name_length else None
-    return Fault(written.decode("utf-8").rstrip("\n"), ended.status, file, ended.line or None)
+    text = written.decode("utf-8").rstrip("\n")
+    if notes and text.endswith(notes):
+        text = text[:-len(notes)].rstrip("\n")
+    return Fault(text, ended.status, file, ended.line or None, notes)
 
 
 def _words(options: Mapping[str, Any]) -> Iterator[str]:
@@ -211,13 +220,24 @@ def _called(
     """Calls the program. Returns its status and its output, and raises what it writes to standard error."""
     held: Dict[str, bytes] = {}
     # The program reads the files in this order.
-    words = [*_words(options), *_world(files or {}, held)]
+    inputs = list(_world(files or {}, held))
     for name, file in (("library", library), ("hooks", hooks)):
-        words += _words({name: _named([file], held)}) if file is not None else ()
-    ended = calls.call([*words, "--", *_named(_several(features), held)], held)
+        inputs += _words({name: _named([file], held)}) if file is not None else ()
+    inputs += ["--", *_named(_several(features), held)]
+    ended = calls.call([*_words(options), *inputs], held)
     if ended.errors:
-        raise _fault(ended)
+        raise _fault(ended, _below(ended.errors if _is_explained(options) else _explained(options, inputs, held)))
     return ended.status, ended.output.decode("utf-8")
+
+
+def _is_explained(options: Mapping[str, Any]) -> bool:
+    return bool(options.get("explain") or options.get("lint"))
+
+
+def _explained(options: Mapping[str, Any], inputs: List[str], held: Dict[str, bytes]) -> bytes:
+    """Calls the program again for an explanation, which prints below a fault how to mend it. Returns its errors."""
+    shared = {name: value for name, value in options.items() if name in ("tags", "line", "env")}
+    return calls.call(["--explain", *_words(shared), *inputs], held).errors
 
 
 def run(

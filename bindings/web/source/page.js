@@ -264,7 +264,8 @@ function runNow() {
     asked += 1;
     document.body.dataset.state = "running";
     slow = setTimeout(() => say("running", "Running .."), SLOW);
-    worker.postMessage({ number: asked, words: wordsOf(given), files });
+    const explained = given.tab === "report" ? wordsOf({ ...given, tab: "explanation" }) : undefined;
+    worker.postMessage({ number: asked, words: wordsOf(given), explained, files });
 }
 
 // Runs what the fields hold once nothing was typed for a while.

@@ -11,6 +11,10 @@ onmessage = async ({ data }) => {
         const run = await running;
         const begun = performance.now();
         const answer = run(data.words, data.files);
+        // Below a fault, an explanation says how to mend it.
+        if (answer.errors !== "" && data.explained !== undefined) {
+            answer.errors = run(data.explained, data.files).errors || answer.errors;
+        }
         postMessage({ number: data.number, answer, time: performance.now() - begun });
     } catch (error) {
         postMessage({ number: data.number, error: String(error) });

@@ -1,5 +1,5 @@
 -- What is printed for faults, and how the program ends.
-use Rattle.std.specs.Prelude.{◌≡◌, ◌⊎◌, ℕ, Bool, true, List, [], ◌++◌, flat_map, map, if◌then◌else◌, Option, Some, None, Result, Ok, Err, option_map, string_bytes}
+use Rattle.std.specs.Prelude.{◌≡◌, ◌⊎◌, ℕ, Bool, true, false, List, [], ◌++◌, flat_map, map, if◌then◌else◌, Option, Some, None, Result, Ok, Err, option_map, string_bytes}
 use Rattle.std.specs.Io.KnownBytes.{Appends}
 use Rattle.clap.specs.Words.{Text}
 use Rattle.gk_explain.specs.Shown.{file_shown}
@@ -12,7 +12,6 @@ use Rattle.gk_request.specs.Request.{files_value}
 use Rattle.gk_request.specs.declared.run_fault.RunFault.{RunFault}
 use Rattle.gk_request.specs.declared.run_fault.RunFault.TheVariants as run
 use Rattle.gk_findings.specs.FaultNotes.{env_notes, notes, unreadable_note}
-use Rattle.gk_cli.specs.Arguments.{is_lint}
 use Rattle.gk_cli.specs.Writing.{Device}
 use Rattle.gk_cli.specs.declared.arguments.Mode.{Mode}
 use Rattle.gk_cli.specs.declared.arguments.Mode.TheVariants.{Report, Findings}
@@ -31,9 +30,10 @@ use Rattle.gk_program.specs.declared.fault.FileFault.TheVariants.{CannotRead}
 use Rattle.gk_program.specs.declared.fault.Inputs.{Inputs}
 use Rattle.gk_program.specs.declared.fault_place.FaultPlace.{FaultPlace}
 
--- Whether notes are printed below faults in this mode.
+-- Whether notes are printed below faults in this mode: below those of a report there are none.
 abbrev pub has_notes : Mode → Bool
-has_notes mode = is_lint mode
+has_notes Report = false
+has_notes mode = true
 
 -- The name of a file as it is printed, if there is one: for a report as it was given, and otherwise as explanations and findings show it.
 abbrev pub printed_name : Mode → Option (List ℕ) → Option (List ℕ)

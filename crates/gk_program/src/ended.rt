@@ -31,7 +31,7 @@ pub struct ProgramEnd {
 fn has_notes(mode: Mode) -> bool
     ensures { result ≡ spec.has_notes mode }
 {
-    matches!(mode, Mode::Findings { .. })
+    matches!(mode, Mode::Explanation | Mode::Findings { .. })
 }
 
 // Returns the name of a file as it is printed. The output of `--lint` and `--explain` may go to the log of a CI, so names
