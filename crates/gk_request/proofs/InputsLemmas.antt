@@ -1,8 +1,6 @@
 -- Inputs, one after another, and that they are determined.
-use Rattle.gk_request.proofs.Common.{◌≡◌, ◌⊎◌, inl, inr, ℕ, suc, zero, ◌+◌, ◌<◌, Bool, true, false, List, [], ◌∷◌, ◌++◌, map, take, drop, length, get_or, Option, Some, None, Result, Ok, Err, refl, ap, sym, subst, ◌∙◌, arith, add-one, common_steps, option_map, slice_get, zip, OnOk, AllByRecursion, ReadFault, lines_of, IsText, Feature, FeatureValue, feature_value, Reads, HasOneReading, HookValue, HaveOneHooksReading, Case, SelectFault, CaseValue, case_value, ExampleRowValue, with_own_tags, Expression, ReadsTags, is_chosen, LibraryFault, LibraryValue, default_text, LibraryReadingIsUnique, Chosen, HeadValue, MemberValue, ChosenValue, chosen_value, member_of, members_of, IsFormed, SourceValue, Inputs, InputsAreUnique, IsFirstBadText, AreRules, IsLibrary, AreHooks, member_by, chosen_of, with_reading, IsWithinLimit, AreRead, with_rows, AreRowsOf, AreRowsIf, AreRowsReadOnto, IsReading, IsReadOnto, Request, RunFault, Read, Library, Hooks, Select, Write, Memory, IsUnread, SaysTags, SaysLibrary, SaysHooks, SaysSourceAt, SaysSources, SaysTooMany, select_fault_at, tags_fault, library_fault, hooks_fault, SaysExpansion}
-use Rattle.gk_gherkin.specs.declared.read_fault.ReadFault.TheVariants as read_faults
+use Rattle.gk_request.proofs.Common.{◌≡◌, ◌⊎◌, inl, inr, SelectFault, ℕ, suc, zero, ◌+◌, ◌<◌, Bool, true, false, List, [], ◌∷◌, ◌++◌, map, take, drop, length, get_or, Option, Some, None, refl, ap, ap₂, sym, subst, ◌∙◌, arith, add-one, slice_get, zip, AllByRecursion, lines_of, FeatureValue, Reads, HasOneReading, HookValue, HaveOneHooksReading, Case, CaseValue, case_value, ExampleRowValue, with_own_tags, Expression, ReadsTags, is_chosen, LibraryValue, default_text, LibraryReadingIsUnique, HeadValue, MemberValue, ChosenValue, member_of, members_of, SourceValue, Inputs, InputsAreUnique, IsFirstBadText, AreRules, IsLibrary, AreHooks, IsReadAs, member_by, with_reading, AreRead, with_rows, rows_onto, AreRowsOf, AreRowsIf, Request, RunFault, Read, Library, Hooks, Select, Memory, library_file, hooks_file, source_at, DoesRead, sources_from, files_in_order, number_of, StopsAtFile, IsUnread, RunFile, SaysFile, SaysSourceAt, IsFirstUnread, SaysSources}
 use Rattle.gk_select.specs.declared.select_fault.SelectFault.TheVariants as select_faults
-use Rattle.gk_steps.specs.declared.library_fault.LibraryFault.TheVariants as library_faults
 
 -- The element at a place, as a loop has it.
 pub at_place : {A B : Type 0} (f : A → B) (xs : List A) (i : ℕ) (x : A) → i < length xs → x ≡ get_or xs i x → slice_get (map f xs) i ≡ Some (f x)
@@ -74,13 +72,13 @@ with_more chooses name (Some f) others more = refl
 
 -- One source more.
 pub read_one : (chooses : CaseValue → Bool) (ss : List SourceValue) (fs : List ChosenValue) (s : SourceValue) (reading : Option FeatureValue) →
-    AreRead chooses ss fs → IsText s.bytes → Reads (lines_of s.bytes) reading → IsWithinLimit reading → AreRead chooses (ss ++ s ∷ []) (fs ++ with_reading chooses s.name reading [])
-read_one chooses [] fs s reading none text reads within = (reading, [], record { text = text; reads = reads; limit = within }, refl, ap (λ x. x ++ with_reading chooses s.name reading []) none)
-read_one chooses (x ∷ ss) fs s reading h text reads within = (
+    AreRead chooses ss fs → IsReadAs s.bytes reading → AreRead chooses (ss ++ s ∷ []) (fs ++ with_reading chooses s.name reading [])
+read_one chooses [] fs s reading none read = (reading, [], read, refl, ap (λ x. x ++ with_reading chooses s.name reading []) none)
+read_one chooses (x ∷ ss) fs s reading h read = (
   h.0,
   h.1 ++ with_reading chooses s.name reading [],
   h.2,
-  read_one chooses ss h.1 s reading h.3 text reads within,
+  read_one chooses ss h.1 s reading h.3 read,
   ap (λ x. x ++ with_reading chooses s.name reading []) h.4 ∙ with_more chooses x.name h.0 h.1 (with_reading chooses s.name reading []),
 )
 
@@ -99,102 +97,76 @@ rows_of_one (x ∷ ss) rows s reading h reads = (
 )
 
 -- The rows of one source more, if they are wanted.
-pub rows_one : (wanted : Bool) (ss : List SourceValue) (old new : List (List (Option ExampleRowValue))) (s : SourceValue) → AreRowsIf wanted ss old → AreRowsReadOnto wanted s old new → AreRowsIf wanted (ss ++ s ∷ []) new
-rows_one true ss old new s rows onto = subst (AreRowsOf (ss ++ s ∷ [])) (sym onto.added) (rows_of_one ss old s onto.reading rows onto.reads)
-rows_one false ss old new s rows onto = onto.added ∙ rows
-
--- The fault of a feature's cases, named as it is.
-pub too_many_at : (input : ℕ) (f : FeatureValue) (fault : SelectFault) → SaysExpansion f fault → SaysTooMany input f (select_fault_at input fault)
-too_many_at input f select_faults.TooMany h = (refl, h)
-too_many_at input f select_faults.BadTagText h = absurd h
-too_many_at input f select_faults.Memory h = tt
-
--- It is that of the source that the feature is read of.
-pub too_many_of : (input : ℕ) (bytes : List ℕ) (f : FeatureValue) (fault : RunFault) → IsReading bytes (Some f) → SaysTooMany input f fault → SaysSourceAt input bytes fault
-too_many_of input bytes f (Select (Some i) select_faults.TooMany) reading h = (h.0, (f, reading.text, reading.reads, h.1))
-too_many_of input bytes f (Select (Some i) select_faults.BadTagText) reading h = h
-too_many_of input bytes f (Select (Some i) select_faults.Memory) reading h = h
-too_many_of input bytes f (Select None fault) reading h = h
-too_many_of input bytes f (Read i fault) reading h = absurd h
-too_many_of input bytes f (Library fault) reading h = h
-too_many_of input bytes f (Hooks fault) reading h = h
-too_many_of input bytes f Write reading h = h
-too_many_of input bytes f Memory reading h = tt
-
--- What bytes that are known read as.
-pub reading_of : (known bytes : List ℕ) (found : Option Feature) (feature : Feature) → known ≡ bytes → found ≡ Some feature → IsReading known (option_map feature_value found) → IsReading bytes (Some (feature_value feature))
-reading_of known bytes found feature same is reading = grind (arith, common_steps)
-
--- A source whose feature was added reads, and its feature stands after the others.
-pub added_onto : (chooses : CaseValue → Bool) (source : SourceValue) (f : FeatureValue) (old new : List Chosen) (r : Result (Unit {0}) RunFault) →
-    IsReading source.bytes (Some f) → OnOk r (map chosen_value new ≡ map chosen_value old ++ chosen_of chooses source.name f ∷ []) →
-    OnOk r (AllByRecursion IsFormed old → AllByRecursion IsFormed new) → OnOk r (IsWithinLimit (Some f)) → OnOk r (IsReadOnto chooses source old new)
-added_onto chooses source f old new (Ok u) reading added formed limit =
-    record { reading = Some f; text = reading.text; reads = reading.reads; limit = limit; added = added; formed = formed }
-added_onto chooses source f old new (Err e) reading added formed limit = tt
+pub rows_one : (wanted : Bool) (ss : List SourceValue) (old new : List (List (Option ExampleRowValue))) (s : SourceValue) (reading : Option FeatureValue) →
+    AreRowsIf wanted ss old → Reads (lines_of s.bytes) reading → new ≡ rows_onto wanted reading old → AreRowsIf wanted (ss ++ s ∷ []) new
+rows_one true ss old new s reading rows reads is = subst (AreRowsOf (ss ++ s ∷ [])) (sym is) (rows_of_one ss old s reading rows reads)
+rows_one false ss old new s reading rows reads is = is ∙ rows
 
 -- The first source that doesn't read is named, or memory was refused.
 pub first_unread : (chooses : CaseValue → Bool) (sources : List SourceValue) (features : List ChosenValue) (input : ℕ) (source : SourceValue) (fault : RunFault) →
     AreRead chooses (take input sources) features → slice_get sources input ≡ Some source → SaysSourceAt input source.bytes fault → SaysSources chooses sources fault
-first_unread chooses sources features input source (Read i fault) read place h = grind (arith, common_steps)
-first_unread chooses sources features input source (Select (Some i) select_faults.TooMany) read place h = grind (arith, common_steps)
-first_unread chooses sources features input source (Select (Some i) select_faults.BadTagText) read place h = h
-first_unread chooses sources features input source (Select (Some i) select_faults.Memory) read place h = h
-first_unread chooses sources features input source (Select None fault) read place h = h
-first_unread chooses sources features input source (Library fault) read place h = h
-first_unread chooses sources features input source (Hooks fault) read place h = h
-first_unread chooses sources features input source Write read place h = h
 first_unread chooses sources features input source Memory read place h = tt
-
-pub first_bad : (tags : List (List ℕ)) (i : ℕ) (text : List ℕ) (rules : List Expression) → slice_get tags i ≡ Some text → AreRules (take i tags) rules → ((rule : Expression) → ReadsTags text rule → ⊥) → IsFirstBadText tags text
-first_bad tags i text rules place read bad = record { before = take i tags; after = drop (suc i) tags; whole = split_at tags i text place; rules = rules; read = read; bad = bad }
+first_unread chooses sources features input source fault read place h = record { input = input; features = features; read = read; source = source; place = place; says = h }
 
 pub is_bad : {P : Type 0} (fault : SelectFault) → fault ≡ select_faults.BadTagText → (fault ≡ select_faults.Memory) ⊎ ((fault ≡ select_faults.BadTagText) × P) → P
 is_bad fault bad (inl memory) = let no : ⊥ = cc (bad, memory) in absurd no
 is_bad fault bad (inr says) = says.1
 
-pub one_rule_more : (tags : List (List ℕ)) (i : ℕ) (text : List ℕ) (rules : List Expression) (rule : Expression) → slice_get tags i ≡ Some text → AreRules (take i tags) rules → ReadsTags text rule
-    → (more : List Expression) × AreRules (take (i + 1) tags) more
-one_rule_more tags i text rules rule place read reads = (rules ++ rule ∷ [], subst (λ ts. AreRules ts (rules ++ rule ∷ [])) (sym (take_one tags i text place)) (rules_one (take i tags) rules text rule read reads))
+pub first_bad : (tags : List (List ℕ)) (i : ℕ) (text : List ℕ) (rules : List Expression) → slice_get tags i ≡ Some text → AreRules (take i tags) rules → ((rule : Expression) → ReadsTags text rule → ⊥) → IsFirstBadText tags text
+first_bad tags i text rules place read bad = record { before = take i tags; after = drop (suc i) tags; whole = split_at tags i text place; rules = rules; read = read; bad = bad }
 
--- The first text that spells no rule is there, or memory was refused.
-pub says_tags : (tags : List (List ℕ)) (i : ℕ) (text : List ℕ) (rules : List Expression) (fault : SelectFault) → slice_get tags i ≡ Some text → AreRules (take i tags) rules →
-    (fault ≡ select_faults.Memory) ⊎ ((fault ≡ select_faults.BadTagText) × ((rule : Expression) → ReadsTags text rule → ⊥)) → SaysTags tags fault
-says_tags tags i text rules fault place read (inl memory) = subst (SaysTags tags) (sym memory) tt
-says_tags tags i text rules fault place read (inr bad) =
-    subst (SaysTags tags) (sym bad.0) (text, first_bad tags i text rules place read bad.1)
+-- The fault of the library, after the texts of tags.
+pub library_unread : (r : Request) (rules : List Expression) (fault : RunFault) → AreRules r.tags rules → SaysFile (library_file r.library) fault → IsUnread r fault
+library_unread r rules (Library fault) tags h = record { rules = rules; tags = tags; before = tt; file = library_file r.library; numbered = refl; says = h }
+library_unread r rules Memory tags h = tt
+library_unread r rules fault tags h = absurd h
 
--- The fault of the texts of tags.
-pub tags_unread : (r : Request) (fault : SelectFault) → SaysTags r.tags fault → IsUnread r (tags_fault fault)
-tags_unread r select_faults.TooMany h = h
-tags_unread r select_faults.BadTagText h = h
-tags_unread r select_faults.Memory h = tt
+-- The fault of the hooks, after the texts of tags and the library.
+pub hooks_unread : (r : Request) (rules : List Expression) (entries : LibraryValue) (fault : RunFault) →
+    AreRules r.tags rules → IsLibrary r.library entries → SaysFile (hooks_file r.hooks) fault → IsUnread r fault
+hooks_unread r rules entries (Hooks fault) tags library h = record { rules = rules; tags = tags; before = ((entries, library), tt); file = hooks_file r.hooks; numbered = refl; says = h }
+hooks_unread r rules entries Memory tags library h = tt
+hooks_unread r rules entries fault tags library h = absurd h
 
--- The same, after the texts of tags.
-pub library_unread : (r : Request) (rules : List Expression) (fault : LibraryFault) → AreRules r.tags rules → SaysLibrary r.library fault → IsUnread r (library_fault fault)
-library_unread r rules library_faults.Memory tags h = tt
-library_unread r rules fault tags h = record { rules = rules; tags = tags; bytes = h.0; given = h.1; says = h.2; named = λ e. cc }
+-- The source at a place is the file there.
+file_there : (place n : ℕ) (sources : List SourceValue) (input : ℕ) (source : SourceValue) → n ≡ place + input → slice_get sources input ≡ Some source → slice_get (sources_from place sources) input ≡ Some (source_at n source.bytes)
+file_there place n [] input source at is = let no : ⊥ = cc in absurd no
+file_there place n (s ∷ ss) zero source at is = let same : place ≡ n = omega arith in ap₂ (λ (k : ℕ) (x : SourceValue). Some (source_at k x.bytes)) same (same_some s source is)
+file_there place n (s ∷ ss) (suc input) source at is = file_there (suc place) n ss input source (omega arith) is
 
--- The same, after the texts of tags and the library.
-pub hooks_unread : (r : Request) (rules : List Expression) (entries : LibraryValue) (fault : ReadFault) →
-    AreRules r.tags rules → IsLibrary r.library entries → SaysHooks r.hooks fault → IsUnread r (hooks_fault fault)
-hooks_unread r rules entries read_faults.Memory tags library h = tt
-hooks_unread r rules entries fault tags library h = record { rules = rules; tags = tags; entries = entries; library = library; bytes = h.0; given = h.1; says = h.2; named = λ e. cc }
+-- So it is among the files of a run.
+pub source_file : (library hooks : Option (List ℕ)) (sources : List SourceValue) (place input : ℕ) (source : SourceValue) (file : RunFile) → place ≡ input + 2 → slice_get sources input ≡ Some source →
+    slice_get (files_in_order library hooks sources) place ≡ Some file → source_at input source.bytes ≡ file
+source_file library hooks sources zero input source file at is there = absurd (omega arith)
+source_file library hooks sources (suc zero) input source file at is there = absurd (omega arith)
+source_file library hooks sources (suc (suc n)) input source file at is there =
+    let same : input ≡ n = omega arith in
+    same_some (source_at input source.bytes) file (sym (file_there 0 input sources n source (omega arith) (subst (λ k. slice_get sources k ≡ Some source) same is)) ∙ there)
+
+-- Sources that read do so as files.
+do_read : (chooses : CaseValue → Bool) (place n : ℕ) (sources : List SourceValue) (features : List ChosenValue) → AreRead chooses (take n sources) features → AllByRecursion DoesRead (take n (sources_from place sources))
+do_read chooses place zero sources features read = tt
+do_read chooses place (suc n) [] features read = tt
+do_read chooses place (suc n) (s ∷ ss) features read = ((read.0, read.2), do_read chooses (suc place) n ss read.1 read.3)
 
 -- The fault of a source, after the texts of tags, the library and the hooks.
+stops_at_source : (r : Request) (rules : List Expression) (entries : LibraryValue) (hooks : List HookValue) (fault : RunFault) →
+    AreRules r.tags rules → IsLibrary r.library entries → AreHooks r.hooks hooks → (first : IsFirstUnread (is_chosen rules r.lines) r.sources fault) → number_of fault ≡ suc (suc first.input) → StopsAtFile r fault
+stops_at_source r rules entries hooks fault tags library around first is = record {
+  rules = rules;
+  tags = tags;
+  before = subst (λ n. AllByRecursion DoesRead (take n (files_in_order r.library r.hooks r.sources))) (sym is) ((entries, library), ((hooks, around), do_read (is_chosen rules r.lines) 0 first.input r.sources first.features first.read));
+  file = source_at first.input first.source.bytes;
+  numbered = subst (λ n. slice_get (files_in_order r.library r.hooks r.sources) n ≡ Some (source_at first.input first.source.bytes)) (sym is) (file_there 0 first.input r.sources first.input first.source (omega arith) first.place);
+  says = first.says;
+}
+
 pub sources_unread : (r : Request) (rules : List Expression) (entries : LibraryValue) (hooks : List HookValue) (fault : RunFault) →
     AreRules r.tags rules → IsLibrary r.library entries → AreHooks r.hooks hooks → SaysSources (is_chosen rules r.lines) r.sources fault → IsUnread r fault
-sources_unread r rules entries hooks (Read i fault) tags library around h = (record { rules = rules; tags = tags; entries = entries; library = library; hooks = hooks; around = around; first = h.0 }, h.1)
-sources_unread r rules entries hooks (Select (Some i) select_faults.TooMany) tags library around h = record { rules = rules; tags = tags; entries = entries; library = library; hooks = hooks; around = around; first = h }
-sources_unread r rules entries hooks (Select (Some i) select_faults.BadTagText) tags library around h = h
-sources_unread r rules entries hooks (Select (Some i) select_faults.Memory) tags library around h = h
-sources_unread r rules entries hooks (Select None select_faults.TooMany) tags library around h = h
-sources_unread r rules entries hooks (Select None select_faults.BadTagText) tags library around h = absurd h
-sources_unread r rules entries hooks (Select None select_faults.Memory) tags library around h = h
-sources_unread r rules entries hooks (Library fault) tags library around h = absurd h
-sources_unread r rules entries hooks (Hooks fault) tags library around h = absurd h
-sources_unread r rules entries hooks Write tags library around h = h
 sources_unread r rules entries hooks Memory tags library around h = tt
+sources_unread r rules entries hooks (Read input fault) tags library around h = stops_at_source r rules entries hooks (Read input fault) tags library around h (ap (λ n. suc (suc n)) h.says.0)
+sources_unread r rules entries hooks (Select (Some input) select_faults.TooMany) tags library around h = stops_at_source r rules entries hooks (Select (Some input) select_faults.TooMany) tags library around h (ap (λ n. suc (suc n)) h.says.0)
+sources_unread r rules entries hooks fault tags library around h = absurd h.says
 
 abbrev pub OneRule : Type 0
 OneRule = (text : List ℕ) (a b : Expression) → ReadsTags text a → ReadsTags text b → a ≡ b

@@ -1,16 +1,14 @@
 -- The inputs that a request spells.
-use Rattle.std.specs.Prelude.{◌≡◌, ◌≤◌, ℕ, Bool, true, false, List, [], ◌∷◌, ◌++◌, map, take, slice_get, Option, Some, None}
+use Rattle.std.specs.Prelude.{◌≡◌, ◌≤◌, ℕ, Bool, true, false, List, [], ◌∷◌, ◌++◌, map, Option, Some, None}
 use Rattle.std.specs.List.{AllByRecursion}
-use Rattle.gk_gherkin.specs.declared.read_fault.ReadFault.{ReadFault}
 use Rattle.gk_gherkin.specs.Lines.{lines_of, IsText}
 use Rattle.gk_gherkin.specs.Feature.{FeatureValue, RuleValue}
 use Rattle.gk_gherkin.specs.Grammar.{Reads}
 use Rattle.gk_gherkin.specs.Hooks.{HookValue, hooks_value}
 use Rattle.gk_gherkin.specs.HooksGrammar.{ReadsHooks}
-use Rattle.gk_gherkin.specs.ReadFault.{FaultSays, FeatureFault}
 use Rattle.gk_select.specs.Case.{CaseValue}
-use Rattle.gk_select.specs.ExampleRows.{ExampleRowValue, outline_rows}
-use Rattle.gk_select.specs.Expansion.{cases, step_count, step_limit, HasTooManySteps, IsExpandable}
+use Rattle.gk_select.specs.ExampleRows.{ExampleRowValue, outline_rows, row_lists}
+use Rattle.gk_select.specs.Expansion.{cases, step_count, step_limit, HasTooManySteps}
 use Rattle.gk_select.specs.OwnTags.{with_own_tags}
 use Rattle.gk_select.specs.TagGrammar.{Expression}
 use Rattle.gk_select.specs.TagRules.{ReadsTags}
@@ -18,10 +16,10 @@ use Rattle.gk_select.specs.Choice.{is_chosen}
 use Rattle.gk_steps.specs.LibraryFile.{ReadsLibrary}
 use Rattle.gk_steps.specs.DefaultFile.{default_text}
 use Rattle.gk_steps.specs.Finding.{LibraryValue, library_value}
-use Rattle.gk_run.specs.declared.chosen.Chosen.{Chosen}
 use Rattle.gk_run.specs.Chosen.{HeadValue, MemberValue, ChosenValue, chosen_value, IsFormed}
 use Rattle.gk_request.specs.declared.inputs.ReadBefore.{ReadBefore}
 use Rattle.gk_request.specs.declared.inputs.ReadInputs.{ReadInputs}
+use Rattle.gk_request.specs.declared.inputs.ReadSources.{ReadSources}
 use Rattle.gk_request.specs.Source.{SourceValue}
 use Rattle.gk_request.specs.Request.{Request}
 
@@ -133,28 +131,6 @@ abbrev pub IsBadText : List (List ℕ) → Option (List ℕ) → Type 0
 IsBadText tags (Some text) = IsFirstBadText tags text
 IsBadText tags None = (rules : List Expression) × AreRules tags rules
 
--- The source at a place, counted from 0, is the first that doesn't read, and Unread holds for its bytes.
-pub record IsFirstUnread (chooses : CaseValue → Bool) (sources : List SourceValue) (input : ℕ) (Unread : List ℕ → Type 0) : Type 0 where
-  pub before : List ChosenValue
-  pub read : AreRead chooses (take input sources) before
-  pub source : SourceValue
-  pub place : slice_get sources input ≡ Some source
-  pub unread : Unread source.bytes
-
--- The same, and the texts of tags, the library and the hooks read.
-pub record StopsAtSource (r : Request) (input : ℕ) (Unread : List ℕ → Type 0) : Type 0 where
-  pub rules : List Expression
-  pub tags : AreRules r.tags rules
-  pub entries : LibraryValue
-  pub library : IsLibrary r.library entries
-  pub hooks : List HookValue
-  pub around : AreHooks r.hooks hooks
-  pub first : IsFirstUnread (is_chosen rules r.lines) r.sources input Unread
-
--- A feature file with these bytes has this fault.
-abbrev pub HasFault : ReadFault → List ℕ → Type 0
-HasFault fault bytes = FaultSays FeatureFault fault bytes
-
 -- These bytes spell a feature whose cases have more steps than the limit.
 abbrev pub HasTooMany : List ℕ → Type 0
 HasTooMany bytes = (f : FeatureValue) × IsText bytes × Reads (lines_of bytes) (Some f) × HasTooManySteps f
@@ -163,28 +139,15 @@ HasTooMany bytes = (f : FeatureValue) × IsText bytes × Reads (lines_of bytes) 
 abbrev pub inputs_value : ReadInputs → Inputs
 inputs_value inputs = record { library = library_value inputs.library; hooks = hooks_value inputs.hooks; features = map chosen_value inputs.features.items }
 
--- Proof machinery, from here on: these bytes are a text with this reading, whose cases can be listed.
-pub record IsReading (bytes : List ℕ) (reading : Option FeatureValue) : Type 0 where
-  pub text : IsText bytes
-  pub reads : Reads (lines_of bytes) reading
-  pub expandable : (f : FeatureValue) → reading ≡ Some f → IsExpandable f
-
--- A source reads, and its feature, if it has one, is added after the others.
-pub record IsReadOnto (chooses : CaseValue → Bool) (source : SourceValue) (old new : List Chosen) : Type 0 where
-  pub reading : Option FeatureValue
-  pub text : IsText source.bytes
-  pub reads : Reads (lines_of source.bytes) reading
-  pub limit : IsWithinLimit reading
-  pub added : map chosen_value new ≡ map chosen_value old ++ with_reading chooses source.name reading []
-  pub formed : AllByRecursion IsFormed old → AllByRecursion IsFormed new
-
--- Rows of outlines after one more source, whose feature has these if they are wanted.
+-- Proof machinery, from here on: rows of outlines after one more source, whose feature has these if they are wanted.
 abbrev pub rows_onto : Bool → Option FeatureValue → List (List (Option ExampleRowValue)) → List (List (Option ExampleRowValue))
 rows_onto true reading rows = rows ++ with_rows reading []
 rows_onto false reading rows = rows
 
--- A source reads, and the rows of its cases, if they are wanted, are added after those of the others.
-pub record AreRowsReadOnto (wanted : Bool) (source : SourceValue) (old new : List (List (Option ExampleRowValue))) : Type 0 where
+-- A source reads, and its feature, if it has one, is added after the others, with the rows of its cases if they are wanted.
+pub record IsReadOnto (chooses : CaseValue → Bool) (wanted : Bool) (source : SourceValue) (old new : ReadSources) : Type 0 where
   pub reading : Option FeatureValue
-  pub reads : Reads (lines_of source.bytes) reading
-  pub added : new ≡ rows_onto wanted reading old
+  pub read : IsReadAs source.bytes reading
+  pub added : map chosen_value new.features.items ≡ map chosen_value old.features.items ++ with_reading chooses source.name reading []
+  pub rows : row_lists new.rows.items ≡ rows_onto wanted reading (row_lists old.rows.items)
+  pub formed : AllByRecursion IsFormed old.features.items → AllByRecursion IsFormed new.features.items

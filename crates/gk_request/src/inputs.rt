@@ -1,21 +1,20 @@
 //! Reading a request: the tag rules, the step library, the hooks, and the features with their cases and the choice
 //! among them.
-ghost use Rattle.std.specs.Prelude.{◌≡◌, ◌++◌, ◌∷◌, [], map, option_map, string_bytes, IfOk, IfErr, OnOk, Some};
+ghost use Rattle.std.specs.Prelude.{◌≡◌, [], map, option_map, string_bytes, IfOk, IfErr, OnOk, Some};
 ghost use Rattle.std.specs.List.{AllByRecursion};
 ghost use Rattle.gk_gherkin.specs.Feature.{feature_value, rule_value, texts};
 ghost use Rattle.gk_gherkin.specs.Hooks.{hooks_value};
 ghost use Rattle.gk_select.specs.Choice.{chosen_by, is_chosen};
 ghost use Rattle.gk_select.specs.ExampleRows.{row_lists};
 ghost use Rattle.gk_select.specs.Expansion.{IsExpandable};
-ghost use Rattle.gk_select.specs.OwnTags.{untagged, untagged_rule};
+ghost use Rattle.gk_select.specs.OwnTags.{untagged_rule};
 ghost use Rattle.gk_steps.specs.Finding.{library_value};
 ghost use Rattle.gk_run.specs.Chosen.{chosen_value, head_value, IsFormed};
 ghost use Rattle.gk_request.specs.Source.{source_value};
 ghost use Rattle.gk_request.specs.Request.{asked, asked_of};
 ghost use Rattle.gk_request.specs.Inputs as spec;
-ghost use Rattle.gk_request.specs.Inputs.{InputsAreUnique, IsBadText, IsReadAs, AreRules, IsLibrary, AreHooks, AreRead, AreRowsIf, AreRowsReadOnto, AreInputs, IsReading, IsReadBefore, IsReadOnto, inputs_value};
-ghost use Rattle.gk_request.specs.RunFault as faults;
-ghost use Rattle.gk_request.specs.RunFault.{IsUnread, IsUnreadBefore, SaysTags, SaysLibrary, SaysHooks, SaysExpansion, SaysSourceAt, SaysSources, SaysTooMany};
+ghost use Rattle.gk_request.specs.Inputs.{InputsAreUnique, IsBadText, IsFirstBadText, IsReadAs, AreRules, IsLibrary, AreHooks, AreRead, AreRowsIf, AreInputs, IsReadBefore, IsReadOnto, inputs_value};
+ghost use Rattle.gk_request.specs.RunFault.{IsUnread, IsUnreadBefore, SaysFile, SaysSources, hooks_file, library_file, source_at};
 
 use crate::request::Options;
 use crate::run_fault::RunFault;
@@ -44,20 +43,22 @@ pub struct ReadInputs {
     pub rows: Vec<Vec<Option<ExampleRow>>>,
 }
 
-fn read_rules(alloc: Global, tags: &[String]) -> Result<Vec<TagRule>, SelectFault>
-    ensures rules { IfOk result (λ rules.
-        AreRules (texts tags.now) rules.items) }
-    ensures fault { IfErr result (λ e. SaysTags (texts tags.now) e) }
+// Reads texts of tags. The first that spells no rule is the inner error.
+fn read_rules(alloc: Global, tags: &[String]) -> Result<Result<Vec<TagRule>, &str>, AllocError>
+    ensures rules { IfOk result (λ read.
+        IfOk read (λ rules. AreRules (texts tags.now) rules.items)) }
+    ensures bad { IfOk result (λ read.
+        IfErr read (λ text. IsFirstBadText (texts tags.now) text.now)) }
 {
     let mut rules = Vec::new(alloc);
     for text in tags {
-        let rule = match read_tags(alloc, text.as_str()) {
-            Ok(rule) => rule,
-            Err(fault) => return Err(fault),
-        };
-        rules.push(rule)?;
+        match read_tags(alloc, text.as_str()) {
+            Ok(rule) => rules.push(rule)?,
+            Err(SelectFault::BadTagText) => return Ok(Err(text.as_str())),
+            Err(_) => return Err(AllocError),
+        }
     }
-    Ok(rules)
+    Ok(Ok(rules))
 }
 
 /// Returns the first of some texts of tags that spells no rule, if there is one. An error comes only if a growth was
@@ -66,223 +67,45 @@ pub fn first_bad_tags(alloc: Global, tags: &[String]) -> Result<Option<&str>, Al
     ensures { IfOk result (λ found.
         IsBadText (texts tags.now) (option_map (λ text. text.now) found)) }
 {
-    for text in tags {
-        match read_tags(alloc, text.as_str()) {
-            Ok(_rule) => {}
-            Err(SelectFault::BadTagText) => return Ok(Some(text.as_str())),
-            Err(_) => return Err(AllocError),
-        }
-    }
-    Ok(None)
-}
-
-fn tags_fault(fault: SelectFault) -> RunFault
-    ensures { result ≡ faults.tags_fault fault }
-{
-    match fault {
-        SelectFault::Memory => RunFault::Memory,
-        _ => RunFault::Select { input: None, fault },
+    match read_rules(alloc, tags)? {
+        Ok(_rules) => Ok(None),
+        Err(text) => Ok(Some(text)),
     }
 }
 
 /// Reads the library file, or the default library if none is given. An error says why the file doesn't read.
-pub fn read_step_library(alloc: Global, library: Option<&[u8]>) -> Result<Library, LibraryFault>
+pub fn read_step_library(alloc: Global, library: Option<&[u8]>) -> Result<Library, RunFault>
     ensures read { IfOk result (λ l.
         IsLibrary (option_map (λ bytes. bytes.now) library.entry) (library_value l)) }
-    ensures fault { IfErr result (λ e.
-        SaysLibrary (option_map (λ bytes. bytes.now) library.entry) e) }
+    ensures fault { IfErr result
+        (SaysFile (library_file (option_map (λ bytes. bytes.now) library.entry))) }
 {
     match library {
-        Some(bytes) => read_library(alloc, bytes),
+        Some(bytes) => match read_library(alloc, bytes) {
+            Ok(library) => Ok(library),
+            Err(LibraryFault::Memory) => Err(RunFault::Memory),
+            Err(fault) => Err(RunFault::Library(fault)),
+        },
         None => Ok(default_library(alloc)?),
     }
 }
 
-/// Returns the fault of a run for a fault of its library. Doesn't allocate.
-pub fn library_fault(fault: LibraryFault) -> RunFault
-    ensures { result ≡ faults.library_fault fault }
-{
-    match fault {
-        LibraryFault::Memory => RunFault::Memory,
-        _ => RunFault::Library(fault),
-    }
-}
-
 /// Reads the hooks file; without it, there are no hooks. An error says why the file doesn't read.
-pub fn read_hook_file(alloc: Global, hooks: Option<&[u8]>) -> Result<HookFile, ReadFault>
+pub fn read_hook_file(alloc: Global, hooks: Option<&[u8]>) -> Result<HookFile, RunFault>
     ensures read { IfOk result (λ file.
         AreHooks (option_map (λ bytes. bytes.now) hooks.entry) (hooks_value file)) }
-    ensures fault { IfErr result (λ e. SaysHooks (option_map (λ bytes. bytes.now) hooks.entry) e) }
+    ensures fault { IfErr result
+        (SaysFile (hooks_file (option_map (λ bytes. bytes.now) hooks.entry))) }
 {
     match hooks {
-        Some(bytes) => read_hooks(alloc, bytes),
+        Some(bytes) => match read_hooks(alloc, bytes) {
+            Ok(hooks) => Ok(hooks),
+            Err(ReadFault::Memory) => Err(RunFault::Memory),
+            Err(fault) => Err(RunFault::Hooks(fault)),
+        },
         None => Ok(HookFile {
             hooks: Vec::new(alloc),
         }),
-    }
-}
-
-/// Returns the fault of a run for a fault of its hooks. Doesn't allocate.
-pub fn hooks_fault(fault: ReadFault) -> RunFault
-    ensures { result ≡ faults.hooks_fault fault }
-{
-    match fault {
-        ReadFault::Memory => RunFault::Memory,
-        _ => RunFault::Hooks(fault),
-    }
-}
-
-// Makes the choice by these rules and lines.
-fn choice_by(alloc: Global, rules: Vec<TagRule>, lines: &[u32]) -> Result<Choice, AllocError>
-    ensures { IfOk result (λ choice. chosen_by choice
-        ≡ is_chosen rules.items lines.now) }
-{
-    let lines = Vec::from_slice(alloc, lines)?;
-    Ok(Choice::new(rules, lines))
-}
-
-// Takes the tags of a rule, and returns its heading with them.
-fn take_head(alloc: Global, rule: &mut Rule) -> RuleHead
-    ensures head { head_value result ≡ spec.head_of (rule_value rule.old) }
-    ensures taken { rule_value rule.new ≡ untagged_rule (rule_value rule.old) }
-{
-    RuleHead {
-        line: rule.line,
-        tags: replace(&mut rule.tags, Vec::new(alloc)),
-    }
-}
-
-// Rules without tags, and their headings with the tags.
-#[derive(Drop)]
-struct TakenRules {
-    rules: Vec<Rule>,
-    heads: Vec<RuleHead>,
-}
-
-// Takes the tags of rules.
-fn take_heads(alloc: Global, rules: Vec<Rule>) -> Result<TakenRules, AllocError>
-    ensures heads { IfOk result (λ taken. map head_value taken.heads.items
-        ≡ map spec.head_of (map rule_value rules.items)) }
-    ensures rules { IfOk result (λ taken. map rule_value taken.rules.items
-        ≡ map untagged_rule (map rule_value rules.items)) }
-{
-    let mut heads = Vec::new(alloc);
-    let mut kept = Vec::new(alloc);
-    for rule in rules {
-        let mut rule = rule;
-        heads.push(take_head(alloc, &mut rule))?;
-        kept.push(rule)?;
-    }
-    Ok(TakenRules { rules: kept, heads })
-}
-
-// The tags of a feature, and the headings of its rules.
-#[derive(Drop)]
-struct Heads {
-    tags: Vec<String>,
-    rules: Vec<RuleHead>,
-}
-
-// Takes the tags of a feature and of its rules.
-fn take_tags(alloc: Global, feature: &mut Feature) -> Result<Heads, AllocError>
-    ensures tags { IfOk result (λ heads. texts heads.tags.items
-        ≡ (feature_value feature.old).tags) }
-    ensures rules { IfOk result (λ heads. map head_value heads.rules.items
-        ≡ map spec.head_of (feature_value feature.old).rules) }
-    ensures taken { OnOk result (feature_value feature.new
-        ≡ untagged (feature_value feature.old)) }
-{
-    let rules = replace(&mut feature.rules, Vec::new(alloc));
-    let taken = take_heads(alloc, rules)?;
-    feature.rules = taken.rules;
-    Ok(Heads {
-        tags: replace(&mut feature.tags, Vec::new(alloc)),
-        rules: taken.heads,
-    })
-}
-
-// Chooses among the cases of a feature before they are built, so that they need only their own tags.
-fn chosen_of(
-    alloc: Global,
-    choice: &Choice,
-    source: &str,
-    feature: Feature,
-) -> Result<Chosen, SelectFault>
-    requires { IsExpandable (feature_value feature) }
-    ensures chosen { IfOk result (λ c. chosen_value c
-        ≡ spec.chosen_of (chosen_by choice.now) source.now (feature_value feature)) }
-    ensures formed { IfOk result (λ c. IsFormed c) }
-    ensures fault { IfErr result (λ e. SaysExpansion (feature_value feature) e) }
-    ensures limit { OnOk result (spec.IsWithinLimit (Some (feature_value feature))) }
-{
-    let mut feature = feature;
-    let source = String::from_str(alloc, source)?;
-    let name = String::from_str(alloc, feature.name.as_str())?;
-    let line = feature.line;
-    let selected = selected_cases(alloc, choice, &feature)?;
-    let heads = take_tags(alloc, &mut feature)?;
-    // No code runs here: the laws say what the cases are now, and that they fall into the rules.
-    cases_keep_without_tags();
-    cases_fall_into_rules();
-    let cases = into_cases(alloc, feature)?;
-    let Heads { tags, rules } = heads;
-    Ok(Chosen {
-        source,
-        name,
-        line,
-        tags,
-        rules,
-        cases,
-        selected,
-    })
-}
-
-// Returns the fault of the source at a place for a fault of its file. Doesn't allocate.
-fn read_fault_at(input: usize, fault: ReadFault) -> RunFault
-    ensures { result ≡ faults.read_fault_at input fault }
-{
-    match fault {
-        ReadFault::Memory => RunFault::Memory,
-        _ => RunFault::Read { input, fault },
-    }
-}
-
-// Returns the fault of the source at a place for a fault of its cases. Doesn't allocate.
-fn select_fault_at(input: usize, fault: SelectFault) -> RunFault
-    ensures { result ≡ faults.select_fault_at input fault }
-{
-    match fault {
-        SelectFault::Memory => RunFault::Memory,
-        _ => RunFault::Select {
-            input: Some(input),
-            fault,
-        },
-    }
-}
-
-// Reads the feature, if there is one, from the bytes of the source at a place. An error says why they don't read.
-#[tactic(auto, using(std::proofs::lemmas::Grind::common_steps))]
-fn feature_at(alloc: Global, input: usize, bytes: &[u8]) -> Result<Option<Feature>, RunFault>
-    ensures read { IfOk result (λ feature. IsReading bytes.now (option_map feature_value feature)) }
-    ensures fault { IfErr result (λ e. SaysSourceAt input bytes.now e) }
-{
-    // No code runs here: the law says that what was read can be expanded.
-    read_features_are_expandable();
-    match read_feature(alloc, bytes) {
-        Ok(feature) => Ok(feature),
-        Err(fault) => Err(read_fault_at(input, fault)),
-    }
-}
-
-// Checks that the cases of a feature have no more steps than the limit, without building them.
-fn check_limit(feature: &Feature) -> Result<(), SelectFault>
-    ensures limit { OnOk result (spec.IsWithinLimit (Some (feature_value feature.now))) }
-    ensures fault { IfErr result (λ e. SaysExpansion (feature_value feature.now) e) }
-{
-    if has_room(feature) {
-        Ok(())
-    } else {
-        Err(SelectFault::TooMany)
     }
 }
 
@@ -295,43 +118,89 @@ pub fn read_feature_at(
 ) -> Result<Option<Feature>, RunFault>
     ensures read { IfOk result (λ feature.
         IsReadAs bytes.now (option_map feature_value feature)) }
-    ensures fault { IfErr result (λ e. SaysSourceAt input bytes.now e) }
+    ensures fault { IfErr result (SaysFile (source_at input bytes.now)) }
 {
-    match feature_at(alloc, input, bytes) {
-        Ok(Some(feature)) => match check_limit(&feature) {
-            Ok(()) => Ok(Some(feature)),
-            Err(fault) => Err(select_fault_at(input, fault)),
-        },
+    match read_feature(alloc, bytes) {
+        Ok(Some(feature)) => {
+            if has_room(&feature) {
+                Ok(Some(feature))
+            } else {
+                Err(RunFault::Select {
+                    input: Some(input),
+                    fault: SelectFault::TooMany,
+                })
+            }
+        }
         Ok(None) => Ok(None),
-        Err(fault) => Err(fault),
+        Err(ReadFault::Memory) => Err(RunFault::Memory),
+        Err(fault) => Err(RunFault::Read { input, fault }),
     }
 }
 
-// Adds the feature of the source with this place and name after those of other sources.
-#[tactic(auto, using(std::proofs::lemmas::List::map_push, crate::proofs::InputsLemmas::all_push, crate::proofs::InputsLemmas::too_many_at))]
-fn add_feature(
+// Returns the headings of rules, and moves the tags of the rules into them.
+fn headings(alloc: Global, rules: &mut Vec<Rule>) -> Result<Vec<RuleHead>, AllocError>
+    ensures headings { IfOk result (λ headings. map head_value headings.items
+        ≡ map spec.head_of (map rule_value rules.old.items)) }
+    ensures taken { OnOk result (map rule_value rules.new.items
+        ≡ map untagged_rule (map rule_value rules.old.items)) }
+{
+    let mut headings = Vec::new(alloc);
+    let mut untagged = Vec::new(alloc);
+    for rule in replace(rules, Vec::new(alloc)) {
+        let mut rule = rule;
+        let tags = replace(&mut rule.tags, Vec::new(alloc));
+        headings.push(RuleHead {
+            line: rule.line,
+            tags,
+        })?;
+        untagged.push(rule)?;
+    }
+    *rules = untagged;
+    Ok(headings)
+}
+
+// Chooses among the cases of a feature before they are built, so that they need only their own tags. The cases have at
+// most as many steps as the limit allows.
+fn chosen_of(
     alloc: Global,
     choice: &Choice,
-    input: usize,
-    name: &str,
+    source: &str,
     feature: Feature,
-    features: &mut Vec<Chosen>,
-) -> Result<(), RunFault>
+) -> Result<Chosen, AllocError>
     requires { IsExpandable (feature_value feature) }
-    ensures added { OnOk result (map chosen_value features.new.items
-        ≡ map chosen_value features.old.items ++ spec.chosen_of
-        (chosen_by choice.now) name.now (feature_value feature) ∷ []) }
-    ensures formed { OnOk result (AllByRecursion IsFormed features.old.items
-        → AllByRecursion IsFormed features.new.items) }
-    ensures limit { OnOk result (spec.IsWithinLimit (Some (feature_value feature))) }
-    ensures fault { IfErr result (λ e. SaysTooMany input (feature_value feature) e) }
+    ensures chosen { IfOk result (λ c. chosen_value c
+        ≡ spec.chosen_of (chosen_by choice.now) source.now (feature_value feature)) }
+    ensures formed { IfOk result IsFormed }
 {
-    let chosen = match chosen_of(alloc, choice, name, feature) {
-        Ok(chosen) => chosen,
-        Err(fault) => return Err(select_fault_at(input, fault)),
+    let mut feature = feature;
+    let source = String::from_str(alloc, source)?;
+    let name = String::from_str(alloc, feature.name.as_str())?;
+    let line = feature.line;
+    let selected = selected_cases(alloc, choice, &feature)?;
+    let rules = headings(alloc, &mut feature.rules)?;
+    let tags = replace(&mut feature.tags, Vec::new(alloc));
+    // No code runs here: the laws say what the cases are now, and that they fall into the rules.
+    cases_keep_without_tags();
+    cases_fall_into_rules();
+    let Ok(cases) = into_cases(alloc, feature) else {
+        return Err(AllocError);
     };
-    features.push(chosen)?;
-    Ok(())
+    Ok(Chosen {
+        source,
+        name,
+        line,
+        tags,
+        rules,
+        cases,
+        selected,
+    })
+}
+
+// What is read of sources: their features, and the rows of each feature's cases, if they are wanted.
+#[derive(Drop)]
+struct ReadSources {
+    features: Vec<Chosen>,
+    rows: Vec<Vec<Option<ExampleRow>>>,
 }
 
 // Adds the rows of a feature's cases after those of other features, if they are wanted.
@@ -350,39 +219,28 @@ fn add_rows(
     Ok(())
 }
 
-// Reads the source at a place, and adds its feature, if it has one, after those of other sources, and the rows of its
-// cases, if they are wanted.
+// Reads the source at a place, and adds its feature, if it has one, after those of other sources.
 fn read_onto(
     alloc: Global,
     choice: &Choice,
     with_rows: bool,
     input: usize,
     source: &Source,
-    features: &mut Vec<Chosen>,
-    rows: &mut Vec<Vec<Option<ExampleRow>>>,
+    read: &mut ReadSources,
 ) -> Result<(), RunFault>
-    ensures ok { OnOk result (IsReadOnto (chosen_by choice.now) (source_value source.now)
-        features.old.items features.new.items) }
-    ensures rows { OnOk result (AreRowsReadOnto with_rows (source_value source.now)
-        (row_lists rows.old.items) (row_lists rows.new.items)) }
-    ensures fault { IfErr result (λ e. SaysSourceAt input source.now.bytes.items e) }
+    ensures ok { OnOk result (IsReadOnto (chosen_by choice.now) with_rows
+        (source_value source.now) read.old read.new) }
+    ensures fault { IfErr result (SaysFile (source_at input source.now.bytes.items)) }
 {
-    match feature_at(alloc, input, source.bytes.as_slice()) {
-        Ok(Some(feature)) => {
-            add_rows(alloc, with_rows, &feature, rows)?;
-            let name = source.name.as_str();
-            add_feature(alloc, choice, input, name, feature, features)
-        }
-        Ok(None) => Ok(()),
-        Err(fault) => Err(fault),
-    }
-}
-
-// What is read of sources: their features, and the rows of each feature's cases, if they are wanted.
-#[derive(Drop)]
-struct ReadSources {
-    features: Vec<Chosen>,
-    rows: Vec<Vec<Option<ExampleRow>>>,
+    // No code runs here: the law says that what was read can be expanded.
+    read_features_are_expandable();
+    let Some(feature) = read_feature_at(alloc, input, source.bytes.as_slice())? else {
+        return Ok(());
+    };
+    add_rows(alloc, with_rows, &feature, &mut read.rows)?;
+    let chosen = chosen_of(alloc, choice, source.name.as_str(), feature)?;
+    read.features.push(chosen)?;
+    Ok(())
 }
 
 // Reads sources.
@@ -397,25 +255,17 @@ fn read_sources(
     ensures rows { IfOk result (λ r. AreRowsIf with_rows
         (map source_value sources.now) (row_lists r.rows.items)) }
     ensures formed { IfOk result (λ r. AllByRecursion IsFormed r.features.items) }
-    ensures fault { IfErr result (λ e. SaysSources (chosen_by choice.now)
-        (map source_value sources.now) e) }
+    ensures fault { IfErr result (SaysSources (chosen_by choice.now)
+        (map source_value sources.now)) }
 {
-    let mut features = Vec::new(alloc);
-    let mut rows = Vec::new(alloc);
+    let mut read = ReadSources {
+        features: Vec::new(alloc),
+        rows: Vec::new(alloc),
+    };
     for (input, source) in sources.iter().enumerate() {
-        if let Err(fault) = read_onto(
-            alloc,
-            choice,
-            with_rows,
-            input,
-            source,
-            &mut features,
-            &mut rows,
-        ) {
-            return Err(fault);
-        }
+        read_onto(alloc, choice, with_rows, input, source, &mut read)?;
     }
-    Ok(ReadSources { features, rows })
+    Ok(read)
 }
 
 /// The inputs that are read before the sources.
@@ -439,18 +289,14 @@ pub fn read_before(
     ensures fault { IfErr result (λ e. IsUnreadBefore
         options.now library.entry hooks.entry e) }
 {
-    let rules = match read_rules(alloc, options.tags.as_slice()) {
-        Ok(rules) => rules,
-        Err(fault) => return Err(tags_fault(fault)),
+    let Ok(rules) = read_rules(alloc, options.tags.as_slice())? else {
+        return Err(RunFault::Select {
+            input: None,
+            fault: SelectFault::BadTagText,
+        });
     };
-    let library = match read_step_library(alloc, library) {
-        Ok(library) => library,
-        Err(fault) => return Err(library_fault(fault)),
-    };
-    let hooks = match read_hook_file(alloc, hooks) {
-        Ok(hooks) => hooks,
-        Err(fault) => return Err(hooks_fault(fault)),
-    };
+    let library = read_step_library(alloc, library)?;
+    let hooks = read_hook_file(alloc, hooks)?;
     Ok(ReadBefore {
         rules,
         library,
@@ -477,20 +323,16 @@ pub fn read_inputs(
     ensures fault { IfErr result (λ e. IsUnread
         (asked options.now library.entry hooks.entry sources.now) e) }
 {
-    let before = match read_before(alloc, options, library, hooks) {
-        Ok(before) => before,
-        Err(fault) => return Err(fault),
-    };
-    let choice = choice_by(alloc, before.rules, options.lines.as_slice())?;
-    match read_sources(alloc, &choice, with_rows, sources) {
-        Ok(read) => Ok(ReadInputs {
-            library: before.library,
-            hooks: before.hooks,
-            features: read.features,
-            rows: read.rows,
-        }),
-        Err(fault) => Err(fault),
-    }
+    let before = read_before(alloc, options, library, hooks)?;
+    let lines = Vec::from_slice(alloc, options.lines.as_slice())?;
+    let choice = Choice::new(before.rules, lines);
+    let ReadSources { features, rows } = read_sources(alloc, &choice, with_rows, sources)?;
+    Ok(ReadInputs {
+        library: before.library,
+        hooks: before.hooks,
+        features,
+        rows,
+    })
 }
 
 /// Shows that a request reads in only one way. No code runs here.

@@ -1,24 +1,20 @@
-use Rattle.gk_request.proofs.Common.{sym, subst, arith, texts, library_value, AreRules, asked_of, IsUnread, common_steps}
-use Rattle.gk_request.proofs.InputsLemmas.{tags_unread, library_unread, hooks_unread}
+use Rattle.gk_request.proofs.Common.{sym, subst, library_value, asked_of, IsUnread}
+use Rattle.gk_request.proofs.InputsLemmas.{library_unread, hooks_unread}
+use Rattle.gk_request.proofs.ResultLemmas.{passed_on}
 use Rattle.gk_request.proofs.inputs.read_before.Goals as goal
 
-pub returns-in-Err-clause-fault : goal.returns-in-Err-clause-fault
-returns-in-Err-clause-fault c = grind (arith, common_steps, tags_unread)
-
-pub returns-in-Err-read_step_library-clause-fault : goal.returns-in-Err-read_step_library-clause-fault
-returns-in-Err-read_step_library-clause-fault c = λ sources.
+pub returns-in_err-library-clause-fault : goal.returns-in_err-library-clause-fault
+returns-in_err-library-clause-fault c =
+    let rules = c.in-Ok.rules.items in
+    let tags = rw (c.in-Ok.is, c.as_slice.ensures.value) at c.in_ok-rules.ensures.rules in
+    passed_on c.from_residual-in_err-library.result c.from_residual-in_err-library.ensures.1 (λ fault same sources.
     let request = asked_of c.args.options.now c.args.library c.args.hooks sources in
-    let wanted = c.in-Ok.rules.items in
-    let tags : AreRules request.tags wanted = subst (λ ts. AreRules (texts ts) wanted) c.as_slice.ensures.value c.in-Ok.ensures.rules in
-    subst (IsUnread request) (sym c.library_fault.ensures) (library_unread request wanted c.in-Err-read_step_library.fault tags c.in-Err-read_step_library.ensures.fault)
+    subst (IsUnread request) (sym same) (library_unread request rules c.in_err-library.field-0.0 tags c.in_err-library.ensures.fault))
 
-pub returns-in-Err-read_hook_file-clause-fault : goal.returns-in-Err-read_hook_file-clause-fault
-returns-in-Err-read_hook_file-clause-fault c = λ sources.
+pub returns-in_err-hooks-clause-fault : goal.returns-in_err-hooks-clause-fault
+returns-in_err-hooks-clause-fault c =
+    let rules = c.in-Ok.rules.items in
+    let tags = rw (c.in-Ok.is, c.as_slice.ensures.value) at c.in_ok-rules.ensures.rules in
+    passed_on c.from_residual-in_err-hooks.result c.from_residual-in_err-hooks.ensures.1 (λ fault same sources.
     let request = asked_of c.args.options.now c.args.library c.args.hooks sources in
-    let wanted = c.in-Ok.rules.items in
-    let tags : AreRules request.tags wanted = subst (λ ts. AreRules (texts ts) wanted) c.as_slice.ensures.value c.in-Ok.ensures.rules in
-    subst (IsUnread request) (sym c.hooks_fault.ensures)
-    (hooks_unread request wanted (library_value c.in-Ok-read_step_library.library) c.in-Err-read_hook_file.fault tags c.in-Ok-read_step_library.ensures.read c.in-Err-read_hook_file.ensures.fault)
-
-pub returns-clause-read : goal.returns-clause-read
-returns-clause-read c = grind (arith, common_steps)
+    subst (IsUnread request) (sym same) (hooks_unread request rules (library_value c.in_ok-library.library) c.in_err-hooks.field-0.0 tags c.in_ok-library.ensures.read c.in_err-hooks.ensures.fault))
