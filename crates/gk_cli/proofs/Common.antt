@@ -88,22 +88,19 @@ pub use Rattle.gk_steps.specs.LibraryFile.{LibraryReadingIsUnique}
 pub use Rattle.gk_world.specs.Sandbox.{IsSame, SandboxValue}
 pub use Rattle.gk_world.specs.State.{Contents, State, state_of}
 pub use Rattle.gk_cli.specs.Arguments.{HasRule, IsAskedBy, IsCommand, IsFaultBy, IsFirstWithout, IsLineNumber, PairValue, SaysArguments, SaysMatches, SaysPair, command, faults_in, format_asked, found_in, has_equals, is_clash, is_format, is_given, line_number, pair_value, split_at_equals, values_of, with_version}
-pub use Rattle.gk_cli.specs.ExplainedRun.{Adds, Closes, Explains, IsExplainedUpTo}
-pub use Rattle.gk_cli.specs.ExplainedSuite.{ExplainedInPart, explained_by}
-pub use Rattle.gk_cli.specs.GrowingReport.{AddsPart, ClosesByTail, Stays, prints_nothing, results_with, style_of}
+pub use Rattle.gk_cli.specs.ExplainRun.{Adds, Closes, ExplainedInPart, Explains, IsExplainedUpTo, explained_by}
+pub use Rattle.gk_cli.specs.FeatureLoop.{AreWritten, AreWrittenUpTo, IsClosed, IsDryResult, IsNextResult, IsRunWritten, IsRunWrittenUpTo, IsTextSoFar, IsWholeText, NotifiesOfDryFeature, NotifiesOfFeature, NotifiesOfFeatures, NotifiesOfFirst, StopsAdding, StopsAtNext, StopsClosing, WritesNext, counts_of, reporter_of, results_with, stays, stays_begun}
+pub use Rattle.gk_cli.specs.ReportRun.{AddsPart, ClosesByTail, IsPrefix, IsWhole, Stays, prints_nothing, style_of}
 pub use Rattle.gk_cli.specs.Modes.{IsWrittenAs, LintedInPart, SaysFaultAs}
 pub use Rattle.gk_cli.specs.OptionTable.{option_value, rule_of_option}
-pub use Rattle.gk_cli.specs.Reporter.{StopsAdding}
 pub use Rattle.gk_cli.specs.SameResult.{HasRow, IsSettledIn, ScenariosComeToTheSameInEachRun}
 pub use Rattle.gk_cli.specs.RowOrder.{JudgedRowsAreInFileOrder, RowsAreInFileOrder}
 pub use Rattle.gk_cli.specs.Suite.{AreJudged, IsReported, JudgedReport, OnlyReport, ReportedInPart, SaysFaultBy, run_by, run_with}
-pub use Rattle.gk_cli.specs.ToldRun.{AreTold, AreToldUpTo, EndsNext, IsClosed, IsDryResult, IsNextResult, IsTextSoFar, IsToldRun, IsToldUpTo, IsWholeText, StopsClosing, TellsDryFeature, TellsFeature, TellsFeatures, TellsFirst, TellsNext, counts_of, reporter_of, stays, stays_begun}
 pub use Rattle.gk_cli.specs.Writing.{Device, IsStopped, IsUntouched, IsWritten, StopsBy, UsesWriter, device_of}
-pub use Rattle.gk_cli.specs.WrittenRun.{IsPrefix, IsWhole}
 pub use Rattle.gk_cli.specs.declared.arguments.Mode.{Mode}
 pub use Rattle.gk_cli.specs.declared.arguments.Words.{Words}
 pub use Rattle.gk_cli.specs.declared.arguments.WordsFault.{WordsFault}
 pub use Rattle.gk_cli.specs.declared.arguments.WordsFault.TheVariants.{Env, File, Usage}
-pub use Rattle.gk_cli.specs.declared.growing_report.GrowingReport.{GrowingReport}
+pub use Rattle.gk_cli.specs.declared.report_run.GrowingReport.{GrowingReport}
 pub use Rattle.gk_cli.specs.declared.option_table.OptionRow.{OptionRow}
-pub use Rattle.gk_cli.specs.declared.told_run.CountingReporter.{CountingReporter}
+pub use Rattle.gk_cli.specs.declared.feature_loop.CountingReporter.{CountingReporter}

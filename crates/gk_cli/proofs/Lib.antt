@@ -1,9 +1,8 @@
 pub mod Common
 pub mod ArgumentsLemmas
-pub mod GrowingReportLemmas
+pub mod ReportRunLemmas
 pub mod SuiteLemmas
-pub mod ToldRunLemmas
-pub mod ExplainedSuiteLemmas
+pub mod FeatureLoopLemmas
 pub mod ModesLemmas
 pub mod RowOrderLaw
 pub mod SameResultLaw

@@ -68,11 +68,6 @@ is_set name rows = option_map_or (λ text. bytes_eq text (codes "true")) (one_of
 abbrev pub mode_asked : List Row → Mode
 mode_asked rows = if is_set (codes "explain") rows then Explanation else (if is_set (codes "lint") rows then Findings (not (is_set (codes "no-steps") rows)) else Report)
 
--- Whether nothing runs in this mode.
-abbrev pub is_lint : Mode → Bool
-is_lint (Findings steps) = true
-is_lint mode = false
-
 -- Whether an option is among the arguments, with a value.
 abbrev pub is_given : Text → List Row → Bool
 is_given name rows = is_some (first_of name rows)
@@ -86,19 +81,20 @@ is_among_by _ name rows = is_given name rows
 abbrev pub is_among : List Row → OptionValue → Bool
 is_among rows o = is_among_by o.takes o.name rows
 
--- Whether an option may accompany the output of this mode.
-abbrev pub is_accepted : Mode → OptionValue → Bool
-is_accepted Report o = o.beside_report
-is_accepted Explanation o = o.beside_explain
-is_accepted (Findings steps) o = if steps then o.beside_lint else o.beside_no_steps
+-- Whether an option may accompany the output that the arguments ask for: an explanation, the findings with or without those of steps, or a report.
+abbrev pub is_accepted : List Row → OptionValue → Bool
+is_accepted rows o =
+    if is_set (codes "explain") rows
+    then o.beside_explain
+    else (if not (is_set (codes "lint") rows) then o.beside_report else (if is_set (codes "no-steps") rows then o.beside_no_steps else o.beside_lint))
 
--- Whether an option is among the arguments and may not accompany the output of this mode.
-abbrev pub is_excluded : Mode → List Row → OptionValue → Bool
-is_excluded mode rows o = is_among rows o && not (is_accepted mode o)
+-- Whether an option is among the arguments and may not accompany the output that they ask for.
+abbrev pub is_excluded : List Row → OptionValue → Bool
+is_excluded rows o = is_among rows o && not (is_accepted rows o)
 
 -- Whether an option is among the arguments that may not accompany what they ask for.
 abbrev pub is_clash : List Row → Bool
-is_clash rows = list_any (is_excluded (mode_asked rows) rows) options
+is_clash rows = list_any (is_excluded rows) options
 
 -- The faults in what clap found: an option that may not accompany what the arguments ask for, or otherwise a format with an unknown name.
 abbrev pub faults_found : List Row → Kinds

@@ -5,10 +5,7 @@ pub mod Writing
 pub mod Suite
 pub mod SameResult
 pub mod RowOrder
-pub mod GrowingReport
-pub mod Reporter
-pub mod ToldRun
-pub mod WrittenRun
-pub mod ExplainedRun
-pub mod ExplainedSuite
+pub mod FeatureLoop
+pub mod ReportRun
+pub mod ExplainRun
 pub mod Modes

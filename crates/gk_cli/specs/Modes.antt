@@ -5,7 +5,7 @@ use Rattle.gk_cli.specs.declared.arguments.Mode.{Mode}
 use Rattle.gk_cli.specs.declared.arguments.Mode.TheVariants.{Report, Explanation, Findings}
 use Rattle.gk_request.specs.declared.run_fault.RunFault.{RunFault}
 use Rattle.gk_request.specs.declared.run_fault.RunFault.TheVariants as faults
-use Rattle.gk_cli.specs.ExplainedSuite.{Explained, ExplainedInPart}
+use Rattle.gk_cli.specs.ExplainRun.{Explained, ExplainedInPart}
 use Rattle.gk_request.specs.Request.{Request, FilesValue, hooks_name, library_name}
 use Rattle.gk_findings.specs.LintedSuite.{IsLinted}
 use Rattle.gk_cli.specs.Suite.{JudgedReport, OnlyReport, ReportedInPart, SaysFaultBy}

@@ -20,7 +20,7 @@ pub record OptionValue : Type 0 where
 abbrev pub option_value : OptionRow → OptionValue
 option_value row = record { name = row.name.now; takes = row.takes; beside_report = row.beside_report; beside_explain = row.beside_explain; beside_lint = row.beside_lint; beside_no_steps = row.beside_no_steps }
 
--- What clap is told of an option. It finds `true` for a flag that is among the arguments, and `false` otherwise. N of `--line N` fits a `u32` and isn't 0.
+-- The rule by which clap reads an option. It finds `true` for a flag that is among the arguments, and `false` otherwise. N of `--line N` fits a `u32` and isn't 0.
 abbrev pub rule_by : Text → OptionTakes → Rule
 rule_by name Flag = record (new_rule name) { long = Some name; action = Some SetTrue }
 rule_by name OneText = record (new_rule name) { long = Some name; action = Some Set; value_names = 1 }

@@ -6,7 +6,7 @@ ghost use Rattle.clap.specs.declared.error.kind.ErrorKind.TheVariants.{ArgumentC
 ghost use Rattle.gk_cli.specs.Arguments as spec;
 ghost use Rattle.gk_cli.specs.OptionTable.{option_value, rule_of_option};
 ghost use Rattle.gk_report.specs.Report.{format_name};
-ghost use Rattle.gk_cli.specs.Arguments.{is_clash, mode_asked, files_rule, command, HasRule, IsCommand, is_lint, is_set, IsLineNumber, line_number, format_asked, SaysPair, SaysPairs, AreAsked, SaysMatches, SaysArguments};
+ghost use Rattle.gk_cli.specs.Arguments.{mode_asked, files_rule, command, HasRule, IsCommand, is_set, IsLineNumber, line_number, format_asked, SaysPair, SaysPairs, AreAsked, SaysMatches, SaysArguments};
 
 use crate::option_table::{OPTIONS, OptionRow, OptionTakes};
 use clap::builder::ValueParser;
@@ -37,15 +37,6 @@ pub enum Mode {
         /// entries.
         steps: bool,
     },
-}
-
-impl Mode {
-    /// Returns whether nothing runs in this mode. Doesn't allocate.
-    pub fn is_lint(self) -> bool
-        ensures { result ≡ is_lint self }
-    {
-        matches!(self, Mode::Findings { .. })
-    }
 }
 
 /// What the command-line arguments ask for.
@@ -313,71 +304,63 @@ fn is_among(matches: &ArgMatches, row: &OptionRow) -> bool
     }
 }
 
-// Returns whether an option may accompany the output of this mode.
-fn is_accepted(mode: Mode, row: &OptionRow) -> bool
-    ensures { result ≡ spec.is_accepted mode (option_value row.now) }
+// Returns whether an option may accompany the output that the arguments ask for.
+fn is_accepted(matches: &ArgMatches, row: &OptionRow) -> bool
+    ensures { result ≡ spec.is_accepted (rows_of (found_of matches.now)) (option_value row.now) }
 {
-    match mode {
-        Mode::Report => row.beside_report,
-        Mode::Explanation => row.beside_explain,
-        Mode::Findings { steps } => {
-            if steps {
-                row.beside_lint
-            } else {
-                row.beside_no_steps
-            }
-        }
+    if flag(matches, "explain") {
+        row.beside_explain
+    } else if !flag(matches, "lint") {
+        row.beside_report
+    } else if flag(matches, "no-steps") {
+        row.beside_no_steps
+    } else {
+        row.beside_lint
     }
 }
 
-// Returns whether an option is among the arguments and may not accompany the output of this mode.
-fn is_excluded(matches: &ArgMatches, mode: Mode, row: &OptionRow) -> bool
-    ensures { result ≡ spec.is_excluded mode (rows_of (found_of matches.now))
-        (option_value row.now) }
+// Returns whether an option is among the arguments and may not accompany the output that they ask for.
+fn is_excluded(matches: &ArgMatches, row: &OptionRow) -> bool
+    ensures { result ≡ spec.is_excluded (rows_of (found_of matches.now)) (option_value row.now) }
 {
     let among = is_among(matches, row);
-    let accepted = is_accepted(mode, row);
+    let accepted = is_accepted(matches, row);
     among && !accepted
 }
 
-// Returns the name of the first of these options that is among the arguments and may not accompany the output of this
-// mode.
-fn first_excluded(matches: &ArgMatches, mode: Mode, rows: &[OptionRow]) -> Option<&'static str>
-    ensures { is_some result ≡ list_any (spec.is_excluded mode (rows_of (found_of matches.now)))
+// Returns the name of the first of these options that is excluded.
+fn first_excluded(matches: &ArgMatches, rows: &[OptionRow]) -> Option<&'static str>
+    ensures { is_some result ≡ list_any (spec.is_excluded (rows_of (found_of matches.now)))
         (map option_value rows.now) }
 {
     for row in rows {
-        if is_excluded(matches, mode, row) {
+        if is_excluded(matches, row) {
             return Some(row.name);
         }
     }
     None
 }
 
-// Returns the name of the first option among the arguments that may not accompany what they ask for.
-fn first_clash(matches: &ArgMatches) -> Option<&'static str>
-    ensures { is_some result ≡ is_clash (rows_of (found_of matches.now)) }
-{
-    first_excluded(matches, mode_of(matches), &OPTIONS)
-}
-
-// Makes the error for an option that may not accompany the output of this mode, in clap's words.
+// Makes the error for an option that may not accompany the output that the arguments ask for, in clap's words.
 fn clash(
     alloc: Global,
     command: &mut Command,
-    mode: Mode,
+    matches: &ArgMatches,
     name: &str,
 ) -> Result<clap::Error, AllocError>
     ensures { IfOk result (λ error. kind_of error ≡ ArgumentConflict) }
 {
-    let asked_by = match mode {
-        Mode::Report => None,
-        Mode::Explanation => Some("explain"),
-        Mode::Findings { steps } => Some(if steps { "lint" } else { "no-steps" }),
+    let asked_by = if flag(matches, "explain") {
+        "explain"
+    } else if flag(matches, "no-steps") {
+        "no-steps"
+    } else {
+        "lint"
     };
-    let message = match asked_by {
-        Some(by) => format!(in alloc; "the argument '--{by}' cannot be used with '--{name}'")?,
-        None => format!(in alloc; "the argument '--{name}' needs '--lint'")?,
+    let message = if asked_by == name {
+        format!(in alloc; "the argument '--{name}' needs '--lint'")?
+    } else {
+        format!(in alloc; "the argument '--{asked_by}' cannot be used with '--{name}'")?
     };
     command.error(ErrorKind::ArgumentConflict, message.as_str())
 }
@@ -442,8 +425,8 @@ fn words_by<'a>(
     ensures { SaysArguments (map string_bytes words.now) result }
 {
     let matches = reader.try_get_matches_from_mut(words)?;
-    if let Some(name) = first_clash(&matches) {
-        return Err(WordsFault::Usage(clash(alloc, reader, mode_of(&matches), name)?));
+    if let Some(name) = first_excluded(&matches, &OPTIONS) {
+        return Err(WordsFault::Usage(clash(alloc, reader, &matches, name)?));
     }
     let name = matches.get_str("format").unwrap_or("plain");
     match format_named(name) {

@@ -3,15 +3,13 @@
 #![tactic(auto)]
 
 mod arguments;
-mod explained_run;
-mod growing_report;
+mod explain_run;
+mod feature_loop;
 mod laws;
 mod option_table;
-mod reporter;
+mod report_run;
 mod suite;
-mod told_run;
 mod writing;
-mod written_run;
 
 pub use arguments::{Mode, Words, WordsFault, read_words};
 pub use gk_io::{Counted, SourceFault, read_source};

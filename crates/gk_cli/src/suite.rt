@@ -4,13 +4,13 @@ ghost use Rattle.gk_world.specs.Sandbox.{depth, IsSame};
 ghost use Rattle.gk_request.specs.Request.{asked, files_value, request_of_files, library_name, hooks_name};
 ghost use Rattle.gk_cli.specs.Modes.{lint_status, IsWrittenAs, Linted, LintedInPart, SaysFaultAs};
 ghost use Rattle.gk_cli.specs.Suite.{JudgedReport, OnlyReport, Reported, ReportedInPart, SaysFault, SaysFaultBy};
-ghost use Rattle.gk_cli.specs.ExplainedSuite.{Explained, ExplainedInPart};
+ghost use Rattle.gk_cli.specs.ExplainRun.{Explained, ExplainedInPart};
 ghost use Rattle.gk_cli.specs.Writing.{UsesWriter, device_of};
 
 use crate::arguments::Mode;
-use crate::explained_run::write_explanation;
+use crate::explain_run::write_explanation;
+use crate::report_run::write_run;
 use crate::writing::write_piece;
-use crate::written_run::write_run;
 use gk_findings::findings_text;
 use gk_io::Counted;
 use gk_request::{

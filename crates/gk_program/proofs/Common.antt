@@ -12,7 +12,7 @@ pub use Rattle.std.specs.Vec.Iter.{into_iter_items, into_iter_len}
 pub use Rattle.std.specs.declared.alloc.Global.{Global}
 pub use Rattle.clap.specs.Words.{IsAmong, Text, kind_of}
 pub use Rattle.clap.specs.declared.error.Error.{Error}
-pub use Rattle.gk_cli.specs.Arguments.{PairValue, SaysArguments, faults_in, is_lint, pair_value}
+pub use Rattle.gk_cli.specs.Arguments.{PairValue, SaysArguments, faults_in, pair_value}
 pub use Rattle.gk_cli.specs.Modes.{IsWrittenAs, SaysFaultAs}
 pub use Rattle.gk_cli.specs.Writing.{Device, IsUntouched, UsesWriter, device_of}
 pub use Rattle.gk_cli.specs.declared.arguments.Mode.{Mode}

@@ -27,7 +27,7 @@ pub struct ProgramEnd {
     pub place: FaultPlace,
 }
 
-// Returns whether notes are printed below faults in this mode.
+// Returns whether this mode lists all faults, with notes below each.
 fn has_notes(mode: Mode) -> bool
     ensures { result ≡ spec.has_notes mode }
 {
@@ -138,7 +138,7 @@ fn later_faults(alloc: Global, mode: Mode, faults: &Faults) -> Result<Vec<RunFau
         AreLater mode faults.now.inputs faults.now.first later.items) }
 {
     match &faults.inputs {
-        Some(inputs) if mode.is_lint() => match &faults.first {
+        Some(inputs) if matches!(mode, Mode::Findings { .. }) => match &faults.first {
             Fault::OfRun(first) => faults_after(alloc, &inputs.files, *first),
             _ => Ok(Vec::new(alloc)),
         },

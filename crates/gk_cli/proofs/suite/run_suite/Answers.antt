@@ -1,6 +1,6 @@
 use Rattle.gk_cli.proofs.Common.{inputs_value, ReportedInPart, asked, device_of, if_ok, if_err, arith, common_steps}
 use Rattle.gk_cli.proofs.SuiteLemmas.{cut_says, reported_in_part, unread_says, used_by_run, whole_is_judged, whole_is_only}
-use Rattle.gk_cli.proofs.GrowingReportLemmas.{untouched}
+use Rattle.gk_cli.proofs.ReportRunLemmas.{untouched}
 use Rattle.gk_cli.proofs.suite.run_suite.Goals as goal
 
 pub returns-in-Ok-clause-judged : goal.returns-in-Ok-clause-judged
