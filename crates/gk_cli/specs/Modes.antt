@@ -30,12 +30,8 @@ IsWrittenAs Report files request contents old new status = JudgedReport request 
 IsWrittenAs Explanation files request contents old new status = Explained request (hooks_name files) contents old new status
 IsWrittenAs (Findings steps) files request contents old new status = Linted steps request (library_name files) (hooks_name files) old new status
 
--- A prefix of the output of a suite was written when it ended with this fault.
-abbrev pub IsStoppedAs : Mode → FilesValue → Request → Contents → Device → Device → RunFault → Type 0
-IsStoppedAs Report files request contents old new = ReportedInPart request contents old new
-IsStoppedAs Explanation files request contents old new = ExplainedInPart request (hooks_name files) contents old new
-IsStoppedAs (Findings steps) files request contents old new = LintedInPart steps request (library_name files) (hooks_name files) old new
-
 -- What each fault of a suite says.
 abbrev pub SaysFaultAs : Mode → FilesValue → Request → Contents → Device → Device → RunFault → Type 0
-SaysFaultAs mode files request contents old new by = SaysFaultBy (IsStoppedAs mode files request contents old new) request old new by
+SaysFaultAs Report files request contents old new = SaysFaultBy (ReportedInPart request contents old new) request old new
+SaysFaultAs Explanation files request contents old new = SaysFaultBy (ExplainedInPart request (hooks_name files) contents old new) request old new
+SaysFaultAs (Findings steps) files request contents old new = SaysFaultBy (LintedInPart steps request (library_name files) (hooks_name files) old new) request old new

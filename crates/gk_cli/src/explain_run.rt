@@ -8,7 +8,7 @@ ghost use Rattle.gk_request.specs.Inputs.{inputs_value};
 ghost use Rattle.gk_cli.specs.Writing.{device_of};
 ghost use Rattle.gk_cli.specs.ExplainRun.{IsExplained, IsExplainedUpTo, explained_by};
 
-use crate::feature_loop::{Reporter, RunParts, run_notifying};
+use crate::feature_loop::{CountingReporter, Reporter, run_notifying};
 use crate::writing::write_piece;
 use gk_explain::Explainer;
 use gk_gherkin::HookTable;
@@ -104,10 +104,14 @@ pub fn write_explanation<W: Write>(
     } = inputs;
     let explainer = Explainer::new(alloc, &library, hooks, rows.as_slice());
     let table = HookTable::new(alloc, &hook_file);
-    let parts = RunParts {
-        alloc,
-        library: &library,
-        hooks: &table,
-    };
-    run_notifying(&parts, sandbox, options.stop, features, explainer, out)
+    let counting = CountingReporter::new(alloc, explainer);
+    run_notifying(
+        &library,
+        &table,
+        sandbox,
+        options.stop,
+        features,
+        counting,
+        out,
+    )
 }

@@ -1,5 +1,5 @@
 //! A run of feature after feature: a reporter is notified of each, and writes its text when it has ended.
-ghost use Rattle.std.specs.Prelude.{◌≡◌, ℕ, List, true, map, IfOk, IfErr, OnOk, OnErr, string_bytes};
+ghost use Rattle.std.specs.Prelude.{◌≡◌, ℕ, List, [], true, map, IfOk, IfErr, OnOk, OnErr, string_bytes};
 ghost use Rattle.std.specs.List.{AllByRecursion};
 ghost use Rattle.gk_world.specs.Sandbox.{depth, IsSame};
 ghost use Rattle.gk_world.specs.State.{state_of};
@@ -10,9 +10,9 @@ ghost use Rattle.gk_run.specs.Chosen.{chosen_value, IsFormed};
 ghost use Rattle.gk_run.specs.DryRun.{AreDryFeatures};
 ghost use Rattle.gk_run.specs.Features.{IsFeatureResult};
 ghost use Rattle.gk_run.specs.OpenRun.{AreFeatures, IsKept, opens_features};
-ghost use Rattle.gk_report.specs.Summary.{CountsOneMore};
+ghost use Rattle.gk_report.specs.Summary.{CountsOneMore, summary_of};
 ghost use Rattle.gk_cli.specs.Writing.{device_of};
-ghost use Rattle.gk_cli.specs.FeatureLoop.{ClosesWith, IsAdded, StopsAdding, NotifiesOfFeature, NotifiesOfDryFeature, IsNextResult, IsDryResult, WritesNext, StopsAtNext, AreWritten, AreWrittenUpTo, IsClosed, StopsClosing, IsRunWritten, IsRunWrittenUpTo, stays, stays_begun};
+ghost use Rattle.gk_cli.specs.FeatureLoop.{ClosesWith, IsAdded, StopsAdding, NotifiesOfFeature, NotifiesOfDryFeature, IsNextResult, IsDryResult, WritesNext, StopsAtNext, AreWritten, AreWrittenUpTo, IsClosed, StopsClosing, IsRunWritten, IsRunWrittenUpTo, counts_of, reporter_of, stays, stays_begun};
 
 use crate::writing::write_piece;
 use gk_gherkin::HookTable;
@@ -69,17 +69,10 @@ pub trait Reporter: Observer + Drop {
             ClosesWith closes self summary.now around (string_bytes text)) };
 }
 
-/// What stays the same during a run: the library, the hooks and the allocator.
-#[derive(Clone, Copy)]
-pub struct RunParts<'a> {
-    pub alloc: Global,
-    pub library: &'a Library,
-    pub hooks: &'a HookTable<'a>,
-}
-
 /// A reporter of a run, and the counts of the features that it was notified of.
 #[derive(Drop)]
 pub struct CountingReporter<R> {
+    alloc: Global,
     reporter: R,
     summary: Summary,
 }
@@ -90,11 +83,12 @@ impl<R> CountingReporter<R> {
     ghost use Rattle.gk_cli.specs.FeatureLoop.{reporter_of, counts_of};
 
     /// Returns a reporter that was notified of no feature.
-    pub fn new(reporter: R) -> CountingReporter<R>
+    pub fn new(alloc: Global, reporter: R) -> CountingReporter<R>
         ensures reporter { reporter_of result ≡ reporter }
         ensures counts { counts_of result ≡ summary_of [] }
     {
         CountingReporter {
+            alloc,
             reporter,
             summary: Summary::new(),
         }
@@ -104,7 +98,6 @@ impl<R> CountingReporter<R> {
 // Notifies a reporter of the end of a feature, and counts the feature. If its text wasn't written whole, the counts stay
 // as they were.
 fn add_feature<R: Reporter, W: Write>(
-    alloc: Global,
     counting: &mut CountingReporter<R>,
     feature: &FeatureResult,
     out: &mut Counted<W>,
@@ -118,6 +111,7 @@ fn add_feature<R: Reporter, W: Write>(
         (device_of W.contents out.old) (device_of W.contents out.new)) }
     ensures uncounted { OnErr result (counting.new.summary ≡ counting.old.summary) }
 {
+    let alloc = counting.alloc;
     counting.reporter.feature_ended(alloc, feature, out)?;
     counting.summary.add(feature);
     Ok(())
@@ -126,7 +120,8 @@ fn add_feature<R: Reporter, W: Write>(
 // Runs the next feature of a run, and notifies a reporter of it. On an error it isn't counted.
 #[tactic(auto, using(gk_request::proofs::ResultLemmas::on_both, gk_request::proofs::ResultLemmas::if_err, crate::proofs::FeatureLoopLemmas::next_stopped))]
 fn run_next<R: Reporter, W: Write>(
-    parts: &RunParts<'_>,
+    library: &Library,
+    hooks: &HookTable<'_>,
     sandbox: &mut Sandbox,
     suite: &mut Suite,
     counting: &mut CountingReporter<R>,
@@ -135,15 +130,13 @@ fn run_next<R: Reporter, W: Write>(
 ) -> Result<(), RunFault>
     requires innermost { suite.old.layer ≡ depth sandbox.old }
     requires formed { IsFormed feature }
-    ensures ok { let hooks = parts.now.hooks.now.file.now in
-        let run = run_of parts.now.library.now hooks suite.old.stop in OnOk result (WritesNext
+    ensures ok { let run = run_of library.now hooks.now.file.now suite.old.stop in OnOk result (WritesNext
         (NotifiesOfFeature R.hears R.ends R.begins R.adds run (state_of sandbox.old.now))
         (IsNextResult run (state_of sandbox.old.now)
         (opens_features suite.old) (opens_features suite.new) (chosen_value feature))
         (opens_features suite.old) (chosen_value feature)
         (device_of W.contents out.old) counting.old (device_of W.contents out.new) counting.new) }
-    ensures err { let hooks = parts.now.hooks.now.file.now in
-        let run = run_of parts.now.library.now hooks suite.old.stop in IfErr result (StopsAtNext
+    ensures err { let run = run_of library.now hooks.now.file.now suite.old.stop in IfErr result (StopsAtNext
         (NotifiesOfFeature R.hears R.ends R.begins R.adds run (state_of sandbox.old.now))
         (IsFeatureResult run (state_of sandbox.old.now)
         (opens_features suite.old) (chosen_value feature))
@@ -155,14 +148,14 @@ fn run_next<R: Reporter, W: Write>(
 {
     counting.reporter.feature_begun(feature.source.as_str());
     match suite.feature_watched(
-        parts.alloc,
+        counting.alloc,
         sandbox,
-        parts.library,
-        parts.hooks,
+        library,
+        hooks,
         feature,
         &mut counting.reporter,
     ) {
-        Ok(result) => add_feature(parts.alloc, counting, &result, out),
+        Ok(result) => add_feature(counting, &result, out),
         Err(NoRoom) => Err(RunFault::Memory),
     }
 }
@@ -170,7 +163,8 @@ fn run_next<R: Reporter, W: Write>(
 // Runs the features of a run that has begun, one after another, and notifies a reporter of each. After an error its
 // reporter may have been notified of a feature that isn't counted; only the end of the run may still follow.
 fn run_features<R: Reporter, W: Write>(
-    parts: &RunParts<'_>,
+    library: &Library,
+    hooks: &HookTable<'_>,
     sandbox: &mut Sandbox,
     suite: &mut Suite,
     counting: &mut CountingReporter<R>,
@@ -179,14 +173,12 @@ fn run_features<R: Reporter, W: Write>(
 ) -> Result<(), RunFault>
     requires innermost { suite.old.layer ≡ depth sandbox.old }
     requires formed { AllByRecursion IsFormed features.items }
-    ensures ok { let hooks = parts.now.hooks.now.file.now in
-        let run = run_of parts.now.library.now hooks suite.old.stop in OnOk result (AreWritten
+    ensures ok { let run = run_of library.now hooks.now.file.now suite.old.stop in OnOk result (AreWritten
         (NotifiesOfFeature R.hears R.ends R.begins R.adds run (state_of sandbox.old.now)) (stays run)
         (AreFeatures run (state_of sandbox.old.now) (opens_features suite.old))
         (opens_features suite.old) (map chosen_value features.items)
         (device_of W.contents out.old) counting.old (device_of W.contents out.new) counting.new) }
-    ensures err { let hooks = parts.now.hooks.now.file.now in
-        let run = run_of parts.now.library.now hooks suite.old.stop in IfErr result (AreWrittenUpTo
+    ensures err { let run = run_of library.now hooks.now.file.now suite.old.stop in IfErr result (AreWrittenUpTo
         (NotifiesOfFeature R.hears R.ends R.begins R.adds run (state_of sandbox.old.now)) (stays run)
         (AreFeatures run (state_of sandbox.old.now) (opens_features suite.old))
         (opens_features suite.old) (map chosen_value features.items)
@@ -195,7 +187,7 @@ fn run_features<R: Reporter, W: Write>(
     ensures same { IsSame sandbox.old sandbox.new }
 {
     for feature in features {
-        run_next(parts, sandbox, suite, counting, feature, out)?;
+        run_next(library, hooks, sandbox, suite, counting, feature, out)?;
     }
     Ok(())
 }
@@ -203,7 +195,6 @@ fn run_features<R: Reporter, W: Write>(
 // Looks up the steps of the next feature, and notifies a reporter of it. On an error it isn't counted.
 #[tactic(auto, using(gk_request::proofs::ResultLemmas::on_both, gk_request::proofs::ResultLemmas::if_err, crate::proofs::FeatureLoopLemmas::next_stopped))]
 fn look_up_next<R: Reporter, W: Write>(
-    alloc: Global,
     library: &Library,
     counting: &mut CountingReporter<R>,
     feature: Chosen,
@@ -221,8 +212,8 @@ fn look_up_next<R: Reporter, W: Write>(
     ensures uncounted { OnErr result (counting.new.summary ≡ counting.old.summary) }
 {
     counting.reporter.feature_begun(feature.source.as_str());
-    match dry_feature(alloc, library, feature) {
-        Ok(result) => add_feature(alloc, counting, &result, out),
+    match dry_feature(counting.alloc, library, feature) {
+        Ok(result) => add_feature(counting, &result, out),
         Err(NoRoom) => Err(RunFault::Memory),
     }
 }
@@ -230,7 +221,6 @@ fn look_up_next<R: Reporter, W: Write>(
 /// Looks up the steps of features, one after another, and notifies a reporter of each. The errors are those of
 /// `run_notifying`. Drop the reporter after one: it may have been notified of a feature that isn't counted.
 pub fn look_up_features<R: Reporter, W: Write>(
-    alloc: Global,
     library: &Library,
     counting: &mut CountingReporter<R>,
     features: Vec<Chosen>,
@@ -245,7 +235,7 @@ pub fn look_up_features<R: Reporter, W: Write>(
         (device_of W.contents out.old) counting.old (device_of W.contents out.new)) }
 {
     for feature in features {
-        look_up_next(alloc, library, counting, feature, out)?;
+        look_up_next(library, counting, feature, out)?;
     }
     Ok(())
 }
@@ -253,7 +243,6 @@ pub fn look_up_features<R: Reporter, W: Write>(
 /// Notifies a reporter of the end of the run, and writes its last text. Returns the status of the run.
 #[tactic(auto, using(gk_request::proofs::ResultLemmas::passed_on))]
 pub fn close<R: Reporter, W: Write>(
-    alloc: Global,
     counting: CountingReporter<R>,
     around: Status,
     out: &mut Counted<W>,
@@ -263,7 +252,11 @@ pub fn close<R: Reporter, W: Write>(
     ensures err { IfErr result (StopsClosing R.closes counting around
         (device_of W.contents out.old) (device_of W.contents out.new)) }
 {
-    let CountingReporter { reporter, summary } = counting;
+    let CountingReporter {
+        alloc,
+        reporter,
+        summary,
+    } = counting;
     let text = reporter.run_ended(alloc, &summary, around)?;
     write_piece(out, text.as_str())?;
     Ok(summary.status(around))
@@ -273,24 +266,26 @@ pub fn close<R: Reporter, W: Write>(
 /// the run. `Memory` comes if a text couldn't be made, or if there is no room for a feature's results. `Write` comes if
 /// the writer failed. In both cases the run is finished, its result is dropped, and nothing more is written.
 pub fn run_notifying<R: Reporter, W: Write>(
-    parts: &RunParts<'_>,
+    library: &Library,
+    hooks: &HookTable<'_>,
     sandbox: &mut Sandbox,
     stop: bool,
     features: Vec<Chosen>,
-    reporter: R,
+    counting: CountingReporter<R>,
     out: &mut Counted<W>,
 ) -> Result<u8, RunFault>
     requires outside { depth sandbox.old ≡ 0 }
+    requires none { counts_of counting ≡ summary_of [] }
     requires formed { AllByRecursion IsFormed features.items }
     ensures ok { IfOk result (IsRunWritten R.hears
         (NotifiesOfFeature R.hears R.ends R.begins R.adds) R.closes
-        (run_of parts.now.library.now parts.now.hooks.now.file.now stop) sandbox.old.now
-        (map chosen_value features.items) reporter
+        (run_of library.now hooks.now.file.now stop) sandbox.old.now
+        (map chosen_value features.items) (reporter_of counting)
         (device_of W.contents out.old) (device_of W.contents out.new)) }
     ensures err { IfErr result (IsRunWrittenUpTo R.hears
         (NotifiesOfFeature R.hears R.ends R.begins R.adds) R.closes
-        (run_of parts.now.library.now parts.now.hooks.now.file.now stop) sandbox.old.now
-        (map chosen_value features.items) reporter
+        (run_of library.now hooks.now.file.now stop) sandbox.old.now
+        (map chosen_value features.items) (reporter_of counting)
         (device_of W.contents out.old) (device_of W.contents out.new)) }
     ensures same { IsSame sandbox.old sandbox.new }
 {
@@ -298,18 +293,22 @@ pub fn run_notifying<R: Reporter, W: Write>(
     // far begin some judged list.
     finished_runs_are_judged();
     unfinished_runs_are_judged();
-    let RunParts {
-        alloc,
+    let mut counting = counting;
+    let alloc = counting.alloc;
+    let reporter = &mut counting.reporter;
+    let mut suite = Suite::start_watched(alloc, sandbox, library, hooks, stop, reporter);
+    let written = run_features(
         library,
         hooks,
-    } = *parts;
-    let mut reporter = reporter;
-    let mut suite = Suite::start_watched(alloc, sandbox, library, hooks, stop, &mut reporter);
-    let mut counting = CountingReporter::new(reporter);
-    let written = run_features(parts, sandbox, &mut suite, &mut counting, features, out);
+        sandbox,
+        &mut suite,
+        &mut counting,
+        features,
+        out,
+    );
     let around = suite.finish_watched(alloc, sandbox, library, hooks, &mut counting.reporter);
     match written {
-        Ok(()) => close(alloc, counting, around, out),
+        Ok(()) => close(counting, around, out),
         Err(fault) => Err(fault),
     }
 }

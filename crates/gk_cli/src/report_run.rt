@@ -12,9 +12,7 @@ ghost use Rattle.gk_cli.specs.ReportRun.{IsWhole, IsPrefix};
 ghost use Rattle.gk_cli.specs.Suite.{run_by};
 ghost use Rattle.gk_cli.specs.Writing.{device_of, IsWritten, IsStopped};
 
-use crate::feature_loop::{
-    CountingReporter, Reporter, RunParts, close, look_up_features, run_notifying,
-};
+use crate::feature_loop::{CountingReporter, Reporter, close, look_up_features, run_notifying};
 use crate::writing::write_piece;
 use gk_gherkin::{HookTable, Step};
 use gk_io::Counted;
@@ -179,16 +177,19 @@ pub fn write_run<W: Write>(
     } = inputs;
     write_head(alloc, options.style, out)?;
     let report = GrowingReport::new(options.style);
+    let mut counting = CountingReporter::new(alloc, report);
     if options.dry_run {
-        let mut counting = CountingReporter::new(report);
-        look_up_features(alloc, &library, &mut counting, features, out)?;
-        return close(alloc, counting, Status::Passed, out);
+        look_up_features(&library, &mut counting, features, out)?;
+        return close(counting, Status::Passed, out);
     }
     let hooks = HookTable::new(alloc, &hooks);
-    let parts = RunParts {
-        alloc,
-        library: &library,
-        hooks: &hooks,
-    };
-    run_notifying(&parts, sandbox, options.stop, features, report, out)
+    run_notifying(
+        &library,
+        &hooks,
+        sandbox,
+        options.stop,
+        features,
+        counting,
+        out,
+    )
 }

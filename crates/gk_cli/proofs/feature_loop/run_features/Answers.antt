@@ -6,7 +6,7 @@ use Rattle.gk_cli.proofs.feature_loop.run_features.Goals as goal
 pub loop-feature-init : goal.loop-feature-init
 loop-feature-init g c =
     let here : into_iter_items c.into_iter-feature-iterator.result ≡ c.args.features.items = c.into_iter-feature-iterator.ensures.into_iter_gives.0 in
-    let run = run_of c.args.parts.now.library.now c.args.parts.now.hooks.now.file.now c.args.suite.now.stop in
+    let run = run_of c.args.library.now c.args.hooks.now.file.now c.args.suite.now.stop in
     let first = state_of c.args.sandbox.now.now in
     let was_open = opens_features c.args.suite.now in
     let notifies = NotifiesOfFeature g.R.Observer.hears g.R.Observer.ends g.R.Reporter.begins g.R.Reporter.adds run first in
@@ -32,8 +32,8 @@ pub loop-feature-preserved : goal.loop-feature-preserved
 loop-feature-preserved g c =
     let held = c.loop-feature.invariant in
     let steps = c.in-Some.ensures.steps in
-    let library = c.args.parts.now.library.now in
-    let hooks = c.args.parts.now.hooks.now.file.now in
+    let library = c.args.library.now in
+    let hooks = c.args.hooks.now.file.now in
     let run = run_of library hooks c.args.suite.now.stop in
     let first = state_of c.args.sandbox.now.now in
     let was_open = opens_features c.args.suite.now in
@@ -65,8 +65,8 @@ loop-feature-preserved g c =
 pub returns-in_err-run_next-clause-err : goal.returns-in_err-run_next-clause-err
 returns-in_err-run_next-clause-err g c =
     let held = c.loop-feature.invariant in
-    let library = c.args.parts.now.library.now in
-    let hooks = c.args.parts.now.hooks.now.file.now in
+    let library = c.args.library.now in
+    let hooks = c.args.hooks.now.file.now in
     let run = run_of library hooks c.args.suite.now.stop in
     let first = state_of c.args.sandbox.now.now in
     let was_open = opens_features c.args.suite.now in
@@ -100,7 +100,7 @@ returns-in_err-run_next-clause-same g c = same_through _ _ _ c.loop-feature.inva
 pub returns-clause-ok : goal.returns-clause-ok
 returns-clause-ok g c =
     let none : into_iter_items c.loop-feature.feature-iterator ≡ [] = nothing_in (into_iter_items c.loop-feature.feature-iterator) (c.loop-feature.invariant.counted ∙ c.in-None.ensures.steps.0) in
-    let run = run_of c.args.parts.now.library.now c.args.parts.now.hooks.now.file.now c.args.suite.now.stop in
+    let run = run_of c.args.library.now c.args.hooks.now.file.now c.args.suite.now.stop in
     let first = state_of c.args.sandbox.now.now in
     let was_open = opens_features c.args.suite.now in
     progress_last (NotifiesOfFeature g.R.Observer.hears g.R.Observer.ends g.R.Reporter.begins g.R.Reporter.adds run first) (stays run) (RowsSoFar run first was_open) (AreFeatures run first was_open) was_open (map chosen_value c.args.features.items) (device_of g.W.Write.contents c.args.out.now) c.args.counting.now

@@ -4,7 +4,7 @@ use Rattle.gk_cli.proofs.feature_loop.run_features.Given as goal
 
 abbrev pub invariant-loop-feature : goal.invariant-loop-feature
 invariant-loop-feature g l = record {
-  held : RunProgress (NotifiesOfFeature g.R.Observer.hears g.R.Observer.ends g.R.Reporter.begins g.R.Reporter.adds (run_of l.parts.library.now l.parts.hooks.now.file.now l.fn.suite.stop) (state_of l.fn.sandbox.now)) (run_of l.parts.library.now l.parts.hooks.now.file.now l.fn.suite.stop) (state_of l.fn.sandbox.now) (opens_features l.fn.suite)
+  held : RunProgress (NotifiesOfFeature g.R.Observer.hears g.R.Observer.ends g.R.Reporter.begins g.R.Reporter.adds (run_of l.library l.hooks.file.now l.fn.suite.stop) (state_of l.fn.sandbox.now)) (run_of l.library l.hooks.file.now l.fn.suite.stop) (state_of l.fn.sandbox.now) (opens_features l.fn.suite)
       (map chosen_value l.fn.features.items) (device_of g.W.Write.contents l.fn.out) l.fn.counting (map chosen_value (into_iter_items l.feature-iterator)) (opens_features l.suite) (device_of g.W.Write.contents l.out) l.counting;
   same : IsSame l.fn.sandbox l.sandbox;
   kept : IsKept l.fn.suite l.suite;

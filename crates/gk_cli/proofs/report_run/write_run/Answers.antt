@@ -1,4 +1,4 @@
-use Rattle.gk_cli.proofs.Common.{Bool, false, ap, map, rules, sym, subst, ◌∙◌, Run, chosen_value, inputs_value, run_by, device_of, style_of, prints_nothing, IsWhole, IsPrefix, if_ok, if_err, passed_on}
+use Rattle.gk_cli.proofs.Common.{Bool, false, ap, map, rules, sym, subst, ◌∙◌, Run, chosen_value, inputs_value, run_by, device_of, reporter_of, style_of, prints_nothing, IsWhole, IsPrefix, if_ok, if_err, passed_on}
 use Rattle.gk_cli.proofs.ReportRunLemmas.{head_stopped, run_reported, run_stopped, dry_reported, dry_close_stopped, dry_run_stopped}
 use Rattle.gk_cli.proofs.report_run.write_run.Goals as goal
 
@@ -57,13 +57,15 @@ returns g c =
     let old = device_of g.W.Write.contents c.args.out.now in
     let headed = device_of g.W.Write.contents c.write_head.new.out in
     let new = device_of g.W.Write.contents c.run_notifying.new.out in
-    let report = c.new-report in
+    let report = reporter_of c.new-counting.result in
+    let styles = ap style_of c.new-counting.ensures.reporter ∙ c.new-report.ensures.style in
+    let none = ap prints_nothing c.new-counting.ensures.reporter ∙ c.new-report.ensures.first in
     let ran = rw (c.new-hooks.ensures) at c.run_notifying.ensures.ok in
     let failed = rw (c.new-hooks.ensures) at c.run_notifying.ensures.err in
     record {
       ok = if_ok c.run_notifying.result (λ status notified. subst (λ (dry : Bool). IsWhole (run_if dry) contents features style old new status) (sym c.if-options.false)
-          (run_reported (run_if false) contents features report.result style old headed new status report.ensures.style report.ensures.first c.in_ok-write_head.ensures.ok notified)) ran;
+          (run_reported (run_if false) contents features report style old headed new status styles none c.in_ok-write_head.ensures.ok notified)) ran;
       err = if_err c.run_notifying.result (λ fault notified. subst (λ (dry : Bool). IsPrefix (run_if dry) contents features style old new fault) (sym c.if-options.false)
-          (run_stopped c.reports_grow_by_parts.ensures (run_if false) contents features report.result style old headed new fault report.ensures.style report.ensures.first c.in_ok-write_head.ensures.ok notified)) failed;
+          (run_stopped c.reports_grow_by_parts.ensures (run_if false) contents features report style old headed new fault styles none c.in_ok-write_head.ensures.ok notified)) failed;
       same = search rules;
     }
