@@ -69,8 +69,8 @@ pub use Rattle.gk_run.specs.Events.{Event, ended_in, result_of, section_now}
 pub use Rattle.gk_run.specs.Features.{FeatureCuts, IsFeatureResult, ResultsStandInFileOrder, StandsInFileOrder, feature_of, feature_verdict, features_of, rule_statuses, uncut_feature, verdict_by}
 pub use Rattle.gk_run.specs.Judged.{BeginsJudged, Cuts, DryRunsAreJudged, Judged, OneList, UnfinishedDryRunsAreJudged, dry_results, has_memory, is_memory_case, is_memory_feature, is_memory_rule, plain_results, results_from, results_of, uncut}
 pub use Rattle.gk_run.specs.OwnResult.{BeginsLike, HasResult, IsLike, IsSameScenario, IsSettled, ResultsAreTheSameInEachRun, above}
-pub use Rattle.gk_run.specs.OpenRun.{AreFeatures, FinishedRunsAreJudged, IsFinishTold, IsFinished, IsKept, IsStarted, SuiteValue, opens_features}
-pub use Rattle.gk_run.specs.OpenSection.{IsBegun, IsEndTold, Run, run_of}
+pub use Rattle.gk_run.specs.OpenRun.{AreFeatures, FinishedRunsAreJudged, NotifiesFinish, IsFinished, IsKept, IsStarted, SuiteValue, opens_features}
+pub use Rattle.gk_run.specs.OpenSection.{IsBegun, NotifiesEnd, Run, run_of}
 pub use Rattle.gk_run.specs.Results.{CaseRow, FeatureRow, Results, RuleRow, feature_row, is_failed, is_memory, is_undefined}
 pub use Rattle.gk_run.specs.Running.{case_statuses, first_or, stays_open, stays_open_by, without_first}
 pub use Rattle.gk_run.specs.Section.{Cut}

@@ -1,5 +1,5 @@
 -- Features of which a reporter is notified one after another, and what is written of them.
-use Rattle.gk_cli.proofs.Common.{FoldsTo, ◌≡◌, ℕ, Bool, true, List, [], ◌∷◌, ◌++◌, inl, inr, refl, ap, sym, subst, ◌∙◌, append_assoc, arith, append-nil, Contents, State, state_of, SandboxValue, IsSame, LibraryValue, Status, FeatureRow, Results, Run, IsEndTold, ChosenValue, dry_features_of, AreDryFeatures, FeatureCuts, features_of, Judged, BeginsJudged, result_of, Event, AreFeatures, FinishedRunsAreJudged, IsFinishTold, IsKept, IsStarted, SuiteValue, opens_features, summary_of, RunFault, Memory, CountingReporter, Device, IsWritten, IsStopped, results_with, StopsAdding, stays, NotifiesOfFeatures, NotifiesOfFirst, IsRunWritten, IsRunWrittenUpTo, WritesNext, StopsAtNext, IsNextResult, IsDryResult, AreWritten, AreWrittenUpTo, IsClosed, StopsClosing, stays_begun, common_steps}
+use Rattle.gk_cli.proofs.Common.{FoldsTo, ◌≡◌, ℕ, Bool, true, List, [], ◌∷◌, ◌++◌, inl, inr, refl, ap, sym, subst, ◌∙◌, append_assoc, arith, append-nil, Contents, State, state_of, SandboxValue, IsSame, LibraryValue, Status, FeatureRow, Results, Run, NotifiesEnd, ChosenValue, dry_features_of, AreDryFeatures, FeatureCuts, features_of, Judged, BeginsJudged, result_of, Event, AreFeatures, FinishedRunsAreJudged, NotifiesFinish, IsKept, IsStarted, SuiteValue, opens_features, summary_of, RunFault, Memory, CountingReporter, Device, IsWritten, IsStopped, results_with, StopsAdding, stays, NotifiesOfFeatures, NotifiesOfFirst, IsRunWritten, IsRunWrittenUpTo, WritesNext, StopsAtNext, IsNextResult, IsDryResult, AreWritten, AreWrittenUpTo, IsClosed, StopsClosing, stays_begun, common_steps}
 use Rattle.gk_run.specs.declared.section.Level.TheVariants as levels
 use Rattle.gk_cli.proofs.ReportRunLemmas.{written_more, stopped_after, stopped_here}
 use Rattle.gk_cli.proofs.SuiteLemmas.{judged_by, begun_still}
@@ -179,11 +179,11 @@ first_notified hears notifies run old started suite first begun features rows te
 pub record IsRunNotified {S : Type 0} (hears : S → Event → S → Type 0) (notifies : Run → State → Bool → ChosenValue → FeatureRow → List ℕ → S → S → Type 0) (run : Run) (contents : Contents) (opening : List Event) (features : List ChosenValue) (rows : List FeatureRow) (around : Status) (parts : List ℕ) (first notified last : S) : Type 0 where
   pub judged : Judged run contents features (results_with rows around)
   pub begins : NotifiesOfFirst hears notifies run (state_of contents) opening features rows parts first notified
-  pub finish : IsEndTold hears run levels.Run [] (state_of contents) around opening notified last
+  pub finish : NotifiesEnd hears run levels.Run [] (state_of contents) around opening notified last
 
 pub run_notified : {S : Type 0} (hears : S → Event → S → Type 0) (notifies : Run → State → Bool → ChosenValue → FeatureRow → List ℕ → S → S → Type 0) → FinishedRunsAreJudged → (run : Run) (old started later : SandboxValue) (suite left : SuiteValue) (first begun notified last : S) (features : List ChosenValue) (rows : List FeatureRow) (around : Status) (parts : List ℕ) →
     (start : IsStarted run old started suite) → FoldsTo hears first start.opened.first begun → AreFeatures run (state_of started.now) (opens_features suite) features rows →
-    NotifiesOfFeatures (notifies run (state_of started.now)) (stays run) (opens_features suite) features rows parts begun notified → IsKept suite left → IsSame started later → IsFinishTold hears run left later around notified last →
+    NotifiesOfFeatures (notifies run (state_of started.now)) (stays run) (opens_features suite) features rows parts begun notified → IsKept suite left → IsSame started later → NotifiesFinish hears run left later around notified last →
     IsRunNotified hears notifies run old.now start.opened.first features rows around parts first notified last
 run_notified hears notifies law run old started later suite left first begun notified last features rows around parts start opening are notified_so kept same finish = record {
   judged = judged_by law run old started later suite left around features rows start kept same are (finish.0, finish.2);

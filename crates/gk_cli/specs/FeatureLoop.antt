@@ -6,13 +6,13 @@ use Rattle.gk_steps.specs.Finding.{LibraryValue}
 use Rattle.gk_run.specs.declared.results.Status.{Status}
 use Rattle.gk_run.specs.declared.section.Level.TheVariants as levels
 use Rattle.gk_run.specs.Results.{FeatureRow, Results}
-use Rattle.gk_run.specs.OpenSection.{Run, IsEndTold, IsOpening, section_state}
+use Rattle.gk_run.specs.OpenSection.{Run, NotifiesEnd, IsOpening, section_state}
 use Rattle.gk_run.specs.Chosen.{ChosenValue}
 use Rattle.gk_run.specs.Running.{stays_open}
 use Rattle.gk_run.specs.DryRun.{dry_feature_of}
 use Rattle.gk_run.specs.Ending.{has_passed}
-use Rattle.gk_run.specs.Events.{Event, ended_in, EndTold}
-use Rattle.gk_run.specs.Features.{FeatureCuts, IsFeatureResult, IsFeatureTold}
+use Rattle.gk_run.specs.Events.{Event, ended_in, Ended}
+use Rattle.gk_run.specs.Features.{FeatureCuts, IsFeatureResult, NotifiesFeature}
 use Rattle.gk_run.specs.Judged.{Judged, BeginsJudged}
 use Rattle.gk_report.specs.declared.summary.Summary.{Summary}
 use Rattle.gk_report.specs.Summary.{status, status_of, summary_of, CountsOneMore}
@@ -41,11 +41,11 @@ abbrev pub ClosesWith : {S : Type 0} → (S → Results → List ℕ → Type 0)
 ClosesWith closes notified summary around text = (rows : List FeatureRow) → summary ≡ summary_of rows → closes notified (results_with rows around) text
 
 -- A reporter was notified of a feature of a run in this state: its beginning, what happened in it, and its end with this result. This is the reporter's text of it.
-pub record NotifiesOfFeature {S : Type 0} (hears : S → Event → S → Type 0) (ends : S → EndTold → S → Type 0) (begins : S → List ℕ → S → Type 0) (adds : S → FeatureRow → List ℕ → S → Type 0) (run : Run) (now : State) (is_open : Bool) (f : ChosenValue) (row : FeatureRow) (text : List ℕ) (old new : S) : Type 0 where
+pub record NotifiesOfFeature {S : Type 0} (hears : S → Event → S → Type 0) (ends : S → Ended → S → Type 0) (begins : S → List ℕ → S → Type 0) (adds : S → FeatureRow → List ℕ → S → Type 0) (run : Run) (now : State) (is_open : Bool) (f : ChosenValue) (row : FeatureRow) (text : List ℕ) (old new : S) : Type 0 where
   pub begun : S
   pub start : begins old f.source begun
   pub heard : S
-  pub notified : IsFeatureTold hears ends run now is_open f row begun heard
+  pub notified : NotifiesFeature hears ends run now is_open f row begun heard
   pub added : adds heard row text new
 
 -- Proof machinery: a reporter was notified of a feature of a dry run. Nothing happens in it.
@@ -82,7 +82,7 @@ pub record IsWholeText {S : Type 0} (hears : S → Event → S → Type 0) (noti
   pub notified : S
   pub begins : NotifiesOfFirst hears notifies run (state_of contents) opening features results.features parts first notified
   pub last : S
-  pub finish : IsEndTold hears run levels.Run [] (state_of contents) results.around opening notified last
+  pub finish : NotifiesEnd hears run levels.Run [] (state_of contents) results.around opening notified last
   pub tail : List ℕ
   pub closed : closes last results tail
   pub whole : text ≡ parts ++ tail

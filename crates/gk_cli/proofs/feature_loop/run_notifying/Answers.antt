@@ -1,4 +1,4 @@
-use Rattle.gk_cli.proofs.Common.{Bool, ap, map, rules, subst, ◌∙◌, state_of, run_of, chosen_value, AreFeatures, IsFinishTold, SuiteValue, opens_features, CountingReporter, device_of, NotifiesOfFeature, AreWritten, AreWrittenUpTo, stays, if_ok, if_err}
+use Rattle.gk_cli.proofs.Common.{Bool, ap, map, rules, subst, ◌∙◌, state_of, run_of, chosen_value, AreFeatures, NotifiesFinish, SuiteValue, opens_features, CountingReporter, device_of, NotifiesOfFeature, AreWritten, AreWrittenUpTo, stays, if_ok, if_err}
 use Rattle.gk_cli.proofs.FeatureLoopLemmas.{run_notified, whole_notified, whole_stopped, part_notified}
 use Rattle.gk_cli.proofs.feature_loop.run_notifying.Goals as goal
 
@@ -26,7 +26,7 @@ returns-in-Ok g c =
     subst (λ (s : Bool). AreWritten (notifies (run_of library hooks s) first) (stays (run_of library hooks s)) (AreFeatures (run_of library hooks s) first opens) opens features before so_far written there.counting) begun.ensures.0.stops c.in-Ok.ensures.ok in
     let notified = run_notified hears notifies c.finished_runs_are_judged.ensures run c.args.sandbox.now begun.new.sandbox there.sandbox begun.result there.suite c.args.counting.reporter begun.new.observer there.counting.reporter last features all.rows around all.text
     begun.ensures.0 begun.ensures.1 all.results all.notified c.run_features-written.ensures.kept c.run_features-written.ensures.same
-    (subst (λ (s : Bool). IsFinishTold hears (run_of library hooks s) there.suite there.sandbox around there.counting.reporter last) (ap (λ (s : SuiteValue). s.stop) c.run_features-written.ensures.kept ∙ begun.ensures.0.stops) c.finish_watched-around.ensures.told) in
+    (subst (λ (s : Bool). NotifiesFinish hears (run_of library hooks s) there.suite there.sandbox around there.counting.reporter last) (ap (λ (s : SuiteValue). s.stop) c.run_features-written.ensures.kept ∙ begun.ensures.0.stops) c.finish_watched-around.ensures.notified) in
     record {
       ok = if_ok c.close.result (λ status closed. whole_notified hears notifies g.R.Reporter.closes run contents begun.ensures.0.opened.first features all.rows around all.text c.args.counting.reporter there.counting.reporter end before written new status
           (all.counted c.requires.none) notified all.written closed) c.close.ensures.ok;
