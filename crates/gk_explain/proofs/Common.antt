@@ -60,7 +60,7 @@ pub use Rattle.gk_explain.specs.NearestLines.{AreNearest}
 pub use Rattle.gk_explain.specs.RowLines.{cell_text, cells_text}
 pub use Rattle.gk_explain.specs.EventLines.{event_lines, kept_of, kept_value, names_value}
 pub use Rattle.gk_explain.specs.SectionEvents.{SectionValue, after_event, after_events, section_lines}
-pub use Rattle.gk_explain.specs.Shown.{char_after, char_in, chars_after, cut_line, escaped_char, few_lines, is_commanding, is_control, is_left_out, is_suspect, is_within, left_out, lines_round, marked_lines, past_char, row, text_as, text_lines}
+pub use Rattle.gk_explain.specs.Shown.{char_after, char_in, chars_after, cut_line, few_lines, is_commanding, is_control, is_left_out, is_suspect, is_within, left_out, lines_round, marked_lines, past_char, row, text_as, text_lines}
 unfoldable pub use Rattle.gk_explain.specs.Shown.{escaped, file_shown, marked_text_with}
 pub use Rattle.gk_explain.specs.Tables.{first_refused, found_header, quoted_cells}
 unfoldable pub use Rattle.gk_explain.specs.Tables.{header_line}

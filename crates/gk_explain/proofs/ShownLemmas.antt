@@ -1,5 +1,5 @@
 -- What is left of a text to be shown.
-use Rattle.gk_explain.proofs.Common.{◌≡◌, ◌∙◌, ◌-◌, ◌/◌, ◌≤◌, ◌<◌, ◌⊎◌, inl, inr, ⊎_elim, ◌==◌, ℕ, true, false, nat_lt, List, [], ◌∷◌, ◌++◌, length, take, drop, map, chars, IsUtf8, encode_utf8, ap, ap₂, sym, refl, append_assoc, arith, list_any, cases_lt, or_parts, or_from, and_left, and_right, not_from_true, ltb-false, lt-ltb, le-ltb, eqb-false, ne_eqb, cond-false, cond-true, take-map, drop-map, length-map, list_any-append, chars-nil, chars-encodes, chars_past_char, encode_ascii, encode, encodes, next, is_within, is_control, is_suspect, is_commanding, past_char, char_in, char_after, chars_after, text_as, escaped_char, escaped, file_shown, marked_lines, left_out, few_lines, Before, Form}
+use Rattle.gk_explain.proofs.Common.{◌≡◌, ◌∙◌, ◌-◌, ◌/◌, ◌≤◌, ◌<◌, ◌⊎◌, inl, inr, ⊎_elim, ◌==◌, ℕ, true, false, nat_lt, List, [], ◌∷◌, ◌++◌, length, take, drop, map, chars, IsUtf8, encode_utf8, ap, ap₂, sym, refl, append_assoc, arith, list_any, cases_lt, or_parts, or_from, and_left, and_right, not_from_true, ltb-false, lt-ltb, le-ltb, eqb-false, ne_eqb, cond-false, cond-true, take-map, drop-map, length-map, list_any-append, chars-nil, chars-encodes, chars_past_char, encode_ascii, encode, encodes, next, is_within, is_control, is_suspect, is_commanding, past_char, char_in, char_after, chars_after, text_as, escaped, file_shown, marked_lines, left_out, few_lines, Before, Form}
 use Rattle.gk_explain.proofs.Common.befores
 use Rattle.gk_explain.proofs.Common.forms
 
@@ -119,8 +119,8 @@ no_control c plain =
     (or_from _ _ (not_in_turn 0x2028 0x202F c (omega arith) (omega arith) plain.turn)
     (not_in_turn 0x2066 0x206A c (omega arith) (omega arith) plain.turn)))))
 
--- Such a character is escaped as itself,
-itself : (c : ℕ) → IsPlain c → escaped_char c ≡ encode_utf8 c
+-- Such a character in a name is itself,
+itself : (c : ℕ) → IsPlain c → char_in forms.Name c ≡ encode_utf8 c
 itself c plain =
     cond-false _ _ _ (ne_eqb c 9 (λ e. omega (arith, e, plain.from)))
     ∙ cond-false _ _ _ (ne_eqb c 10 (λ e. omega (arith, e, plain.from)))
@@ -131,20 +131,20 @@ itself c plain =
 harmless : (form : Form) (before : Before) (c : ℕ) → IsPlain c → is_commanding form before c ≡ false
 harmless form before c plain = cond-false _ _ _ plain.bracket ∙ cond-false _ _ _ plain.colon
 
--- Characters without suspect bytes are shown as themselves in a form that escapes no others.
-plain_chars : (form : Form) → ((c : ℕ) → char_in form c ≡ escaped_char c) → (before : Before) (cs : List ℕ) → list_any is_suspect (encodes cs) ≡ false → chars_after form before cs ≡ encodes cs
-plain_chars form escapes before [] none = refl
-plain_chars form escapes before (c ∷ cs) none =
+-- Characters without suspect bytes are shown as themselves in a form that shows characters as names do.
+plain_chars : (form : Form) → ((c : ℕ) → char_in form c ≡ char_in forms.Name c) → (before : Before) (cs : List ℕ) → list_any is_suspect (encodes cs) ≡ false → chars_after form before cs ≡ encodes cs
+plain_chars form as_name before [] none = refl
+plain_chars form as_name before (c ∷ cs) none =
     let parts = or_parts (list_any is_suspect (encode c)) (list_any is_suspect (encodes cs)) (sym (list_any-append is_suspect (encode c) (encodes cs)) ∙ none) in
     let plain = is_plain c parts.0 in
     ap₂ (λ (some others : List ℕ). some ++ others)
-    (cond-false _ _ _ (harmless form before c plain) ∙ escapes c ∙ itself c plain)
-    (plain_chars form escapes (past_char before c) cs parts.1)
+    (cond-false _ _ _ (harmless form before c plain) ∙ as_name c ∙ itself c plain)
+    (plain_chars form as_name (past_char before c) cs parts.1)
 
-plain_text : (form : Form) → ((c : ℕ) → char_in form c ≡ escaped_char c) → (text : List ℕ) → IsUtf8 text → list_any is_suspect text ≡ false → text ≡ text_as form text
-plain_text form escapes text utf8 none =
+plain_text : (form : Form) → ((c : ℕ) → char_in form c ≡ char_in forms.Name c) → (text : List ℕ) → IsUtf8 text → list_any is_suspect text ≡ false → text ≡ text_as form text
+plain_text form as_name text utf8 none =
     let all : chars text ≡ utf8.0 = ap chars (sym utf8.1.1) ∙ chars-encodes utf8.0 utf8.1.0 in
-    sym (ap (chars_after form befores.Other) all ∙ plain_chars form escapes befores.Other utf8.0 (ap (list_any is_suspect) utf8.1.1 ∙ none) ∙ utf8.1.1)
+    sym (ap (chars_after form befores.Other) all ∙ plain_chars form as_name befores.Other utf8.0 (ap (list_any is_suspect) utf8.1.1 ∙ none) ∙ utf8.1.1)
 
 -- A text none of whose bytes is suspect is shown as itself, as the name of a file and as another name.
 pub plain_file : (text : List ℕ) → IsUtf8 text → list_any is_suspect text ≡ false → text ≡ file_shown text

@@ -36,86 +36,57 @@ is_disguised c = is_unicode_space c || (is_low_ignorable c || is_high_ignorable 
 abbrev pub numbered : ℕ → List ℕ
 numbered c = codes "\\u{" ++ digits 16 false c ++ codes "}"
 
--- A character, escaped if it is a control character: a tab, a line feed and a carriage return by a letter, the others by their number. Any other character is itself.
-abbrev pub escaped_char : ℕ → List ℕ
-escaped_char c =
+-- Whether a form shows a character by its number: a control character, and except in names a disguised one.
+abbrev pub is_numbered : Form → ℕ → Bool
+is_numbered forms.File c = is_control c
+is_numbered forms.Name c = is_control c
+is_numbered form c = is_control c || is_disguised c
+
+-- Whether a form doubles a character: a backslash between quotes, and in a literal a brace, too. (Python's format strings)
+abbrev pub is_doubled : Form → ℕ → Bool
+is_doubled forms.Quoted c = c == 92
+is_doubled forms.Literal c = (c == 92) || ((c == 123) || (c == 125))
+is_doubled form c = false
+
+-- A character as a form shows it: a tab, a line feed and a carriage return by a letter, and any other by its number, doubled or as itself.
+abbrev pub char_in : Form → ℕ → List ℕ
+char_in form c =
     cond (c == 9) (codes "\\t")
     (cond (c == 10) (codes "\\n")
     (cond (c == 13) (codes "\\r")
-    (cond (is_control c) (numbered c) (encode_utf8 c))))
-
--- A character as it is shown without quotes: a disguised character by its number, and any other as above.
-abbrev pub unquoted_char : ℕ → List ℕ
-unquoted_char c = cond (is_disguised c) (numbered c) (escaped_char c)
-
--- A character as it is shown between quotes: a backslash is doubled, and any other character is shown as above.
-abbrev pub quoted_char : ℕ → List ℕ
-quoted_char c = cond (c == 92) (codes "\\\\") (unquoted_char c)
-
--- A character of a literal as it is written in a pattern: a brace is doubled, and any other character is shown as above. (Python's format strings)
-abbrev pub literal_char : ℕ → List ℕ
-literal_char c = cond (c == 123) (codes "{{") (cond (c == 125) (codes "}}") (quoted_char c))
-
--- A character as a form shows it.
-abbrev pub char_in : Form → ℕ → List ℕ
-char_in forms.File c = escaped_char c
-char_in forms.Name c = escaped_char c
-char_in forms.Unquoted c = unquoted_char c
-char_in forms.Quoted c = quoted_char c
-char_in forms.Literal c = literal_char c
-
--- Whether a text of a form may begin a line. All others follow some words.
-abbrev pub may_begin_line : Form → Bool
-may_begin_line forms.File = true
-may_begin_line forms.Name = false
-may_begin_line forms.Unquoted = false
-may_begin_line forms.Quoted = false
-may_begin_line forms.Literal = false
+    (cond (is_numbered form c) (numbered c)
+    (cond (is_doubled form c) (encode_utf8 c ++ encode_utf8 c) (encode_utf8 c)))))
 
 -- Whether a character is a letter of ASCII.
 abbrev pub is_letter : ℕ → Bool
 is_letter c = is_within 65 91 c || is_within 97 123 c
 
+-- Whether `##` is before a character, and perhaps letters between them.
+abbrev pub are_hashes : Before → Bool
+are_hashes befores.Hashes = true
+are_hashes before = false
+
 -- What is before the next character if `before` is before a `#`.
 abbrev pub past_hash : Before → Before
 past_hash befores.Other = befores.Hash
 past_hash befores.Colon = befores.Hash
-past_hash befores.Hash = befores.Hashes
-past_hash befores.Hashes = befores.Hashes
-
--- What is before the next character if `before` is before a letter.
-abbrev pub past_letter : Before → Before
-past_letter befores.Other = befores.Other
-past_letter befores.Colon = befores.Other
-past_letter befores.Hash = befores.Other
-past_letter befores.Hashes = befores.Hashes
+past_hash before = befores.Hashes
 
 -- What is before the next character if `before` is before `c`.
 abbrev pub past_char : Before → ℕ → Before
 past_char before c =
     cond (c == 35) (past_hash before)
     (cond (c == 58) befores.Colon
-    (cond (is_letter c) (past_letter before) befores.Other))
+    (cond (are_hashes before && is_letter c) befores.Hashes befores.Other))
 
--- Whether `##` is before a character, and perhaps letters between them.
-abbrev pub are_hashes : Before → Bool
-are_hashes befores.Other = false
-are_hashes befores.Colon = false
-are_hashes befores.Hash = false
-are_hashes befores.Hashes = true
-
--- Whether a colon is before a character.
-abbrev pub is_colon : Before → Bool
-is_colon befores.Other = false
-is_colon befores.Colon = true
-is_colon befores.Hash = false
-is_colon befores.Hashes = false
+-- Whether a colon is before a character that is in the name of a file. Such a name may begin a line; texts of other forms follow some words.
+abbrev pub follows_colon : Form → Before → Bool
+follows_colon forms.File befores.Colon = true
+follows_colon form before = false
 
 -- Whether a character completes what the log of a CI reads as the beginning of a command: `##[` or `##vso[` anywhere in a line, and `::` at its start. (Azure's logging commands, GitHub's workflow commands)
 abbrev pub is_commanding : Form → Before → ℕ → Bool
-is_commanding form before c =
-    cond (c == 91) (are_hashes before)
-    (cond (c == 58) (is_colon before && may_begin_line form) false)
+is_commanding form before c = cond (c == 91) (are_hashes before) (cond (c == 58) (follows_colon form before) false)
 
 -- A character as a form shows it, but by its number if it completes the beginning of a command.
 abbrev pub char_after : Form → Before → ℕ → List ℕ

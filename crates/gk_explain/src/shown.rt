@@ -87,56 +87,6 @@ fn push_number(out: &mut String, code: u32) -> Result<(), AllocError>
     out.push_str("}")
 }
 
-// Appends a character, or the escape of a control character.
-fn push_escaped_char(out: &mut String, c: char) -> Result<(), AllocError>
-    ensures { Pushes out.old (spec.escaped_char c) result out.new }
-{
-    match c {
-        '\t' => out.push_str("\\t"),
-        '\n' => out.push_str("\\n"),
-        '\r' => out.push_str("\\r"),
-        _ => {
-            if is_control(c as u32) {
-                push_number(out, c as u32)
-            } else {
-                out.push(c)
-            }
-        }
-    }
-}
-
-// Appends a character, or its escape if it can't be seen.
-fn push_unquoted_char(out: &mut String, c: char) -> Result<(), AllocError>
-    ensures { Pushes out.old (spec.unquoted_char c) result out.new }
-{
-    if is_disguised(c as u32) {
-        push_number(out, c as u32)
-    } else {
-        push_escaped_char(out, c)
-    }
-}
-
-// Appends a character as it is shown between quotes.
-fn push_quoted_char(out: &mut String, c: char) -> Result<(), AllocError>
-    ensures { Pushes out.old (spec.quoted_char c) result out.new }
-{
-    match c {
-        '\\' => out.push_str("\\\\"),
-        _ => push_unquoted_char(out, c),
-    }
-}
-
-// Appends a character of a literal as it is written in a pattern.
-fn push_literal_char(out: &mut String, c: char) -> Result<(), AllocError>
-    ensures { Pushes out.old (spec.literal_char c) result out.new }
-{
-    match c {
-        '{' => out.push_str("{{"),
-        '}' => out.push_str("}}"),
-        _ => push_quoted_char(out, c),
-    }
-}
-
 /// The forms in which texts are shown.
 #[derive(Clone, Copy, Debug)]
 pub enum Form {
@@ -152,25 +102,44 @@ pub enum Form {
     Literal,
 }
 
+// Returns whether a form shows a character by its number.
+fn is_numbered(form: Form, code: u32) -> bool
+    ensures { result ≡ spec.is_numbered form code }
+{
+    match form {
+        Form::File | Form::Name => is_control(code),
+        Form::Unquoted | Form::Quoted | Form::Literal => is_control(code) || is_disguised(code),
+    }
+}
+
+// Returns whether a form doubles a character.
+fn is_doubled(form: Form, c: char) -> bool
+    ensures { result ≡ spec.is_doubled form c }
+{
+    match form {
+        Form::File | Form::Name | Form::Unquoted => false,
+        Form::Quoted => c == '\\',
+        Form::Literal => c == '\\' || c == '{' || c == '}',
+    }
+}
+
 // Appends a character as a form shows it.
 fn push_char(out: &mut String, form: Form, c: char) -> Result<(), AllocError>
     ensures { Pushes out.old (spec.char_in form c) result out.new }
 {
-    match form {
-        Form::File | Form::Name => push_escaped_char(out, c),
-        Form::Unquoted => push_unquoted_char(out, c),
-        Form::Quoted => push_quoted_char(out, c),
-        Form::Literal => push_literal_char(out, c),
-    }
-}
-
-// Returns whether a text of a form may begin a line.
-fn may_begin_line(form: Form) -> bool
-    ensures { result ≡ spec.may_begin_line form }
-{
-    match form {
-        Form::File => true,
-        Form::Name | Form::Unquoted | Form::Quoted | Form::Literal => false,
+    match c {
+        '\t' => out.push_str("\\t"),
+        '\n' => out.push_str("\\n"),
+        '\r' => out.push_str("\\r"),
+        _ => {
+            if is_numbered(form, c as u32) {
+                return push_number(out, c as u32);
+            }
+            if is_doubled(form, c) {
+                out.push(c)?;
+            }
+            out.push(c)
+        }
     }
 }
 
@@ -187,26 +156,6 @@ pub enum Before {
     Hashes,
 }
 
-// Returns what is before the next character if `before` is before a `#`.
-fn past_hash(before: Before) -> Before
-    ensures { result ≡ spec.past_hash before }
-{
-    match before {
-        Before::Other | Before::Colon => Before::Hash,
-        Before::Hash | Before::Hashes => Before::Hashes,
-    }
-}
-
-// Returns what is before the next character if `before` is before a letter.
-fn past_letter(before: Before) -> Before
-    ensures { result ≡ spec.past_letter before }
-{
-    match before {
-        Before::Other | Before::Colon | Before::Hash => Before::Other,
-        Before::Hashes => Before::Hashes,
-    }
-}
-
 // Returns whether a character is a letter of ASCII.
 fn is_letter(code: u32) -> bool
     ensures { result ≡ spec.is_letter code }
@@ -219,33 +168,18 @@ fn past_char(before: Before, c: char) -> Before
     ensures { result ≡ spec.past_char before c }
 {
     match c {
-        '#' => past_hash(before),
+        '#' => match before {
+            Before::Other | Before::Colon => Before::Hash,
+            Before::Hash | Before::Hashes => Before::Hashes,
+        },
         ':' => Before::Colon,
         _ => {
-            if is_letter(c as u32) {
-                past_letter(before)
+            if matches!(before, Before::Hashes) && is_letter(c as u32) {
+                Before::Hashes
             } else {
                 Before::Other
             }
         }
-    }
-}
-
-fn are_hashes(before: Before) -> bool
-    ensures { result ≡ spec.are_hashes before }
-{
-    match before {
-        Before::Other | Before::Colon | Before::Hash => false,
-        Before::Hashes => true,
-    }
-}
-
-fn is_colon(before: Before) -> bool
-    ensures { result ≡ spec.is_colon before }
-{
-    match before {
-        Before::Colon => true,
-        Before::Other | Before::Hash | Before::Hashes => false,
     }
 }
 
@@ -255,8 +189,8 @@ fn is_commanding(form: Form, before: Before, c: char) -> bool
     ensures { result ≡ spec.is_commanding form before c }
 {
     match c {
-        '[' => are_hashes(before),
-        ':' => is_colon(before) && may_begin_line(form),
+        '[' => matches!(before, Before::Hashes),
+        ':' => matches!(before, Before::Colon) && matches!(form, Form::File),
         _ => false,
     }
 }
