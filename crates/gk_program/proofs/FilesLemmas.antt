@@ -7,11 +7,6 @@ pub one_source_more : {X Y : Type 0} (f : X → List ℕ) (g : Y → List ℕ) (
     → more ≡ xs ++ x ∷ [] → left ≡ y ∷ rest → f x ≡ g y → map f xs ++ map g left ≡ all → map f more ++ map g rest ≡ all
 one_source_more f g xs more x left y rest all grown step same before = grind (arith, common_steps)
 
--- what holds of the error that a `?` passes on
-pub passed_on : {T E : Type 0} {Q P : E → Type 0} (r : Result T E) → IsErrAnd r Q → ((e : E) → Q e → P e) → IfErr r P
-passed_on (Ok x) h f = absurd h
-passed_on (Err e) h f = f e h
-
 -- one reading after another
 pub reads_both : {S : Type 0} (r : S → List ℕ → Result (List ℕ) SourceFault → S → Type 0) (a b c : S) (xs ys : List SourceValue) → AreRead r a xs b → AreRead r b ys c → AreRead r a (xs ++ ys) c
 reads_both r a b c [] ys first then = subst (λ s. AreRead r s ys c) (sym first) then

@@ -1,5 +1,5 @@
 -- A text that is shown, and a run of words.
-use Rattle.gk_program.proofs.Common.{◌≡◌, ◌∙◌, ap, inl, inr, refl, subst, arith, ℕ, List, map, Option, Some, None, Result, Ok, Err, IfErr, IfOk, IsErrAnd, option_map, string_bytes, Appends, Keeps, common_steps, source_value, Contents, SandboxValue, new_sandbox, Source, Device, IsUntouched, UsesWriter, IsWrittenAs, SaysFaultAs, SuiteFiles, Words, RunFault, files_value, request_of_files, name_of, AreRead, Reading, files_in_order, files_to_put, AreGiven, ArePut, AreTaken, with_variables, variables_given, IsPrepared, IsResultOf, SaysFlush, SaysRun, SaysSuite, StopsBefore, Fault, Faults, alone}
+use Rattle.gk_program.proofs.Common.{◌≡◌, ◌∙◌, ap, inl, inr, refl, subst, arith, ℕ, List, map, Option, Some, None, Result, Ok, Err, IfErr, IfOk, IsErrAnd, option_map, string_bytes, Appends, Keeps, common_steps, source_value, Contents, SandboxValue, new_sandbox, Source, Device, IsUntouched, UsesWriter, IsWrittenAs, SaysFaultAs, SuiteFiles, Words, RunFault, files_value, request_of_files, name_of, AreRead, Reading, files_in_order, files_to_put, AreGiven, ArePut, AreTaken, with_variables, variables_given, IsPrepared, IsResultOf, SaysFlush, SaysRun, StopsBefore, Fault, Faults, alone}
 use Rattle.gk_program.proofs.FilesLemmas.{names_of_values}
 
 -- a device that isn't called
@@ -48,11 +48,6 @@ ran r w a b e contents files old between new written result done ready given rea
   given = given;
   read = read;
   result = result;
-  output = record { written = written; between = between; suite = suite written is fault; used = used; flush = flush };
+  output = record { written = written; between = between; suite = is; stopped = fault; used = used; flush = flush };
   done_is = so;
-} where
-  suite : (written : Result ℕ RunFault) → IfOk written (IsWrittenAs w.mode (files_value files) (request_of_files w.options (files_value files)) contents old between)
-      → IfErr written (SaysFaultAs w.mode (files_value files) (request_of_files w.options (files_value files)) contents old between)
-      → SaysSuite w.mode (files_value files) (request_of_files w.options (files_value files)) contents old between written
-  suite (Ok status) is fault = is
-  suite (Err by) is fault = fault
+}

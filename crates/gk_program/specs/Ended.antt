@@ -16,8 +16,7 @@ use Rattle.gk_cli.specs.Writing.{Device}
 use Rattle.gk_cli.specs.declared.arguments.Mode.{Mode}
 use Rattle.gk_cli.specs.declared.arguments.Mode.TheVariants.{Report, Findings}
 use Rattle.gk_program.specs.Asked.{SaysGiven, mode_of}
-use Rattle.gk_program.specs.Fault.{line_of, name_of, place_of, status_of}
-use Rattle.gk_program.specs.FaultPlace.{nowhere}
+use Rattle.gk_program.specs.Fault.{line_of, name_of, nowhere, place_of, status_of}
 use Rattle.gk_program.specs.Files.{Reading}
 use Rattle.gk_program.specs.Program.{SaysDone}
 use Rattle.gk_program.specs.declared.asked.ArgumentsFault.{ArgumentsFault}
@@ -28,7 +27,7 @@ use Rattle.gk_program.specs.declared.fault.Fault.TheVariants.{Env, OfFile, OfRun
 use Rattle.gk_program.specs.declared.fault.Faults.{Faults}
 use Rattle.gk_program.specs.declared.fault.FileFault.TheVariants.{CannotRead}
 use Rattle.gk_program.specs.declared.fault.Inputs.{Inputs}
-use Rattle.gk_program.specs.declared.fault_place.FaultPlace.{FaultPlace}
+use Rattle.gk_program.specs.declared.fault.FaultPlace.{FaultPlace}
 
 -- Whether notes are printed below faults in this mode: below those of a report there are none.
 abbrev pub has_notes : Mode → Bool

@@ -1,17 +1,16 @@
 -- The line, the status and the place of each fault.
-use Rattle.std.specs.Prelude.{ℕ, List, ◌++◌, Option, Some, None, codes, string_bytes}
+use Rattle.std.specs.Prelude.{ℕ, List, ◌++◌, length, Option, Some, None, codes, string_bytes, unwrap_or}
 use Rattle.gk_request.specs.FaultLine as of_run
 use Rattle.gk_request.specs.FaultLine.{fault_line, name_at_fault, placed}
 use Rattle.gk_request.specs.Request.{files_value}
 use Rattle.gk_request.specs.RunFault.{status_of_fault}
-use Rattle.gk_program.specs.FaultPlace.{place_at}
 use Rattle.gk_program.specs.declared.fault.Fault.{Fault}
 use Rattle.gk_program.specs.declared.fault.Fault.TheVariants.{NotUtf8, Usage, Env, File, OfFile, OfRun}
 use Rattle.gk_program.specs.declared.fault.Faults.{Faults}
 use Rattle.gk_program.specs.declared.fault.FileFault.{FileFault}
 use Rattle.gk_program.specs.declared.fault.FileFault.TheVariants.{NotText, TextTooLong, CannotRead, TooLong}
 use Rattle.gk_program.specs.declared.fault.Inputs.{Inputs}
-use Rattle.gk_program.specs.declared.fault_place.FaultPlace.{FaultPlace}
+use Rattle.gk_program.specs.declared.fault.FaultPlace.{FaultPlace}
 
 -- The words for the fault of a file.
 abbrev pub file_fault_text : FileFault → List ℕ
@@ -43,6 +42,15 @@ status_of fault = 2
 abbrev pub line_at : Fault → Option ℕ
 line_at (OfRun fault) = of_run.line_at_fault fault
 line_at fault = None
+
+-- The place of a fault in no file.
+abbrev pub nowhere : FaultPlace
+nowhere = record { name_length = 0; line = 0 }
+
+-- The place of a fault in a file of this name, if there is one, on this line, if it is on one.
+abbrev pub place_at : Option (List ℕ) → Option ℕ → FaultPlace
+place_at None line = nowhere
+place_at (Some name) line = record { name_length = length name; line = unwrap_or line 0 }
 
 -- The place of a fault in a file of this name, if a file has it.
 abbrev pub place_of : Option (List ℕ) → Fault → FaultPlace

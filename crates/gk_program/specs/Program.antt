@@ -1,5 +1,5 @@
 -- What the program writes to standard output.
-use Rattle.std.specs.Prelude.{◌≡◌, ◌⊎◌, ℕ, List, map, Some, Result, Ok, Err, option_map, string_bytes}
+use Rattle.std.specs.Prelude.{◌≡◌, ◌⊎◌, ℕ, List, map, Some, Result, Ok, Err, option_map, string_bytes, IfOk, IfErr}
 use Rattle.std.specs.Io.KnownBytes.{Keeps}
 use Rattle.gk_world.specs.State.{Contents, nothing_yet}
 use Rattle.gk_gherkin.specs.Feature.{texts}
@@ -56,16 +56,12 @@ SaysFlush (Ok status) old new (Ok same) = (same ≡ status) × IsFlushed old new
 SaysFlush (Ok status) old new (Err fault) = (fault ≡ Write) × IsFlushed old new × (new.failures ≡ one_more old.failures)
 SaysFlush (Err fault) old new result = (result ≡ Err fault) × (new ≡ old)
 
--- The output of a suite and its status, or why it has none.
-abbrev pub SaysSuite : Mode → FilesValue → Request → Contents → Device → Device → Result ℕ RunFault → Type 0
-SaysSuite mode files request contents old new (Ok status) = IsWrittenAs mode files request contents old new status
-SaysSuite mode files request contents old new (Err fault) = SaysFaultAs mode files request contents old new fault
-
 -- The output of a suite was written and flushed once, and its status is returned; or it was not, with the fault of the suite or of the flush.
 pub record IsOutput (mode : Mode) (files : FilesValue) (request : Request) (contents : Contents) (old new : Device) (result : Result ℕ RunFault) : Type 0 where
   pub written : Result ℕ RunFault
   pub between : Device
-  pub suite : SaysSuite mode files request contents old between written
+  pub suite : IfOk written (IsWrittenAs mode files request contents old between)
+  pub stopped : IfErr written (SaysFaultAs mode files request contents old between)
   pub used : UsesWriter written old between
   pub flush : SaysFlush written between new result
 

@@ -6,8 +6,7 @@ ghost use Rattle.gk_program.specs.Ended as spec;
 ghost use Rattle.gk_program.specs.Ended.{AreLater, IsListing, IsPlainEnd, IsTaken, IsTextAt, SaysEnd};
 ghost use Rattle.gk_program.specs.Fault.{line_of, name_of, place_of};
 
-use crate::fault::{Fault, FaultLine, Faults, FileFault, Inputs};
-use crate::fault_place::{FaultPlace, NOWHERE};
+use crate::fault::{Fault, FaultLine, FaultPlace, Faults, FileFault, Inputs, NOWHERE};
 use gk_cli::Mode;
 use gk_explain::push_file;
 use gk_findings::{push_env_notes, push_notes, push_unreadable_note};
@@ -203,16 +202,15 @@ fn print_plain<E: Write>(mode: Mode, faults: &Faults, errors: &mut Counted<E>) -
         (device_of E.contents errors.old) (device_of E.contents errors.new) result }
 {
     let name = faults.first.file_name(&faults.inputs);
-    let fault = &faults.first;
-    match mode {
-        Mode::Report => print_line(FaultLine { name, fault }, errors),
-        Mode::Explanation | Mode::Findings { .. } => match name {
-            Some(_) => {
-                let fault = &Fault::OfRun(RunFault::Memory);
-                print_line(FaultLine { name: None, fault }, errors)
-            }
-            None => print_line(FaultLine { name, fault }, errors),
-        },
+    match (mode, name) {
+        (Mode::Report, _) | (_, None) => {
+            let fault = &faults.first;
+            print_line(FaultLine { name, fault }, errors)
+        }
+        (_, Some(_)) => {
+            let fault = &Fault::OfRun(RunFault::Memory);
+            print_line(FaultLine { name: None, fault }, errors)
+        }
     }
 }
 

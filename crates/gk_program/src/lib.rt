@@ -6,13 +6,12 @@
 mod asked;
 mod ended;
 mod fault;
-mod fault_place;
 mod files;
 mod program;
 mod world_files;
 
 pub use asked::{ArgumentsFault, files_asked};
 pub use ended::ProgramEnd;
-pub use fault_place::FaultPlace;
+pub use fault::FaultPlace;
 pub use files::System;
 pub use program::run;

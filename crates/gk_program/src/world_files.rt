@@ -107,10 +107,7 @@ pub fn put_files<S: System>(
         system.old system.new) }
 {
     for file in files {
-        match put_file(alloc, system, sandbox, file) {
-            Ok(()) => {}
-            Err(fault) => return Err(fault),
-        }
+        put_file(alloc, system, sandbox, file)?;
     }
     Ok(())
 }

@@ -1,5 +1,6 @@
 use Rattle.gk_program.proofs.Common.{rules, ◌∷◌, ◌∙◌, ◌++◌, ap, arith, length, map, refl, sym, subst, string_bytes, [], into_iter_items, AreRead, StopsReading, name_of, source_value}
-use Rattle.gk_program.proofs.FilesLemmas.{names_of_values, one_source_more, passed_on, reads_one_more, stops_at, stops_for_memory, stops_later}
+use Rattle.gk_program.proofs.FilesLemmas.{names_of_values, one_source_more, reads_one_more, stops_at, stops_for_memory, stops_later}
+use Rattle.gk_request.proofs.ResultLemmas.{passed_on}
 use Rattle.gk_program.proofs.files.read_files.Goals as goal
 
 pub loop-name-init : goal.loop-name-init

@@ -1,5 +1,6 @@
 use Rattle.gk_program.proofs.Common.{map, option_map, subst, sym, arith, string_bytes, source_value, StopsReading, names_in_order, one_of, common_steps}
-use Rattle.gk_program.proofs.FilesLemmas.{one_named, passed_on, reads_both, stops_later, stops_sooner}
+use Rattle.gk_program.proofs.FilesLemmas.{one_named, reads_both, stops_later, stops_sooner}
+use Rattle.gk_request.proofs.ResultLemmas.{passed_on}
 use Rattle.gk_program.proofs.files.read_run_files.Goals as goal
 
 pub returns-in_err-library-clause-fault : goal.returns-in_err-library-clause-fault
