@@ -1,5 +1,5 @@
 -- What the arguments ask for.
-use Rattle.gk_program.proofs.Common.{◌≡◌, subst, List, Err, IsAmong, Text, kind_of, Error, SaysArguments, faults_in, WordsFault, SaysAsked, SaysError, Asked, Help, Run, Nothing, NotUtf8, Usage, Env, File, OfFile, OfRun}
+use Rattle.gk_program.proofs.Common.{◌≡◌, subst, List, Err, IsAmong, Text, kind_of, Error, SaysArguments, faults_in, WordsFault, SaysAsked, SaysError, Asked, Help, Nothing, Usage, OfRun}
 use Rattle.gk_cli.specs.declared.arguments.WordsFault.TheVariants as words
 use Rattle.gk_request.specs.declared.run_fault.RunFault.TheVariants.{Memory}
 

@@ -1,5 +1,5 @@
 -- Reading names one after the other.
-use Rattle.gk_program.proofs.Common.{◌≡◌, inl, inr, subst, ◌++◌, ap, sym, refl, arith, ℕ, List, [], ◌∷◌, map, append_assoc, Option, Some, None, Result, Ok, Err, IfErr, IsErrAnd, String, option_map, string_bytes, Global, map-append, SourceValue, source_value, Source, SourceFault, AreRead, IsNotRead, StopsReading, name_of, one_of, Fault, OfRun, TooLong, common_steps}
+use Rattle.gk_program.proofs.Common.{◌≡◌, inl, inr, subst, ◌++◌, ap, sym, refl, arith, ℕ, List, [], ◌∷◌, map, append_assoc, Option, Some, None, Result, Ok, String, option_map, string_bytes, Global, map-append, SourceValue, source_value, Source, SourceFault, AreRead, IsNotRead, StopsReading, name_of, one_of, Fault, OfRun, TooLong, common_steps}
 use Rattle.gk_request.specs.declared.run_fault.RunFault.TheVariants.{Memory}
 
 -- one more is read: its name goes from the names that are left to those of the sources

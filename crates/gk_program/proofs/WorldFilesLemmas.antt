@@ -1,5 +1,5 @@
 -- Putting variables, and files, one after the other.
-use Rattle.gk_program.proofs.Common.{◌≡◌, ◌∙◌, ◌++◌, ap, sym, subst, refl, arith, ℕ, List, [], ◌∷◌, append_assoc, fold, map, All, append-nil, map-append, map_push, All-nil, All-push, common_steps, None, Contents, IsFault, put_refusal, SandboxValue, WorldFault, with_env, with_file, PairValue, AreRead, Reading, ArePut, AreTaken, IsFaultOfVariable, IsNotPut, IsPut, IsText, PutFile, StopsAtVariable, StopsPutting, given_of, read_of, with_files, with_variables, Fault}
+use Rattle.gk_program.proofs.Common.{◌≡◌, ◌∙◌, ◌++◌, ap, sym, subst, refl, arith, List, [], ◌∷◌, append_assoc, fold, map, All, append-nil, map-append, map_push, All-nil, All-push, common_steps, None, IsFault, put_refusal, SandboxValue, WorldFault, with_env, with_file, PairValue, AreRead, Reading, ArePut, AreTaken, IsFaultOfVariable, IsNotPut, IsPut, IsText, PutFile, StopsAtVariable, StopsPutting, given_of, read_of, with_files, with_variables, Fault}
 use Rattle.gk_program.proofs.FilesLemmas.{reads_both}
 
 -- one step after some others
