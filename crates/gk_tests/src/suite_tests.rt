@@ -17,7 +17,7 @@ use std::alloc::Global;
 use std::test::Fail;
 
 #[test]
-fn failures_are_messages_from_the_rest(rt: HostRuntime) {
+fn failures_are_told_from_the_rest(rt: HostRuntime) {
     holds(
         &rt,
         is_failed_or_memory(Status::Failed) && is_failed_or_memory(Status::Memory),
@@ -96,11 +96,11 @@ fn steps_are_looked_up(rt: HostRuntime) -> Result<(), Fail> {
 /// An observer that keeps a line of each call: the place, the outcome, whether a step's action was carried out and
 /// registered a cleanup, and the value `n` after it.
 #[derive(Debug, Drop)]
-struct Teller {
-    messages: String,
+struct EventLines {
+    text: String,
 }
 
-impl Observer for Teller {
+impl Observer for EventLines {
     ghost hears = { λ old event new. Unit {0} };
 
     ghost ends = { λ old ended new. Unit {0} };
@@ -115,7 +115,7 @@ impl Observer for Teller {
         } = *done;
         let is_used = done.used.is_some();
         let _ = write!(
-            self.messages,
+            self.text,
             "{level:?} {part:?} {} {mark:?} {is_used} {registered} {value:?}\n",
             step.line
         );
@@ -124,7 +124,7 @@ impl Observer for Teller {
     fn cleanup(&mut self, level: Level, cleanup: &Cleanup, outcome: Outcome, sandbox: &Sandbox) {
         let value = sandbox.value("n");
         let _ = write!(
-            self.messages,
+            self.text,
             "{level:?} cleanup of {:?} {} {:?} {outcome:?} {value:?}\n",
             cleanup.at.part, cleanup.at.line, cleanup.found.fields
         );
@@ -132,14 +132,14 @@ impl Observer for Teller {
 
     fn case_ended(&mut self, index: usize, row: &CaseResult) {
         let _ = write!(
-            self.messages,
+            self.text,
             "scenario {index} {} {:?}\n",
             row.line, row.status
         );
     }
 
     fn rule_ended(&mut self, row: &RuleResult) {
-        let _ = write!(self.messages, "rule {} {:?}\n", row.line, row.around);
+        let _ = write!(self.text, "rule {} {:?}\n", row.line, row.around);
     }
 }
 
@@ -151,11 +151,11 @@ const FEATURE: &str =
 const HOOKS: &str =
     "before_all:\n  Given it passes\nafter_rule:\n  Then it fails\nafter_all:\n  Then it passes\n";
 
-// What is messages of its first scenario, and of the whole run.
-const CASE_TOLD: &str =
+// The lines of its first scenario, and of the whole run.
+const CASE_LINES: &str =
     "Scenario Steps 3 Acted(Passed) true false Some(\"1\")\nScenario Steps 4 Acted(Passed) true true Some(\"1\")\nScenario cleanup of Steps 4 [Text(\"n\"), Text(\"1\")] Passed Some(\"1\")\nscenario 0 2 Passed\n";
 
-const RUN_TOLD: &str =
+const RUN_LINES: &str =
     "Run Before 2 Acted(Passed) true false None\nScenario Steps 3 Acted(Passed) true false Some(\"1\")\nScenario Steps 4 Acted(Passed) true true Some(\"1\")\nScenario cleanup of Steps 4 [Text(\"n\"), Text(\"1\")] Passed Some(\"1\")\nscenario 0 2 Passed\nScenario Steps 7 Acted(Failed(Absent)) true false None\nscenario 1 6 Failed\nRule After 4 Acted(Failed(Asked)) true false None\nrule 5 Failed\nRun After 6 Acted(Passed) true false None\n";
 
 // Returns the first scenario of a feature.
@@ -166,35 +166,35 @@ fn first_case(alloc: Global, text: &str) -> Result<Case, Fail> {
     }
 }
 
-// Runs a scenario alone in a new sandbox, and notifies of it.
-fn messages_case(
+// Runs a scenario alone in a new sandbox, and adds the lines of its events.
+fn run_case_with_lines(
     alloc: Global,
     library: &Library,
     hooks: &HookFile,
     case: Case,
-    teller: &mut Teller,
+    lines: &mut EventLines,
 ) -> Result<CaseResult, NoRoom> {
     let mut sandbox = Sandbox::new(alloc);
-    run_case_watched(alloc, &mut sandbox, library, hooks, case, teller)
+    run_case_watched(alloc, &mut sandbox, library, hooks, case, lines)
 }
 
-// Runs the first scenario of a feature alone without hooks. Returns its status, and what was messages.
-fn first_messages(alloc: Global, library: &Library, text: &str) -> Result<(Status, String), Fail> {
-    let mut teller = Teller {
-        messages: String::new(alloc),
+// Runs the first scenario of a feature alone without hooks. Returns its status, and the lines of its events.
+fn lines_of_case(alloc: Global, library: &Library, text: &str) -> Result<(Status, String), Fail> {
+    let mut lines = EventLines {
+        text: String::new(alloc),
     };
     let hooks = read_hooks(alloc, b"")?;
     let case = first_case(alloc, text)?;
-    let result = messages_case(alloc, library, &hooks, case, &mut teller)?;
-    Ok((result.status, teller.messages))
+    let result = run_case_with_lines(alloc, library, &hooks, case, &mut lines)?;
+    Ok((result.status, lines.text))
 }
 
 #[test]
-fn events_of_a_case_are_messages(rt: HostRuntime) -> Result<(), Fail> {
+fn observers_receive_the_events_of_a_case(rt: HostRuntime) -> Result<(), Fail> {
     let library = default_library(rt.alloc())?;
-    let (status, messages) = first_messages(rt.alloc(), &library, FEATURE)?;
+    let (status, lines) = lines_of_case(rt.alloc(), &library, FEATURE)?;
     equal(&rt, &status, &Status::Passed);
-    same(&rt, messages.as_str(), CASE_TOLD);
+    same(&rt, lines.as_str(), CASE_LINES);
     Ok(())
 }
 
@@ -206,9 +206,9 @@ fn statuses_of(ran: Result<FeatureResult, NoRoom>) -> Option<(Status, Status)> {
     }
 }
 
-// Tells a run of one feature. Returns the feature's statuses, how the run's hooks and cleanups ended, and what was
-// messages.
-fn run_messages(
+// Runs one feature. Returns the feature's statuses, how the run's hooks and cleanups ended, and the lines of the run's
+// events.
+fn lines_of_run(
     alloc: Global,
     library: &Library,
     hooks: &HookFile,
@@ -218,25 +218,25 @@ fn run_messages(
 {
     let hooks = HookTable::new(alloc, hooks);
     let mut sandbox = Sandbox::new(alloc);
-    let mut teller = Teller {
-        messages: String::new(alloc),
+    let mut lines = EventLines {
+        text: String::new(alloc),
     };
-    let mut suite = Suite::start_watched(alloc, &mut sandbox, library, &hooks, false, &mut teller);
-    let ran = suite.feature_watched(alloc, &mut sandbox, library, &hooks, chosen, &mut teller);
+    let mut suite = Suite::start_watched(alloc, &mut sandbox, library, &hooks, false, &mut lines);
+    let ran = suite.feature_watched(alloc, &mut sandbox, library, &hooks, chosen, &mut lines);
     let statuses = statuses_of(ran);
-    let around = suite.finish_watched(alloc, &mut sandbox, library, &hooks, &mut teller);
-    (statuses, around, teller.messages)
+    let around = suite.finish_watched(alloc, &mut sandbox, library, &hooks, &mut lines);
+    (statuses, around, lines.text)
 }
 
 #[test]
-fn events_of_a_run_are_messages(rt: HostRuntime) -> Result<(), Fail> {
+fn observers_receive_the_events_of_a_run(rt: HostRuntime) -> Result<(), Fail> {
     let library = default_library(rt.alloc())?;
     let hooks = read_hooks(rt.alloc(), HOOKS.as_bytes())?;
     let chosen = chosen(rt.alloc(), FEATURE)?;
-    let (statuses, around, messages) = run_messages(rt.alloc(), &library, &hooks, chosen);
+    let (statuses, around, lines) = lines_of_run(rt.alloc(), &library, &hooks, chosen);
     equal(&rt, &statuses, &Some((Status::Failed, Status::Passed)));
     equal(&rt, &around, &Status::Passed);
-    same(&rt, messages.as_str(), RUN_TOLD);
+    same(&rt, lines.as_str(), RUN_LINES);
     Ok(())
 }
 
