@@ -231,10 +231,10 @@ write_too_long text e = ap (λ (b : Bool). unless start ((false, reasons.BadName
 
 -- a step whose pattern has a field `text`, and one whose pattern has no field
 abbrev with_field : LibraryValue
-with_field = record { step_type = None; pattern = FieldPiece (codes "text") Plain ∷ []; action = actions.FileIs } ∷ []
+with_field = record { line = 1; step_type = None; pattern = FieldPiece (codes "text") Plain ∷ []; action = actions.FileIs } ∷ []
 
 abbrev without_field : LibraryValue
-without_field = record { step_type = None; pattern = Literal (codes "x") ∷ []; action = actions.FileIs } ∷ []
+without_field = record { line = 1; step_type = None; pattern = Literal (codes "x") ∷ []; action = actions.FileIs } ∷ []
 
 -- The text of a step is the field `text`, or otherwise the doc string.
 texts_of_steps :

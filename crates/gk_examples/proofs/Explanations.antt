@@ -100,7 +100,7 @@ rows_end_with_their_feature = refl
 
 -- A library with an entry that registers a cleanup, and one that passes.
 abbrev later_library : LibraryValue
-later_library = record { step_type = None; pattern = Literal (codes "later ") ∷ FieldPiece (codes "step") kinds.Plain ∷ []; action = actions.AtCleanup } ∷ record { step_type = None; pattern = Literal (codes "ok") ∷ []; action = actions.Pass } ∷ []
+later_library = record { line = 1; step_type = None; pattern = Literal (codes "later ") ∷ FieldPiece (codes "step") kinds.Plain ∷ []; action = actions.AtCleanup } ∷ record { line = 2; step_type = None; pattern = Literal (codes "ok") ∷ []; action = actions.Pass } ∷ []
 
 -- The action that registers a cleanup, for a text that finds no entry.
 abbrev registering : UseValue
@@ -144,7 +144,7 @@ sections_are_listed s = refl
 
 -- An entry for steps of each type, with a field between two literals.
 abbrev entry : EntryValue
-entry = record { step_type = None; pattern = Literal (codes "the mill ") ∷ FieldPiece (codes "n") kinds.Decimal ∷ Literal (codes " stops") ∷ []; action = actions.Pass }
+entry = record { line = 1; step_type = None; pattern = Literal (codes "the mill ") ∷ FieldPiece (codes "n") kinds.Decimal ∷ Literal (codes " stops") ∷ []; action = actions.Pass }
 
 -- It is named as the nearest, or as one of another type.
 named_as_nearest : hint_text (entry ∷ []) (Nearest 0) ≡ codes "      the nearest entry is: step the mill {n:d} stops\n"

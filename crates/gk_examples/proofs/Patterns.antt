@@ -68,8 +68,8 @@ in_braces = refl
 -- Finding.
 abbrev small_library : LibraryValue
 small_library =
-    any_entry (Literal (codes "number ") ∷ FieldPiece (codes "name") Plain ∷ Literal (codes " grows by ") ∷ FieldPiece (codes "n") Decimal ∷ []) actions.AddNumber
-    ∷ any_entry (Literal (codes "it passes") ∷ []) actions.Pass
+    any_entry 1 (Literal (codes "number ") ∷ FieldPiece (codes "name") Plain ∷ Literal (codes " grows by ") ∷ FieldPiece (codes "n") Decimal ∷ []) actions.AddNumber
+    ∷ any_entry 2 (Literal (codes "it passes") ∷ []) actions.Pass
     ∷ []
 
 number_found : found small_library Given (codes "number a grows by -5") ≡ Some (found_at 0 (TextField (codes "a") ∷ NumberField (neg_ℤ (pos 5)) ∷ []))

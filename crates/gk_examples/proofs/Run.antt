@@ -314,16 +314,16 @@ library_bytes = codes "given a file named \"{name}\" with: => write_file\n"
 
 -- What the library file says.
 abbrev write_entry : EntryValue
-write_entry = record { step_type = Some Given; pattern = Literal (codes "a file named \"") ∷ FieldPiece (codes "name") kinds.Plain ∷ Literal (codes "\" with:") ∷ []; action = actions.WriteFile }
+write_entry = record { line = 1; step_type = Some Given; pattern = Literal (codes "a file named \"") ∷ FieldPiece (codes "name") kinds.Plain ∷ Literal (codes "\" with:") ∷ []; action = actions.WriteFile }
 
 -- The entry of the second line.
 abbrev ask_entry : EntryValue
-ask_entry = record { step_type = Some Then; pattern = Literal (codes "the file \"") ∷ FieldPiece (codes "name") kinds.Plain ∷ Literal (codes "\" should be \"") ∷ FieldPiece (codes "text") kinds.Plain ∷ Literal (codes "\"") ∷ []; action = actions.FileIs }
+ask_entry = record { line = 2; step_type = Some Then; pattern = Literal (codes "the file \"") ∷ FieldPiece (codes "name") kinds.Plain ∷ Literal (codes "\" should be \"") ∷ FieldPiece (codes "text") kinds.Plain ∷ Literal (codes "\"") ∷ []; action = actions.FileIs }
 
 -- The lines of its bytes spell the two entries.
 library_reads : ReadsLibrary (lines_of library_bytes) (write_entry ∷ ask_entry ∷ [])
 unfolding library_on_literals
-library_reads = reads_so library_bytes (write_entry ∷ ask_entry ∷ []) refl refl refl
+library_reads = reads_so library_bytes (write_entry ∷ ask_entry ∷ []) refl refl refl refl
 
 abbrev library : LibraryValue
 library = write_entry ∷ ask_entry ∷ []

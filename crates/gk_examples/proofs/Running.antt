@@ -131,7 +131,7 @@ cut_row r m cut = case_seen (reached_row r start cut m.scenario)
 
 -- an entry for steps of each type
 abbrev entry : List PieceValue → Action → EntryValue
-entry pattern action = record { step_type = None; pattern = pattern; action = action }
+entry pattern action = record { line = 1; step_type = None; pattern = pattern; action = action }
 
 -- an entry without fields
 abbrev word : List ℕ → Action → EntryValue

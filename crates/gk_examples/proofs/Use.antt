@@ -75,8 +75,8 @@ register_in_cleanup = refl
 -- A cleanup that skips, which isn't allowed there: the step that registers it passes in a run, and the cleanup fails.
 with_cleanups : LibraryValue
 with_cleanups =
-    record { step_type = None; pattern = Literal (codes "at last ") ∷ FieldPiece (codes "step") Plain ∷ []; action = AtCleanup }
-    ∷ record { step_type = None; pattern = Literal (codes "it is over") ∷ []; action = SkipScenario }
+    record { line = 1; step_type = None; pattern = Literal (codes "at last ") ∷ FieldPiece (codes "step") Plain ∷ []; action = AtCleanup }
+    ∷ record { line = 2; step_type = None; pattern = Literal (codes "it is over") ∷ []; action = SkipScenario }
     ∷ []
 
 at_last : StepValue

@@ -52,10 +52,10 @@ none_so (x ∷ xs) step_type text e zero entry is = grind (arith, common_steps, 
 none_so (x ∷ xs) step_type text e (suc position) entry is = none_so xs step_type text (and_so (passes step_type text x) (list_all (passes step_type text) xs) e).1 position entry is
 
 -- a line that is good
-good : (earlier : LibraryValue) (line : LineValue) (e : EntryValue) (sides : Sides) (row : ActionRowValue) → type_of line ≡ Some e.step_type → sides_of line ≡ Some sides → action_row sides.action ≡ Some row → e.action ≡ row.action
+good : (earlier : LibraryValue) (line : LineValue) (e : EntryValue) (sides : Sides) (row : ActionRowValue) → e.line ≡ line.line → type_of line ≡ Some e.step_type → sides_of line ≡ Some sides → action_row sides.action ≡ Some row → e.action ≡ row.action
     → spells_ok sides.pattern e.pattern ≡ true → list_all (λ name. is_some (field_kind e.pattern name)) row.needs ≡ true → list_all (λ name. is_none_or_kind (field_kind e.pattern name) (kind_of_field name)) row.uses ≡ true
     → list_all (passes e.step_type sides.pattern) earlier ≡ true → SpellsEntry earlier line e
-good earlier line e sides row is_type is_cut is_action action spelled needs kinds none = grind (arith, common_steps, spells_so, needed_so, kinds_so, none_so)
+good earlier line e sides row is_line is_type is_cut is_action action spelled needs kinds none = grind (arith, common_steps, spells_so, needed_so, kinds_so, none_so)
 
 -- lines that are good, each after the entries of those before
 unfoldable pub option_action : Option Sides → Option Action
@@ -78,16 +78,16 @@ all_ok earlier [] [] = true
 all_ok earlier (line ∷ ls) (e ∷ es) = sides_ok earlier e (sides_of line) && all_ok (earlier ++ e ∷ []) ls es
 all_ok earlier _ _ = false
 
-row_so : (earlier : LibraryValue) (line : LineValue) (e : EntryValue) (sides : Sides) (row : Option ActionRowValue) → action_row sides.action ≡ row → type_of line ≡ Some e.step_type → sides_of line ≡ Some sides → option_map (λ (r : ActionRowValue). r.action) row ≡ Some e.action → row_ok earlier e sides row ≡ true
+row_so : (earlier : LibraryValue) (line : LineValue) (e : EntryValue) (sides : Sides) (row : Option ActionRowValue) → action_row sides.action ≡ row → e.line ≡ line.line → type_of line ≡ Some e.step_type → sides_of line ≡ Some sides → option_map (λ (r : ActionRowValue). r.action) row ≡ Some e.action → row_ok earlier e sides row ≡ true
     → SpellsEntry earlier line e
 unfolding row_ok
-row_so earlier line e sides None is typed cut action ok = let bad : ⊥ = cc in absurd bad
-row_so earlier line e sides (Some row) is typed cut action ok = grind (arith, common_steps, and_so, some_same, good)
+row_so earlier line e sides None is at typed cut action ok = let bad : ⊥ = cc in absurd bad
+row_so earlier line e sides (Some row) is at typed cut action ok = grind (arith, common_steps, and_so, some_same, good)
 
-sides_so : (earlier : LibraryValue) (line : LineValue) (e : EntryValue) (sides : Option Sides) → sides_of line ≡ sides → type_of line ≡ Some e.step_type → option_action sides ≡ Some e.action → sides_ok earlier e sides ≡ true → SpellsEntry earlier line e
+sides_so : (earlier : LibraryValue) (line : LineValue) (e : EntryValue) (sides : Option Sides) → sides_of line ≡ sides → e.line ≡ line.line → type_of line ≡ Some e.step_type → option_action sides ≡ Some e.action → sides_ok earlier e sides ≡ true → SpellsEntry earlier line e
 unfolding option_action sides_ok
-sides_so earlier line e None cut typed action ok = let bad : ⊥ = cc in absurd bad
-sides_so earlier line e (Some sides) cut typed action ok = row_so earlier line e sides (action_row sides.action) refl typed cut action ok
+sides_so earlier line e None cut at typed action ok = let bad : ⊥ = cc in absurd bad
+sides_so earlier line e (Some sides) cut at typed action ok = row_so earlier line e sides (action_row sides.action) refl at typed cut action ok
 
 same_first : {A : Type 0} (x y : A) (xs ys : List A) → x ∷ xs ≡ y ∷ ys → x ≡ y
 same_first x y xs ys e = cc
@@ -95,26 +95,26 @@ same_first x y xs ys e = cc
 same_rest : {A : Type 0} (x y : A) (xs ys : List A) → x ∷ xs ≡ y ∷ ys → xs ≡ ys
 same_rest x y xs ys e = cc
 
-all_so : (earlier : LibraryValue) (ls : Lines) (es : LibraryValue) → map type_of ls ≡ map (λ (e : EntryValue). Some e.step_type) es → map (λ line. option_action (sides_of line)) ls ≡ map (λ (e : EntryValue). Some e.action) es → all_ok earlier ls es ≡ true → SpellEntries earlier ls es
+all_so : (earlier : LibraryValue) (ls : Lines) (es : LibraryValue) → map (λ (e : EntryValue). e.line) es ≡ map (λ (line : LineValue). line.line) ls → map type_of ls ≡ map (λ (e : EntryValue). Some e.step_type) es → map (λ line. option_action (sides_of line)) ls ≡ map (λ (e : EntryValue). Some e.action) es → all_ok earlier ls es ≡ true → SpellEntries earlier ls es
 unfolding all_ok
-all_so earlier [] [] types actions ok = tt
-all_so earlier [] (e ∷ es) types actions ok = let bad : ⊥ = cc in absurd bad
-all_so earlier (line ∷ ls) [] types actions ok = let bad : ⊥ = cc in absurd bad
-all_so earlier (line ∷ ls) (e ∷ es) types actions ok =
+all_so earlier [] [] numbers types actions ok = tt
+all_so earlier [] (e ∷ es) numbers types actions ok = let bad : ⊥ = cc in absurd bad
+all_so earlier (line ∷ ls) [] numbers types actions ok = let bad : ⊥ = cc in absurd bad
+all_so earlier (line ∷ ls) (e ∷ es) numbers types actions ok =
     let parts = and_so (sides_ok earlier e (sides_of line)) (all_ok (earlier ++ e ∷ []) ls es) ok in (
-      sides_so earlier line e (sides_of line) refl (same_first _ _ _ _ types) (same_first _ _ _ _ actions) parts.0,
-      all_so (earlier ++ e ∷ []) ls es (same_rest _ _ _ _ types) (same_rest _ _ _ _ actions) parts.1,
+      sides_so earlier line e (sides_of line) refl (same_first _ _ _ _ numbers) (same_first _ _ _ _ types) (same_first _ _ _ _ actions) parts.0,
+      all_so (earlier ++ e ∷ []) ls es (same_rest _ _ _ _ numbers) (same_rest _ _ _ _ types) (same_rest _ _ _ _ actions) parts.1,
     )
 
 -- the lines of a text that are not ignored
 unfoldable pub lines_left : List ℕ → Lines
 lines_left text = filter (λ line. not (is_ignored line)) (lines_of text)
 
--- a text whose lines spell entries, by computation: their types, their actions, and what else makes them good
-pub reads_so : (text : List ℕ) (es : LibraryValue) → map type_of (lines_left text) ≡ map (λ (e : EntryValue). Some e.step_type) es
+-- a text whose lines spell entries, by computation: their numbers, their types, their actions, and what else makes them good
+pub reads_so : (text : List ℕ) (es : LibraryValue) → map (λ (e : EntryValue). e.line) es ≡ map (λ (line : LineValue). line.line) (lines_left text) → map type_of (lines_left text) ≡ map (λ (e : EntryValue). Some e.step_type) es
     → map (λ line. option_action (sides_of line)) (lines_left text) ≡ map (λ (e : EntryValue). Some e.action) es → all_ok [] (lines_left text) es ≡ true → ReadsLibrary (lines_of text) es
 unfolding lines_left
-reads_so text es types actions ok = all_so [] (lines_left text) es types actions ok
+reads_so text es numbers types actions ok = all_so [] (lines_left text) es numbers types actions ok
 
 -- what a proof unfolds to compute that a text reads so
 unfoldable pub library_on_literals : ⊤
@@ -123,7 +123,7 @@ library_on_literals = tt
 
 pub default_reads : ReadsLibrary (lines_of default_text) default_entries
 unfolding library_on_literals default_text
-default_reads = reads_so default_text default_entries refl refl refl
+default_reads = reads_so default_text default_entries refl refl refl refl
 
 pub default_short : length default_text ≤ limit
 unfolding default_text

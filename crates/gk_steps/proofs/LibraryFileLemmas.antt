@@ -6,8 +6,8 @@ use Rattle.gk_steps.proofs.LibraryStagesLemmas.{some_same, never_spelled}
 use Rattle.gk_steps.proofs.LibraryLineLemmas.{entry_needs}
 
 -- what a line spells is determined
-abbrev entry_from : Option StepType → List PieceValue → Action → EntryValue
-entry_from step_type ps action = record { step_type = step_type; pattern = ps; action = action }
+abbrev entry_from : ℕ → Option StepType → List PieceValue → Action → EntryValue
+entry_from line step_type ps action = record { line = line; step_type = step_type; pattern = ps; action = action }
 
 same_row : (a b : Sides) (r s : ActionRowValue) → a ≡ b → action_row a.action ≡ Some r → action_row b.action ≡ Some s → r ≡ s
 same_row a b r s e h k = some_same r s (sym h ∙ ap (λ (x : Sides). action_row x.action) e ∙ k)

@@ -119,7 +119,7 @@ ambiguous earlier line step_type text name ps action f c s a first =
     }
 
 pub spells_entry : (earlier : LibraryValue) (line : LineValue) (step_type : Option StepType) (text name : List ℕ) (ps : List PieceValue) (action : Action) → IsEntryText line step_type text name → SpellsPattern text ps → FitsAction name ps action → NoneFound earlier step_type text
-    → SpellsEntry earlier line (record { step_type = step_type; pattern = ps; action = action })
+    → SpellsEntry earlier line (record { line = line.line; step_type = step_type; pattern = ps; action = action })
 spells_entry earlier line step_type text name ps action c s a none = grind (arith, common_steps)
 
 -- the arrow at a position of the loop
@@ -176,7 +176,7 @@ whole_rest xs p = take_all (length xs - p) (drop p xs) (omega (arith, length-dro
 pub ambiguous_with : (earlier : LibraryValue) (line : LineValue) (step_type : Option StepType) (text name : List ℕ) (ps : List PieceValue) (action : Action) (o : Option FoundValue) (f : FoundValue) → o ≡ Some f → IsEntryText line step_type text name → SpellsPattern text ps → FitsAction name ps action → IsFoundOf earlier step_type text o → IsAmbiguous earlier line
 ambiguous_with earlier line step_type text name ps action o f e c s a h = ambiguous earlier line step_type text name ps action f c s a (subst (λ (x : Option FoundValue). IsFoundOf earlier step_type text x) e h)
 
-pub entry_with : (earlier : LibraryValue) (line : LineValue) (step_type : Option StepType) (text name : List ℕ) (ps : List PieceValue) (action : Action) (o : Option FoundValue) → o ≡ None → IsEntryText line step_type text name → SpellsPattern text ps → FitsAction name ps action → IsFoundOf earlier step_type text o → SpellsEntry earlier line (record { step_type = step_type; pattern = ps; action = action })
+pub entry_with : (earlier : LibraryValue) (line : LineValue) (step_type : Option StepType) (text name : List ℕ) (ps : List PieceValue) (action : Action) (o : Option FoundValue) → o ≡ None → IsEntryText line step_type text name → SpellsPattern text ps → FitsAction name ps action → IsFoundOf earlier step_type text o → SpellsEntry earlier line (record { line = line.line; step_type = step_type; pattern = ps; action = action })
 entry_with earlier line step_type text name ps action o e c s a h = spells_entry earlier line step_type text name ps action c s a (subst (λ (x : Option FoundValue). IsFoundOf earlier step_type text x) e h)
 
 -- refused memory

@@ -38,39 +38,39 @@ default_text =
     ++ codes "step it passes => pass\n"
     ++ codes "step it fails => fail\n"
 
--- An entry for steps of every type.
-abbrev pub any_entry : List PieceValue → Action → EntryValue
-any_entry ps action = record { step_type = None; pattern = ps; action = action }
+-- An entry at a line, for steps of every type.
+abbrev pub any_entry : ℕ → List PieceValue → Action → EntryValue
+any_entry line ps action = record { line = line; step_type = None; pattern = ps; action = action }
 
 -- The entries of the default library.
 abbrev pub default_entries : LibraryValue
 default_entries =
-    any_entry (Literal (codes "a file named \"") ∷ FieldPiece (codes "name") Plain ∷ Literal (codes "\" with:") ∷ []) actions.WriteFile
-    ∷ any_entry (Literal (codes "a file named \"") ∷ FieldPiece (codes "name") Plain ∷ Literal (codes "\" containing \"") ∷ FieldPiece (codes "text") Plain ∷ Literal (codes "\"") ∷ []) actions.WriteFile
-    ∷ any_entry (Literal (codes "the file \"") ∷ FieldPiece (codes "name") Plain ∷ Literal (codes "\" is extended with:") ∷ []) actions.AppendFile
-    ∷ any_entry (Literal (codes "the file \"") ∷ FieldPiece (codes "name") Plain ∷ Literal (codes "\" is extended with \"") ∷ FieldPiece (codes "text") Plain ∷ Literal (codes "\"") ∷ []) actions.AppendFile
-    ∷ any_entry (Literal (codes "the file \"") ∷ FieldPiece (codes "name") Plain ∷ Literal (codes "\" is removed") ∷ []) actions.RemoveFile
-    ∷ any_entry (Literal (codes "the file \"") ∷ FieldPiece (codes "name") Plain ∷ Literal (codes "\" is renamed to \"") ∷ FieldPiece (codes "to") Plain ∷ Literal (codes "\"") ∷ []) actions.RenameFile
-    ∷ any_entry (Literal (codes "these files:") ∷ []) actions.WriteFiles
-    ∷ any_entry (Literal (codes "the file \"") ∷ FieldPiece (codes "name") Plain ∷ Literal (codes "\" should exist") ∷ []) actions.FileExists
-    ∷ any_entry (Literal (codes "the file \"") ∷ FieldPiece (codes "name") Plain ∷ Literal (codes "\" should not exist") ∷ []) actions.FileAbsent
-    ∷ any_entry (Literal (codes "the file \"") ∷ FieldPiece (codes "name") Plain ∷ Literal (codes "\" should be:") ∷ []) actions.FileIs
-    ∷ any_entry (Literal (codes "the file \"") ∷ FieldPiece (codes "name") Plain ∷ Literal (codes "\" should be \"") ∷ FieldPiece (codes "text") Plain ∷ Literal (codes "\"") ∷ []) actions.FileIs
-    ∷ any_entry (Literal (codes "the file \"") ∷ FieldPiece (codes "name") Plain ∷ Literal (codes "\" should contain:") ∷ []) actions.FileContains
-    ∷ any_entry (Literal (codes "the file \"") ∷ FieldPiece (codes "name") Plain ∷ Literal (codes "\" should contain \"") ∷ FieldPiece (codes "text") Plain ∷ Literal (codes "\"") ∷ []) actions.FileContains
-    ∷ any_entry (Literal (codes "the variable \"") ∷ FieldPiece (codes "name") Plain ∷ Literal (codes "\" is set to \"") ∷ FieldPiece (codes "text") Plain ∷ Literal (codes "\"") ∷ []) actions.SetEnv
-    ∷ any_entry (Literal (codes "the variable \"") ∷ FieldPiece (codes "name") Plain ∷ Literal (codes "\" is unset") ∷ []) actions.RemoveEnv
-    ∷ any_entry (Literal (codes "the variable \"") ∷ FieldPiece (codes "name") Plain ∷ Literal (codes "\" should be \"") ∷ FieldPiece (codes "text") Plain ∷ Literal (codes "\"") ∷ []) actions.EnvIs
-    ∷ any_entry (Literal (codes "the variable \"") ∷ FieldPiece (codes "name") Plain ∷ Literal (codes "\" should be unset") ∷ []) actions.EnvAbsent
-    ∷ any_entry (Literal (codes "the value \"") ∷ FieldPiece (codes "name") Plain ∷ Literal (codes "\" is set to \"") ∷ FieldPiece (codes "text") Plain ∷ Literal (codes "\"") ∷ []) actions.SetValue
-    ∷ any_entry (Literal (codes "the value \"") ∷ FieldPiece (codes "name") Plain ∷ Literal (codes "\" is deleted") ∷ []) actions.DeleteValue
-    ∷ any_entry (Literal (codes "the value \"") ∷ FieldPiece (codes "name") Plain ∷ Literal (codes "\" should be \"") ∷ FieldPiece (codes "text") Plain ∷ Literal (codes "\"") ∷ []) actions.ValueIs
-    ∷ any_entry (Literal (codes "the value \"") ∷ FieldPiece (codes "name") Plain ∷ Literal (codes "\" should be absent") ∷ []) actions.ValueAbsent
-    ∷ any_entry (Literal (codes "the number \"") ∷ FieldPiece (codes "name") Plain ∷ Literal (codes "\" is set to ") ∷ FieldPiece (codes "n") Decimal ∷ []) actions.SetNumber
-    ∷ any_entry (Literal (codes "the number \"") ∷ FieldPiece (codes "name") Plain ∷ Literal (codes "\" grows by ") ∷ FieldPiece (codes "n") Decimal ∷ []) actions.AddNumber
-    ∷ any_entry (Literal (codes "the number \"") ∷ FieldPiece (codes "name") Plain ∷ Literal (codes "\" should be ") ∷ FieldPiece (codes "n") Decimal ∷ []) actions.NumberIs
-    ∷ any_entry (Literal (codes "at cleanup ") ∷ FieldPiece (codes "step") Plain ∷ []) actions.AtCleanup
-    ∷ any_entry (Literal (codes "the scenario is skipped") ∷ []) actions.SkipScenario
-    ∷ any_entry (Literal (codes "it passes") ∷ []) actions.Pass
-    ∷ any_entry (Literal (codes "it fails") ∷ []) actions.Fail
+    any_entry 1 (Literal (codes "a file named \"") ∷ FieldPiece (codes "name") Plain ∷ Literal (codes "\" with:") ∷ []) actions.WriteFile
+    ∷ any_entry 2 (Literal (codes "a file named \"") ∷ FieldPiece (codes "name") Plain ∷ Literal (codes "\" containing \"") ∷ FieldPiece (codes "text") Plain ∷ Literal (codes "\"") ∷ []) actions.WriteFile
+    ∷ any_entry 3 (Literal (codes "the file \"") ∷ FieldPiece (codes "name") Plain ∷ Literal (codes "\" is extended with:") ∷ []) actions.AppendFile
+    ∷ any_entry 4 (Literal (codes "the file \"") ∷ FieldPiece (codes "name") Plain ∷ Literal (codes "\" is extended with \"") ∷ FieldPiece (codes "text") Plain ∷ Literal (codes "\"") ∷ []) actions.AppendFile
+    ∷ any_entry 5 (Literal (codes "the file \"") ∷ FieldPiece (codes "name") Plain ∷ Literal (codes "\" is removed") ∷ []) actions.RemoveFile
+    ∷ any_entry 6 (Literal (codes "the file \"") ∷ FieldPiece (codes "name") Plain ∷ Literal (codes "\" is renamed to \"") ∷ FieldPiece (codes "to") Plain ∷ Literal (codes "\"") ∷ []) actions.RenameFile
+    ∷ any_entry 7 (Literal (codes "these files:") ∷ []) actions.WriteFiles
+    ∷ any_entry 8 (Literal (codes "the file \"") ∷ FieldPiece (codes "name") Plain ∷ Literal (codes "\" should exist") ∷ []) actions.FileExists
+    ∷ any_entry 9 (Literal (codes "the file \"") ∷ FieldPiece (codes "name") Plain ∷ Literal (codes "\" should not exist") ∷ []) actions.FileAbsent
+    ∷ any_entry 10 (Literal (codes "the file \"") ∷ FieldPiece (codes "name") Plain ∷ Literal (codes "\" should be:") ∷ []) actions.FileIs
+    ∷ any_entry 11 (Literal (codes "the file \"") ∷ FieldPiece (codes "name") Plain ∷ Literal (codes "\" should be \"") ∷ FieldPiece (codes "text") Plain ∷ Literal (codes "\"") ∷ []) actions.FileIs
+    ∷ any_entry 12 (Literal (codes "the file \"") ∷ FieldPiece (codes "name") Plain ∷ Literal (codes "\" should contain:") ∷ []) actions.FileContains
+    ∷ any_entry 13 (Literal (codes "the file \"") ∷ FieldPiece (codes "name") Plain ∷ Literal (codes "\" should contain \"") ∷ FieldPiece (codes "text") Plain ∷ Literal (codes "\"") ∷ []) actions.FileContains
+    ∷ any_entry 14 (Literal (codes "the variable \"") ∷ FieldPiece (codes "name") Plain ∷ Literal (codes "\" is set to \"") ∷ FieldPiece (codes "text") Plain ∷ Literal (codes "\"") ∷ []) actions.SetEnv
+    ∷ any_entry 15 (Literal (codes "the variable \"") ∷ FieldPiece (codes "name") Plain ∷ Literal (codes "\" is unset") ∷ []) actions.RemoveEnv
+    ∷ any_entry 16 (Literal (codes "the variable \"") ∷ FieldPiece (codes "name") Plain ∷ Literal (codes "\" should be \"") ∷ FieldPiece (codes "text") Plain ∷ Literal (codes "\"") ∷ []) actions.EnvIs
+    ∷ any_entry 17 (Literal (codes "the variable \"") ∷ FieldPiece (codes "name") Plain ∷ Literal (codes "\" should be unset") ∷ []) actions.EnvAbsent
+    ∷ any_entry 18 (Literal (codes "the value \"") ∷ FieldPiece (codes "name") Plain ∷ Literal (codes "\" is set to \"") ∷ FieldPiece (codes "text") Plain ∷ Literal (codes "\"") ∷ []) actions.SetValue
+    ∷ any_entry 19 (Literal (codes "the value \"") ∷ FieldPiece (codes "name") Plain ∷ Literal (codes "\" is deleted") ∷ []) actions.DeleteValue
+    ∷ any_entry 20 (Literal (codes "the value \"") ∷ FieldPiece (codes "name") Plain ∷ Literal (codes "\" should be \"") ∷ FieldPiece (codes "text") Plain ∷ Literal (codes "\"") ∷ []) actions.ValueIs
+    ∷ any_entry 21 (Literal (codes "the value \"") ∷ FieldPiece (codes "name") Plain ∷ Literal (codes "\" should be absent") ∷ []) actions.ValueAbsent
+    ∷ any_entry 22 (Literal (codes "the number \"") ∷ FieldPiece (codes "name") Plain ∷ Literal (codes "\" is set to ") ∷ FieldPiece (codes "n") Decimal ∷ []) actions.SetNumber
+    ∷ any_entry 23 (Literal (codes "the number \"") ∷ FieldPiece (codes "name") Plain ∷ Literal (codes "\" grows by ") ∷ FieldPiece (codes "n") Decimal ∷ []) actions.AddNumber
+    ∷ any_entry 24 (Literal (codes "the number \"") ∷ FieldPiece (codes "name") Plain ∷ Literal (codes "\" should be ") ∷ FieldPiece (codes "n") Decimal ∷ []) actions.NumberIs
+    ∷ any_entry 25 (Literal (codes "at cleanup ") ∷ FieldPiece (codes "step") Plain ∷ []) actions.AtCleanup
+    ∷ any_entry 26 (Literal (codes "the scenario is skipped") ∷ []) actions.SkipScenario
+    ∷ any_entry 27 (Literal (codes "it passes") ∷ []) actions.Pass
+    ∷ any_entry 28 (Literal (codes "it fails") ∷ []) actions.Fail
     ∷ []

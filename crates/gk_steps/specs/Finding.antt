@@ -17,15 +17,16 @@ use Rattle.gk_steps.specs.Pattern.{PieceValue, Literal, FieldPiece, pattern_valu
 use Rattle.gk_steps.specs.LiteralEnds.{FitsStart, FitsEnd}
 use Rattle.gk_steps.specs.Matching.{FieldValue, TextField, NumberField, field_value, MatchesNot, IsMatchResult, match_of}
 
--- An entry: its step type, its pattern and its action. An entry without a type is for steps of every type. (behave's documentation: step implementations)
+-- An entry: its line, its step type, its pattern and its action. An entry without a type is for steps of every type. (behave's documentation: step implementations)
 pub record EntryValue : Type 0 where
+  pub line : ℕ
   pub step_type : Option StepType
   pub pattern : List PieceValue
   pub action : Action
 
 -- The value of an `Entry`.
 abbrev pub entry_value : Entry → EntryValue
-entry_value e = record { step_type = e.step_type; pattern = pattern_value e.pattern; action = e.action }
+entry_value e = record { line = e.line; step_type = e.step_type; pattern = pattern_value e.pattern; action = e.action }
 
 -- The values of entries, in order.
 abbrev pub entry_values : List Entry → List EntryValue

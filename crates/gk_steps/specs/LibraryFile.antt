@@ -64,8 +64,9 @@ HasNeededFields row ps = AllByRecursion (λ name. IsSome (field_kind ps name)) r
 abbrev pub HasRightKinds : ActionRowValue → List PieceValue → Type 0
 HasRightKinds row ps = AllByRecursion (λ name. (kind : FieldKind) → field_kind ps name ≡ Some kind → kind ≡ kind_of_field name) row.uses
 
--- A line that spells an entry, after earlier ones: a type, a pattern and an action. The pattern has the fields that the action needs, and those that it uses are of the right kinds. No earlier entry of the type matches the pattern's text as written. (behave's documentation: ambiguous steps)
+-- A line that spells an entry, after earlier ones: its number, a type, a pattern and an action. The pattern has the fields that the action needs, and those that it uses are of the right kinds. No earlier entry of the type matches the pattern's text as written. (behave's documentation: ambiguous steps)
 pub record SpellsEntry (earlier : List EntryValue) (line : LineValue) (entry : EntryValue) : Type 0 where
+  pub is_line : entry.line ≡ line.line
   pub sides : Sides
   pub row : ActionRowValue
   pub is_type : type_of line ≡ Some entry.step_type

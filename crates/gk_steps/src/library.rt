@@ -11,9 +11,11 @@ use gk_gherkin::StepType;
 use std::alloc::{AllocError, Global};
 
 /// A pattern, and the action of the steps that it matches. An entry is for steps of one type, or for steps of every
-/// type if `step_type` is `None`. (behave's documentation: step implementations)
+/// type if `step_type` is `None`. `line` is the line of its file that spells it, counted from 1.
+/// (behave's documentation: step implementations)
 #[derive(Debug, Drop)]
 pub struct Entry {
+    pub line: u32,
     pub step_type: Option<StepType>,
     pub pattern: Pattern,
     pub action: Action,

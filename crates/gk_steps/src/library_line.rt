@@ -231,6 +231,7 @@ fn entry_from(
     )? {
         Some(_) => Err(LibraryFault::Ambiguous { line: number }),
         None => Ok(Entry {
+            line: number,
             step_type: said.step_type,
             pattern,
             action,

@@ -91,6 +91,7 @@ fn entry(
     action: Action,
 ) -> Result<Entry, PatternFault> {
     Ok(Entry {
+        line: 1,
         step_type,
         pattern: read_pattern(alloc, spelled)?,
         action,
