@@ -27,7 +27,7 @@ use Rattle.gk_steps.specs.Matching.{match_of}
 use Rattle.gk_steps.specs.Finding.{EntryValue, LibraryValue, found}
 use Rattle.gk_explain.specs.Shown.{quoted_window, cut_line, marked_text_with, escaped, file_shown, shown, unquoted}
 use Rattle.gk_explain.specs.Details.{event_details}
-use Rattle.gk_lint.specs.declared.nearest_entry.EntryHint.TheVariants.{OtherType, Nearest}
+use Rattle.gk_lint.specs.Findings.{OtherType, Nearest}
 use Rattle.gk_lint.specs.Likeness.{same_letters, is_one_off, common_len, differ_at_first}
 use Rattle.gk_explain.specs.Nearest.{hint_text, before_nearest, before_other_type, after_other_type}
 use Rattle.gk_explain.specs.Tables.{refused_file}
@@ -147,11 +147,11 @@ abbrev entry : EntryValue
 entry = record { line = 1; step_type = None; pattern = Literal (codes "the mill ") ∷ FieldPiece (codes "n") kinds.Decimal ∷ Literal (codes " stops") ∷ []; action = actions.Pass }
 
 -- It is named as the nearest, or as one of another type.
-named_as_nearest : hint_text (entry ∷ []) (Nearest 0) ≡ codes "      the nearest entry is: step the mill {n:d} stops\n"
+named_as_nearest : hint_text (Nearest entry) ≡ codes "      the nearest entry is: step the mill {n:d} stops\n"
 unfolding before_nearest chars lib.Utf8.encode
 named_as_nearest = refl
 
-named_as_of_another_type : hint_text (entry ∷ []) (OtherType 0) ≡ codes "      an entry of another type matches: step the mill {n:d} stops; step would match every keyword\n"
+named_as_of_another_type : hint_text (OtherType entry) ≡ codes "      an entry of another type matches: step the mill {n:d} stops; step would match every keyword\n"
 unfolding before_other_type after_other_type chars lib.Utf8.encode
 named_as_of_another_type = refl
 

@@ -13,9 +13,10 @@ use Rattle.gk_lint.specs.declared.line_context.LineContext.TheVariants.{Elsewher
 use Rattle.gk_lint.specs.Findings.{at_line}
 use Rattle.gk_lint.specs.Likeness.{is_like_heading, is_other_blank, letter, same_letters, common_len, differ_at_first, is_one_off, is_exchanged, spelt_heading, spelt_step, begun_like, like}
 use Rattle.gk_lint.specs.LineContext.{after}
-use Rattle.gk_lint.specs.Misspelt.{misspelt, wording}
+use Rattle.gk_lint.specs.Misspelt.{misspelt}
 use Rattle.gk_lint.specs.LineEnds.{cr_alone}
-use Rattle.gk_lint.specs.MissingParts.{missing_in_scenario, missing_in_feature, missing_parts}
+use Rattle.gk_lint.specs.MissingParts.{missing_in_scenario}
+use Rattle.gk_lint.specs.FeatureFile.{of_reading}
 
 -- Two misspelt lines; the same words in a doc string are content.
 with_text : Lines
@@ -32,7 +33,7 @@ with_text =
     ∷ []
 
 misspelt_lines : misspelt Elsewhere with_text ≡ at_line 2 (LikeKeyword keywords.Scenario) ∷ at_line 4 (LikeKeyword keywords.When) ∷ []
-unfolding with_text wording after closes class class_of class_of_words is_utf8 chars lib.Utf8.encode is_other_blank letter like begun_like spelt_heading spelt_step is_like_heading is_one_off is_exchanged differ_at_first common_len same_letters
+unfolding with_text after closes class class_of class_of_words is_utf8 chars lib.Utf8.encode is_other_blank letter like begun_like spelt_heading spelt_step is_like_heading is_one_off is_exchanged differ_at_first common_len same_letters
 misspelt_lines = refl
 
 -- In a description a fence opens nothing, and neither does one after a step outside of a scenario. A fence is no prose, so the step above it is found. A step with `And` isn't found there.
@@ -46,7 +47,7 @@ with_fences =
     ∷ []
 
 misspelt_in_description : misspelt Elsewhere with_fences ≡ at_line 2 StepOutside ∷ at_line 4 (LikeKeyword keywords.Rule) ∷ []
-unfolding with_fences wording after closes class class_of class_of_words is_utf8 chars lib.Utf8.encode is_other_blank letter like begun_like spelt_heading spelt_step is_like_heading is_one_off is_exchanged differ_at_first common_len same_letters
+unfolding with_fences after closes class class_of class_of_words is_utf8 chars lib.Utf8.encode is_other_blank letter like begun_like spelt_heading spelt_step is_like_heading is_one_off is_exchanged differ_at_first common_len same_letters
 misspelt_in_description = refl
 
 -- A sentence in a description that begins like a step, at its end and in its middle; and steps below one.
@@ -63,7 +64,7 @@ with_prose =
     ∷ []
 
 steps_below_prose : misspelt Elsewhere with_prose ≡ at_line 7 StepOutside ∷ at_line 8 StepOutside ∷ []
-unfolding with_prose wording after closes class class_of class_of_words is_utf8 chars lib.Utf8.encode is_other_blank letter like begun_like spelt_heading spelt_step is_like_heading is_one_off is_exchanged differ_at_first common_len same_letters
+unfolding with_prose after closes class class_of class_of_words is_utf8 chars lib.Utf8.encode is_other_blank letter like begun_like spelt_heading spelt_step is_like_heading is_one_off is_exchanged differ_at_first common_len same_letters
 steps_below_prose = refl
 
 -- Misspelt headings in a description: with its colon, between lines of prose; and without it, above one.
@@ -79,7 +80,7 @@ with_headings =
     ∷ []
 
 heading_in_prose : misspelt Elsewhere with_headings ≡ at_line 3 (LikeKeyword keywords.Scenario) ∷ []
-unfolding with_headings wording after closes class class_of class_of_words is_utf8 chars lib.Utf8.encode is_other_blank letter like begun_like spelt_heading spelt_step is_like_heading is_one_off is_exchanged differ_at_first common_len same_letters
+unfolding with_headings after closes class class_of class_of_words is_utf8 chars lib.Utf8.encode is_other_blank letter like begun_like spelt_heading spelt_step is_like_heading is_one_off is_exchanged differ_at_first common_len same_letters
 heading_in_prose = refl
 
 -- One line with a carriage return in it, and two lines.
@@ -126,13 +127,13 @@ with_a_row = refl
 feature : List ScenarioValue → FeatureValue
 feature scenarios = record { name = codes "F"; line = 1; tags = []; background = None; scenarios = []; rules = record { name = codes "R"; line = 2; tags = []; background = None; scenarios = scenarios } ∷ [] }
 
-no_scenarios : missing_parts (Some (feature [])) ≡ at_line 1 FeatureWithoutScenarios ∷ []
-unfolding missing_in_feature missing_in_scenario feature
+no_scenarios : of_reading (Some (feature [])) ≡ at_line 1 FeatureWithoutScenarios ∷ []
+unfolding missing_in_scenario feature
 no_scenarios = refl
 
-scenario_in_rule : missing_parts (Some (feature (plain [] ∷ []))) ≡ at_line 3 ScenarioWithoutSteps ∷ []
-unfolding missing_in_feature missing_in_scenario feature plain
+scenario_in_rule : of_reading (Some (feature (plain [] ∷ []))) ≡ at_line 3 ScenarioWithoutSteps ∷ []
+unfolding missing_in_scenario feature plain
 scenario_in_rule = refl
 
-no_feature : missing_parts None ≡ at_line 1 FileWithoutFeature ∷ []
+no_feature : of_reading None ≡ at_line 1 FileWithoutFeature ∷ []
 no_feature = refl

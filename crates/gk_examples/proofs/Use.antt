@@ -6,10 +6,9 @@ use Rattle.gk_gherkin.specs.declared.feature.StepType.TheVariants.{Given}
 use Rattle.gk_gherkin.specs.declared.hooks.HookKind.TheVariants.{BeforeTag, AfterTag}
 use Rattle.gk_gherkin.specs.Feature.{Empty, Text, Table, StepValue, ExamplesValue, ScenarioValue, FeatureValue}
 use Rattle.gk_gherkin.specs.Hooks.{HookValue}
-use Rattle.gk_gherkin.specs.Lines.{Lines, line_at}
 use Rattle.gk_select.specs.TagGrammar.{one_term, or_terms, one_factor, and_factors, tagged, negated}
 use Rattle.gk_select.specs.Filling.{filled, filled_from, cell_of}
-use Rattle.gk_steps.specs.declared.action.Action.TheVariants.{FileIs, WriteFiles, FileExists, SetValue, AtCleanup, SkipScenario}
+use Rattle.gk_steps.specs.declared.action.Action.TheVariants.{FileIs, WriteFiles, FileExists, SetValue, AtCleanup, Pass, SkipScenario}
 use Rattle.gk_steps.specs.declared.pattern.FieldKind.TheVariants.{Plain}
 use Rattle.gk_steps.specs.Action.{row_of}
 use Rattle.gk_steps.specs.Pattern.{Literal, FieldPiece}
@@ -34,7 +33,7 @@ use Rattle.gk_lint.specs.Lookups.{site_faults, faults_of}
 use Rattle.gk_lint.specs.Blocks.{block_faults}
 use Rattle.gk_lint.specs.WrittenSteps.{runs_in}
 use Rattle.gk_lint.specs.LibraryUse.{unused_entries}
-use Rattle.gk_lint.specs.ScenarioNames.{same_names}
+use Rattle.gk_lint.specs.ScenarioNames.{same_names, scenarios_of}
 use Rattle.gk_lint.specs.TagUse.{hooks_of_no_tag}
 use Rattle.gk_lint.specs.ScenarioLines.{without_scenario}
 use Rattle.gk_lint.specs.NamedTags.{nowhere}
@@ -125,9 +124,12 @@ in_plain : runs_in (scenario []) step ≡ step ∷ []
 unfolding scenario
 in_plain = refl
 
--- The second of two entries isn't used. Blank lines and comments have no position.
-library : Lines
-library = line_at 1 (codes "# a comment") ∷ line_at 2 (codes "step a => pass") ∷ line_at 3 (codes "") ∷ line_at 4 (codes "step b => pass") ∷ []
+-- The second of two entries isn't used.
+library : LibraryValue
+library =
+    record { line = 2; step_type = None; pattern = Literal (codes "a") ∷ []; action = Pass }
+    ∷ record { line = 4; step_type = None; pattern = Literal (codes "b") ∷ []; action = Pass }
+    ∷ []
 
 second_unused : unused_entries (0 ∷ 0 ∷ []) library ≡ at_line 4 UnusedEntry ∷ []
 unfolding library
@@ -141,7 +143,7 @@ both_used = refl
 feature : FeatureValue
 feature = record { name = codes "F"; line = 1; tags = codes "@f" ∷ []; background = None; scenarios = scenario [] ∷ []; rules = record { name = codes "R"; line = 4; tags = []; background = None; scenarios = record (scenario (part ∷ [])) { line = 5 } ∷ [] } ∷ [] }
 
-second_named : same_names (Some feature) ≡ at_line 5 NameTwice ∷ []
+second_named : same_names (scenarios_of feature) ≡ at_line 5 NameTwice ∷ []
 unfolding feature scenario
 second_named = refl
 

@@ -1,9 +1,8 @@
 -- The entry of a library that the author of an undefined step may have meant.
-use Rattle.std.specs.Prelude.{ℕ, List, [], ◌++◌, flat_map, codes, slice_get, Option, Some, None}
+use Rattle.std.specs.Prelude.{ℕ, List, [], ◌++◌, flat_map, codes, Option, Some, None}
 use Rattle.gk_gherkin.specs.declared.feature.StepType.{StepType}
 use Rattle.gk_gherkin.specs.declared.feature.StepType.TheVariants as types
-use Rattle.gk_lint.specs.declared.nearest_entry.EntryHint.{EntryHint}
-use Rattle.gk_lint.specs.declared.nearest_entry.EntryHint.TheVariants.{Unlike, OtherType, Nearest}
+use Rattle.gk_lint.specs.Findings.{HintValue, OtherType, Nearest}
 use Rattle.gk_lint.specs.EntryHints.{entry_hint}
 use Rattle.gk_steps.specs.declared.pattern.FieldKind.{FieldKind}
 use Rattle.gk_steps.specs.declared.pattern.FieldKind.TheVariants.{Plain, Decimal}
@@ -41,10 +40,9 @@ entry_shown e = type_word e.step_type ++ (codes " " ++ pattern_shown e.pattern)
 unfoldable pub before_nearest : List ℕ
 before_nearest = codes "      the nearest entry is: "
 
--- The line that names the nearest entry, if there is one.
-abbrev pub nearest_line : Option EntryValue → List ℕ
-nearest_line None = []
-nearest_line (Some e) = before_nearest ++ (entry_shown e ++ line_feed)
+-- The line that names the nearest entry.
+abbrev pub nearest_line : EntryValue → List ℕ
+nearest_line e = before_nearest ++ (entry_shown e ++ line_feed)
 
 -- The words before an entry for steps of another type.
 unfoldable pub before_other_type : List ℕ
@@ -54,17 +52,16 @@ before_other_type = codes "      an entry of another type matches: "
 unfoldable pub after_other_type : List ℕ
 after_other_type = codes "; step would match every keyword\n"
 
--- The line that names an entry for steps of another type, if there is one.
-abbrev pub other_type_line : Option EntryValue → List ℕ
-other_type_line None = []
-other_type_line (Some e) = before_other_type ++ (entry_shown e ++ after_other_type)
+-- The line that names an entry for steps of another type.
+abbrev pub other_type_line : EntryValue → List ℕ
+other_type_line e = before_other_type ++ (entry_shown e ++ after_other_type)
 
--- The line for a hint.
-abbrev pub hint_text : LibraryValue → EntryHint → List ℕ
-hint_text library Unlike = []
-hint_text library (Nearest place) = nearest_line (slice_get library place)
-hint_text library (OtherType place) = other_type_line (slice_get library place)
+-- The line for a hint, if it names an entry.
+abbrev pub hint_text : HintValue → List ℕ
+hint_text (Nearest e) = nearest_line e
+hint_text (OtherType e) = other_type_line e
+hint_text hint = []
 
 -- The line that names the entry that the author of an undefined step with this text may have meant: one for steps of another type that matches, and otherwise the nearest, as `--lint` finds it.
 abbrev pub nearest_text : LibraryValue → List ℕ → List ℕ
-nearest_text library text = hint_text library (entry_hint library text)
+nearest_text library text = hint_text (entry_hint library text)

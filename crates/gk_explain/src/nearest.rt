@@ -1,14 +1,15 @@
 //! The entry of a library that the author of an undefined step may have meant.
-ghost use Rattle.std.specs.Prelude.{◌≡◌, option_map};
+ghost use Rattle.std.specs.Prelude.{◌≡◌};
 ghost use Rattle.gk_steps.specs.Pattern.{piece_value, piece_values};
-ghost use Rattle.gk_steps.specs.Finding.{entry_value, library_value};
+ghost use Rattle.gk_steps.specs.Finding.{entry_value};
+ghost use Rattle.gk_lint.specs.Findings.{hint_value};
 ghost use Rattle.gk_report.specs.ReportTexts.{Pushes};
 ghost use Rattle.gk_explain.specs.Nearest as spec;
 
 use crate::shown::push_literal;
 use gk_gherkin::StepType;
-use gk_lint::EntryHint;
-use gk_steps::{Entry, FieldKind, Library, Piece};
+use gk_lint::Hint;
+use gk_steps::{Entry, FieldKind, Piece};
 use std::alloc::AllocError;
 
 /// Returns the word for the steps that an entry is for. Doesn't allocate.
@@ -86,45 +87,33 @@ fn after_other_type() -> &'static str
     "; step would match every keyword\n"
 }
 
-// Appends the line that names the nearest entry, if there is one.
-fn push_nearest_line(out: &mut String, entry: Option<&Entry>) -> Result<(), AllocError>
-    ensures { Pushes out.old
-        (spec.nearest_line (option_map (λ e. entry_value e.now) entry.entry)) result out.new }
+// Appends the line that names the nearest entry.
+fn push_nearest_line(out: &mut String, entry: &Entry) -> Result<(), AllocError>
+    ensures { Pushes out.old (spec.nearest_line (entry_value entry.now)) result out.new }
 {
-    match entry {
-        Some(entry) => {
-            out.push_str(before_nearest())?;
-            push_entry(out, entry)?;
-            out.push_str("\n")
-        }
-        None => Ok(()),
-    }
+    out.push_str(before_nearest())?;
+    push_entry(out, entry)?;
+    out.push_str("\n")
 }
 
-// Appends the line that names an entry for steps of another type, if there is one.
-fn push_other_type_line(out: &mut String, entry: Option<&Entry>) -> Result<(), AllocError>
-    ensures { Pushes out.old
-        (spec.other_type_line (option_map (λ e. entry_value e.now) entry.entry)) result out.new }
+// Appends the line that names an entry for steps of another type.
+fn push_other_type_line(out: &mut String, entry: &Entry) -> Result<(), AllocError>
+    ensures { Pushes out.old (spec.other_type_line (entry_value entry.now)) result out.new }
 {
-    match entry {
-        Some(entry) => {
-            out.push_str(before_other_type())?;
-            push_entry(out, entry)?;
-            out.push_str(after_other_type())
-        }
-        None => Ok(()),
-    }
+    out.push_str(before_other_type())?;
+    push_entry(out, entry)?;
+    out.push_str(after_other_type())
 }
 
 /// Appends the line for a hint: an entry for steps of another type that matches, or the nearest entry. Nothing is
 /// appended if there is neither. An error comes only if a growth was refused; a part of the line may have been appended
 /// then.
-pub fn push_hint(out: &mut String, library: &Library, hint: EntryHint) -> Result<(), AllocError>
-    ensures { Pushes out.old (spec.hint_text (library_value library.now) hint) result out.new }
+pub fn push_hint(out: &mut String, hint: Hint<'_>) -> Result<(), AllocError>
+    ensures { Pushes out.old (spec.hint_text (hint_value hint.entry)) result out.new }
 {
     match hint {
-        EntryHint::Unlike => Ok(()),
-        EntryHint::Nearest(place) => push_nearest_line(out, library.entries.get(place)),
-        EntryHint::OtherType(place) => push_other_type_line(out, library.entries.get(place)),
+        Hint::Nearest(entry) => push_nearest_line(out, entry),
+        Hint::OtherType(entry) => push_other_type_line(out, entry),
+        _ => Ok(()),
     }
 }

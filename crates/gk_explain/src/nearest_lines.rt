@@ -98,7 +98,7 @@ impl<'a> NearestLines<'a> {
         let hints = self.take_hints(alloc)?;
         let hint = hints.hint(alloc, text)?;
         self.hints = Some(hints);
-        push_hint(out, self.library, hint)
+        push_hint(out, hint)
     }
 
     /// Appends the line that names the entry that a text may mean, as `gk_lint::EntryHints` finds it. An error comes only

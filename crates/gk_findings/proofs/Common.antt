@@ -1,5 +1,5 @@
 -- The names from elsewhere that the proofs of this crate cite, passed on from one place. Declares nothing.
-pub use Rattle.std.proofs.Common.{Bool, Err, List, None, Ok, OnOk, Option, Result, Some, [], ap, append_assoc, ap₂, arith, codes, drop, false, if◌then◌else◌, inl, inr, is_none, is_some, map, not, option_to_list, refl, string_bytes, subst, sym, take, true, ℕ, ◌++◌, ◌∙◌, ◌∷◌, ◌≡◌}
+pub use Rattle.std.proofs.Common.{Bool, Err, List, None, Ok, OnOk, Option, Result, Some, [], ap, append_assoc, ap₂, arith, codes, drop, false, if◌then◌else◌, inl, inr, is_none, is_some, map, not, option_map, option_to_list, refl, string_bytes, subst, sym, take, true, ℕ, ◌++◌, ◌∙◌, ◌∷◌, ◌≡◌}
 pub use Rattle.std.proofs.lemmas.Bool.{or_cases}
 pub use Rattle.std.proofs.lemmas.Grind.{common_steps}
 pub use Rattle.std.proofs.lemmas.Iterator.Consumers.{map_from_collect, nth_from_yields_List}
@@ -16,9 +16,9 @@ pub use Rattle.gk_explain.specs.Shown.{unquoted}
 pub use Rattle.gk_gherkin.specs.Feature.{BlockValue, FeatureValue, StepValue, Table, feature_value}
 pub use Rattle.gk_gherkin.specs.Grammar.{Reads}
 pub use Rattle.gk_gherkin.specs.Hooks.{hooks_value}
-pub use Rattle.gk_gherkin.specs.Lines.{IsText, lines_of}
+pub use Rattle.gk_gherkin.specs.Lines.{IsText, lines_of, numbered_from, without_mark}
 pub use Rattle.gk_lint.specs.Blocks.{block_faults, fault_if}
-pub use Rattle.gk_lint.specs.Findings.{AreInOrder}
+pub use Rattle.gk_lint.specs.Findings.{AreInOrder, finding_values}
 pub use Rattle.gk_lint.specs.Lookups.{action_faults, cleanup_faults, cleanup_text, found_faults, has_text, site_faults}
 unfoldable pub use Rattle.gk_lint.specs.Lookups.{faults_of}
 pub use Rattle.gk_lint.specs.NamedTags.{nowhere}
@@ -52,9 +52,9 @@ pub use Rattle.gk_steps.specs.Finding.{FoundValue, LibraryValue, action_of, foun
 pub use Rattle.gk_steps.specs.declared.action.Action.{Action}
 pub use Rattle.gk_steps.specs.declared.action.Takes.{Takes}
 pub use Rattle.gk_world.specs.State.{State}
-pub use Rattle.gk_findings.specs.FindingLines.{NotedLibraryValue, finding_lines, idle_lines, noted_file_value, noted_library_value, noted_lines, tag_lines}
+pub use Rattle.gk_findings.specs.FindingLines.{NotedLibraryValue, finding_lines, idle_lines, noted_library_value, noted_lines, tag_lines}
 unfoldable pub use Rattle.gk_findings.specs.FindingLines.{tag_line}
-pub use Rattle.gk_findings.specs.LintedSources.{AreExpandable, AreLinted, IsLintOf, IsLintedAs, IsLintedOnto, features_in, looked_up, used_by}
+pub use Rattle.gk_findings.specs.LintedSources.{AreExpandable, AreLinted, IsAppended, IsLintOf, IsLintedAs, IsLintedOnto, features_in, looked_up, source_findings, used_by}
 pub use Rattle.gk_findings.specs.LintedSteps.{AlwaysComesTo, AlwaysFails, CleanupAlwaysFails, FoundFaultsAreFailures, RegistersFailure, StepsRunAtTheirSites, may_run_at, reason_of_fault}
-pub use Rattle.gk_findings.specs.LintedSuite.{library_lines, noted_hooks, noted_library, read_of}
+pub use Rattle.gk_findings.specs.LintedSuite.{library_lines, lines_of_hooks, noted_library, read_of}
 pub use Rattle.gk_findings.specs.declared.linted_sources.LintSoFar.{LintSoFar}

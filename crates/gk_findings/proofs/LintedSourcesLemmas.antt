@@ -47,7 +47,7 @@ lint_of_more library ss s old new before onto =
     flat_map-append option_to_list before.readings (onto.reading ∷ []) ∙ ap (λ l. features_in before.readings ++ l) (append-nil (option_to_list onto.reading)) in
     record {
       readings = readings;
-      linted = subst (AreLinted library (ss ++ s ∷ []) readings) (sym onto.text) (linted_one library ss before.readings (string_bytes old.text) s onto.reading onto.this before.linted onto.linted);
+      linted = subst (AreLinted library (ss ++ s ∷ []) readings) (sym onto.text.text) (linted_one library ss before.readings (string_bytes old.text) s onto.reading onto.text.this before.linted onto.text.linted);
       features = onto.features ∙ ap (λ l. l ++ option_to_list onto.reading) before.features ∙ sym features;
       used = onto.used ∙ ap (λ l. l ++ used_by library (option_to_list onto.reading)) before.used
           ∙ sym (flat_map-append _ (features_in before.readings) (option_to_list onto.reading)) ∙ ap (used_by library) (sym features);

@@ -5,8 +5,7 @@ use Rattle.gk_gherkin.specs.Lines.{Lines, lines_of, without_mark}
 use Rattle.gk_gherkin.specs.Feature.{FeatureValue, feature_value}
 use Rattle.gk_select.specs.Case.{CaseValue}
 use Rattle.gk_select.specs.Expansion.{IsExpandable}
-use Rattle.gk_lint.specs.declared.findings.Finding.{Finding}
-use Rattle.gk_lint.specs.Findings.{AreInOrder}
+use Rattle.gk_lint.specs.Findings.{AreInOrder, FindingValue}
 use Rattle.gk_lint.specs.FeatureFile.{file_findings}
 use Rattle.gk_lint.specs.WrittenSteps.{WrittenStep, of_feature, found_in, used_in}
 use Rattle.gk_findings.specs.declared.linted_sources.LintSoFar.{LintSoFar}
@@ -14,7 +13,7 @@ use Rattle.gk_request.specs.declared.run_fault.RunFault.{RunFault}
 use Rattle.gk_request.specs.Source.{SourceValue}
 use Rattle.gk_request.specs.Inputs.{IsReadAs}
 use Rattle.gk_request.specs.RunFault.{SaysSources}
-use Rattle.gk_findings.specs.FindingLines.{NotedLibraryValue, NotedFileValue, scenarios_in, noted_lines}
+use Rattle.gk_findings.specs.FindingLines.{NotedLibraryValue, noted_lines}
 
 -- The features among the readings of sources.
 abbrev pub features_in : List (Option FeatureValue) → List FeatureValue
@@ -25,7 +24,7 @@ abbrev pub looked_up : Bool → List WrittenStep → List WrittenStep
 looked_up steps written = if steps then written else []
 
 -- The findings of the steps of a feature, if there is one.
-abbrev pub step_findings : NotedLibraryValue → Option FeatureValue → List Finding
+abbrev pub step_findings : NotedLibraryValue → Option FeatureValue → List FindingValue
 step_findings library None = []
 step_findings library (Some f) = found_in library.entries (looked_up library.steps (of_feature f))
 
@@ -34,19 +33,15 @@ abbrev pub used_by : NotedLibraryValue → List FeatureValue → List ℕ
 used_by library features = flat_map (λ (f : FeatureValue). used_in library.entries (looked_up library.steps (of_feature f))) features
 
 -- The findings of a source with this reading and these lines: those of its file, and those of its steps.
-abbrev pub source_findings : NotedLibraryValue → Option FeatureValue → Lines → List Finding
+abbrev pub source_findings : NotedLibraryValue → Option FeatureValue → Lines → List FindingValue
 source_findings library reading lines = file_findings reading lines ++ step_findings library reading
-
--- A source with this reading, as notes quote it.
-abbrev pub noted_source : SourceValue → Option FeatureValue → NotedFileValue
-noted_source source reading = record { name = source.name; lines = lines (without_mark source.bytes); scenarios = scenarios_in reading }
 
 -- A source has this reading, and this is the text of all its findings with their notes, in the order of lines.
 pub record IsLintedAs (library : NotedLibraryValue) (source : SourceValue) (reading : Option FeatureValue) (text : List ℕ) : Type 0 where
   pub read : IsReadAs source.bytes reading
-  pub ordered : List Finding
+  pub ordered : List FindingValue
   pub in_order : AreInOrder (source_findings library reading (lines_of source.bytes)) ordered
-  pub whole : text ≡ noted_lines library (noted_source source reading) ordered
+  pub whole : text ≡ noted_lines library.name source.name (lines (without_mark source.bytes)) ordered
 
 -- Sources have these readings, one each, and this is the text of their findings, one source after the other.
 abbrev pub AreLinted : NotedLibraryValue → List SourceValue → List (Option FeatureValue) → List ℕ → Type 0
@@ -62,12 +57,16 @@ pub record IsLintOf (library : NotedLibraryValue) (sources : List SourceValue) (
   pub features : map feature_value l.features.items ≡ features_in readings
   pub used : l.used.items ≡ used_by library (features_in readings)
 
+-- The text of a source with this reading was appended to another one.
+pub record IsAppended (library : NotedLibraryValue) (source : SourceValue) (reading : Option FeatureValue) (old new : List ℕ) : Type 0 where
+  pub this : List ℕ
+  pub linted : IsLintedAs library source reading this
+  pub text : new ≡ old ++ this
+
 -- A source was linted after others.
 pub record IsLintedOnto (library : NotedLibraryValue) (source : SourceValue) (old new : LintSoFar) : Type 0 where
   pub reading : Option FeatureValue
-  pub this : List ℕ
-  pub linted : IsLintedAs library source reading this
-  pub text : string_bytes new.text ≡ string_bytes old.text ++ this
+  pub text : IsAppended library source reading (string_bytes old.text) (string_bytes new.text)
   pub features : map feature_value new.features.items ≡ map feature_value old.features.items ++ option_to_list reading
   pub used : new.used.items ≡ old.used.items ++ used_by library (option_to_list reading)
 

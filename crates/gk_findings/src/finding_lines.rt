@@ -2,13 +2,13 @@
 ghost use Rattle.std.specs.Prelude.{◌≡◌, ◌-◌, map, option_map, slice_get};
 ghost use Rattle.gk_steps.specs.Finding.{entry_value};
 ghost use Rattle.gk_report.specs.ReportTexts.{Pushes};
+ghost use Rattle.gk_lint.specs.Findings.{finding_value, finding_values, hint_value};
 ghost use Rattle.gk_findings.specs.FindingLines as spec;
 
 use crate::notes::{position_of, push_note, push_quoted};
 use gk_explain::{push_entry, push_file, push_place, push_unquoted, type_word};
-use gk_gherkin::Scenario;
 use gk_gherkin::text::trim;
-use gk_lint::{EntryHint, EntryHints, Finding, FindingKind, column_at};
+use gk_lint::{EntryHints, Finding, FindingKind, Hint};
 use gk_steps::Entry;
 use std::alloc::{AllocError, Global};
 
@@ -21,16 +21,6 @@ pub struct NotedLibrary<'a> {
     pub steps: bool,
     /// The name of its file.
     pub name: &'a str,
-    /// The lines of the file that are entries.
-    pub lines: Vec<u32>,
-}
-
-/// A file as notes below its findings quote it.
-#[derive(Drop)]
-pub struct NotedFile<'a> {
-    pub name: &'a str,
-    pub lines: Vec<&'a str>,
-    pub scenarios: Vec<&'a Scenario>,
 }
 
 // Appends the line of a finding in a file of this name.
@@ -38,9 +28,10 @@ fn push_finding(
     out: &mut String,
     alloc: Global,
     name: &str,
-    finding: &Finding,
+    finding: &Finding<'_>,
 ) -> Result<(), AllocError>
-    ensures { Pushes out.old (spec.finding_line name.now finding.now) result out.new }
+    ensures { Pushes out.old
+        (spec.finding_line name.now (finding_value finding.now)) result out.new }
 {
     push_place(out, name, finding.line)?;
     let text = finding.kind.text(alloc)?;
@@ -83,49 +74,32 @@ fn after_cleanup_type() -> &'static str
     " entry; a cleanup needs step"
 }
 
-// Appends the note that names a column, if it is known.
-fn push_column_note(out: &mut String, alloc: Global, column: Option<&str>) -> Result<(), AllocError>
-    ensures { Pushes out.old
-        (spec.column_note (option_map (λ text. text.now) column.entry)) result out.new }
+// Returns the words after the type of an entry for steps of another type than that of a step with this finding.
+fn after_type(kind: FindingKind) -> &'static str
+    ensures { result.now ≡ spec.after_type kind }
 {
-    match column {
-        Some(column) => {
-            let mut text = String::from_str(alloc, before_column())?;
-            push_unquoted(&mut text, column)?;
-            push_note(out, text.as_str())
-        }
-        None => Ok(()),
+    match kind {
+        FindingKind::CleanupWithoutStep => after_cleanup_type(),
+        _ => after_step_type(),
     }
 }
 
-// Appends the note that quotes a line, if it is known.
-fn push_line_note(out: &mut String, line: Option<&str>) -> Result<(), AllocError>
-    ensures { Pushes out.old (spec.line_note (option_map (λ text. text.now) line.entry))
-        result out.new }
+// Appends the note that names a column.
+fn push_column_note(out: &mut String, alloc: Global, column: &str) -> Result<(), AllocError>
+    ensures { Pushes out.old (spec.column_note column.now) result out.new }
 {
-    match line {
-        Some(text) => push_quoted(out, trim(text)),
-        None => Ok(()),
-    }
+    let mut text = String::from_str(alloc, before_column())?;
+    push_unquoted(&mut text, column)?;
+    push_note(out, text.as_str())
 }
 
-// Appends the note that names the nearest entry, if it is known.
-fn push_nearest_note(
-    out: &mut String,
-    alloc: Global,
-    entry: Option<&Entry>,
-) -> Result<(), AllocError>
-    ensures { Pushes out.old
-        (spec.nearest_note (option_map (λ e. entry_value e.now) entry.entry)) result out.new }
+// Appends the note that names the nearest entry.
+fn push_nearest_note(out: &mut String, alloc: Global, entry: &Entry) -> Result<(), AllocError>
+    ensures { Pushes out.old (spec.nearest_note (entry_value entry.now)) result out.new }
 {
-    match entry {
-        Some(entry) => {
-            let mut text = String::from_str(alloc, before_entry())?;
-            push_entry(&mut text, entry)?;
-            push_note(out, text.as_str())
-        }
-        None => Ok(()),
-    }
+    let mut text = String::from_str(alloc, before_entry())?;
+    push_entry(&mut text, entry)?;
+    push_note(out, text.as_str())
 }
 
 #[tactic(auto, unfolding(crate::specs::FindingLines::matches_line))]
@@ -153,66 +127,39 @@ fn push_other_type(out: &mut String, after: &str, entry: &Entry) -> Result<(), A
     out.push_str(after)
 }
 
-// Appends the note that an entry matches but is for other steps.
+// Appends the note that an entry of the library file of this name matches but is for other steps.
 fn push_other_type_note(
     out: &mut String,
     alloc: Global,
     after: &str,
-    name: &str,
+    library: &str,
     entry: &Entry,
-    line: u32,
 ) -> Result<(), AllocError>
     ensures { Pushes out.old
-        (spec.other_type_note after.now name.now (entry_value entry.now) line) result out.new }
+        (spec.other_type_note after.now library.now (entry_value entry.now)) result out.new }
 {
     let mut text = String::new(alloc);
-    push_line_in_file(&mut text, name, line)?;
+    push_line_in_file(&mut text, library, entry.line)?;
     push_other_type(&mut text, after, entry)?;
     push_note(out, text.as_str())
 }
 
-// Does the same, if both the entry and its line are known.
-fn push_other_type_if(
-    out: &mut String,
-    alloc: Global,
-    after: &str,
-    name: &str,
-    entry: Option<&Entry>,
-    line: Option<u32>,
-) -> Result<(), AllocError>
-    ensures { Pushes out.old (spec.other_type_if after.now name.now
-        (option_map (λ e. entry_value e.now) entry.entry) line) result out.new }
-{
-    match entry {
-        Some(entry) => match line {
-            Some(line) => push_other_type_note(out, alloc, after, name, entry, line),
-            None => Ok(()),
-        },
-        None => Ok(()),
-    }
-}
-
-// Appends the note on the entry that the author of a step may have meant.
+// Appends the note on what the author of a step may have meant.
 fn push_hint_note(
     out: &mut String,
     alloc: Global,
     after: &str,
-    library: &NotedLibrary<'_>,
-    hint: EntryHint,
+    library: &str,
+    hint: Hint<'_>,
 ) -> Result<(), AllocError>
     ensures { Pushes out.old
-        (spec.hint_note after.now (spec.noted_library_value library.now) hint) result out.new }
+        (spec.hint_note after.now library.now (hint_value hint.entry)) result out.new }
 {
     match hint {
-        EntryHint::Unlike => Ok(()),
-        EntryHint::Nearest(position) => {
-            push_nearest_note(out, alloc, library.hints.library().entries.get(position))
-        }
-        EntryHint::OtherType(position) => {
-            let entry = library.hints.library().entries.get(position);
-            let line = library.lines.get(position).copied();
-            push_other_type_if(out, alloc, after, library.name, entry, line)
-        }
+        Hint::Nothing => Ok(()),
+        Hint::Column(column) => push_column_note(out, alloc, column),
+        Hint::OtherType(entry) => push_other_type_note(out, alloc, after, library, entry),
+        Hint::Nearest(entry) => push_nearest_note(out, alloc, entry),
     }
 }
 
@@ -224,62 +171,30 @@ fn line_at<'a>(lines: &[&'a str], line: u32) -> Option<&'a str>
     lines.get(position_of(line)).copied()
 }
 
-// Appends the notes below a step at a line, if its text or that of its cleanup finds nothing.
-fn push_hinted_notes(
-    out: &mut String,
-    alloc: Global,
-    after: &str,
-    library: &NotedLibrary<'_>,
-    lines: &[&str],
-    line: u32,
-    hint: EntryHint,
-) -> Result<(), AllocError>
-    ensures { Pushes out.old (spec.hinted_notes after.now (spec.noted_library_value library.now)
-        (map (λ text. text.now) lines.now) line hint) result out.new }
+// Appends the line with a number, if there is one.
+fn push_line(out: &mut String, lines: &[&str], line: u32) -> Result<(), AllocError>
+    ensures { Pushes out.old
+        (spec.line_note (slice_get (map (λ text. text.now) lines.now) (line - 1)))
+        result out.new }
 {
-    push_line_note(out, line_at(lines, line))?;
-    push_hint_note(out, alloc, after, library, hint)
+    match line_at(lines, line) {
+        Some(text) => push_quoted(out, trim(text)),
+        None => Ok(()),
+    }
 }
 
-// Appends the notes below a finding of this kind at a line of a file.
-fn push_kind_notes(
+// Appends the line of a finding, among these lines, if it is a step whose text or whose cleanup's text finds nothing.
+fn push_step_line(
     out: &mut String,
-    alloc: Global,
-    library: &NotedLibrary<'_>,
-    file: &NotedFile<'_>,
+    lines: &[&str],
     line: u32,
     kind: FindingKind,
 ) -> Result<(), AllocError>
-    ensures { Pushes out.old (spec.kind_notes (spec.noted_library_value library.now)
-        (spec.noted_file_value file.now) line kind) result out.new }
+    ensures { Pushes out.old
+        (spec.step_line (map (λ text. text.now) lines.now) line kind) result out.new }
 {
     match kind {
-        FindingKind::NoColumn { scenario, column } => {
-            let column = column_at(alloc, &file.scenarios, scenario, column)?;
-            push_column_note(out, alloc, column)
-        }
-        FindingKind::UndefinedStep(hint) => {
-            push_hinted_notes(
-                out,
-                alloc,
-                after_step_type(),
-                library,
-                &file.lines,
-                line,
-                hint,
-            )
-        }
-        FindingKind::CleanupWithoutStep(hint) => {
-            push_hinted_notes(
-                out,
-                alloc,
-                after_cleanup_type(),
-                library,
-                &file.lines,
-                line,
-                hint,
-            )
-        }
+        FindingKind::UndefinedStep | FindingKind::CleanupWithoutStep => push_line(out, lines, line),
         _ => Ok(()),
     }
 }
@@ -288,31 +203,35 @@ fn push_kind_notes(
 fn push_noted(
     out: &mut String,
     alloc: Global,
-    library: &NotedLibrary<'_>,
-    file: &NotedFile<'_>,
-    finding: &Finding,
+    library: &str,
+    name: &str,
+    lines: &[&str],
+    finding: &Finding<'_>,
 ) -> Result<(), AllocError>
-    ensures { Pushes out.old (spec.noted (spec.noted_library_value library.now)
-        (spec.noted_file_value file.now) finding.now) result out.new }
+    ensures { Pushes out.old (spec.noted library.now name.now
+        (map (λ text. text.now) lines.now) (finding_value finding.now)) result out.new }
 {
-    push_finding(out, alloc, file.name, finding)?;
-    push_kind_notes(out, alloc, library, file, finding.line, finding.kind)
+    push_finding(out, alloc, name, finding)?;
+    push_step_line(out, lines, finding.line, finding.kind)?;
+    push_hint_note(out, alloc, after_type(finding.kind), library, finding.hint)
 }
 
-/// Appends the lines of findings in a file, one after the other, each with its notes. An error comes only if a growth
-/// was refused; a part of the lines may have been appended then.
+/// Appends the lines of findings in a file of this name and with these lines, one after the other, each with its notes.
+/// `library` is the name of the library file. An error comes only if a growth was refused; a part of the lines may have
+/// been appended then.
 pub fn push_noted_findings(
     out: &mut String,
     alloc: Global,
-    library: &NotedLibrary<'_>,
-    file: &NotedFile<'_>,
-    findings: &[Finding],
+    library: &str,
+    name: &str,
+    lines: &[&str],
+    findings: &[Finding<'_>],
 ) -> Result<(), AllocError>
-    ensures { Pushes out.old (spec.noted_lines (spec.noted_library_value library.now)
-        (spec.noted_file_value file.now) findings.now) result out.new }
+    ensures { Pushes out.old (spec.noted_lines library.now name.now
+        (map (λ text. text.now) lines.now) (finding_values findings.now)) result out.new }
 {
     for finding in findings {
-        push_noted(out, alloc, library, file, finding)?;
+        push_noted(out, alloc, library, name, lines, finding)?;
     }
     Ok(())
 }
@@ -323,9 +242,10 @@ pub fn push_findings(
     out: &mut String,
     alloc: Global,
     name: &str,
-    findings: &[Finding],
+    findings: &[Finding<'_>],
 ) -> Result<(), AllocError>
-    ensures { Pushes out.old (spec.finding_lines name.now findings.now) result out.new }
+    ensures { Pushes out.old
+        (spec.finding_lines name.now (finding_values findings.now)) result out.new }
 {
     for finding in findings {
         push_finding(out, alloc, name, finding)?;
@@ -360,6 +280,7 @@ pub fn push_count_line(
 }
 
 // Appends the line for a tag of `--tags` that occurs nowhere.
+#[tactic(auto, unfolding(crate::specs::FindingLines::tag_line))]
 fn push_tag_line(out: &mut String, tag: &str) -> Result<(), AllocError>
     ensures { Pushes out.old (spec.tag_line tag.now) result out.new }
 {

@@ -1,22 +1,21 @@
 //! The findings of sources, which are read one after another.
-ghost use Rattle.std.specs.Prelude.{◌≡◌, ◌≤◌, ◌++◌, [], map, length, option_map, option_to_list, IfOk, IfErr, OnOk};
+ghost use Rattle.std.specs.Prelude.{◌≡◌, ◌≤◌, ◌++◌, [], map, length, option_map, option_to_list, string_bytes, IfOk, IfErr, OnOk};
 ghost use Rattle.std.specs.Str.Lines.{lines};
 ghost use Rattle.gk_gherkin.specs.Lines.{IsText, without_mark, numbered_from};
-ghost use Rattle.gk_gherkin.specs.Feature.{feature_value, scenario_value};
-ghost use Rattle.gk_lint.specs.Findings.{AreInOrder};
+ghost use Rattle.gk_gherkin.specs.Feature.{feature_value};
+ghost use Rattle.gk_lint.specs.Findings.{AreInOrder, finding_values};
 ghost use Rattle.gk_report.specs.ReportTexts.{Pushes};
-ghost use Rattle.gk_findings.specs.FindingLines as of_notes;
 ghost use Rattle.gk_findings.specs.FindingLines.{noted_library_value, noted_lines};
 ghost use Rattle.gk_request.specs.Inputs.{IsReadAs};
 ghost use Rattle.gk_request.specs.Source.{source_value};
 ghost use Rattle.gk_request.specs.RunFault.{SaysSourceAt};
 ghost use Rattle.gk_findings.specs.LintedSources as spec;
-ghost use Rattle.gk_findings.specs.LintedSources.{IsLintOf, IsLintedOnto, SaysOfSources, used_by};
+ghost use Rattle.gk_findings.specs.LintedSources.{IsAppended, IsLintOf, IsLintedOnto, SaysOfSources, used_by};
 
-use crate::finding_lines::{NotedFile, NotedLibrary, push_noted_findings};
+use crate::finding_lines::{NotedLibrary, push_noted_findings};
 use crate::notes::text_lines;
-use gk_gherkin::{Feature, LONGEST_FILE, Scenario, text_of};
-use gk_lint::{Finding, StepFindings, in_order, lint_feature, lint_steps, scenarios_of};
+use gk_gherkin::{Feature, LONGEST_FILE, text_of};
+use gk_lint::{Finding, StepFindings, in_order, lint_feature, lint_steps};
 use gk_request::{RunFault, Source, read_feature_at};
 use gk_select::read_features_are_expandable;
 use std::alloc::{AllocError, Global};
@@ -43,7 +42,7 @@ pub fn known_text(bytes: &[u8]) -> &str
 }
 
 /// Returns the findings of no step.
-pub fn no_steps(alloc: Global) -> StepFindings
+pub fn no_steps<'a>(alloc: Global) -> StepFindings<'a>
     ensures found { result.findings.items ≡ [] }
     ensures used { result.used.items ≡ [] }
 {
@@ -54,15 +53,15 @@ pub fn no_steps(alloc: Global) -> StepFindings
 }
 
 // Returns the findings of the steps of a feature, if there is one and steps are looked up.
-fn step_findings(
+fn step_findings<'a>(
     alloc: Global,
-    library: &NotedLibrary<'_>,
+    library: &NotedLibrary<'a>,
     feature: &Option<Feature>,
-) -> Result<StepFindings, AllocError>
+) -> Result<StepFindings<'a>, AllocError>
     requires { spec.AreExpandable (option_map feature_value feature.now) }
     ensures found { IfOk result (λ r. AreInOrder (spec.step_findings
         (noted_library_value library.now) (option_map feature_value feature.now))
-        r.findings.items) }
+        (finding_values r.findings.items)) }
     ensures used { IfOk result (λ r. r.used.items ≡ used_by (noted_library_value library.now)
         (option_to_list (option_map feature_value feature.now))) }
 {
@@ -80,13 +79,14 @@ fn step_findings(
 
 /// Merges the findings of steps with other findings of their file, in the order of lines. An error comes only if a
 /// growth was refused.
-pub fn with_findings(
-    findings: Vec<Finding>,
-    of_steps: StepFindings,
-) -> Result<StepFindings, AllocError>
+pub fn with_findings<'a>(
+    findings: Vec<Finding<'a>>,
+    of_steps: StepFindings<'a>,
+) -> Result<StepFindings<'a>, AllocError>
     ensures found { IfOk result (λ r. AreInOrder
-        (findings.items ++ of_steps.findings.items) r.findings.items) }
-    ensures used { IfOk result (λ r. r.used.items ≡ of_steps.used.items) }
+        (finding_values findings.entry.items ++ finding_values of_steps.entry.findings.items)
+        (finding_values r.findings.items)) }
+    ensures used { IfOk result (λ r. r.used.items ≡ of_steps.entry.used.items) }
 {
     let mut findings = findings;
     let mut of_steps = of_steps;
@@ -98,17 +98,17 @@ pub fn with_findings(
 }
 
 // Returns the findings of a file with this text and this feature, or none, in the order of lines.
-fn all_findings(
+fn all_findings<'a>(
     alloc: Global,
-    library: &NotedLibrary<'_>,
-    feature: &Option<Feature>,
+    library: &NotedLibrary<'a>,
+    feature: &'a Option<Feature>,
     text: &str,
-) -> Result<StepFindings, AllocError>
+) -> Result<StepFindings<'a>, AllocError>
     requires expandable { spec.AreExpandable (option_map feature_value feature.now) }
     requires within { length text.now ≤ LONGEST_FILE }
     ensures found { IfOk result (λ r. AreInOrder (spec.source_findings
         (noted_library_value library.now) (option_map feature_value feature.now)
-        (numbered_from 1 (lines text.now))) r.findings.items) }
+        (numbered_from 1 (lines text.now))) (finding_values r.findings.items)) }
     ensures used { IfOk result (λ r. r.used.items ≡ used_by (noted_library_value library.now)
         (option_to_list (option_map feature_value feature.now))) }
 {
@@ -117,46 +117,53 @@ fn all_findings(
     with_findings(findings, of_steps)
 }
 
-// Returns the scenarios of a feature, if there is one.
-fn scenarios_in(alloc: Global, feature: &Option<Feature>) -> Result<Vec<&Scenario>, AllocError>
-    ensures { IfOk result (λ all. map (λ s. scenario_value s.now) all.items
-        ≡ of_notes.scenarios_in (option_map feature_value feature.now)) }
-{
-    match feature {
-        Some(feature) => scenarios_of(alloc, feature),
-        None => Ok(Vec::new(alloc)),
-    }
-}
-
-// Appends the findings of a source with this name, this text and this feature, or none.
-fn push_source_findings(
+// Appends findings in a file with this name and this text, if there are any.
+fn push_findings_in(
     out: &mut String,
     alloc: Global,
-    library: &NotedLibrary<'_>,
+    library: &str,
     name: &str,
     text: &str,
-    feature: &Option<Feature>,
-    findings: &[Finding],
+    findings: &[Finding<'_>],
 ) -> Result<(), AllocError>
-    ensures { Pushes out.old (noted_lines (noted_library_value library.now) (record {
-      name = name.now;
-      lines = lines text.now;
-      scenarios = of_notes.scenarios_in (option_map feature_value feature.now);
-    }) findings.now) result out.new }
+    ensures { Pushes out.old
+        (noted_lines library.now name.now (lines text.now) (finding_values findings.now))
+        result out.new }
 {
     if findings.is_empty() {
         return Ok(());
     }
-    let file = NotedFile {
-        name,
-        lines: text_lines(alloc, text)?,
-        scenarios: scenarios_in(alloc, feature)?,
-    };
-    push_noted_findings(out, alloc, library, &file, findings)
+    let lines = text_lines(alloc, text)?;
+    push_noted_findings(out, alloc, library, name, &lines, findings)
+}
+
+// Appends the findings of a source that reads as this feature, or as none. Returns the places of the entries that its
+// steps use.
+#[tactic(auto, using(crate::proofs::LintedSourcesLemmas::expandable))]
+fn push_source(
+    out: &mut String,
+    alloc: Global,
+    library: &NotedLibrary<'_>,
+    source: &Source,
+    feature: &Option<Feature>,
+) -> Result<Vec<usize>, AllocError>
+    requires { IsReadAs source.now.bytes.items (option_map feature_value feature.now) }
+    ensures appended { OnOk result (IsAppended (noted_library_value library.now)
+        (source_value source.now) (option_map feature_value feature.now)
+        (string_bytes out.old) (string_bytes out.new)) }
+    ensures used { IfOk result (λ used. used.items ≡ used_by (noted_library_value library.now)
+        (option_to_list (option_map feature_value feature.now))) }
+{
+    // No code runs here: the law says that what was read can be expanded.
+    read_features_are_expandable();
+    let text = known_text(source.bytes.as_slice());
+    let found = all_findings(alloc, library, feature, text)?;
+    let name = source.name.as_str();
+    push_findings_in(out, alloc, library.name, name, text, &found.findings)?;
+    Ok(found.used)
 }
 
 // Adds the findings of a source that reads as this feature, or as none.
-#[tactic(auto, using(crate::proofs::LintedSourcesLemmas::expandable))]
 fn add_source(
     so_far: &mut LintSoFar,
     alloc: Global,
@@ -168,20 +175,8 @@ fn add_source(
     ensures { OnOk result (IsLintedOnto (noted_library_value library.now)
         (source_value source.now) so_far.old so_far.new) }
 {
-    // No code runs here: the law says that what was read can be expanded.
-    read_features_are_expandable();
-    let text = known_text(source.bytes.as_slice());
-    let mut found = all_findings(alloc, library, &feature, text)?;
-    push_source_findings(
-        &mut so_far.text,
-        alloc,
-        library,
-        source.name.as_str(),
-        text,
-        &feature,
-        found.findings.as_slice(),
-    )?;
-    so_far.used.append(&mut found.used)?;
+    let mut used = push_source(&mut so_far.text, alloc, library, source, &feature)?;
+    so_far.used.append(&mut used)?;
     if let Some(feature) = feature {
         so_far.features.push(feature)?;
     }

@@ -1,14 +1,13 @@
 //! The findings in a whole request, before any run.
-ghost use Rattle.std.specs.Prelude.{◌≡◌, true, ◌++◌, map, option_map, string_bytes, IfOk, IfErr};
+ghost use Rattle.std.specs.Prelude.{◌≡◌, ◌++◌, map, option_map, string_bytes, IfOk, IfErr};
 ghost use Rattle.gk_gherkin.specs.Feature.{feature_value};
 ghost use Rattle.gk_gherkin.specs.Hooks.{hooks_value};
 ghost use Rattle.gk_report.specs.ReportTexts.{Pushes};
-ghost use Rattle.gk_steps.specs.Finding.{library_value};
-ghost use Rattle.gk_lint.specs.Findings.{AreInOrder};
+ghost use Rattle.gk_lint.specs.Findings.{AreInOrder, finding_values};
 ghost use Rattle.gk_request.specs.Request as of_files;
 ghost use Rattle.gk_request.specs.Request.{files_value, request_of_files, library_name, hooks_name};
 ghost use Rattle.gk_request.specs.Source.{source_value};
-ghost use Rattle.gk_findings.specs.FindingLines.{noted_library_value, noted_file_value};
+ghost use Rattle.gk_findings.specs.FindingLines.{noted_library_value};
 ghost use Rattle.gk_findings.specs.LintedSuite as spec;
 ghost use Rattle.gk_request.specs.RunFault.{IsUnread};
 ghost use Rattle.gk_lint.specs.TagUse.{hooks_of_no_tag};
@@ -17,77 +16,35 @@ ghost use Rattle.gk_findings.specs.LintedSources.{looked_up, used_by};
 ghost use Rattle.gk_findings.specs.LintedSuite.{AreTexts, IsTextOf, read_of, IsLinted};
 
 use crate::finding_lines::{
-    NotedFile, NotedLibrary, push_count_line, push_findings, push_idle_lines, push_noted_findings,
+    NotedLibrary, push_count_line, push_findings, push_idle_lines, push_noted_findings,
     push_tag_lines,
 };
 use crate::linted_sources::{LintSoFar, known_text, lint_sources, no_steps, with_findings};
 use crate::notes::text_lines;
 use gk_gherkin::{Feature, HookFile};
 use gk_lint::{
-    EntryHints, StepFindings, entry_lines, lines_without_scenario, lint_hook_tags, lint_hooks,
-    lint_library, tags_that_stand_nowhere,
+    EntryHints, StepFindings, lines_without_scenario, lint_hook_tags, lint_hooks, lint_library,
+    tags_that_stand_nowhere,
 };
-use gk_request::{Options, ReadBefore, RunFault, Source, SuiteFiles, bytes_of, read_before};
-use gk_steps::Library;
+use gk_request::{
+    Options, ReadBefore, RunFault, Source, SuiteFiles, bytes_of, name_of, read_before,
+};
 use std::alloc::{AllocError, Global};
 
-// Returns the library, as notes name it.
-fn noted_library<'a>(
-    alloc: Global,
-    library: &'a Library,
-    steps: bool,
-    file: &'a Option<Source>,
-) -> Result<NotedLibrary<'a>, AllocError>
+// Returns the lines of a hooks file.
+fn lines_of_hooks(alloc: Global, file: &Option<Source>) -> Result<Vec<&str>, AllocError>
     requires { AreTexts (of_files.bytes_of (option_map source_value file.now)) }
-    ensures { let f = option_map source_value file.now in IfOk result (λ noted.
-        noted_library_value noted ≡ spec.noted_library steps (of_files.name_of f)
-        (of_files.bytes_of f) (library_value library.now)) }
+    ensures { IfOk result (λ found. map (λ line. line.now) found.items
+        ≡ spec.lines_of_hooks (of_files.bytes_of (option_map source_value file.now))) }
 {
-    let hints = EntryHints::new(alloc, library)?;
     match file {
-        Some(source) => {
-            let text = known_text(source.bytes.as_slice());
-            Ok(NotedLibrary {
-                hints,
-                steps,
-                name: source.name.as_str(),
-                lines: entry_lines(alloc, text)?,
-            })
-        }
-        None => Ok(NotedLibrary {
-            hints,
-            steps,
-            name: "",
-            lines: Vec::new(alloc),
-        }),
+        Some(source) => text_lines(alloc, known_text(source.bytes.as_slice())),
+        None => Ok(Vec::new(alloc)),
     }
 }
 
-// Returns the hooks file, as notes quote it.
-fn noted_hooks(alloc: Global, file: &Option<Source>) -> Result<NotedFile<'_>, AllocError>
-    requires { AreTexts (of_files.bytes_of (option_map source_value file.now)) }
-    ensures { let f = option_map source_value file.now in IfOk result (λ noted.
-        noted_file_value noted ≡ spec.noted_hooks (of_files.name_of f) (of_files.bytes_of f)) }
-{
-    match file {
-        Some(source) => {
-            let text = known_text(source.bytes.as_slice());
-            Ok(NotedFile {
-                name: source.name.as_str(),
-                lines: text_lines(alloc, text)?,
-                scenarios: Vec::new(alloc),
-            })
-        }
-        None => Ok(NotedFile {
-            name: "",
-            lines: Vec::new(alloc),
-            scenarios: Vec::new(alloc),
-        }),
-    }
-}
-
-// Appends the lines of a library file, if there is one and steps are looked up in it, given the places of its entries
-// that are used.
+// Appends the lines of a library, if a file of it is given and steps are looked up in it, given the places of its
+// entries that are used.
 fn push_library_lines(
     out: &mut String,
     alloc: Global,
@@ -95,34 +52,28 @@ fn push_library_lines(
     file: &Option<Source>,
     used: &[usize],
 ) -> Result<(), AllocError>
-    requires texts { AreTexts (of_files.bytes_of (option_map source_value file.now)) }
-    requires entries { library.now.lines.items ≡ spec.lines_of_library
-        (of_files.bytes_of (option_map source_value file.now)) }
-    ensures { Pushes out.old (spec.library_lines library.now.steps library.now.name.now
-        (of_files.bytes_of (option_map source_value file.now)) used.now) result out.new }
+    ensures { Pushes out.old
+        (spec.library_lines (of_files.bytes_of (option_map source_value file.now))
+        (noted_library_value library.now) used.now) result out.new }
 {
-    if !library.steps {
+    if file.is_none() || !library.steps {
         return Ok(());
     }
-    match file {
-        Some(source) => {
-            let text = known_text(source.bytes.as_slice());
-            let findings = lint_library(alloc, text, used)?;
-            push_findings(out, alloc, library.name, &findings)?;
-            push_count_line(out, library.name, findings.len(), library.lines.len())
-        }
-        None => Ok(()),
-    }
+    let entries = library.hints.library();
+    let findings = lint_library(alloc, entries, used)?;
+    push_findings(out, alloc, library.name, &findings)?;
+    push_count_line(out, library.name, findings.len(), entries.entries.len())
 }
 
 // Returns the findings of the steps of hooks, if steps are looked up.
-fn findings_of_hook_steps(
+fn findings_of_hook_steps<'a>(
     alloc: Global,
-    library: &NotedLibrary<'_>,
+    library: &NotedLibrary<'a>,
     hooks: &HookFile,
-) -> Result<StepFindings, AllocError>
+) -> Result<StepFindings<'a>, AllocError>
     ensures found { IfOk result (λ r. AreInOrder (found_in library.now.hints
-        (looked_up library.now.steps (of_hooks (hooks_value hooks.now)))) r.findings.items) }
+        (looked_up library.now.steps (of_hooks (hooks_value hooks.now))))
+        (finding_values r.findings.items)) }
     ensures used { IfOk result (λ r. r.used.items ≡ used_in library.now.hints
         (looked_up library.now.steps (of_hooks (hooks_value hooks.now)))) }
 {
@@ -135,16 +86,17 @@ fn findings_of_hook_steps(
 
 // Returns the findings of hooks, given these features, in the order of lines. Also returns the places of the entries
 // that the hooks' steps use.
-fn findings_of_hooks(
+fn findings_of_hooks<'a>(
     alloc: Global,
-    library: &NotedLibrary<'_>,
-    hooks: &HookFile,
+    library: &NotedLibrary<'a>,
+    hooks: &'a HookFile,
     features: &[Feature],
-) -> Result<StepFindings, AllocError>
+) -> Result<StepFindings<'a>, AllocError>
     ensures found { IfOk result (λ r. AreInOrder
         (hooks_of_no_tag (map feature_value features.now) (hooks_value hooks.now)
         ++ found_in library.now.hints
-        (looked_up library.now.steps (of_hooks (hooks_value hooks.now)))) r.findings.items) }
+        (looked_up library.now.steps (of_hooks (hooks_value hooks.now))))
+        (finding_values r.findings.items)) }
     ensures used { IfOk result (λ r. r.used.items ≡ used_in library.now.hints
         (looked_up library.now.steps (of_hooks (hooks_value hooks.now)))) }
 {
@@ -162,10 +114,7 @@ fn whole_text(
     before: &ReadBefore,
     so_far: LintSoFar,
 ) -> Result<String, AllocError>
-    requires texts { AreTexts (of_files.bytes_of (option_map source_value files.now.library)) }
     requires hooks { AreTexts (of_files.bytes_of (option_map source_value files.now.hooks)) }
-    requires entries { library.now.lines.items ≡ spec.lines_of_library
-        (of_files.bytes_of (option_map source_value files.now.library)) }
     requires used { so_far.used.items ≡ used_by (noted_library_value library.now)
         (map feature_value so_far.features.items) }
     ensures { IfOk result (λ text. IsTextOf
@@ -182,12 +131,13 @@ fn whole_text(
     let mut used = used;
     of_hooks.used.append(&mut used)?;
     let mut text = String::new(alloc);
-    let hooks = noted_hooks(alloc, &files.hooks)?;
+    let lines = lines_of_hooks(alloc, &files.hooks)?;
     push_noted_findings(
         &mut text,
         alloc,
-        library,
-        &hooks,
+        library.name,
+        name_of(&files.hooks),
+        &lines,
         of_hooks.findings.as_slice(),
     )?;
     text.push_str(of_sources.as_str())?;
@@ -227,7 +177,11 @@ pub fn findings_text(
         Ok(before) => before,
         Err(fault) => return Err(fault),
     };
-    let noted = noted_library(alloc, &before.library, steps, &files.library)?;
+    let noted = NotedLibrary {
+        hints: EntryHints::new(alloc, &before.library)?,
+        steps,
+        name: name_of(&files.library),
+    };
     match lint_sources(alloc, &noted, files.sources.as_slice()) {
         Ok(so_far) => Ok(whole_text(alloc, options, files, &noted, &before, so_far)?),
         Err(fault) => Err(fault),

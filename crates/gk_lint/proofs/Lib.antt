@@ -11,6 +11,8 @@ pub mod NamedAgain
 pub mod RunSteps
 pub mod FirstHints
 pub mod RisingNumbers
-pub mod EntryLinesLoop
+pub mod LinesLoop
 pub mod MisspeltLoop
 pub mod OneLine
+pub mod NoColumns
+pub mod NearestLoop

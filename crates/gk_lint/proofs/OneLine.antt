@@ -1,6 +1,6 @@
 -- Whether lines are one line with a carriage return, as a loop over them finds it.
 use Rattle.gk_lint.proofs.Common.{◌≡◌, ◌||◌, ◌&&◌, ◌==◌, ℕ, suc, ◌+◌, ◌<◌, Bool, List, [], ◌∷◌, length, drop, get_or, refl, sym, ap, ◌∙◌, arith, common_steps, or-false, or_assoc, drop_all, nat_tests, Lines, numbered_from, has_cr, have_cr, is_one_with_cr}
-use Rattle.gk_lint.proofs.EntryLinesLoop.{next}
+use Rattle.gk_lint.proofs.LinesLoop.{next}
 
 pub one_line : (all : List (List ℕ)) (i n : ℕ) (text : List ℕ) → i < length all → text ≡ get_or all i text → (before : Bool) → (before || have_cr (numbered_from n (drop i all))) ≡ ((before || has_cr text) || have_cr (numbered_from (n + 1) (drop (i + 1) all)))
 one_line all i n text within is before = ap (λ (ls : Lines). before || have_cr ls) (next all i n text within is) ∙ sym (or_assoc before (has_cr text) (have_cr (numbered_from (n + 1) (drop (i + 1) all))))

@@ -9,6 +9,11 @@ use Rattle.gk_gherkin.specs.DocStrings.{closes}
 use Rattle.gk_lint.specs.declared.line_context.LineContext.{LineContext}
 use Rattle.gk_lint.specs.declared.line_context.LineContext.TheVariants.{Elsewhere, AmongSteps, AfterStep, InText}
 
+-- The class of a line in this context. A line of a doc string may hold anything, so it counts as blank.
+abbrev pub class_in : LineContext → LineValue → Class
+class_in (InText fence) line = Blank
+class_in context line = class line
+
 -- The context `next` if steps are possible here. If none is possible here, none is possible on the next line either.
 abbrev pub under : LineContext → LineContext → LineContext
 under next Elsewhere = Elsewhere
@@ -35,7 +40,7 @@ after_class context TagLine = under AmongSteps context
 after_class context RowLine = under AmongSteps context
 after_class context Other = under AmongSteps context
 
--- The context of the line after this one. A doc string continues up to the line that closes it. (Cucumber's Gherkin reference: doc strings)
-unfoldable pub after : LineContext → LineValue → LineContext
-after (InText fence) line = if closes fence line then AmongSteps else InText fence
-after context line = after_class context (class line)
+-- The context of the line after this one, which has this class in its own context. A doc string continues up to the line that closes it. (Cucumber's Gherkin reference: doc strings)
+unfoldable pub after : LineContext → Class → LineValue → LineContext
+after (InText fence) class line = if closes fence line then AmongSteps else InText fence
+after context class line = after_class context class

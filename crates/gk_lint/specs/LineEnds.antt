@@ -2,9 +2,8 @@
 use Rattle.std.specs.Prelude.{ℕ, Bool, ◌==◌, ◌&&◌, List, length}
 use Rattle.std.specs.List.{list_any}
 use Rattle.gk_gherkin.specs.Lines.{LineValue, Lines}
-use Rattle.gk_lint.specs.declared.findings.Finding.{Finding}
 use Rattle.gk_lint.specs.declared.findings.FindingKind.TheVariants.{CrAlone}
-use Rattle.gk_lint.specs.Findings.{found_if}
+use Rattle.gk_lint.specs.Findings.{FindingValue, found_if}
 
 -- Whether a byte is a carriage return.
 abbrev pub is_cr : ℕ → Bool
@@ -23,5 +22,5 @@ abbrev pub is_one_with_cr : Lines → Bool
 is_one_with_cr lines = (length lines == 1) && have_cr lines
 
 -- The findings of a file's lines: that they are such a line, at line 1.
-abbrev pub cr_alone : Lines → List Finding
+abbrev pub cr_alone : Lines → List FindingValue
 cr_alone lines = found_if (is_one_with_cr lines) 1 CrAlone

@@ -3,23 +3,21 @@ use Rattle.std.specs.Prelude.{◌≡◌, ℕ, Bool, true, false, ◌&&◌, not, 
 use Rattle.std.specs.List.{list_any}
 use Rattle.gk_gherkin.specs.declared.class.Class.{Class}
 use Rattle.gk_gherkin.specs.declared.class.Class.TheVariants as classes
-use Rattle.gk_gherkin.specs.Class.{class}
 use Rattle.gk_gherkin.specs.Keyword.{keyword_text}
 use Rattle.gk_gherkin.specs.Lines.{LineValue, Lines}
 use Rattle.gk_gherkin.specs.Text.{begins, is_blank, trim}
 use Rattle.gk_gherkin.specs.declared.keyword.Keyword.{Keyword}
 use Rattle.gk_gherkin.specs.declared.keyword.Keyword.TheVariants.{Given, When, Then}
-use Rattle.gk_lint.specs.declared.findings.Finding.{Finding}
 use Rattle.gk_lint.specs.declared.findings.FindingKind.TheVariants.{LikeKeyword, StepOutside}
 use Rattle.gk_lint.specs.declared.line_context.LineContext.{LineContext}
-use Rattle.gk_lint.specs.declared.line_context.LineContext.TheVariants.{Elsewhere, InText}
+use Rattle.gk_lint.specs.declared.line_context.LineContext.TheVariants.{Elsewhere}
 use Rattle.gk_lint.specs.declared.misspelt.Wording.{Wording}
 use Rattle.gk_lint.specs.declared.misspelt.Wording.TheVariants.{Prose, Heading, Like, Outside, Step, Other}
 use Rattle.gk_lint.specs.declared.misspelt.Above.{Above}
 use Rattle.gk_lint.specs.declared.misspelt.WordedLine.{WordedLine}
-use Rattle.gk_lint.specs.Findings.{at_line, found_if}
+use Rattle.gk_lint.specs.Findings.{FindingValue, at_line, found_if}
 use Rattle.gk_lint.specs.Likeness.{like, is_like_heading}
-use Rattle.gk_lint.specs.LineContext.{after}
+use Rattle.gk_lint.specs.LineContext.{after, class_in}
 
 -- The wording of a description line that begins like a keyword, by whether it is a heading with its colon.
 abbrev pub like_keyword : Bool → Keyword → Wording
@@ -44,21 +42,16 @@ abbrev pub of_step : LineContext → List ℕ → Wording
 of_step Elsewhere text = Outside (begins_with_one_of opening_words text)
 of_step context text = Step
 
--- The wording of a line of this class in this context.
-abbrev pub by_class : LineContext → List ℕ → Class → Wording
-by_class context text classes.Other = likened text (like text)
-by_class context text classes.StepLine = of_step context text
-by_class context text class = Other
-
--- The wording of a line in this context. A doc string may hold anything.
-unfoldable pub wording : LineContext → LineValue → Wording
-wording (InText fence) line = Other
-wording context line = by_class context (trim line.text) (class line)
+-- The wording of a line of this class in this context, by its trimmed text. A line of a doc string counts as blank.
+abbrev pub wording : LineContext → Class → List ℕ → Wording
+wording context classes.Other text = likened text (like text)
+wording context classes.StepLine text = of_step context text
+wording context class text = Other
 
 -- Lines with their wordings. The first of them is in this context.
 abbrev pub worded : LineContext → Lines → List WordedLine
 worded context [] = []
-worded context (line ∷ lines) = record { line = line.line; wording = wording context line } ∷ worded (after context line) lines
+worded context (line ∷ lines) = let class = class_in context line in record { line = line.line; wording = wording context class (trim line.text) } ∷ worded (after context class line) lines
 
 -- Whether a line is prose by the wording of the next, by whether prose is directly above it, and by whether the next is prose if it begins like a keyword, too.
 abbrev pub prose_by : Wording → Bool → Bool → Bool
@@ -75,7 +68,7 @@ is_prose above [] = above
 is_prose above (next ∷ lines) = prose_by next.wording above (is_prose false lines)
 
 -- The findings of a line with this wording, by whether it is prose if it begins like a keyword: a description that begins like a keyword, or a step outside of a scenario. A heading with its colon is found in prose, too.
-abbrev pub meant : Bool → ℕ → Wording → List Finding
+abbrev pub meant : Bool → ℕ → Wording → List FindingValue
 meant prose line (Heading keyword) = at_line line (LikeKeyword keyword) ∷ []
 meant prose line (Like keyword) = found_if (not prose) line (LikeKeyword keyword)
 meant prose line (Outside opens) = found_if (not prose && opens) line StepOutside
@@ -93,12 +86,12 @@ begins_like (Outside opens) = true
 begins_like wording = false
 
 -- The findings of lines, by whether prose is directly above them.
-abbrev pub of_worded : Bool → List WordedLine → List Finding
+abbrev pub of_worded : Bool → List WordedLine → List FindingValue
 of_worded above [] = []
 of_worded above (line ∷ lines) = meant (is_prose above lines) line.line line.wording ++ of_worded (is_plain line.wording) lines
 
 -- The findings of lines. The first of them is in this context.
-abbrev pub misspelt : LineContext → Lines → List Finding
+abbrev pub misspelt : LineContext → Lines → List FindingValue
 misspelt context lines = of_worded false (worded context lines)
 
 -- Proof machinery: if the line above begins like a keyword, it is prose as these lines below it say, and no plain prose.

@@ -2,17 +2,16 @@
 use Rattle.std.specs.Prelude.{codes, ℕ, Bool, true, false, List, [], ◌∷◌, ◌++◌, length, take, find, reverse, slice_get, Option, Some, None, if◌then◌else◌}
 use Rattle.gk_gherkin.specs.declared.class.Class.{Class}
 use Rattle.gk_gherkin.specs.declared.class.Class.TheVariants.{Blank, Comment, TagLine, FeatureHeading, RuleHeading, BackgroundHeading, ScenarioHeading, ExamplesHeading, RowLine, FenceLine, Other}
-use Rattle.gk_gherkin.specs.Class.{class}
 use Rattle.gk_gherkin.specs.Lines.{LineValue}
 use Rattle.gk_gherkin.specs.Text.{begins, trim}
 use Rattle.gk_gherkin.specs.declared.keyword.Keyword.{Keyword}
 use Rattle.gk_lint.specs.declared.line_context.LineContext.{LineContext}
-use Rattle.gk_lint.specs.declared.line_context.LineContext.TheVariants.{Elsewhere, InText}
+use Rattle.gk_lint.specs.declared.line_context.LineContext.TheVariants.{Elsewhere}
 use Rattle.gk_lint.specs.declared.unexpected_lines.Cause.{Cause}
 use Rattle.gk_lint.specs.declared.unexpected_lines.Cause.TheVariants.{NoFeature, SecondFeature, LateBackground, SecondBackground, TaggedBackground, ExamplesAlone, BelowTags, BelowRows, SecondBlock, BelowText, SingleQuotes, OpenKeyword, OtherCase, Misspelt, FreeText}
 use Rattle.gk_gherkin.specs.Keyword.{spelling}
 use Rattle.gk_lint.specs.Likeness.{like, same_letters}
-use Rattle.gk_lint.specs.LineContext.{after}
+use Rattle.gk_lint.specs.LineContext.{after, class_in}
 
 -- What to do about a line, by its cause, without the keyword that is named behind it.
 unfoldable pub cause_words : Cause → List ℕ
@@ -47,15 +46,10 @@ cause_text cause = cause_words cause ++ keyword_named cause
 abbrev pub unplaced : List ℕ → LineValue
 unplaced text = record { line = 1; column = 1; text = text }
 
--- The class of a line in this context. A line of a doc string may hold anything, so it counts as blank.
-abbrev pub class_in : LineContext → LineValue → Class
-class_in (InText fence) line = Blank
-class_in context line = class line
-
 -- The classes of lines with these texts. The first of them is in this context.
 abbrev pub classes_from : LineContext → List (List ℕ) → List Class
 classes_from context [] = []
-classes_from context (text ∷ texts) = class_in context (unplaced text) ∷ classes_from (after context (unplaced text)) texts
+classes_from context (text ∷ texts) = let class = class_in context (unplaced text) in class ∷ classes_from (after context class (unplaced text)) texts
 
 -- Whether a line of this class is a heading. (Cucumber's Gherkin reference: keywords)
 abbrev pub is_heading : Class → Bool

@@ -1,6 +1,6 @@
 -- Steps of a feature and of a hooks file, as they are written and as they are run.
 use Rattle.std.specs.List.{list_any}
-use Rattle.std.specs.Prelude.{◌≡◌, ℕ, Bool, ◌||◌, List, [], ◌∷◌, ◌++◌, map, flat_map, Option, if◌then◌else◌}
+use Rattle.std.specs.Prelude.{◌≡◌, ℕ, Bool, ◌||◌, List, [], ◌∷◌, ◌++◌, map, flat_map, Option, option_map, if◌then◌else◌}
 use Rattle.std.specs.Option.{option_or}
 use Rattle.gk_gherkin.specs.Feature.{StepValue, RowValue, ExamplesValue, BackgroundValue, ScenarioValue, RuleValue, FeatureValue}
 use Rattle.gk_gherkin.specs.Hooks.{HookValue}
@@ -10,14 +10,14 @@ use Rattle.gk_select.specs.Filling.{filled, filled_step}
 use Rattle.gk_select.specs.Inherited.{background_steps}
 use Rattle.gk_select.specs.Outline.{is_outline}
 use Rattle.gk_steps.specs.Finding.{LibraryValue}
-use Rattle.gk_lint.specs.declared.findings.Finding.{Finding}
 use Rattle.gk_lint.specs.StepFaults.{step_faults}
 use Rattle.gk_lint.specs.declared.findings.FindingKind.TheVariants.{UndefinedStep, CleanupWithoutStep}
 use Rattle.gk_lint.specs.declared.lookups.Lookups.{Lookups}
 use Rattle.gk_lint.specs.declared.step_sites.StepSite.{StepSite}
 use Rattle.gk_lint.specs.declared.step_sites.StepSite.TheVariants as sites
 use Rattle.gk_lint.specs.StepSites.{site_of_hook}
-use Rattle.gk_lint.specs.Findings.{hinted, named_once}
+use Rattle.gk_lint.specs.Findings.{FindingValue, hint_value, hinted, named_once}
+use Rattle.gk_lint.specs.ScenarioNames.{scenarios_of}
 use Rattle.gk_lint.specs.Lookups.{faults_in, positions_in}
 use Rattle.gk_lint.specs.StepHints.{step_hint, cleanup_hint, first_hint}
 
@@ -59,17 +59,13 @@ of_scenarios scenarios = flat_map of_scenario scenarios
 abbrev pub of_background : Option BackgroundValue → List WrittenStep
 of_background background = map (as_written sites.Scenario) (background_steps background)
 
--- The steps of a rule: those of its Background, and those of its scenarios. (Cucumber's Gherkin reference: rule)
-abbrev pub of_rule : RuleValue → List WrittenStep
-of_rule r = of_background r.background ++ of_scenarios r.scenarios
-
--- The steps of rules, one rule after the other. (Cucumber's Gherkin reference: rule)
+-- The steps of the Backgrounds of rules, one rule after the other. (Cucumber's Gherkin reference: rule)
 abbrev pub of_rules : List RuleValue → List WrittenStep
-of_rules rules = flat_map of_rule rules
+of_rules rules = flat_map (λ (r : RuleValue). of_background r.background) rules
 
--- The steps of a feature: those of its Background, of its scenarios, and of its rules. (Cucumber's Gherkin reference: feature)
+-- The steps of a feature: those of its Background, of those of its rules, and of all its scenarios. (Cucumber's Gherkin reference: feature)
 abbrev pub of_feature : FeatureValue → List WrittenStep
-of_feature f = of_background f.background ++ (of_scenarios f.scenarios ++ of_rules f.rules)
+of_feature f = of_background f.background ++ (of_rules f.rules ++ of_scenarios (scenarios_of f))
 
 -- The steps of all Backgrounds of a feature: its own, and those of its rules. (Cucumber's Gherkin reference: background)
 abbrev pub background_steps_of : FeatureValue → List StepValue
@@ -91,23 +87,23 @@ of_hooks hooks = flat_map of_hook hooks
 pub record AreLookedUp (library : LibraryValue) (site : StepSite) (steps : List StepValue) (old new : Lookups) : Type 0 where
   pub faults : new.faults.items ≡ old.faults.items ++ faults_in library site steps
   pub used : new.used.items ≡ old.used.items ++ positions_in library steps
-  pub undefined : new.undefined ≡ option_or old.undefined (first_hint (step_hint library) steps)
-  pub cleanup : new.cleanup ≡ option_or old.cleanup (first_hint (cleanup_hint library) steps)
+  pub undefined : option_map hint_value new.undefined ≡ option_or (option_map hint_value old.undefined) (first_hint (step_hint library) steps)
+  pub cleanup : option_map hint_value new.cleanup ≡ option_or (option_map hint_value old.cleanup) (first_hint (cleanup_hint library) steps)
 
 -- The finding that at least one of the steps that a written step is run as is undefined, with the hint for the first.
-abbrev pub undefined_at : LibraryValue → WrittenStep → List Finding
-undefined_at library written = hinted written.line (λ hint. UndefinedStep hint) (first_hint (step_hint library) written.runs)
+abbrev pub undefined_at : LibraryValue → WrittenStep → List FindingValue
+undefined_at library written = hinted written.line UndefinedStep (first_hint (step_hint library) written.runs)
 
 -- The finding that at least one of them registers a cleanup without a step, with the hint for the first.
-abbrev pub cleanup_at : LibraryValue → WrittenStep → List Finding
-cleanup_at library written = hinted written.line (λ hint. CleanupWithoutStep hint) (first_hint (cleanup_hint library) written.runs)
+abbrev pub cleanup_at : LibraryValue → WrittenStep → List FindingValue
+cleanup_at library written = hinted written.line CleanupWithoutStep (first_hint (cleanup_hint library) written.runs)
 
 -- The findings of a written step: each fault of at least one of the steps that it is run as.
-abbrev pub at_step : LibraryValue → WrittenStep → List Finding
+abbrev pub at_step : LibraryValue → WrittenStep → List FindingValue
 at_step library written = undefined_at library written ++ (cleanup_at library written ++ named_once step_faults written.line (faults_in library written.site written.runs))
 
 -- The findings of written steps, one step after the other.
-abbrev pub found_in : LibraryValue → List WrittenStep → List Finding
+abbrev pub found_in : LibraryValue → List WrittenStep → List FindingValue
 found_in library written = flat_map (at_step library) written
 
 -- The positions of the entries that written steps find, one step after the other.

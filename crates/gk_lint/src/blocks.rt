@@ -9,7 +9,11 @@ use gk_steps::{Takes, files_below};
 use std::alloc::AllocError;
 
 /// Adds a fault if a test holds. An error comes only if a growth was refused.
-pub fn add_if(faults: &mut Vec<StepFault>, holds: bool, fault: StepFault) -> Result<(), AllocError>
+pub fn add_fault_if(
+    faults: &mut Vec<StepFault>,
+    holds: bool,
+    fault: StepFault,
+) -> Result<(), AllocError>
     ensures { OnOk result (faults.new.items ≡ faults.old.items ++ spec.fault_if holds fault) }
 {
     if holds {
@@ -28,8 +32,8 @@ fn add_table_faults(
         ++ spec.table_faults takes (map (λ row. texts row.items) rows.now)) }
 {
     match takes {
-        Takes::Table => add_if(faults, files_below(rows).is_none(), StepFault::BadTable),
-        _ => add_if(faults, true, StepFault::IgnoredTable),
+        Takes::Table => add_fault_if(faults, files_below(rows).is_none(), StepFault::BadTable),
+        _ => add_fault_if(faults, true, StepFault::IgnoredTable),
     }
 }
 
@@ -48,15 +52,15 @@ pub fn add_block_faults(
     let takes_table = matches!(takes, Takes::Table);
     match block {
         Block::Empty => {
-            add_if(faults, lacks_text, StepFault::NoText)?;
-            add_if(faults, takes_table, StepFault::NoTable)
+            add_fault_if(faults, lacks_text, StepFault::NoText)?;
+            add_fault_if(faults, takes_table, StepFault::NoTable)
         }
         Block::Text(_) => {
-            add_if(faults, takes_table, StepFault::NoTable)?;
-            add_if(faults, !lacks_text, StepFault::IgnoredText)
+            add_fault_if(faults, takes_table, StepFault::NoTable)?;
+            add_fault_if(faults, !lacks_text, StepFault::IgnoredText)
         }
         Block::Table(rows) => {
-            add_if(faults, lacks_text, StepFault::NoText)?;
+            add_fault_if(faults, lacks_text, StepFault::NoText)?;
             add_table_faults(faults, takes, rows)
         }
     }

@@ -1,9 +1,11 @@
 //! Hints for the undefined steps of a library.
-ghost use Rattle.std.specs.Prelude.{◌≡◌, IfOk};
+ghost use Rattle.std.specs.Prelude.{◌≡◌, option_map, IfOk};
 ghost use Rattle.gk_steps.specs.Finding.{library_value, found_value};
 ghost use Rattle.gk_lint.specs.EntryHints as spec;
+ghost use Rattle.gk_lint.specs.Findings.{hint_value};
 
-use crate::nearest_entry::{EntryHint, compared_words, nearest};
+use crate::findings::Hint;
+use crate::nearest_entry::{WordedEntry, compared_entries, nearest};
 use gk_gherkin::StepType;
 use gk_steps::{Found, Library};
 use std::alloc::{AllocError, Global};
@@ -13,27 +15,20 @@ use std::marker::Model;
 #[derive(Debug, Drop)]
 pub struct EntryHints<'a> {
     library: &'a Library,
-    patterns: Vec<Vec<&'a str>>,
+    worded: Vec<WordedEntry<'a>>,
 }
 
 impl<'a> Model for EntryHints<'a> {
-    ghost use Rattle.std.specs.Prelude.{◌≡◌, map};
-    ghost use Rattle.gk_steps.specs.Finding.{LibraryValue, library_value};
-    ghost use Rattle.gk_lint.specs.NearestEntry.{compared_words};
+    ghost use Rattle.std.specs.Prelude.{◌≡◌, map, take};
+    ghost use Rattle.gk_steps.specs.Finding.{LibraryValue, entry_value, library_value};
+    ghost use Rattle.gk_lint.specs.NearestEntry.{compared};
 
     ghost Value = { LibraryValue };
 
     ghost view = { λ hints. library_value hints.library.now };
 
-    ghost invariant = { λ hints.
-        map (λ pattern. map (λ word. word.now) pattern.items) hints.patterns.items
-        ≡ compared_words (library_value hints.library.now) };
-}
-
-fn hint_of(found: Found) -> EntryHint
-    ensures { result ≡ spec.hint_of (found_value found) }
-{
-    EntryHint::OtherType(found.entry)
+    ghost invariant = { λ hints. map (λ worded. entry_value worded.entry.now) hints.worded.items
+        ≡ take compared (library_value hints.library.now) };
 }
 
 impl<'a> EntryHints<'a> {
@@ -43,7 +38,7 @@ impl<'a> EntryHints<'a> {
     {
         Ok(EntryHints {
             library,
-            patterns: compared_words(alloc, library)?,
+            worded: compared_entries(alloc, library)?,
         })
     }
 
@@ -54,21 +49,31 @@ impl<'a> EntryHints<'a> {
         self.library
     }
 
-    /// Returns the entry that the author of an undefined step with this text may have meant: the one that it finds as a
-    /// step of another type, and otherwise the nearest of the first 1,000. Entries are compared by their words, outside of
-    /// fields. Case, articles and one wrong letter in a word don't count. An error comes only if a growth was refused.
-    pub fn hint(&self, alloc: Global, text: &str) -> Result<EntryHint, AllocError>
-        ensures { IfOk result (λ hint. hint ≡ spec.entry_hint self.now text.now) }
+    // Returns what a text finds as a step of the first type as which it finds an entry.
+    fn found(&self, alloc: Global, text: &str) -> Result<Option<Found>, AllocError>
+        ensures { IfOk result (λ found.
+            option_map found_value found ≡ spec.found_as_any_type self.now text.now) }
     {
         if let Some(found) = self.library.find(alloc, StepType::Given, text)? {
-            return Ok(hint_of(found));
+            return Ok(Some(found));
         }
         if let Some(found) = self.library.find(alloc, StepType::When, text)? {
-            return Ok(hint_of(found));
+            return Ok(Some(found));
         }
-        if let Some(found) = self.library.find(alloc, StepType::Then, text)? {
-            return Ok(hint_of(found));
+        self.library.find(alloc, StepType::Then, text)
+    }
+
+    /// Returns what the author of an undefined step with this text may have meant: the entry that it finds as a step of
+    /// another type, and otherwise the nearest of the first 1,000. Entries are compared by their words, outside of
+    /// fields. Case, articles and one wrong letter in a word don't count. An error comes only if a growth was refused.
+    pub fn hint(&self, alloc: Global, text: &str) -> Result<Hint<'a>, AllocError>
+        ensures { IfOk result (λ hint. hint_value hint ≡ spec.entry_hint self.now text.now) }
+    {
+        if let Some(found) = self.found(alloc, text)? {
+            if let Some(entry) = self.library.entries.get(found.entry) {
+                return Ok(Hint::OtherType(entry));
+            }
         }
-        nearest(alloc, &self.patterns, text)
+        nearest(alloc, &self.worded, text)
     }
 }

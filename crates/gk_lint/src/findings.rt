@@ -1,12 +1,12 @@
 //! Findings, their texts and their order.
-ghost use Rattle.std.specs.Prelude.{◌≡◌, ◌++◌, OnOk, IfOk};
+ghost use Rattle.std.specs.Prelude.{◌≡◌, ◌++◌, option_map, OnOk, IfOk};
 ghost use Rattle.std.specs.String.{string_bytes};
 ghost use Rattle.gk_lint.specs.Findings as spec;
-ghost use Rattle.gk_lint.specs.Findings.{AreInOrder};
+ghost use Rattle.gk_lint.specs.Findings.{AreInOrder, finding_values, hint_value};
 
-use crate::nearest_entry::EntryHint;
 use crate::step_faults::{StepFault, has_fault};
 use gk_gherkin::Keyword;
+use gk_steps::Entry;
 use std::alloc::{AllocError, Global};
 
 /// The kind of a finding.
@@ -30,15 +30,14 @@ pub enum FindingKind {
     StepOutside,
     /// An earlier scenario of the feature has the same name.
     NameTwice,
-    /// In an outline, `<WORD>` stays as it is, since no column has this name. The first column that it comes near to is at
-    /// position `column` of the outline, which is the scenario at position `scenario` of the feature.
-    NoColumn { scenario: usize, column: usize },
-    /// The step finds no entry of the library as it is run; in an outline, in at least one row. Its author may have meant
-    /// this entry. (behave's documentation: undefined steps)
-    UndefinedStep(EntryHint),
-    /// The step registers a cleanup whose text finds no entry of type `step`; in an outline, in at least one row. Its
-    /// author may have meant this entry. (behave's documentation: cleanups)
-    CleanupWithoutStep(EntryHint),
+    /// In an outline, `<WORD>` stays as it is, since no column has this name. It comes near to the column of the hint.
+    NoColumn,
+    /// The step finds no entry of the library as it is run; in an outline, in at least one row.
+    /// (behave's documentation: undefined steps)
+    UndefinedStep,
+    /// The step registers a cleanup whose text finds no entry of type `step`; in an outline, in at least one row.
+    /// (behave's documentation: cleanups)
+    CleanupWithoutStep,
     /// The step has the fault as it is run; in an outline, in at least one row.
     OfStep(StepFault),
     /// No step and no cleanup finds the entry of the library.
@@ -47,11 +46,25 @@ pub enum FindingKind {
     HookOfNoTag,
 }
 
+/// What the author of a line may have meant.
+#[derive(Clone, Copy, Debug)]
+pub enum Hint<'a> {
+    /// Nothing that is known.
+    Nothing,
+    /// This column of the outline.
+    Column(&'a str),
+    /// This entry, which the text finds, but as a step of another type.
+    OtherType(&'a Entry),
+    /// This entry, which is the nearest.
+    Nearest(&'a Entry),
+}
+
 /// A finding. Its line is counted from 1.
-#[derive(Clone, Copy, Debug, PartialEq, Eq)]
-pub struct Finding {
+#[derive(Clone, Copy, Debug)]
+pub struct Finding<'a> {
     pub line: u32,
     pub kind: FindingKind,
+    pub hint: Hint<'a>,
 }
 
 impl FindingKind {
@@ -73,11 +86,9 @@ impl FindingKind {
             FindingKind::NameTwice => {
                 String::from_str(alloc, "scenario with the name of one before it")
             }
-            FindingKind::NoColumn { .. } => {
-                String::from_str(alloc, "placeholder that no column has")
-            }
-            FindingKind::UndefinedStep(_) => String::from_str(alloc, "undefined step"),
-            FindingKind::CleanupWithoutStep(_) => String::from_str(alloc, "cleanup without step"),
+            FindingKind::NoColumn => { String::from_str(alloc, "placeholder that no column has") }
+            FindingKind::UndefinedStep => String::from_str(alloc, "undefined step"),
+            FindingKind::CleanupWithoutStep => String::from_str(alloc, "cleanup without step"),
             FindingKind::OfStep(fault) => String::from_str(alloc, fault.text()),
             FindingKind::HookOfNoTag => {
                 String::from_str(alloc, "hook for a tag that isn't used")
@@ -94,16 +105,33 @@ impl FindingKind {
 
 /// Adds a finding at a line if a test holds. An error comes only if a growth was refused.
 pub fn add_if(
-    findings: &mut Vec<Finding>,
+    findings: &mut Vec<Finding<'_>>,
     holds: bool,
     line: u32,
     kind: FindingKind,
 ) -> Result<(), AllocError>
-    ensures { OnOk result (findings.new.items
-        ≡ findings.old.items ++ spec.found_if holds line kind) }
+    ensures { OnOk result (finding_values findings.new.items
+        ≡ finding_values findings.old.items ++ spec.found_if holds line kind) }
 {
     if holds {
-        findings.push(Finding { line, kind })?;
+        let hint = Hint::Nothing;
+        findings.push(Finding { line, kind, hint })?;
+    }
+    Ok(())
+}
+
+/// Adds a finding at a line if there is a hint for it. An error comes only if a growth was refused.
+pub fn add_hinted<'a>(
+    findings: &mut Vec<Finding<'a>>,
+    line: u32,
+    kind: FindingKind,
+    hint: Option<Hint<'a>>,
+) -> Result<(), AllocError>
+    ensures { OnOk result (finding_values findings.new.items
+        ≡ finding_values findings.old.items ++ spec.hinted line kind (option_map hint_value hint.entry)) }
+{
+    if let Some(hint) = hint {
+        findings.push(Finding { line, kind, hint })?;
     }
     Ok(())
 }
@@ -111,13 +139,13 @@ pub fn add_if(
 /// Adds the findings at a line with some faults: one for each fault of `these` that is among `faults`, even if it is
 /// there several times. An error comes only if a growth was refused; some of the findings may have been added then.
 pub fn add_once(
-    findings: &mut Vec<Finding>,
+    findings: &mut Vec<Finding<'_>>,
     these: &[StepFault],
     line: u32,
     faults: &[StepFault],
 ) -> Result<(), AllocError>
-    ensures { OnOk result (findings.new.items
-        ≡ findings.old.items ++ spec.named_once these.now line faults.now) }
+    ensures { OnOk result (finding_values findings.new.items
+        ≡ finding_values findings.old.items ++ spec.named_once these.now line faults.now) }
 {
     for fault in these {
         let holds = has_fault(faults, *fault);
@@ -128,8 +156,9 @@ pub fn add_once(
 
 /// Returns the same findings in the order of their lines. Those of one line keep their order. An error comes only if a
 /// growth was refused; the findings are dropped then.
-pub fn in_order(findings: Vec<Finding>) -> Result<Vec<Finding>, AllocError>
-    ensures { IfOk result (λ ordered. AreInOrder findings.items ordered.items) }
+pub fn in_order(findings: Vec<Finding<'_>>) -> Result<Vec<Finding<'_>>, AllocError>
+    ensures { IfOk result (λ ordered.
+        AreInOrder (finding_values findings.entry.items) (finding_values ordered.items)) }
 {
     let mut findings = findings;
     findings.sort_by_key(|finding| finding.line)?;

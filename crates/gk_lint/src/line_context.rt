@@ -18,6 +18,16 @@ pub enum LineContext {
     InText(Fence),
 }
 
+/// Returns the class of a line in this context. A line of a doc string may hold anything, so it counts as blank.
+pub fn class_in(context: LineContext, line: &BorrowedLine<'_>) -> Class
+    ensures { result ≡ spec.class_in context (borrowed_value line.now) }
+{
+    match context {
+        LineContext::InText(_) => Class::Blank,
+        _ => class_of_line(line),
+    }
+}
+
 // Returns the context of the line after one of this class, outside of doc strings.
 fn after_class(context: LineContext, class: Class) -> LineContext
     ensures { result ≡ spec.after_class context class }
@@ -43,10 +53,10 @@ fn after_class(context: LineContext, class: Class) -> LineContext
     }
 }
 
-/// Returns the context of the next line.
+/// Returns the context of the line after this one, which has this class in its own context.
 #[tactic(auto, unfolding(crate::specs::LineContext::after))]
-pub fn after(context: LineContext, line: &BorrowedLine<'_>) -> LineContext
-    ensures { result ≡ spec.after context (borrowed_value line.now) }
+pub fn after(context: LineContext, class: Class, line: &BorrowedLine<'_>) -> LineContext
+    ensures { result ≡ spec.after context class (borrowed_value line.now) }
 {
     match context {
         LineContext::InText(fence) => {
@@ -56,6 +66,6 @@ pub fn after(context: LineContext, line: &BorrowedLine<'_>) -> LineContext
                 LineContext::InText(fence)
             }
         }
-        _ => after_class(context, class_of_line(line)),
+        _ => after_class(context, class),
     }
 }

@@ -2,6 +2,7 @@
 ghost use Rattle.std.specs.Prelude.{◌≡◌, ◌≤◌, ◌==◌, ◌&&◌, ◌||◌, ◌++◌, length, OnOk};
 ghost use Rattle.std.specs.Str.Lines.{lines};
 ghost use Rattle.gk_gherkin.specs.Lines.{numbered_from};
+ghost use Rattle.gk_lint.specs.Findings.{finding_values};
 ghost use Rattle.gk_lint.specs.LineEnds as spec;
 
 use crate::findings::{Finding, FindingKind, add_if};
@@ -43,9 +44,9 @@ fn is_one_with_cr(text: &str) -> bool
 }
 
 /// Adds that the lines of a text end with CR alone, if they do. An error comes only if a growth was refused.
-pub fn add_cr_alone(findings: &mut Vec<Finding>, text: &str) -> Result<(), AllocError>
+pub fn add_cr_alone(findings: &mut Vec<Finding<'_>>, text: &str) -> Result<(), AllocError>
     requires { length text.now ≤ LONGEST_FILE }
-    ensures { OnOk result (findings.new.items ≡ findings.old.items
+    ensures { OnOk result (finding_values findings.new.items ≡ finding_values findings.old.items
         ++ spec.cr_alone (numbered_from 1 (lines text.now))) }
 {
     let is_one = is_one_with_cr(text);

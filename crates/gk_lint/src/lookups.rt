@@ -1,32 +1,33 @@
 //! Faults of a step as it is run, the entries of the library that it finds, and hints if it finds none.
-ghost use Rattle.std.specs.Prelude.{◌≡◌, [], ◌++◌, Some, None, OnOk};
+ghost use Rattle.std.specs.Prelude.{◌≡◌, [], ◌++◌, option_map, Some, None, OnOk};
 ghost use Rattle.std.specs.Option.{option_or};
 ghost use Rattle.gk_gherkin.specs.Feature.{step_value, block_value};
 ghost use Rattle.gk_steps.specs.Finding.{library_value, found_value, found_any, action_of};
 ghost use Rattle.gk_lint.specs.EntryHints.{entry_hint};
+ghost use Rattle.gk_lint.specs.Findings.{hint_value};
 ghost use Rattle.gk_lint.specs.StepHints.{hint_unless_found, registered_hint, step_hint, cleanup_hint};
 ghost use Rattle.gk_lint.specs.Lookups as spec;
 
-use crate::blocks::{add_block_faults, add_if};
+use crate::blocks::{add_block_faults, add_fault_if};
 use crate::entry_hints::EntryHints;
-use crate::nearest_entry::EntryHint;
+use crate::findings::Hint;
 use crate::step_faults::StepFault;
 use crate::step_sites::{StepSite, may_stand};
 use gk_gherkin::{Block, Step};
 use gk_steps::{Action, Found, Library};
 use std::alloc::{AllocError, Global};
 
-/// The results of steps that were looked up.
+/// The results of steps that were looked up, after those of others.
 #[derive(Debug, Drop)]
-pub struct Lookups {
+pub struct Lookups<'a> {
     /// The faults of the steps.
     pub faults: Vec<StepFault>,
-    /// The positions in the library of the entries that the steps found.
+    /// The positions in the library of the entries that the steps and the others found.
     pub used: Vec<usize>,
     /// The hint for the first step that is undefined.
-    pub undefined: Option<EntryHint>,
+    pub undefined: Option<Hint<'a>>,
     /// The hint for the first cleanup whose text finds no entry of type `step`.
-    pub cleanup: Option<EntryHint>,
+    pub cleanup: Option<Hint<'a>>,
 }
 
 // Returns the text of the step that `at_cleanup` registers.
@@ -52,18 +53,18 @@ fn add_site_faults(
     ensures { OnOk result (faults.new.items ≡ faults.old.items ++ spec.site_faults action site) }
 {
     let fails = !may_stand(action.row().does, site);
-    add_if(faults, fails, StepFault::NotAllowed)
+    add_fault_if(faults, fails, StepFault::NotAllowed)
 }
 
 // Sets the hint for a text that finds no entry, unless an earlier text has one.
-fn set_hint(
-    hint: &mut Option<EntryHint>,
+fn set_hint<'a>(
+    hint: &mut Option<Hint<'a>>,
     alloc: Global,
-    hints: &EntryHints<'_>,
+    hints: &EntryHints<'a>,
     text: &str,
 ) -> Result<(), AllocError>
-    ensures { OnOk result (hint.new
-        ≡ option_or hint.old (Some (entry_hint hints.now text.now))) }
+    ensures { OnOk result (option_map hint_value hint.new
+        ≡ option_or (option_map hint_value hint.old) (Some (entry_hint hints.now text.now))) }
 {
     if hint.is_none() {
         *hint = Some(hints.hint(alloc, text)?);
@@ -71,17 +72,17 @@ fn set_hint(
     Ok(())
 }
 
-impl Lookups {
-    /// Returns empty results. Doesn't allocate.
-    pub fn new(alloc: Global) -> Lookups
+impl<'a> Lookups<'a> {
+    /// Returns the results of no step, after others that use these entries. Doesn't allocate.
+    pub fn new(alloc: Global, used: Vec<usize>) -> Lookups<'a>
         ensures faults { result.faults.items ≡ [] }
-        ensures used { result.used.items ≡ [] }
+        ensures used { result.used ≡ used }
         ensures undefined { result.undefined ≡ None }
         ensures cleanup { result.cleanup ≡ None }
     {
         Lookups {
             faults: Vec::new(alloc),
-            used: Vec::new(alloc),
+            used,
             undefined: None,
             cleanup: None,
         }
@@ -92,7 +93,7 @@ impl Lookups {
     fn add_cleanup(
         &mut self,
         alloc: Global,
-        hints: &EntryHints<'_>,
+        hints: &EntryHints<'a>,
         text: &str,
         block: &Block,
     ) -> Result<(), AllocError>
@@ -102,7 +103,8 @@ impl Lookups {
         ensures used { OnOk result (self.new.used.items ≡ self.old.used.items
             ++ spec.position_of (found_any hints.now text.now)) }
         ensures undefined { self.new.undefined ≡ self.old.undefined }
-        ensures cleanup { OnOk result (self.new.cleanup ≡ option_or self.old.cleanup
+        ensures cleanup { OnOk result (option_map hint_value self.new.cleanup
+            ≡ option_or (option_map hint_value self.old.cleanup)
             (hint_unless_found hints.now text.now (found_any hints.now text.now))) }
     {
         let library = hints.library();
@@ -123,7 +125,7 @@ impl Lookups {
     fn add_found(
         &mut self,
         alloc: Global,
-        hints: &EntryHints<'_>,
+        hints: &EntryHints<'a>,
         found: &Found,
         block: &Block,
     ) -> Result<(), AllocError>
@@ -135,8 +137,9 @@ impl Lookups {
             ≡ self.old.used.items ++ spec.cleanup_positions (action_of hints.now f) hints.now f) }
         ensures undefined { self.new.undefined ≡ self.old.undefined }
         ensures cleanup { let f = found_value found.now in
-            OnOk result (self.new.cleanup
-            ≡ option_or self.old.cleanup (registered_hint (action_of hints.now f) hints.now f)) }
+            OnOk result (option_map hint_value self.new.cleanup
+            ≡ option_or (option_map hint_value self.old.cleanup)
+            (registered_hint (action_of hints.now f) hints.now f)) }
     {
         let library = hints.library();
         let action = library.action(found);
@@ -157,7 +160,7 @@ impl Lookups {
     pub fn add(
         &mut self,
         alloc: Global,
-        hints: &EntryHints<'_>,
+        hints: &EntryHints<'a>,
         site: StepSite,
         step: &Step,
     ) -> Result<(), AllocError>
@@ -165,9 +168,11 @@ impl Lookups {
             ++ spec.faults_of hints.now site (step_value step.now)) }
         ensures used { OnOk result (self.new.used.items ≡ self.old.used.items
             ++ spec.positions_of hints.now (step_value step.now)) }
-        ensures undefined { OnOk result (self.new.undefined ≡ option_or self.old.undefined
+        ensures undefined { OnOk result (option_map hint_value self.new.undefined
+            ≡ option_or (option_map hint_value self.old.undefined)
             (step_hint hints.now (step_value step.now))) }
-        ensures cleanup { OnOk result (self.new.cleanup ≡ option_or self.old.cleanup
+        ensures cleanup { OnOk result (option_map hint_value self.new.cleanup
+            ≡ option_or (option_map hint_value self.old.cleanup)
             (cleanup_hint hints.now (step_value step.now))) }
     {
         let library = hints.library();

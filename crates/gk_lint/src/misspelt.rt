@@ -2,7 +2,8 @@
 //! of scenarios. Lines that prose surrounds are part of it, except for headings with their colons.
 ghost use Rattle.std.specs.Prelude.{◌≡◌, ◌≤◌, ◌++◌, ◌∷◌, false, true, cond, None, Some, IfOk, OnOk, length};
 ghost use Rattle.std.specs.Str.Lines.{lines};
-ghost use Rattle.gk_gherkin.specs.Lines.{borrowed_value, numbered_from};
+ghost use Rattle.gk_gherkin.specs.Lines.{numbered_from};
+ghost use Rattle.gk_lint.specs.Findings.{finding_values};
 ghost use Rattle.gk_lint.specs.Likeness.{like};
 ghost use Rattle.gk_lint.specs.Misspelt as spec;
 ghost use Rattle.gk_lint.specs.Misspelt.{IsAbove};
@@ -10,9 +11,9 @@ ghost use Rattle.gk_lint.specs.declared.line_context.LineContext.TheVariants.{El
 
 use crate::findings::{Finding, FindingKind, add_if};
 use crate::likeness::{is_like_heading, like};
-use crate::line_context::{LineContext, after};
+use crate::line_context::{LineContext, after, class_in};
 use gk_gherkin::text::{begins_word, trim};
-use gk_gherkin::{BorrowedLine, Class, Keyword, LONGEST_FILE, borrowed_line, class_of_line};
+use gk_gherkin::{Class, Keyword, LONGEST_FILE, borrowed_line};
 use std::alloc::{AllocError, Global};
 
 /// How a line is worded.
@@ -80,35 +81,19 @@ fn of_step(context: LineContext, text: &str) -> Wording
     }
 }
 
-// Returns the wording of a line outside of doc strings, by its class.
-fn by_class(
+// Returns the wording of a line of this class in this context, by its trimmed text.
+fn wording_of(
     alloc: Global,
     context: LineContext,
-    text: &str,
     class: Class,
+    text: &str,
 ) -> Result<Wording, AllocError>
-    ensures { IfOk result (λ wording. wording ≡ spec.by_class context text.now class) }
+    ensures { IfOk result (λ wording. wording ≡ spec.wording context class text.now) }
 {
     match class {
         Class::Other => of_description(alloc, text),
         Class::StepLine => Ok(of_step(context, text)),
         _ => Ok(Wording::Other),
-    }
-}
-
-// Returns the wording of a line in this context.
-#[tactic(auto, unfolding(crate::specs::Misspelt::wording))]
-fn wording_in(
-    alloc: Global,
-    context: LineContext,
-    line: &BorrowedLine<'_>,
-) -> Result<Wording, AllocError>
-    ensures { IfOk result (λ wording. wording
-        ≡ spec.wording context (borrowed_value line.now)) }
-{
-    match context {
-        LineContext::InText(_) => Ok(Wording::Other),
-        _ => by_class(alloc, context, trim(line.text), class_of_line(line)),
     }
 }
 
@@ -123,12 +108,13 @@ fn worded(alloc: Global, text: &str) -> Result<Vec<WordedLine>, AllocError>
     let mut context = LineContext::Elsewhere;
     for part in text.lines() {
         let line = borrowed_line(number, part);
-        let wording = wording_in(alloc, context, &line)?;
+        let class = class_in(context, &line);
+        let wording = wording_of(alloc, context, class, trim(part))?;
         all.push(WordedLine {
             line: number,
             wording,
         })?;
-        context = after(context, &line);
+        context = after(context, class, &line);
         number += 1;
     }
     Ok(all)
@@ -151,12 +137,6 @@ fn is_prose(above: bool, below: &[WordedLine]) -> bool
     above
 }
 
-fn is_plain(wording: Wording) -> bool
-    ensures { result ≡ spec.is_plain wording }
-{
-    matches!(wording, Wording::Prose)
-}
-
 // Returns whether a line that begins like a keyword may be prose.
 fn begins_like(wording: Wording) -> bool
     ensures { result ≡ spec.begins_like wording }
@@ -165,8 +145,12 @@ fn begins_like(wording: Wording) -> bool
 }
 
 // Adds the finding of a line, if it has one. `prose`: whether it is prose if it begins like a keyword.
-fn add_meant(findings: &mut Vec<Finding>, line: &WordedLine, prose: bool) -> Result<(), AllocError>
-    ensures { OnOk result (findings.new.items ≡ findings.old.items
+fn add_meant(
+    findings: &mut Vec<Finding<'_>>,
+    line: &WordedLine,
+    prose: bool,
+) -> Result<(), AllocError>
+    ensures { OnOk result (finding_values findings.new.items ≡ finding_values findings.old.items
         ++ spec.meant prose line.now.line line.now.wording) }
 {
     match line.wording {
@@ -217,13 +201,14 @@ fn is_prose_here(above: Above, line: &WordedLine, below: &[WordedLine]) -> bool
 
 // Adds the finding of a line, if it has one. Returns what the next line has to know.
 fn add_at(
-    findings: &mut Vec<Finding>,
+    findings: &mut Vec<Finding<'_>>,
     above: Above,
     line: &WordedLine,
     below: &[WordedLine],
 ) -> Result<Above, AllocError>
     requires { IsAbove above (line.now ∷ below.now) }
-    ensures found { OnOk result (findings.new.items ≡ findings.old.items
+    ensures found { OnOk result (finding_values findings.new.items
+        ≡ finding_values findings.old.items
         ++ spec.meant (spec.is_prose above.plain below.now) line.now.line line.now.wording) }
     ensures plain { IfOk result (λ next. next.plain ≡ spec.is_plain line.now.wording) }
     // A line that begins like a keyword and may be prose is in a group, and the next line is told whether the group is prose.
@@ -241,15 +226,15 @@ fn add_at(
     }
     add_meant(findings, line, false)?;
     Ok(Above {
-        plain: is_plain(line.wording),
+        plain: matches!(line.wording, Wording::Prose),
         group: None,
     })
 }
 
 // Adds the findings of lines.
-fn add_of_worded(findings: &mut Vec<Finding>, all: &[WordedLine]) -> Result<(), AllocError>
-    ensures { OnOk result (findings.new.items
-        ≡ findings.old.items ++ spec.of_worded false all.now) }
+fn add_of_worded(findings: &mut Vec<Finding<'_>>, all: &[WordedLine]) -> Result<(), AllocError>
+    ensures { OnOk result (finding_values findings.new.items
+        ≡ finding_values findings.old.items ++ spec.of_worded false all.now) }
 {
     let mut above = Above {
         plain: false,
@@ -264,12 +249,13 @@ fn add_of_worded(findings: &mut Vec<Finding>, all: &[WordedLine]) -> Result<(), 
 /// Adds the findings of misspelt lines of a text. An error comes only if a growth was refused; some of the findings may
 /// have been added then.
 pub fn add_misspelt(
-    findings: &mut Vec<Finding>,
+    findings: &mut Vec<Finding<'_>>,
     alloc: Global,
     text: &str,
 ) -> Result<(), AllocError>
     requires { length text.now ≤ LONGEST_FILE }
-    ensures { OnOk result (findings.new.items ≡ findings.old.items
+    ensures { OnOk result (finding_values findings.new.items
+        ≡ finding_values findings.old.items
         ++ spec.misspelt Elsewhere (numbered_from 1 (lines text.now))) }
 {
     let all = worded(alloc, text)?;

@@ -1,17 +1,17 @@
 //! Lines of cases, and the lines of `--line` that have no case.
 ghost use Rattle.std.specs.Prelude.{◌≡◌, ◌++◌, not, map, filter, OnOk, IfOk};
 ghost use Rattle.std.specs.List.Sorted.{IsNonDecreasing};
-ghost use Rattle.gk_gherkin.specs.Feature.{row_value, examples_value, scenario_value, feature_value};
+ghost use Rattle.gk_gherkin.specs.Feature.{row_value, scenario_value, feature_value};
 ghost use Rattle.gk_lint.specs.NumberSets.{is_among};
 ghost use Rattle.gk_lint.specs.ScenarioLines as spec;
 
 use crate::number_sets::{has, rising};
 use crate::scenario_names::scenarios_of;
-use gk_gherkin::{Examples, Feature, Row, Scenario};
+use gk_gherkin::{Feature, Row, Scenario};
 use gk_select::is_outline;
 use std::alloc::{AllocError, Global};
 
-fn push_rows(lines: &mut Vec<usize>, rows: &[Row]) -> Result<(), AllocError>
+fn push_row_lines(lines: &mut Vec<usize>, rows: &[Row]) -> Result<(), AllocError>
     ensures { OnOk result (lines.new.items
         ≡ lines.old.items ++ spec.lines_of_rows (map row_value rows.now)) }
 {
@@ -21,44 +21,33 @@ fn push_rows(lines: &mut Vec<usize>, rows: &[Row]) -> Result<(), AllocError>
     Ok(())
 }
 
-fn push_examples(lines: &mut Vec<usize>, parts: &[Examples]) -> Result<(), AllocError>
-    ensures { OnOk result (lines.new.items
-        ≡ lines.old.items ++ spec.lines_of_examples (map examples_value parts.now)) }
-{
-    for part in parts {
-        push_rows(lines, &part.rows)?;
-    }
-    Ok(())
-}
-
-fn push_scenario(lines: &mut Vec<usize>, scenario: &Scenario) -> Result<(), AllocError>
+fn push_lines(lines: &mut Vec<usize>, scenario: &Scenario) -> Result<(), AllocError>
     ensures { OnOk result (lines.new.items
         ≡ lines.old.items ++ spec.lines_of_scenario (scenario_value scenario.now)) }
 {
-    if is_outline(scenario) {
-        push_examples(lines, &scenario.examples)
-    } else {
+    if !is_outline(scenario) {
         lines.push(scenario.line as usize)?;
-        Ok(())
+        return Ok(());
     }
-}
-
-fn push_scenarios(lines: &mut Vec<usize>, scenarios: &[&Scenario]) -> Result<(), AllocError>
-    ensures { OnOk result (lines.new.items ≡ lines.old.items
-        ++ spec.lines_of_scenarios (map (λ s. scenario_value s.now) scenarios.now)) }
-{
-    for scenario in scenarios {
-        push_scenario(lines, *scenario)?;
+    for part in &scenario.examples {
+        push_row_lines(lines, &part.rows)?;
     }
     Ok(())
 }
 
-fn push_feature(lines: &mut Vec<usize>, alloc: Global, feature: &Feature) -> Result<(), AllocError>
+fn push_feature_lines(
+    lines: &mut Vec<usize>,
+    alloc: Global,
+    feature: &Feature,
+) -> Result<(), AllocError>
     ensures { OnOk result (lines.new.items
         ≡ lines.old.items ++ spec.lines_of_feature (feature_value feature.now)) }
 {
     let scenarios = scenarios_of(alloc, feature)?;
-    push_scenarios(lines, &scenarios)
+    for scenario in &scenarios {
+        push_lines(lines, *scenario)?;
+    }
+    Ok(())
 }
 
 // Returns the lines of the cases of features.
@@ -68,7 +57,7 @@ fn lines_of_features(alloc: Global, features: &[Feature]) -> Result<Vec<usize>, 
 {
     let mut lines = Vec::new(alloc);
     for feature in features {
-        push_feature(&mut lines, alloc, feature)?;
+        push_feature_lines(&mut lines, alloc, feature)?;
     }
     Ok(lines)
 }

@@ -1,9 +1,9 @@
 //! Scenarios of one feature that have the same name.
-ghost use Rattle.std.specs.Prelude.{◌≡◌, ◌∷◌, ◌++◌, false, List, map, option_map, OnOk, IfOk};
+ghost use Rattle.std.specs.Prelude.{◌≡◌, ◌∷◌, ◌++◌, List, map, OnOk, IfOk};
 ghost use Rattle.gk_gherkin.specs.Feature.{ScenarioValue, scenario_value, rule_value, feature_value};
+ghost use Rattle.gk_lint.specs.Findings.{finding_values};
 ghost use Rattle.gk_lint.specs.TextSets.{in_set};
 ghost use Rattle.gk_lint.specs.ScenarioNames as spec;
-ghost use Rattle.gk_lint.specs.ScenarioNames.{named_again};
 
 use crate::findings::{Finding, FindingKind, add_if};
 use crate::text_sets::TextSet;
@@ -51,49 +51,33 @@ pub fn scenarios_of<'a>(
 
 // Adds the finding of a scenario, if its name was seen before, and adds its name to `seen`.
 fn add_named<'a>(
-    findings: &mut Vec<Finding>,
+    findings: &mut Vec<Finding<'_>>,
     seen: &mut TextSet<'a>,
     scenario: &'a Scenario,
 ) -> Result<(), AllocError>
     ensures { OnOk result ((rest : List ScenarioValue) →
-        findings.new.items ++ named_again (in_set seen.new) rest
-        ≡ findings.old.items
-        ++ named_again (in_set seen.old) (scenario_value scenario.now ∷ rest)) }
+        finding_values findings.new.items ++ spec.named_again (in_set seen.new) rest
+        ≡ finding_values findings.old.items
+        ++ spec.named_again (in_set seen.old) (scenario_value scenario.now ∷ rest)) }
 {
     let is_new = seen.add(scenario.name.as_str())?;
     add_if(findings, !is_new, scenario.line, FindingKind::NameTwice)
 }
 
-fn add_named_again(
-    findings: &mut Vec<Finding>,
+/// Adds a finding for each of some scenarios that has the name of an earlier one. An error comes only if a growth was
+/// refused; some of the findings may have been added then.
+pub fn add_same_names(
+    findings: &mut Vec<Finding<'_>>,
     alloc: Global,
     scenarios: &[&Scenario],
 ) -> Result<(), AllocError>
-    ensures { OnOk result (findings.new.items ≡ findings.old.items
-        ++ named_again (λ name. false) (map (λ s. scenario_value s.now) scenarios.now)) }
+    ensures { OnOk result (finding_values findings.new.items
+        ≡ finding_values findings.old.items
+        ++ spec.same_names (map (λ s. scenario_value s.now) scenarios.now)) }
 {
     let mut seen = TextSet::new(alloc);
     for scenario in scenarios {
         add_named(findings, &mut seen, *scenario)?;
     }
     Ok(())
-}
-
-/// Adds a finding for each scenario of a file's feature that has the name of an earlier one. An error comes only if a
-/// growth was refused; some of the findings may have been added then.
-pub fn add_same_names(
-    findings: &mut Vec<Finding>,
-    alloc: Global,
-    feature: &Option<Feature>,
-) -> Result<(), AllocError>
-    ensures { OnOk result (findings.new.items
-        ≡ findings.old.items ++ spec.same_names (option_map feature_value feature.now)) }
-{
-    match feature {
-        Some(feature) => {
-            let scenarios = scenarios_of(alloc, feature)?;
-            add_named_again(findings, alloc, &scenarios)
-        }
-        None => Ok(()),
-    }
 }

@@ -1,14 +1,15 @@
 //! Hooks for tags that no feature has.
 ghost use Rattle.std.specs.Prelude.{◌≡◌, ◌++◌, ℕ, List, map, OnOk, IfOk};
-ghost use Rattle.gk_gherkin.specs.Feature.{texts, examples_value, scenario_value, rule_value, feature_value};
+ghost use Rattle.gk_gherkin.specs.Feature.{texts, scenario_value, rule_value, feature_value};
 ghost use Rattle.gk_gherkin.specs.Hooks.{hook_value, hooks_value};
-ghost use Rattle.gk_lint.specs.Findings.{AreInOrder};
+ghost use Rattle.gk_lint.specs.Findings.{AreInOrder, finding_values};
 ghost use Rattle.gk_lint.specs.TextSets.{in_set, is_one_of};
 ghost use Rattle.gk_lint.specs.TagUse as spec;
 
 use crate::findings::{Finding, FindingKind, add_if, in_order};
+use crate::scenario_names::scenarios_of;
 use crate::text_sets::{TextSet, set_of};
-use gk_gherkin::{Examples, Feature, Hook, HookFile, Rule, Scenario};
+use gk_gherkin::{Feature, Hook, HookFile, Rule, Scenario};
 use std::alloc::{AllocError, Global};
 
 fn push_tags<'a>(all: &mut Vec<&'a str>, tags: &'a [String]) -> Result<(), AllocError>
@@ -21,52 +22,42 @@ fn push_tags<'a>(all: &mut Vec<&'a str>, tags: &'a [String]) -> Result<(), Alloc
     Ok(())
 }
 
-fn push_examples<'a>(all: &mut Vec<&'a str>, parts: &'a [Examples]) -> Result<(), AllocError>
+fn push_scenario_tags<'a>(all: &mut Vec<&'a str>, scenario: &'a Scenario) -> Result<(), AllocError>
     ensures { OnOk result (map (λ t. t.now) all.new.items ≡ map (λ t. t.now) all.old.items
-        ++ spec.tags_of_examples (map examples_value parts.now)) }
+        ++ spec.tags_of_scenario (scenario_value scenario.now)) }
 {
-    for part in parts {
+    push_tags(all, &scenario.tags)?;
+    for part in &scenario.examples {
         push_tags(all, &part.tags)?;
     }
     Ok(())
 }
 
-fn push_scenario<'a>(all: &mut Vec<&'a str>, scenario: &'a Scenario) -> Result<(), AllocError>
-    ensures { OnOk result (map (λ t. t.now) all.new.items ≡ map (λ t. t.now) all.old.items
-        ++ spec.tags_of_scenario (scenario_value scenario.now)) }
-{
-    push_tags(all, &scenario.tags)?;
-    push_examples(all, &scenario.examples)
-}
-
-fn push_scenarios<'a>(all: &mut Vec<&'a str>, scenarios: &'a [Scenario]) -> Result<(), AllocError>
-    ensures { OnOk result (map (λ t. t.now) all.new.items ≡ map (λ t. t.now) all.old.items
-        ++ spec.tags_of_scenarios (map scenario_value scenarios.now)) }
-{
-    for scenario in scenarios {
-        push_scenario(all, scenario)?;
-    }
-    Ok(())
-}
-
-fn push_rules<'a>(all: &mut Vec<&'a str>, rules: &'a [Rule]) -> Result<(), AllocError>
+fn push_rule_tags<'a>(all: &mut Vec<&'a str>, rules: &'a [Rule]) -> Result<(), AllocError>
     ensures { OnOk result (map (λ t. t.now) all.new.items ≡ map (λ t. t.now) all.old.items
         ++ spec.tags_of_rules (map rule_value rules.now)) }
 {
     for rule in rules {
         push_tags(all, &rule.tags)?;
-        push_scenarios(all, &rule.scenarios)?;
     }
     Ok(())
 }
 
-fn push_feature<'a>(all: &mut Vec<&'a str>, feature: &'a Feature) -> Result<(), AllocError>
+fn push_feature_tags<'a>(
+    all: &mut Vec<&'a str>,
+    alloc: Global,
+    feature: &'a Feature,
+) -> Result<(), AllocError>
     ensures { OnOk result (map (λ t. t.now) all.new.items ≡ map (λ t. t.now) all.old.items
         ++ spec.tags_of (feature_value feature.now)) }
 {
     push_tags(all, &feature.tags)?;
-    push_scenarios(all, &feature.scenarios)?;
-    push_rules(all, &feature.rules)
+    push_rule_tags(all, &feature.rules)?;
+    let scenarios = scenarios_of(alloc, feature)?;
+    for scenario in &scenarios {
+        push_scenario_tags(all, *scenario)?;
+    }
+    Ok(())
 }
 
 // Returns all tags in features.
@@ -76,7 +67,7 @@ fn tags_in<'a>(alloc: Global, features: &'a [Feature]) -> Result<Vec<&'a str>, A
 {
     let mut all = Vec::new(alloc);
     for feature in features {
-        push_feature(&mut all, feature)?;
+        push_feature_tags(&mut all, alloc, feature)?;
     }
     Ok(all)
 }
@@ -94,12 +85,12 @@ pub fn set_of_tags<'a>(alloc: Global, features: &'a [Feature]) -> Result<TextSet
 
 // Adds the finding of a hook, if there is one, by the tags that the features have.
 fn add_idle_hook(
-    findings: &mut Vec<Finding>,
+    findings: &mut Vec<Finding<'_>>,
     tags: &TextSet<'_>,
     hook: &Hook,
 ) -> Result<(), AllocError>
-    ensures { let h = hook_value hook.now in OnOk result (findings.new.items
-        ≡ findings.old.items ++ spec.of_tag (in_set tags.now) h.line h.tag) }
+    ensures { let h = hook_value hook.now in OnOk result (finding_values findings.new.items
+        ≡ finding_values findings.old.items ++ spec.of_tag (in_set tags.now) h.line h.tag) }
 {
     match &hook.tag {
         Some(tag) => {
@@ -111,8 +102,12 @@ fn add_idle_hook(
 }
 
 // Returns the findings of hooks, by the tags that the features have.
-fn idle_hooks(alloc: Global, tags: &TextSet<'_>, hooks: &[Hook]) -> Result<Vec<Finding>, AllocError>
-    ensures { IfOk result (λ findings. findings.items
+fn idle_hooks<'a>(
+    alloc: Global,
+    tags: &TextSet<'_>,
+    hooks: &'a [Hook],
+) -> Result<Vec<Finding<'a>>, AllocError>
+    ensures { IfOk result (λ findings. finding_values findings.items
         ≡ spec.idle_hooks (in_set tags.now) (map hook_value hooks.now)) }
 {
     let mut findings = Vec::new(alloc);
@@ -125,15 +120,15 @@ fn idle_hooks(alloc: Global, tags: &TextSet<'_>, hooks: &[Hook]) -> Result<Vec<F
 /// Returns the findings of a hooks file that is used with these features, in the order of lines: each hook for a tag
 /// that they don't have, neither above a feature or a rule nor above a scenario or its Examples. An error comes only if
 /// a growth was refused.
-pub fn lint_hook_tags(
+pub fn lint_hook_tags<'a>(
     alloc: Global,
-    hooks: &HookFile,
+    hooks: &'a HookFile,
     features: &[Feature],
-) -> Result<Vec<Finding>, AllocError>
+) -> Result<Vec<Finding<'a>>, AllocError>
     // Returns all findings, and no others.
     ensures { IfOk result (λ findings. AreInOrder
         (spec.hooks_of_no_tag (map feature_value features.now) (hooks_value hooks.now))
-        findings.items) }
+        (finding_values findings.items)) }
 {
     let tags = set_of_tags(alloc, features)?;
     let findings = idle_hooks(alloc, &tags, &hooks.hooks)?;

@@ -7,9 +7,9 @@ ghost use Rattle.gk_lint.specs.UnexpectedLines as spec;
 ghost use Rattle.gk_lint.specs.declared.line_context.LineContext.TheVariants.{Elsewhere};
 
 use crate::likeness::{like, same_letters};
-use crate::line_context::{LineContext, after};
+use crate::line_context::{LineContext, after, class_in};
 use gk_gherkin::text::{begins, trim};
-use gk_gherkin::{BorrowedLine, Class, Keyword, Place, class_of_line};
+use gk_gherkin::{BorrowedLine, Class, Keyword, Place};
 use std::alloc::{AllocError, Global};
 
 /// Why a line of a feature file is unexpected.
@@ -108,16 +108,6 @@ pub(crate) fn unplaced(text: &str) -> BorrowedLine<'_>
     }
 }
 
-// Returns the class of a line in this context.
-fn class_in(context: LineContext, line: &BorrowedLine<'_>) -> Class
-    ensures { result ≡ spec.class_in context (borrowed_value line.now) }
-{
-    match context {
-        LineContext::InText(_) => Class::Blank,
-        _ => class_of_line(line),
-    }
-}
-
 // Returns the classes of lines.
 fn classes_of(alloc: Global, lines: &[&str]) -> Result<Vec<Class>, AllocError>
     ensures { IfOk result (λ classes. classes.items
@@ -127,8 +117,9 @@ fn classes_of(alloc: Global, lines: &[&str]) -> Result<Vec<Class>, AllocError>
     let mut context = LineContext::Elsewhere;
     for text in lines {
         let line = unplaced(*text);
-        classes.push(class_in(context, &line))?;
-        context = after(context, &line);
+        let class = class_in(context, &line);
+        classes.push(class)?;
+        context = after(context, class, &line);
     }
     Ok(classes)
 }
@@ -236,8 +227,8 @@ fn cause_by_place(above: &[Class], class: Class) -> Cause
     }
 }
 
-// Returns the first values of some.
-fn front<T>(len: usize, values: &[T]) -> &[T]
+/// Returns the first values of some.
+pub(crate) fn front<T>(len: usize, values: &[T]) -> &[T]
     ensures { result.now ≡ take len values.now }
 {
     if len < values.len() {
@@ -245,6 +236,14 @@ fn front<T>(len: usize, values: &[T]) -> &[T]
     } else {
         values
     }
+}
+
+/// Returns the first texts of some.
+pub(crate) fn first_texts<'a, 'b>(len: usize, texts: &'a [&'b str]) -> &'a [&'b str]
+    ensures { map (λ text. text.now) result.now
+        ≡ take len (map (λ text. text.now) texts.entry.now) }
+{
+    front(len, texts)
 }
 
 // Returns whether a text begins with a keyword in any case.

@@ -1,6 +1,5 @@
 //! Findings of the steps of a feature and of a hooks file.
-ghost use Rattle.std.specs.Prelude.{◌≡◌, [], ◌++◌, map, option_map, length, OnOk, IfOk};
-ghost use Rattle.std.specs.Option.{option_or};
+ghost use Rattle.std.specs.Prelude.{◌≡◌, [], ◌∷◌, ◌++◌, None, map, option_map, length, OnOk, IfOk};
 ghost use Rattle.std.specs.List.{AllByRecursion};
 ghost use Rattle.gk_gherkin.specs.Feature.{texts, step_value, examples_value, background_value};
 ghost use Rattle.gk_gherkin.specs.Feature.{scenario_value, rule_value, feature_value};
@@ -8,30 +7,30 @@ ghost use Rattle.gk_gherkin.specs.Hooks.{hook_value, hooks_value};
 ghost use Rattle.gk_select.specs.Filling.{filled, filled_step};
 ghost use Rattle.gk_select.specs.Outline.{AllFit};
 ghost use Rattle.gk_select.specs.Expansion.{RowsFit, IsExpandable};
-ghost use Rattle.gk_lint.specs.Findings.{AreInOrder, hinted, named_once};
+ghost use Rattle.gk_lint.specs.Findings.{AreInOrder, finding_values, hint_value, hinted, named_once};
 ghost use Rattle.gk_lint.specs.StepFaults.{step_faults};
-ghost use Rattle.gk_lint.specs.StepHints.{step_hint, cleanup_hint};
 ghost use Rattle.gk_lint.specs.declared.findings.FindingKind.TheVariants as kinds;
-ghost use Rattle.gk_lint.specs.Lookups.{faults_of, positions_of, positions_in};
+ghost use Rattle.gk_lint.specs.Lookups.{positions_in};
 ghost use Rattle.gk_lint.specs.declared.step_sites.StepSite.TheVariants as sites;
 ghost use Rattle.gk_lint.specs.WrittenSteps as spec;
 ghost use Rattle.gk_lint.specs.WrittenSteps.{AreLookedUp, found_in, used_in};
 
 use crate::entry_hints::EntryHints;
-use crate::findings::{Finding, FindingKind, add_once, in_order};
+use crate::findings::{Finding, FindingKind, add_hinted, add_once, in_order};
 use crate::lookups::Lookups;
-use crate::nearest_entry::EntryHint;
+use crate::scenario_names::scenarios_of;
 use crate::step_faults::STEP_FAULTS;
 use crate::step_sites::{StepSite, site_of_hook};
 use gk_gherkin::{Background, Examples, Feature, Hook, HookFile, Rule, Scenario, Step};
 use gk_select::{Names, fill_step, is_outline};
 use std::alloc::{AllocError, Global};
+use std::mem;
 
 /// The findings of steps, and the position in the library of each entry that a step or its cleanup finds. A position is
 /// repeated as often as its entry is found.
 #[derive(Debug, Drop)]
-pub struct StepFindings {
-    pub findings: Vec<Finding>,
+pub struct StepFindings<'a> {
+    pub findings: Vec<Finding<'a>>,
     pub used: Vec<usize>,
 }
 
@@ -59,37 +58,28 @@ fn parts_of(alloc: Global, examples: &[Examples]) -> Result<Vec<Part<'_>>, Alloc
 }
 
 // Looks up a step filled from a row.
-fn look_up_row(
-    lookups: &mut Lookups,
+fn look_up_row<'a>(
+    lookups: &mut Lookups<'a>,
     alloc: Global,
-    hints: &EntryHints<'_>,
+    hints: &EntryHints<'a>,
     step: &Step,
     columns: &Names<'_>,
     cells: &[String],
 ) -> Result<(), AllocError>
     requires { length cells.now ≡ length columns.now }
-    ensures faults { OnOk result (lookups.new.faults.items ≡ lookups.old.faults.items
-        ++ faults_of hints.now sites.Scenario
-        (filled_step (filled columns.now (texts cells.now)) (step_value step.now))) }
-    ensures used { OnOk result (lookups.new.used.items ≡ lookups.old.used.items
-        ++ positions_of hints.now
-        (filled_step (filled columns.now (texts cells.now)) (step_value step.now))) }
-    ensures undefined { OnOk result (lookups.new.undefined ≡ option_or lookups.old.undefined
-        (step_hint hints.now
-        (filled_step (filled columns.now (texts cells.now)) (step_value step.now)))) }
-    ensures cleanup { OnOk result (lookups.new.cleanup ≡ option_or lookups.old.cleanup
-        (cleanup_hint hints.now
-        (filled_step (filled columns.now (texts cells.now)) (step_value step.now)))) }
+    ensures { OnOk result (AreLookedUp hints.now sites.Scenario
+        (filled_step (filled columns.now (texts cells.now)) (step_value step.now) ∷ [])
+        lookups.old lookups.new) }
 {
     let filled = fill_step(alloc, step, columns, cells)?;
     lookups.add(alloc, hints, StepSite::Scenario, &filled)
 }
 
 // Looks up a step filled from each row of Examples.
-fn look_up_rows(
-    lookups: &mut Lookups,
+fn look_up_rows<'a>(
+    lookups: &mut Lookups<'a>,
     alloc: Global,
-    hints: &EntryHints<'_>,
+    hints: &EntryHints<'a>,
     step: &Step,
     part: &Part<'_>,
 ) -> Result<(), AllocError>
@@ -105,10 +95,10 @@ fn look_up_rows(
 }
 
 // Looks up a step filled from each row of some Examples.
-fn look_up_examples(
-    lookups: &mut Lookups,
+fn look_up_examples<'a>(
+    lookups: &mut Lookups<'a>,
     alloc: Global,
-    hints: &EntryHints<'_>,
+    hints: &EntryHints<'a>,
     step: &Step,
     parts: &[Part<'_>],
 ) -> Result<(), AllocError>
@@ -127,10 +117,10 @@ fn look_up_examples(
 
 // Looks up the steps that a step of a scenario with these parts is run as.
 #[tactic(auto, using(crate::proofs::FirstHints::no_other_hint))]
-fn look_up_runs(
-    lookups: &mut Lookups,
+fn look_up_runs<'a>(
+    lookups: &mut Lookups<'a>,
     alloc: Global,
-    hints: &EntryHints<'_>,
+    hints: &EntryHints<'a>,
     scenario: &Scenario,
     parts: &[Part<'_>],
     step: &Step,
@@ -150,63 +140,53 @@ fn look_up_runs(
     }
 }
 
-// Adds the finding that a step at a line is undefined, if there is a hint.
-fn add_undefined(
-    findings: &mut Vec<Finding>,
+// Adds the results of one written step. The entries that it uses come after those that were used before.
+fn add_lookups<'a>(
+    found: &mut StepFindings<'a>,
     line: u32,
-    hint: Option<EntryHint>,
+    lookups: Lookups<'a>,
 ) -> Result<(), AllocError>
-    ensures { OnOk result (findings.new.items ≡ findings.old.items
-        ++ hinted line (λ h. kinds.UndefinedStep h) hint) }
+    ensures found { OnOk result (finding_values found.new.findings.items
+        ≡ finding_values found.old.findings.items
+        ++ (hinted line kinds.UndefinedStep (option_map hint_value lookups.entry.undefined)
+        ++ (hinted line kinds.CleanupWithoutStep (option_map hint_value lookups.entry.cleanup)
+        ++ named_once step_faults line lookups.entry.faults.items))) }
+    ensures used { OnOk result (found.new.used ≡ lookups.entry.used) }
 {
-    if let Some(hint) = hint {
-        findings.push(Finding {
-            line,
-            kind: FindingKind::UndefinedStep(hint),
-        })?;
-    }
+    let findings = &mut found.findings;
+    add_hinted(
+        findings,
+        line,
+        FindingKind::UndefinedStep,
+        lookups.undefined,
+    )?;
+    add_hinted(
+        findings,
+        line,
+        FindingKind::CleanupWithoutStep,
+        lookups.cleanup,
+    )?;
+    add_once(findings, &STEP_FAULTS, line, &lookups.faults)?;
+    found.used = lookups.used;
     Ok(())
 }
 
-// Adds the finding that a step at a line registers a cleanup without a step, if there is a hint.
-fn add_cleanup(
-    findings: &mut Vec<Finding>,
-    line: u32,
-    hint: Option<EntryHint>,
-) -> Result<(), AllocError>
-    ensures { OnOk result (findings.new.items ≡ findings.old.items
-        ++ hinted line (λ h. kinds.CleanupWithoutStep h) hint) }
+// Takes the entries that are used out of the results, to look up a step after others.
+fn take_used<'a>(found: &mut StepFindings<'a>, alloc: Global) -> Lookups<'a>
+    ensures faults { result.faults.items ≡ [] }
+    ensures used { result.used ≡ found.old.used }
+    ensures undefined { result.undefined ≡ None }
+    ensures cleanup { result.cleanup ≡ None }
+    ensures found { found.new.findings ≡ found.old.findings }
 {
-    if let Some(hint) = hint {
-        findings.push(Finding {
-            line,
-            kind: FindingKind::CleanupWithoutStep(hint),
-        })?;
-    }
-    Ok(())
-}
-
-// Adds the results of one written step.
-fn add_lookups(found: &mut StepFindings, line: u32, lookups: Lookups) -> Result<(), AllocError>
-    ensures found { OnOk result (found.new.findings.items ≡ found.old.findings.items
-        ++ (hinted line (λ h. kinds.UndefinedStep h) lookups.undefined
-        ++ (hinted line (λ h. kinds.CleanupWithoutStep h) lookups.cleanup
-        ++ named_once step_faults line lookups.faults.items))) }
-    ensures used { OnOk result (found.new.used.items
-        ≡ found.old.used.items ++ lookups.used.items) }
-{
-    let mut lookups = lookups;
-    add_undefined(&mut found.findings, line, lookups.undefined)?;
-    add_cleanup(&mut found.findings, line, lookups.cleanup)?;
-    add_once(&mut found.findings, &STEP_FAULTS, line, &lookups.faults)?;
-    found.used.append(&mut lookups.used)
+    Lookups::new(alloc, mem::replace(&mut found.used, Vec::new(alloc)))
 }
 
 // Adds the results of a step of a scenario with these parts.
-fn add_scenario_step(
-    found: &mut StepFindings,
+fn add_scenario_step<'a>(
+    found: &mut StepFindings<'a>,
     alloc: Global,
-    hints: &EntryHints<'_>,
+    hints: &EntryHints<'a>,
     scenario: &Scenario,
     parts: &[Part<'_>],
     step: &Step,
@@ -215,26 +195,28 @@ fn add_scenario_step(
         (map (λ part. examples_value part.examples.now) parts.now) }
     requires parts { map (λ part. examples_value part.examples.now) parts.now
         ≡ (scenario_value scenario.now).examples }
-    ensures found { OnOk result (found.new.findings.items ≡ found.old.findings.items
+    ensures found { OnOk result (finding_values found.new.findings.items
+        ≡ finding_values found.old.findings.items
         ++ spec.at_step hints.now
         (spec.in_scenario (scenario_value scenario.now) (step_value step.now))) }
     ensures used { OnOk result (found.new.used.items ≡ found.old.used.items
         ++ positions_in hints.now
         (spec.runs_in (scenario_value scenario.now) (step_value step.now))) }
 {
-    let mut lookups = Lookups::new(alloc);
+    let mut lookups = take_used(found, alloc);
     look_up_runs(&mut lookups, alloc, hints, scenario, parts, step)?;
     add_lookups(found, step.line, lookups)
 }
 
-fn add_scenario(
-    found: &mut StepFindings,
+fn add_scenario<'a>(
+    found: &mut StepFindings<'a>,
     alloc: Global,
-    hints: &EntryHints<'_>,
+    hints: &EntryHints<'a>,
     scenario: &Scenario,
 ) -> Result<(), AllocError>
     requires { AllByRecursion AllFit (scenario_value scenario.now).examples }
-    ensures found { OnOk result (found.new.findings.items ≡ found.old.findings.items
+    ensures found { OnOk result (finding_values found.new.findings.items
+        ≡ finding_values found.old.findings.items
         ++ found_in hints.now (spec.of_scenario (scenario_value scenario.now))) }
     ensures used { OnOk result (found.new.used.items ≡ found.old.used.items
         ++ used_in hints.now (spec.of_scenario (scenario_value scenario.now))) }
@@ -246,51 +228,35 @@ fn add_scenario(
     Ok(())
 }
 
-fn add_scenarios(
-    found: &mut StepFindings,
-    alloc: Global,
-    hints: &EntryHints<'_>,
-    scenarios: &[Scenario],
-) -> Result<(), AllocError>
-    requires { RowsFit (map scenario_value scenarios.now) }
-    ensures found { OnOk result (found.new.findings.items ≡ found.old.findings.items
-        ++ found_in hints.now (spec.of_scenarios (map scenario_value scenarios.now))) }
-    ensures used { OnOk result (found.new.used.items ≡ found.old.used.items
-        ++ used_in hints.now (spec.of_scenarios (map scenario_value scenarios.now))) }
-{
-    for scenario in scenarios {
-        add_scenario(found, alloc, hints, scenario)?;
-    }
-    Ok(())
-}
-
 // Adds the results of a step that is run at a site as it is written.
 #[tactic(auto, using(crate::proofs::FirstHints::no_other_hint))]
-fn add_plain_step(
-    found: &mut StepFindings,
+fn add_plain_step<'a>(
+    found: &mut StepFindings<'a>,
     alloc: Global,
-    hints: &EntryHints<'_>,
+    hints: &EntryHints<'a>,
     site: StepSite,
     step: &Step,
 ) -> Result<(), AllocError>
-    ensures found { OnOk result (found.new.findings.items ≡ found.old.findings.items
+    ensures found { OnOk result (finding_values found.new.findings.items
+        ≡ finding_values found.old.findings.items
         ++ spec.at_step hints.now (spec.as_written site (step_value step.now))) }
     ensures used { OnOk result (found.new.used.items ≡ found.old.used.items
         ++ positions_in hints.now (spec.as_written site (step_value step.now)).runs) }
 {
-    let mut lookups = Lookups::new(alloc);
+    let mut lookups = take_used(found, alloc);
     lookups.add(alloc, hints, site, step)?;
     add_lookups(found, step.line, lookups)
 }
 
-fn add_plain_steps(
-    found: &mut StepFindings,
+fn add_plain_steps<'a>(
+    found: &mut StepFindings<'a>,
     alloc: Global,
-    hints: &EntryHints<'_>,
+    hints: &EntryHints<'a>,
     site: StepSite,
     steps: &[Step],
 ) -> Result<(), AllocError>
-    ensures found { OnOk result (found.new.findings.items ≡ found.old.findings.items
+    ensures found { OnOk result (finding_values found.new.findings.items
+        ≡ finding_values found.old.findings.items
         ++ found_in hints.now (map (spec.as_written site) (map step_value steps.now))) }
     ensures used { OnOk result (found.new.used.items ≡ found.old.used.items
         ++ used_in hints.now (map (spec.as_written site) (map step_value steps.now))) }
@@ -301,13 +267,14 @@ fn add_plain_steps(
     Ok(())
 }
 
-fn add_background(
-    found: &mut StepFindings,
+fn add_background<'a>(
+    found: &mut StepFindings<'a>,
     alloc: Global,
-    hints: &EntryHints<'_>,
+    hints: &EntryHints<'a>,
     background: &Option<Background>,
 ) -> Result<(), AllocError>
-    ensures found { OnOk result (found.new.findings.items ≡ found.old.findings.items
+    ensures found { OnOk result (finding_values found.new.findings.items
+        ≡ finding_values found.old.findings.items
         ++ found_in hints.now (spec.of_background (option_map background_value background.now))) }
     ensures used { OnOk result (found.new.used.items ≡ found.old.used.items
         ++ used_in hints.now (spec.of_background (option_map background_value background.now))) }
@@ -320,64 +287,72 @@ fn add_background(
     }
 }
 
-fn add_rule(
-    found: &mut StepFindings,
+fn add_rules<'a>(
+    found: &mut StepFindings<'a>,
     alloc: Global,
-    hints: &EntryHints<'_>,
-    rule: &Rule,
-) -> Result<(), AllocError>
-    requires { RowsFit (rule_value rule.now).scenarios }
-    ensures found { OnOk result (found.new.findings.items ≡ found.old.findings.items
-        ++ found_in hints.now (spec.of_rule (rule_value rule.now))) }
-    ensures used { OnOk result (found.new.used.items ≡ found.old.used.items
-        ++ used_in hints.now (spec.of_rule (rule_value rule.now))) }
-{
-    add_background(found, alloc, hints, &rule.background)?;
-    add_scenarios(found, alloc, hints, &rule.scenarios)
-}
-
-fn add_rules(
-    found: &mut StepFindings,
-    alloc: Global,
-    hints: &EntryHints<'_>,
+    hints: &EntryHints<'a>,
     rules: &[Rule],
 ) -> Result<(), AllocError>
-    requires { AllByRecursion (λ r. RowsFit r.scenarios) (map rule_value rules.now) }
-    ensures found { OnOk result (found.new.findings.items ≡ found.old.findings.items
+    ensures found { OnOk result (finding_values found.new.findings.items
+        ≡ finding_values found.old.findings.items
         ++ found_in hints.now (spec.of_rules (map rule_value rules.now))) }
     ensures used { OnOk result (found.new.used.items ≡ found.old.used.items
         ++ used_in hints.now (spec.of_rules (map rule_value rules.now))) }
 {
     for rule in rules {
-        add_rule(found, alloc, hints, rule)?;
+        add_background(found, alloc, hints, &rule.background)?;
     }
     Ok(())
 }
 
-fn add_feature(
-    found: &mut StepFindings,
+fn add_scenarios<'a>(
+    found: &mut StepFindings<'a>,
     alloc: Global,
-    hints: &EntryHints<'_>,
+    hints: &EntryHints<'a>,
+    scenarios: &[&Scenario],
+) -> Result<(), AllocError>
+    requires { RowsFit (map (λ s. scenario_value s.now) scenarios.now) }
+    ensures found { OnOk result (finding_values found.new.findings.items
+        ≡ finding_values found.old.findings.items
+        ++ found_in hints.now
+        (spec.of_scenarios (map (λ s. scenario_value s.now) scenarios.now))) }
+    ensures used { OnOk result (found.new.used.items ≡ found.old.used.items
+        ++ used_in hints.now
+        (spec.of_scenarios (map (λ s. scenario_value s.now) scenarios.now))) }
+{
+    for scenario in scenarios {
+        add_scenario(found, alloc, hints, *scenario)?;
+    }
+    Ok(())
+}
+
+fn add_feature<'a>(
+    found: &mut StepFindings<'a>,
+    alloc: Global,
+    hints: &EntryHints<'a>,
     feature: &Feature,
 ) -> Result<(), AllocError>
     requires { IsExpandable (feature_value feature.now) }
-    ensures found { OnOk result (found.new.findings.items ≡ found.old.findings.items
+    ensures found { OnOk result (finding_values found.new.findings.items
+        ≡ finding_values found.old.findings.items
         ++ found_in hints.now (spec.of_feature (feature_value feature.now))) }
     ensures used { OnOk result (found.new.used.items ≡ found.old.used.items
         ++ used_in hints.now (spec.of_feature (feature_value feature.now))) }
 {
     add_background(found, alloc, hints, &feature.background)?;
-    add_scenarios(found, alloc, hints, &feature.scenarios)?;
-    add_rules(found, alloc, hints, &feature.rules)
+    add_rules(found, alloc, hints, &feature.rules)?;
+    let scenarios = scenarios_of(alloc, feature)?;
+    add_scenarios(found, alloc, hints, &scenarios)
 }
 
-fn add_hook(
-    found: &mut StepFindings,
+fn add_hook<'a>(
+    found: &mut StepFindings<'a>,
     alloc: Global,
-    hints: &EntryHints<'_>,
+    hints: &EntryHints<'a>,
     hook: &Hook,
 ) -> Result<(), AllocError>
-    ensures found { OnOk result (found.new.findings.items ≡ found.old.findings.items
+    ensures found { OnOk result (finding_values found.new.findings.items
+        ≡ finding_values found.old.findings.items
         ++ found_in hints.now (spec.of_hook (hook_value hook.now))) }
     ensures used { OnOk result (found.new.used.items ≡ found.old.used.items
         ++ used_in hints.now (spec.of_hook (hook_value hook.now))) }
@@ -385,13 +360,14 @@ fn add_hook(
     add_plain_steps(found, alloc, hints, site_of_hook(hook.kind), &hook.steps)
 }
 
-fn add_hooks(
-    found: &mut StepFindings,
+fn add_hooks<'a>(
+    found: &mut StepFindings<'a>,
     alloc: Global,
-    hints: &EntryHints<'_>,
+    hints: &EntryHints<'a>,
     hooks: &[Hook],
 ) -> Result<(), AllocError>
-    ensures found { OnOk result (found.new.findings.items ≡ found.old.findings.items
+    ensures found { OnOk result (finding_values found.new.findings.items
+        ≡ finding_values found.old.findings.items
         ++ found_in hints.now (spec.of_hooks (map hook_value hooks.now))) }
     ensures used { OnOk result (found.new.used.items ≡ found.old.used.items
         ++ used_in hints.now (spec.of_hooks (map hook_value hooks.now))) }
@@ -403,7 +379,7 @@ fn add_hooks(
 }
 
 // Returns empty results.
-fn nothing_found(alloc: Global) -> StepFindings
+fn nothing_found<'a>(alloc: Global) -> StepFindings<'a>
     ensures found { result.findings.items ≡ [] }
     ensures used { result.used.items ≡ [] }
 {
@@ -414,9 +390,10 @@ fn nothing_found(alloc: Global) -> StepFindings
 }
 
 // Puts the findings in the order of their lines.
-fn ordered(found: StepFindings) -> Result<StepFindings, AllocError>
-    ensures found { IfOk result (λ o. AreInOrder found.findings.items o.findings.items) }
-    ensures used { IfOk result (λ o. o.used.items ≡ found.used.items) }
+fn ordered(found: StepFindings<'_>) -> Result<StepFindings<'_>, AllocError>
+    ensures found { IfOk result (λ o.
+        AreInOrder (finding_values found.entry.findings.items) (finding_values o.findings.items)) }
+    ensures used { IfOk result (λ o. o.used.items ≡ found.entry.used.items) }
 {
     let StepFindings { findings, used } = found;
     Ok(StepFindings {
@@ -430,16 +407,16 @@ fn ordered(found: StepFindings) -> Result<StepFindings, AllocError>
 /// row. Findings of several rows are listed once, at the line of the step, and each finding at a step is listed once.
 ///
 /// An error comes only if a growth was refused.
-pub fn lint_steps(
+pub fn lint_steps<'a>(
     alloc: Global,
-    hints: &EntryHints<'_>,
+    hints: &EntryHints<'a>,
     feature: &Feature,
-) -> Result<StepFindings, AllocError>
+) -> Result<StepFindings<'a>, AllocError>
     requires { IsExpandable (feature_value feature.now) }
     // Returns all findings, and no others.
     ensures found { IfOk result (λ r. AreInOrder
         (found_in hints.now (spec.of_feature (feature_value feature.now)))
-        r.findings.items) }
+        (finding_values r.findings.items)) }
     // Returns the positions of all entries that the steps find.
     ensures used { IfOk result (λ r. r.used.items
         ≡ used_in hints.now (spec.of_feature (feature_value feature.now))) }
@@ -451,15 +428,15 @@ pub fn lint_steps(
 
 /// Returns the findings of the steps of hooks, in the order of lines, as `lint_steps` does for a feature. An error
 /// comes only if a growth was refused.
-pub fn lint_hooks(
+pub fn lint_hooks<'a>(
     alloc: Global,
-    hints: &EntryHints<'_>,
+    hints: &EntryHints<'a>,
     hooks: &HookFile,
-) -> Result<StepFindings, AllocError>
+) -> Result<StepFindings<'a>, AllocError>
     // Returns all findings, and no others.
     ensures found { IfOk result (λ r. AreInOrder
         (found_in hints.now (spec.of_hooks (hooks_value hooks.now)))
-        r.findings.items) }
+        (finding_values r.findings.items)) }
     // Returns the positions of all entries that the steps find.
     ensures used { IfOk result (λ r. r.used.items
         ≡ used_in hints.now (spec.of_hooks (hooks_value hooks.now))) }

@@ -2,34 +2,38 @@ use crate::checks::{equal, holds, same};
 use crate::run_tests::feature_of;
 use gk_gherkin::{Feature, Keyword, ReadFault, read_feature, read_hooks, text_of};
 use gk_lint::{
-    Cause, EntryHint, EntryHints, Finding, FindingKind, LibraryCause, StepFault, StepFindings,
-    cause_at, column_at, entry_lines, in_order, library_cause, lines_without_scenario,
-    lint_feature, lint_feature_file, lint_hook_tags, lint_hooks, lint_library, lint_steps,
-    scenarios_of, tags_that_stand_nowhere,
+    Cause, EntryHints, Finding, FindingKind, Hint, LibraryCause, StepFault, StepFindings, cause_at,
+    in_order, library_cause, lines_without_scenario, lint_feature, lint_hook_tags, lint_hooks,
+    lint_library, lint_steps, tags_that_stand_nowhere,
 };
 use gk_select::read_tags;
 use gk_steps::{LibraryFault, read_library};
 use std::alloc::{AllocError, Global};
 use std::test::Fail;
 
+// Shows what the author of a line may have meant: a column, or the line of an entry.
+fn shown_hint(alloc: Global, hint: Hint<'_>) -> Result<String, AllocError> {
+    match hint {
+        Hint::Nothing => Ok(String::new(alloc)),
+        Hint::Column(column) => format!(in alloc; " ({column})"),
+        Hint::OtherType(entry) => format!(in alloc; " (of another type: {})", entry.line),
+        Hint::Nearest(entry) => format!(in alloc; " (nearest: {})", entry.line),
+    }
+}
+
 // Shows findings, a line for each.
-fn shown(alloc: Global, findings: &[Finding]) -> Result<String, AllocError> {
+fn shown(alloc: Global, findings: &[Finding<'_>]) -> Result<String, AllocError> {
     let mut shown = String::new(alloc);
     for finding in findings {
         let text = FindingKind::text(finding.kind, alloc)?;
-        write!(shown, "{}: {text}\n", finding.line)?;
+        let hint = shown_hint(alloc, finding.hint)?;
+        write!(shown, "{}: {text}{hint}\n", finding.line)?;
     }
     Ok(shown)
 }
 
 // Shows what is found in a feature file, a line for each finding.
 fn found_in(alloc: Global, bytes: &[u8]) -> Result<String, ReadFault> {
-    let findings = lint_feature_file(alloc, bytes)?;
-    Ok(shown(alloc, &findings)?)
-}
-
-// The same of the file once it has been read.
-fn found_once_read(alloc: Global, bytes: &[u8]) -> Result<String, ReadFault> {
     let feature = read_feature(alloc, bytes)?;
     let findings = lint_feature(alloc, &feature, text_of(bytes)?)?;
     Ok(shown(alloc, &findings)?)
@@ -52,7 +56,7 @@ const FILES: [(&[u8], &str); 6] = [
         b"Feature: f\n  Scenario: s\n    Given a lamp\n  Rule: r\n    Scenario: s\n      Given a lamp\n",
         "5: scenario with the name of one before it\n",
     ),
-    (OUTLINE, "3: placeholder that no column has\n"),
+    (OUTLINE, "3: placeholder that no column has (name)\n"),
 ];
 
 #[test]
@@ -60,18 +64,6 @@ fn what_vanishes_is_found(rt: HostRuntime) -> Result<(), ReadFault> {
     for (bytes, wanted) in FILES {
         let found = found_in(rt.alloc(), bytes)?;
         same(&rt, found.as_str(), wanted);
-        let found = found_once_read(rt.alloc(), bytes)?;
-        same(&rt, found.as_str(), wanted);
-    }
-    Ok(())
-}
-
-#[test]
-fn columns_are_named(rt: HostRuntime) -> Result<(), ReadFault> {
-    if let Some(feature) = read_feature(rt.alloc(), OUTLINE)? {
-        let scenarios = scenarios_of(rt.alloc(), &feature)?;
-        let column = column_at(rt.alloc(), &scenarios, 0, 0)?;
-        equal(&rt, &column, &Some("name"));
     }
     Ok(())
 }
@@ -152,10 +144,10 @@ fn causes_of_libraries_are_named(rt: HostRuntime) -> Result<(), AllocError> {
 const LIBRARY: &str = "# lamps\nthen the lamp is red => pass\nstep the lamp is lit => pass\n";
 
 // Texts of undefined steps, and the entries that may be meant.
-const HINTS: [(&str, EntryHint); 3] = [
-    ("the lamp is red", EntryHint::OtherType(0)),
-    ("A lamp is Lit", EntryHint::Nearest(1)),
-    ("it is dark", EntryHint::Unlike),
+const HINTS: [(&str, &str); 3] = [
+    ("the lamp is red", " (of another type: 2)"),
+    ("A lamp is Lit", " (nearest: 3)"),
+    ("it is dark", ""),
 ];
 
 #[test]
@@ -163,13 +155,10 @@ fn entries_are_meant(rt: HostRuntime) -> Result<(), LibraryFault> {
     let library = read_library(rt.alloc(), LIBRARY.as_bytes())?;
     let hints = EntryHints::new(rt.alloc(), &library)?;
     for (text, wanted) in HINTS {
-        equal(&rt, &hints.hint(rt.alloc(), text)?, &wanted);
+        let hint = hints.hint(rt.alloc(), text)?;
+        same(&rt, shown_hint(rt.alloc(), hint)?.as_str(), wanted);
     }
     equal(&rt, &hints.library().entries.len(), &2);
-    let lines = entry_lines(rt.alloc(), LIBRARY)?;
-    equal(&rt, &lines.len(), &2);
-    equal(&rt, &lines.first().copied(), &Some(2));
-    equal(&rt, &lines.get(1).copied(), &Some(3));
     Ok(())
 }
 
@@ -196,30 +185,21 @@ fn faults_of_steps_have_texts(rt: HostRuntime) {
     }
 }
 
-// Findings, of which two are at one line.
-const UNORDERED: [Finding; 4] = [
-    Finding {
-        line: 5,
-        kind: FindingKind::NameTwice,
-    },
-    Finding {
-        line: 3,
-        kind: FindingKind::UnusedEntry,
-    },
-    Finding {
-        line: 5,
-        kind: FindingKind::ScenarioWithoutSteps,
-    },
-    Finding {
-        line: 1,
-        kind: FindingKind::FileWithoutFeature,
-    },
+// Lines and kinds of findings, of which two are at one line.
+const UNORDERED: [(u32, FindingKind); 4] = [
+    (5, FindingKind::NameTwice),
+    (3, FindingKind::UnusedEntry),
+    (5, FindingKind::ScenarioWithoutSteps),
+    (1, FindingKind::FileWithoutFeature),
 ];
 
 #[test]
 fn findings_are_put_in_order(rt: HostRuntime) -> Result<(), AllocError> {
     let mut findings = Vec::new(rt.alloc());
-    findings.extend_from_slice(&UNORDERED)?;
+    for (line, kind) in UNORDERED {
+        let hint = Hint::Nothing;
+        findings.push(Finding { line, kind, hint })?;
+    }
     let ordered = in_order(findings)?;
     let shown = shown(rt.alloc(), &ordered)?;
     same(
@@ -241,7 +221,7 @@ const WICK: &str =
     "Feature: A wick\n  Scenario: It is trimmed\n    Given the wick \"hall\" is trimmed\n    When the wick \"hall\" is lit\n    And at last the wick \"hall\" should be gone\n\n  Scenario Outline: It smokes <often>\n    Given the wick \"hall\" is put out\n";
 
 // Shows what was found of steps, and the entries that they use.
-fn shown_steps(alloc: Global, found: &StepFindings) -> Result<String, AllocError> {
+fn shown_steps(alloc: Global, found: &StepFindings<'_>) -> Result<String, AllocError> {
     let findings = shown(alloc, &found.findings)?;
     format!(in alloc; "{findings}{:?}", found.used)
 }
@@ -255,7 +235,7 @@ fn steps_are_linted(rt: HostRuntime) -> Result<(), Fail> {
     same(
         &rt,
         shown_steps(rt.alloc(), &found)?.as_str(),
-        "3: step without the text that its action needs\n4: undefined step\n5: cleanup without step\n[0, 4]",
+        "3: step without the text that its action needs\n4: undefined step (nearest: 1)\n5: cleanup without step (of another type: 4)\n[0, 4]",
     );
     let hooks = read_hooks(rt.alloc(), WICK_HOOKS.as_bytes())?;
     let found = lint_hooks(rt.alloc(), &hints, &hooks)?;
@@ -268,9 +248,10 @@ fn steps_are_linted(rt: HostRuntime) -> Result<(), Fail> {
 }
 
 #[test]
-fn unused_entries_are_found(rt: HostRuntime) -> Result<(), AllocError> {
+fn unused_entries_are_found(rt: HostRuntime) -> Result<(), LibraryFault> {
     let text = "given a => pass\n\n# b\nstep c => pass\nstep d => pass\n";
-    let findings = lint_library(rt.alloc(), text, &[1, 1])?;
+    let library = read_library(rt.alloc(), text.as_bytes())?;
+    let findings = lint_library(rt.alloc(), &library, &[1, 1])?;
     let shown = shown(rt.alloc(), &findings)?;
     same(
         &rt,

@@ -1,4 +1,4 @@
-use Rattle.gk_findings.proofs.Common.{source_value, map, ap, sym, ◌∙◌, subst, hooks_value, is_chosen, library_value, NotedLibraryValue, noted_library_value, IsLibrary, bytes_of, library_name, files_value, request_of_files, noted_library, read_of, sources_unread}
+use Rattle.gk_findings.proofs.Common.{source_value, map, ap, sym, ◌∙◌, subst, hooks_value, is_chosen, library_value, IsLibrary, bytes_of, library_name, files_value, request_of_files, noted_library, read_of, sources_unread}
 use Rattle.gk_findings.proofs.linted_suite.findings_text.Goals as goal
 
 pub returns-in-Ok-lint_sources-clause-linted : goal.returns-in-Ok-lint_sources-clause-linted
@@ -6,12 +6,12 @@ returns-in-Ok-lint_sources-clause-linted c =
     let read = rw (c.bytes_of-library.ensures, c.bytes_of-hooks.ensures) at c.in-Ok.ensures.read in
     let lint = rw (c.as_slice.ensures.value) at c.in-Ok-lint_sources.ensures.linted in
     let files = files_value c.args.files.now in
-    let entries = ap (λ (noted : NotedLibraryValue). noted.entries) c.in_ok-noted.ensures in
+    let library = noted_library c.args.steps c.name_of.result.now c.in_ok-new.field-0 in
     record {
       tags = read.tags;
-      read = read_of (noted_library_value c.in_ok-noted.noted) c.in-Ok.before c.in-Ok-lint_sources.so_far;
-      library = subst (λ e. IsLibrary (bytes_of files.library) e) (sym entries) read.library;
-      noted = c.in_ok-noted.ensures ∙ ap (λ e. noted_library c.args.steps (library_name files) (bytes_of files.library) e) (sym entries);
+      read = read_of library c.in-Ok.before c.in-Ok-lint_sources.so_far;
+      library = subst (λ e. IsLibrary (bytes_of files.library) e) (sym c.in_ok-new.ensures) read.library;
+      noted = ap (λ name. noted_library c.args.steps name c.in_ok-new.field-0) c.name_of.ensures;
       hooks = read.hooks;
       readings = lint.readings;
       features = lint.features;

@@ -1,5 +1,0 @@
-use Rattle.gk_lint.proofs.Common.{◌≡◌, ◌++◌, map, drop, examples_value, lines_of_examples}
-use Rattle.gk_lint.proofs.scenario_lines.push_examples.Given as goal
-
-abbrev pub invariant-loop-part : goal.invariant-loop-part
-invariant-loop-part l = l.lines.items ++ lines_of_examples (map examples_value (drop l.part-index l.parts)) ≡ l.fn.lines.items ++ lines_of_examples (map examples_value l.parts)
