@@ -37,7 +37,7 @@ def fixes():
             yield name, fix[1].replace("`", "").replace("\n", " ")
 
 
-# What --lint says of a fault, below its line.
+# What --explain and --lint say of a fault, below its line.
 HINTS = dict(fixes())
 
 
