@@ -89,8 +89,8 @@ pub use Rattle.gk_world.specs.Sandbox.{IsSame, SandboxValue}
 pub use Rattle.gk_world.specs.State.{Contents, State, state_of}
 pub use Rattle.gk_cli.specs.Arguments.{HasRule, IsAskedBy, IsCommand, IsFaultBy, IsFirstWithout, IsLineNumber, PairValue, SaysArguments, SaysMatches, SaysPair, command, faults_in, format_asked, found_in, has_equals, is_clash, is_format, is_given, line_number, pair_value, split_at_equals, values_of, with_version}
 pub use Rattle.gk_cli.specs.ExplainRun.{Adds, Closes, ExplainedInPart, Explains, IsExplainedUpTo, explained_by}
-pub use Rattle.gk_cli.specs.FeatureLoop.{AreWritten, AreWrittenUpTo, IsClosed, IsDryResult, IsNextResult, IsRunWritten, IsRunWrittenUpTo, IsTextSoFar, IsWholeText, NotifiesOfDryFeature, NotifiesOfFeature, NotifiesOfFeatures, NotifiesOfFirst, StopsAdding, StopsAtNext, StopsClosing, WritesNext, counts_of, reporter_of, results_with, stays, stays_begun}
-pub use Rattle.gk_cli.specs.ReportRun.{AddsPart, ClosesByTail, IsPrefix, IsWhole, Stays, prints_nothing, style_of}
+pub use Rattle.gk_cli.specs.FeatureLoop.{AreWritten, AreWrittenUpTo, IsClosed, IsDryResult, IsNextResult, IsRunWritten, IsRunWrittenUpTo, IsTextSoFar, IsWholeText, NotifiesOfDryFeature, NotifiesOfFeature, NotifiesOfFeatures, NotifiesOfFirst, StopsAdding, StopsAtNext, StopsClosing, WritesNext, results_with, stays, stays_begun}
+pub use Rattle.gk_cli.specs.ReportRun.{AddsPart, ClosesByTail, IsPrefix, IsWhole, Stays}
 pub use Rattle.gk_cli.specs.Modes.{IsWrittenAs, LintedInPart, SaysFaultAs}
 pub use Rattle.gk_cli.specs.OptionTable.{option_value, rule_of_option}
 pub use Rattle.gk_cli.specs.SameResult.{HasRow, IsSettledIn, ScenariosComeToTheSameInEachRun}

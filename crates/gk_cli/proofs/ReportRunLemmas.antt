@@ -1,5 +1,5 @@
 -- Bytes that are written piece by piece, and the report that they make up.
-use Rattle.gk_cli.proofs.Common.{FoldsTo, ◌≡◌, ◌≢◌, ◌+◌, ℕ, zero, suc, Bool, true, false, ◌&&◌, List, [], ◌∷◌, ◌++◌, length, take, refl, ap, ap₂, sym, subst, ◌∙◌, append_assoc, arith, inl, inr, Appends, Appends-trans, append-nil, length-append, Contents, State, state_of, LibraryValue, FeatureRow, Results, Run, ChosenValue, AreDryFeatures, has_passed, Event, ended_in, Judged, uncut, plain_results, DryRunsAreJudged, UnfinishedDryRunsAreJudged, Style, head, parts, parts_from, tail, report, is_empty, ReportsGrowByParts, status, summary_of, IsPiece, GrowingReport, RunFault, Read, Library, Hooks, Select, Write, Memory, one_more, IsReported, Device, IsUntouched, IsWritten, StopsBy, IsStopped, style_of, prints_nothing, results_with, Stays, AddsPart, ClosesByTail, CountingReporter, stays, stays_begun, reporter_of, counts_of, NotifiesOfFeature, NotifiesOfDryFeature, NotifiesOfFeatures, NotifiesOfFirst, IsWholeText, IsTextSoFar, IsRunWritten, IsRunWrittenUpTo, AreWritten, AreWrittenUpTo, IsClosed, StopsClosing, IsWhole, IsPrefix, common_steps}
+use Rattle.gk_cli.proofs.Common.{FoldsTo, ◌≡◌, ◌≢◌, ◌+◌, ℕ, zero, suc, Bool, true, false, ◌&&◌, List, [], ◌∷◌, ◌++◌, length, take, refl, ap, ap₂, sym, subst, ◌∙◌, append_assoc, arith, inl, inr, Appends, Appends-trans, append-nil, length-append, Contents, State, state_of, LibraryValue, FeatureRow, Results, Run, ChosenValue, AreDryFeatures, has_passed, Event, ended_in, Judged, uncut, plain_results, DryRunsAreJudged, UnfinishedDryRunsAreJudged, Style, head, parts, parts_from, tail, report, is_empty, ReportsGrowByParts, status, summary_of, IsPiece, GrowingReport, RunFault, Read, Library, Hooks, Select, Write, Memory, one_more, IsReported, Device, IsUntouched, IsWritten, StopsBy, IsStopped, results_with, Stays, AddsPart, ClosesByTail, CountingReporter, stays, stays_begun, NotifiesOfFeature, NotifiesOfDryFeature, NotifiesOfFeatures, NotifiesOfFirst, IsWholeText, IsTextSoFar, IsRunWritten, IsRunWrittenUpTo, AreWritten, AreWrittenUpTo, IsClosed, StopsClosing, IsWhole, IsPrefix, common_steps}
 use Rattle.gk_run.specs.declared.results.Status.TheVariants as statuses
 
 -- A writer that isn't called is untouched.
@@ -126,42 +126,45 @@ adds_part run now is_open f row text g h t = grind (arith, common_steps, none_ch
 pub adds_parts : (notified : Bool → ChosenValue → FeatureRow → List ℕ → GrowingReport → GrowingReport → Type 0) (next : Bool → FeatureRow → Bool) →
     ((b : Bool) (f : ChosenValue) (row : FeatureRow) (text : List ℕ) (g h : GrowingReport) → notified b f row text g h → AddsPart g row text h) →
     (b : Bool) (fs : List ChosenValue) (rows : List FeatureRow) (text : List ℕ) (g h : GrowingReport) → NotifiesOfFeatures notified next b fs rows text g h → (text ≡ parts_from g.style g.is_first rows) × (h.style ≡ g.style)
-adds_parts notified next adds b [] [] text g h (none, same) = (none, ap style_of (sym same))
+adds_parts notified next adds b [] [] text g h (none, same) = (none, ap (λ (g : GrowingReport). g.style) (sym same))
 adds_parts notified next adds b [] (row ∷ rows) text g h none = absurd none
 adds_parts notified next adds b (f ∷ fs) [] text g h none = absurd none
 adds_parts notified next adds b (f ∷ fs) (row ∷ rows) text g h (this, later, between, is, one, more) = grind (arith, common_steps, adds_parts notified next adds (next b row) fs rows later between h more)
 
--- Those of a new report are all parts.
-new_parts : (style : Style) (first : GrowingReport) (rows : List FeatureRow) (text : List ℕ) → style_of first ≡ style → prints_nothing first ≡ true → text ≡ parts_from first.style first.is_first rows → text ≡ parts style rows
-new_parts style first rows text styles none is = is ∙ ap (λ (s : Style). parts_from s first.is_first rows) styles ∙ ap (λ (b : Bool). parts_from style b rows) none
+-- A report of whose parts none is written.
+abbrev pub new_report : Style → GrowingReport
+new_report style = record { style = style; is_first = true }
 
-first_parts : (run : Run) (outside : State) (opening : List Event) (features : List ChosenValue) (rows : List FeatureRow) (text : List ℕ) (first new : GrowingReport) (style : Style) → style_of first ≡ style → prints_nothing first ≡ true →
-    NotifiesOfFirst Stays (NotifiesOfFeature Stays Stays Stays AddsPart) run outside opening features rows text first new → (text ≡ parts style rows) × (new.style ≡ style)
-first_parts run outside opening features rows text first new style styles none t =
-    let same = events_stay first opening t.begun t.start in
-    let all = adds_parts (NotifiesOfFeature Stays Stays Stays AddsPart run t.state) (stays run) (adds_part run t.state) (has_passed (ended_in opening)) features rows text t.begun new t.notified in
-    (new_parts style t.begun rows text (ap style_of same ∙ styles) (ap prints_nothing same ∙ none) all.0, all.1 ∙ ap style_of same ∙ styles)
+-- Its parts are all parts.
+new_parts : (style : Style) (first last : GrowingReport) (rows : List FeatureRow) (text : List ℕ) → first ≡ new_report style → (text ≡ parts_from first.style first.is_first rows) × (last.style ≡ first.style) → (text ≡ parts style rows) × (last.style ≡ style)
+new_parts style first last rows text same h = (h.0 ∙ ap (λ (g : GrowingReport). parts_from g.style g.is_first rows) same, h.1 ∙ ap (λ (g : GrowingReport). g.style) same)
+
+first_parts : (run : Run) (outside : State) (opening : List Event) (features : List ChosenValue) (rows : List FeatureRow) (text : List ℕ) (new : GrowingReport) (style : Style) →
+    NotifiesOfFirst Stays (NotifiesOfFeature Stays Stays Stays AddsPart) run outside opening features rows text (new_report style) new → (text ≡ parts style rows) × (new.style ≡ style)
+first_parts run outside opening features rows text new style t =
+    new_parts style t.begun new rows text (events_stay (new_report style) opening t.begun t.start)
+    (adds_parts (NotifiesOfFeature Stays Stays Stays AddsPart run t.state) (stays run) (adds_part run t.state) (has_passed (ended_in opening)) features rows text t.begun new t.notified)
 
 -- The whole text of a run is its report, without the head.
-whole_text : (run : Run) (contents : Contents) (features : List ChosenValue) (results : Results) (first : GrowingReport) (text : List ℕ) (style : Style) → style_of first ≡ style → prints_nothing first ≡ true →
-    IsWholeText Stays (NotifiesOfFeature Stays Stays Stays AddsPart) ClosesByTail run contents features results first text → head style ++ text ≡ report style results
-whole_text run contents features results first text style styles none w =
-    let begun = first_parts run (state_of contents) w.opening features results.features w.parts first w.notified style styles none w.begins in
+whole_text : (run : Run) (contents : Contents) (features : List ChosenValue) (results : Results) (text : List ℕ) (style : Style) →
+    IsWholeText Stays (NotifiesOfFeature Stays Stays Stays AddsPart) ClosesByTail run contents features results (new_report style) text → head style ++ text ≡ report style results
+whole_text run contents features results text style w =
+    let begun = first_parts run (state_of contents) w.opening features results.features w.parts w.notified style w.begins in
     let last = events_stay w.notified w.finish.0 w.last w.finish.1 in
-    let end = w.closed ∙ ap (λ (s : Style). tail s results.features results.around) (ap style_of last ∙ begun.1) in
+    let end = w.closed ∙ ap (λ (s : Style). tail s results.features results.around) (ap (λ (g : GrowingReport). g.style) last ∙ begun.1) in
     ap (λ (xs : List ℕ). head style ++ xs) (w.whole ∙ ap₂ (λ (xs ys : List ℕ). xs ++ ys) begun.0 end)
 
 -- The text of a run so far begins the report of judged results.
-text_so_far : ReportsGrowByParts → (run : Run) (contents : Contents) (features : List ChosenValue) (first : GrowingReport) (text : List ℕ) (style : Style) → style_of first ≡ style → prints_nothing first ≡ true →
-    IsTextSoFar Stays (NotifiesOfFeature Stays Stays Stays AddsPart) ClosesByTail run contents features first text →
+text_so_far : ReportsGrowByParts → (run : Run) (contents : Contents) (features : List ChosenValue) (text : List ℕ) (style : Style) →
+    IsTextSoFar Stays (NotifiesOfFeature Stays Stays Stays AddsPart) ClosesByTail run contents features (new_report style) text →
     (results : Results) × Judged run contents features results × ((rest : List ℕ) × (report style results ≡ (head style ++ text) ++ rest))
-text_so_far law run contents features first text style styles none (inl part) =
-    let begun = first_parts run (state_of contents) part.opening part.done part.rows text first part.notified style styles none part.begins in
+text_so_far law run contents features text style (inl part) =
+    let begun = first_parts run (state_of contents) part.opening part.done part.rows text part.notified style part.begins in
     let some = part.judged in
     let rest = law.begins style some.0 part.rows some.1 some.3 in
     (some.0, some.2, (rest.0, rest.1 ∙ ap (λ (xs : List ℕ). (head style ++ xs) ++ rest.0) (sym begun.0)))
-text_so_far law run contents features first text style styles none (inr (results, judged, whole)) =
-    (results, judged, ([], sym (whole_text run contents features results first text style styles none whole) ∙ sym (append-nil (head style ++ text))))
+text_so_far law run contents features text style (inr (results, judged, whole)) =
+    (results, judged, ([], sym (whole_text run contents features results text style whole) ∙ sym (append-nil (head style ++ text))))
 
 -- ---- a report from its head on
 
@@ -176,30 +179,31 @@ head_stopped run contents features style old new fault stopped =
     (results, (uncut, refl), stopped_within old new (head style) (parts style results.features ++ tail style results.features results.around) (report style results) fault refl stopped)
 
 -- A run that was written whole has its report written.
-pub run_reported : (run : Run) (contents : Contents) (features : List ChosenValue) (first : GrowingReport) (style : Style) (old there new : Device) (answer : ℕ) → style_of first ≡ style → prints_nothing first ≡ true → IsWritten old there (head style) →
-    IsRunWritten Stays (NotifiesOfFeature Stays Stays Stays AddsPart) ClosesByTail run contents features first there new answer → IsWhole run contents features style old new answer
-run_reported run contents features first style old there new answer styles none headed notified =
-    (notified.results, notified.judged, reported style old there new notified.text notified.results answer headed notified.written (whole_text run contents features notified.results first notified.text style styles none notified.notifies_all) notified.returned)
+pub run_reported : (run : Run) (contents : Contents) (features : List ChosenValue) (style : Style) (old there new : Device) (answer : ℕ) → IsWritten old there (head style) →
+    IsRunWritten Stays (NotifiesOfFeature Stays Stays Stays AddsPart) ClosesByTail run contents features (new_report style) there new answer → IsWhole run contents features style old new answer
+run_reported run contents features style old there new answer headed notified =
+    (notified.results, notified.judged, reported style old there new notified.text notified.results answer headed notified.written (whole_text run contents features notified.results notified.text style notified.notifies_all) notified.returned)
 
 -- A run that wasn't written whole has a prefix written.
-pub run_stopped : ReportsGrowByParts → (run : Run) (contents : Contents) (features : List ChosenValue) (first : GrowingReport) (style : Style) (old there new : Device) (fault : RunFault) → style_of first ≡ style → prints_nothing first ≡ true → IsWritten old there (head style) →
-    IsRunWrittenUpTo Stays (NotifiesOfFeature Stays Stays Stays AddsPart) ClosesByTail run contents features first there new fault → IsPrefix run contents features style old new fault
-run_stopped law run contents features first style old there new fault styles none headed (text, notified, stopped) =
-    let so_far = text_so_far law run contents features first text style styles none notified in
+pub run_stopped : ReportsGrowByParts → (run : Run) (contents : Contents) (features : List ChosenValue) (style : Style) (old there new : Device) (fault : RunFault) → IsWritten old there (head style) →
+    IsRunWrittenUpTo Stays (NotifiesOfFeature Stays Stays Stays AddsPart) ClosesByTail run contents features (new_report style) there new fault → IsPrefix run contents features style old new fault
+run_stopped law run contents features style old there new fault headed (text, notified, stopped) =
+    let so_far = text_so_far law run contents features text style notified in
     (so_far.0, so_far.1, stopped_within old new (head style ++ text) so_far.2.0 (report style so_far.0) fault so_far.2.1 (stopped_after old there new (head style) text fault headed stopped))
 
 -- The parts of a dry run.
-dry_parts : (library : LibraryValue) (features : List ChosenValue) (rows : List FeatureRow) (so_far : CountingReporter GrowingReport) (text : List ℕ) (last : GrowingReport) (style : Style) → style_of (reporter_of so_far) ≡ style → prints_nothing (reporter_of so_far) ≡ true →
+dry_parts : (library : LibraryValue) (features : List ChosenValue) (rows : List FeatureRow) (so_far : CountingReporter GrowingReport) (text : List ℕ) (last : GrowingReport) (style : Style) → so_far.reporter ≡ new_report style →
     NotifiesOfFeatures (NotifiesOfDryFeature Stays AddsPart) stays_begun true features rows text so_far.reporter last → (text ≡ parts style rows) × (last.style ≡ style)
-dry_parts library features rows so_far text last style styles none notified = grind (arith, common_steps, adds_parts, new_parts)
+dry_parts library features rows so_far text last style fresh notified =
+    new_parts style so_far.reporter last rows text fresh (adds_parts (NotifiesOfDryFeature Stays AddsPart) stays_begun (λ b f row text g h t. subst (λ x. AddsPart x row text h) t.start t.added) true features rows text so_far.reporter last notified)
 
 -- A dry run that was written whole has its report written.
 pub dry_reported : DryRunsAreJudged → (run : Run) → run.dry_run ≡ true → (contents : Contents) (features : List ChosenValue) (so_far end : CountingReporter GrowingReport) (style : Style) (old headed there new : Device) (answer : ℕ) →
-    style_of (reporter_of so_far) ≡ style → prints_nothing (reporter_of so_far) ≡ true → counts_of so_far ≡ summary_of [] → IsWritten old headed (head style) →
+    so_far.reporter ≡ new_report style → so_far.summary ≡ summary_of [] → IsWritten old headed (head style) →
     AreWritten (NotifiesOfDryFeature Stays AddsPart) stays_begun (AreDryFeatures run.library) true features headed so_far there end → IsClosed ClosesByTail end statuses.Passed there new answer → IsWhole run contents features style old new answer
-dry_reported judge run dry contents features so_far end style old headed there new answer styles none counts head_written notified closed =
+dry_reported judge run dry contents features so_far end style old headed there new answer fresh counts head_written notified closed =
     let last = closed notified.rows (notified.counted counts) in
-    let is = dry_parts run.library features notified.rows so_far notified.text end.reporter style styles none notified.notified in
+    let is = dry_parts run.library features notified.rows so_far notified.text end.reporter style fresh notified.notified in
     let tail_is = last.closed ∙ ap (λ (s : Style). tail s notified.rows statuses.Passed) is.1 in
     let results = results_with notified.rows statuses.Passed in (
       results,
@@ -210,10 +214,10 @@ dry_reported judge run dry contents features so_far end style old headed there n
 
 -- Its last text wasn't written whole.
 pub dry_close_stopped : DryRunsAreJudged → (run : Run) → run.dry_run ≡ true → (contents : Contents) (features : List ChosenValue) (so_far end : CountingReporter GrowingReport) (style : Style) (old headed there new : Device) (fault : RunFault) →
-    style_of (reporter_of so_far) ≡ style → prints_nothing (reporter_of so_far) ≡ true → counts_of so_far ≡ summary_of [] → IsWritten old headed (head style) →
+    so_far.reporter ≡ new_report style → so_far.summary ≡ summary_of [] → IsWritten old headed (head style) →
     AreWritten (NotifiesOfDryFeature Stays AddsPart) stays_begun (AreDryFeatures run.library) true features headed so_far there end → StopsClosing ClosesByTail end statuses.Passed there new fault → IsPrefix run contents features style old new fault
-dry_close_stopped judge run dry contents features so_far end style old headed there new fault styles none counts head_written notified stops =
-    let is = dry_parts run.library features notified.rows so_far notified.text end.reporter style styles none notified.notified in
+dry_close_stopped judge run dry contents features so_far end style old headed there new fault fresh counts head_written notified stops =
+    let is = dry_parts run.library features notified.rows so_far notified.text end.reporter style fresh notified.notified in
     let results = results_with notified.rows statuses.Passed in
     let before = written_more old headed there (head style) notified.text head_written notified.written in
     let whole : (head style ++ parts style notified.rows) ++ tail style notified.rows statuses.Passed ≡ report style results = append_assoc (head style) (parts style notified.rows) (tail style notified.rows statuses.Passed) in
@@ -231,10 +235,10 @@ dry_close_stopped judge run dry contents features so_far end style old headed th
 
 -- Not all of its features were written.
 pub dry_run_stopped : ReportsGrowByParts → UnfinishedDryRunsAreJudged → (run : Run) → run.dry_run ≡ true → (contents : Contents) (features : List ChosenValue) (so_far : CountingReporter GrowingReport) (style : Style) (old headed new : Device) (fault : RunFault) →
-    style_of (reporter_of so_far) ≡ style → prints_nothing (reporter_of so_far) ≡ true → IsWritten old headed (head style) →
+    so_far.reporter ≡ new_report style → IsWritten old headed (head style) →
     AreWrittenUpTo (NotifiesOfDryFeature Stays AddsPart) stays_begun (AreDryFeatures run.library) true features headed so_far new fault → IsPrefix run contents features style old new fault
-dry_run_stopped law begins run dry contents features so_far style old headed new fault styles none head_written part =
-    let all = dry_parts run.library part.done part.rows so_far part.text part.last style styles none part.notified in
+dry_run_stopped law begins run dry contents features so_far style old headed new fault fresh head_written part =
+    let all = dry_parts run.library part.done part.rows so_far part.text part.last style fresh part.notified in
     let some = begins run contents part.done part.others part.rows dry part.results in
     let rest = law.begins style some.0 part.rows some.1 some.3 in
     let is = rest.1 ∙ ap (λ (xs : List ℕ). (head style ++ xs) ++ rest.0) (sym all.0) in (

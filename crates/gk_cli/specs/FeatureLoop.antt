@@ -116,15 +116,7 @@ pub record IsRunWritten {S : Type 0} (hears : S → Event → S → Type 0) (not
 abbrev pub IsRunWrittenUpTo : {S : Type 0} → (S → Event → S → Type 0) → (Run → State → Bool → ChosenValue → FeatureRow → List ℕ → S → S → Type 0) → (S → Results → List ℕ → Type 0) → Run → Contents → List ChosenValue → S → Device → Device → RunFault → Type 0
 IsRunWrittenUpTo hears notifies closes run contents features first old new fault = (text : List ℕ) × IsTextSoFar hears notifies closes run contents features first text × IsStopped old new text fault
 
--- Proof machinery, from here on: the reporter of a run.
-abbrev pub reporter_of : {R : Type 0} → CountingReporter R → R
-reporter_of notified = notified.reporter
-
--- The counts of the features that it was notified of.
-abbrev pub counts_of : {R : Type 0} → CountingReporter R → Summary
-counts_of notified = notified.summary
-
--- A reporter was notified of the next feature, and its text was written.
+-- Proof machinery, from here on: a reporter was notified of the next feature, and its text was written.
 pub record WritesNext {R : Type 0} (notifies : Bool → ChosenValue → FeatureRow → List ℕ → R → R → Type 0) (Result : FeatureRow → Type 0) (is_open : Bool) (f : ChosenValue) (old : Device) (so_far : CountingReporter R) (new : Device) (grown : CountingReporter R) : Type 0 where
   pub row : FeatureRow
   pub result : Result row

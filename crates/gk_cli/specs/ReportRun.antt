@@ -12,15 +12,7 @@ use Rattle.gk_cli.specs.Suite.{IsReported}
 use Rattle.gk_cli.specs.Writing.{Device, IsStopped}
 use Rattle.gk_cli.specs.declared.report_run.GrowingReport.{GrowingReport}
 
--- Proof machinery, from here on: the style of a growing report.
-abbrev pub style_of : GrowingReport → Style
-style_of g = g.style
-
--- Whether all of its parts are empty.
-abbrev pub prints_nothing : GrowingReport → Bool
-prints_nothing g = g.is_first
-
--- What an event leaves of a report: all.
+-- Proof machinery, from here on: what an event leaves of a report: all.
 abbrev pub Stays : {T : Type 0} → GrowingReport → T → GrowingReport → Type 0
 Stays old notified new = new ≡ old
 

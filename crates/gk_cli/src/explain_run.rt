@@ -104,7 +104,11 @@ pub fn write_explanation<W: Write>(
     } = inputs;
     let explainer = Explainer::new(alloc, &library, hooks, rows.as_slice());
     let table = HookTable::new(alloc, &hook_file);
-    let counting = CountingReporter::new(alloc, explainer);
+    let counting = CountingReporter {
+        alloc,
+        reporter: explainer,
+        summary: Summary::new(),
+    };
     run_notifying(
         &library,
         &table,

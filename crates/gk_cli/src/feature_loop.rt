@@ -12,7 +12,7 @@ ghost use Rattle.gk_run.specs.Features.{IsFeatureResult};
 ghost use Rattle.gk_run.specs.OpenRun.{AreFeatures, IsKept, opens_features};
 ghost use Rattle.gk_report.specs.Summary.{CountsOneMore, summary_of};
 ghost use Rattle.gk_cli.specs.Writing.{device_of};
-ghost use Rattle.gk_cli.specs.FeatureLoop.{ClosesWith, IsAdded, StopsAdding, NotifiesOfFeature, NotifiesOfDryFeature, IsNextResult, IsDryResult, WritesNext, StopsAtNext, AreWritten, AreWrittenUpTo, IsClosed, StopsClosing, IsRunWritten, IsRunWrittenUpTo, counts_of, reporter_of, stays, stays_begun};
+ghost use Rattle.gk_cli.specs.FeatureLoop.{ClosesWith, IsAdded, StopsAdding, NotifiesOfFeature, NotifiesOfDryFeature, IsNextResult, IsDryResult, WritesNext, StopsAtNext, AreWritten, AreWrittenUpTo, IsClosed, StopsClosing, IsRunWritten, IsRunWrittenUpTo, stays, stays_begun};
 
 use crate::writing::write_piece;
 use gk_gherkin::HookTable;
@@ -72,27 +72,9 @@ pub trait Reporter: Observer + Drop {
 /// A reporter of a run, and the counts of the features that it was notified of.
 #[derive(Drop)]
 pub struct CountingReporter<R> {
-    alloc: Global,
-    reporter: R,
-    summary: Summary,
-}
-
-impl<R> CountingReporter<R> {
-    ghost use Rattle.std.specs.Prelude.{◌≡◌, []};
-    ghost use Rattle.gk_report.specs.Summary.{summary_of};
-    ghost use Rattle.gk_cli.specs.FeatureLoop.{reporter_of, counts_of};
-
-    /// Returns a reporter that was notified of no feature.
-    pub fn new(alloc: Global, reporter: R) -> CountingReporter<R>
-        ensures reporter { reporter_of result ≡ reporter }
-        ensures counts { counts_of result ≡ summary_of [] }
-    {
-        CountingReporter {
-            alloc,
-            reporter,
-            summary: Summary::new(),
-        }
-    }
+    pub alloc: Global,
+    pub reporter: R,
+    pub summary: Summary,
 }
 
 // Notifies a reporter of the end of a feature, and counts the feature. If its text wasn't written whole, the counts stay
@@ -275,17 +257,17 @@ pub fn run_notifying<R: Reporter, W: Write>(
     out: &mut Counted<W>,
 ) -> Result<u8, RunFault>
     requires outside { depth sandbox.old ≡ 0 }
-    requires none { counts_of counting ≡ summary_of [] }
+    requires none { counting.summary ≡ summary_of [] }
     requires formed { AllByRecursion IsFormed features.items }
     ensures ok { IfOk result (IsRunWritten R.hears
         (NotifiesOfFeature R.hears R.ends R.begins R.adds) R.closes
         (run_of library.now hooks.now.file.now stop) sandbox.old.now
-        (map chosen_value features.items) (reporter_of counting)
+        (map chosen_value features.items) counting.reporter
         (device_of W.contents out.old) (device_of W.contents out.new)) }
     ensures err { IfErr result (IsRunWrittenUpTo R.hears
         (NotifiesOfFeature R.hears R.ends R.begins R.adds) R.closes
         (run_of library.now hooks.now.file.now stop) sandbox.old.now
-        (map chosen_value features.items) (reporter_of counting)
+        (map chosen_value features.items) counting.reporter
         (device_of W.contents out.old) (device_of W.contents out.new)) }
     ensures same { IsSame sandbox.old sandbox.new }
 {

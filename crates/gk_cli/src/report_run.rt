@@ -73,22 +73,6 @@ pub struct GrowingReport {
     is_first: bool,
 }
 
-impl GrowingReport {
-    ghost use Rattle.std.specs.Prelude.{◌≡◌, true};
-    ghost use Rattle.gk_cli.specs.ReportRun.{style_of, prints_nothing};
-
-    /// Returns a report with its head written.
-    pub fn new(style: Style) -> GrowingReport
-        ensures style { style_of result ≡ style }
-        ensures first { prints_nothing result ≡ true }
-    {
-        GrowingReport {
-            style,
-            is_first: true,
-        }
-    }
-}
-
 impl Observer for GrowingReport {
     ghost use Rattle.gk_cli.specs.ReportRun.{Stays};
 
@@ -176,8 +160,14 @@ pub fn write_run<W: Write>(
         rows: _,
     } = inputs;
     write_head(alloc, options.style, out)?;
-    let report = GrowingReport::new(options.style);
-    let mut counting = CountingReporter::new(alloc, report);
+    let mut counting = CountingReporter {
+        alloc,
+        reporter: GrowingReport {
+            style: options.style,
+            is_first: true,
+        },
+        summary: Summary::new(),
+    };
     if options.dry_run {
         look_up_features(&library, &mut counting, features, out)?;
         return close(counting, Status::Passed, out);

@@ -1,5 +1,5 @@
-use Rattle.gk_cli.proofs.Common.{Bool, false, ap, map, rules, sym, subst, ◌∙◌, Run, chosen_value, inputs_value, run_by, device_of, reporter_of, style_of, prints_nothing, IsWhole, IsPrefix, if_ok, if_err, passed_on}
-use Rattle.gk_cli.proofs.ReportRunLemmas.{head_stopped, run_reported, run_stopped, dry_reported, dry_close_stopped, dry_run_stopped}
+use Rattle.gk_cli.proofs.Common.{Bool, false, ap, map, rules, sym, subst, ◌∙◌, Run, chosen_value, inputs_value, run_by, device_of, refl, CountingReporter, IsWhole, IsPrefix, if_ok, if_err, passed_on}
+use Rattle.gk_cli.proofs.ReportRunLemmas.{head_stopped, new_report, run_reported, run_stopped, dry_reported, dry_close_stopped, dry_run_stopped}
 use Rattle.gk_cli.proofs.report_run.write_run.Goals as goal
 
 pub returns-in_err-write_head-clause-err : goal.returns-in_err-write_head-clause-err
@@ -22,10 +22,11 @@ returns-in_err-look_up_features-clause-err g c =
     let old = device_of g.W.Write.contents c.args.out.now in
     let headed = device_of g.W.Write.contents c.write_head.new.out in
     let new = device_of g.W.Write.contents c.look_up_features.new.out in
+    let so_far : CountingReporter _ = record { alloc = c.args.alloc; reporter = new_report style; summary = c.new.result } in
     passed_on c.from_residual-in_err-look_up_features.result c.from_residual-in_err-look_up_features.ensures.1 (λ fault same.
     subst (IsPrefix run contents features style old new) (sym same)
-    (dry_run_stopped c.reports_grow_by_parts.ensures c.unfinished_dry_runs_are_judged.ensures run c.if-options.true contents features c.new-counting.result style old headed new c.in_err-look_up_features.field-0.0
-    (ap style_of c.new-counting.ensures.reporter ∙ c.new-report.ensures.style) (ap prints_nothing c.new-counting.ensures.reporter ∙ c.new-report.ensures.first) c.in_ok-write_head.ensures.ok c.in_err-look_up_features.ensures.err))
+    (dry_run_stopped c.reports_grow_by_parts.ensures c.unfinished_dry_runs_are_judged.ensures run c.if-options.true contents features so_far style old headed new c.in_err-look_up_features.field-0.0
+    refl c.in_ok-write_head.ensures.ok c.in_err-look_up_features.ensures.err))
 
 pub returns-then-options : goal.returns-then-options
 returns-then-options g c =
@@ -36,14 +37,13 @@ returns-then-options g c =
     let old = device_of g.W.Write.contents c.args.out.now in
     let headed = device_of g.W.Write.contents c.write_head.new.out in
     let there = device_of g.W.Write.contents c.look_up_features.new.out in
+    let so_far : CountingReporter _ = record { alloc = c.args.alloc; reporter = new_report style; summary = c.new.result } in
     let new = device_of g.W.Write.contents c.close.new.out in
-    let styles = ap style_of c.new-counting.ensures.reporter ∙ c.new-report.ensures.style in
-    let none = ap prints_nothing c.new-counting.ensures.reporter ∙ c.new-report.ensures.first in
     record {
-      ok = if_ok c.close.result (λ status closed. dry_reported c.dry_runs_are_judged.ensures run c.if-options.true contents features c.new-counting.result c.look_up_features.new.counting style old headed there new status
-          styles none c.new-counting.ensures.counts c.in_ok-write_head.ensures.ok c.in_ok-look_up_features.ensures.ok closed) c.close.ensures.ok;
-      err = if_err c.close.result (λ fault stops. dry_close_stopped c.dry_runs_are_judged.ensures run c.if-options.true contents features c.new-counting.result c.look_up_features.new.counting style old headed there new fault
-          styles none c.new-counting.ensures.counts c.in_ok-write_head.ensures.ok c.in_ok-look_up_features.ensures.ok stops) c.close.ensures.err;
+      ok = if_ok c.close.result (λ status closed. dry_reported c.dry_runs_are_judged.ensures run c.if-options.true contents features so_far c.look_up_features.new.counting style old headed there new status
+          refl c.new.ensures c.in_ok-write_head.ensures.ok c.in_ok-look_up_features.ensures.ok closed) c.close.ensures.ok;
+      err = if_err c.close.result (λ fault stops. dry_close_stopped c.dry_runs_are_judged.ensures run c.if-options.true contents features so_far c.look_up_features.new.counting style old headed there new fault
+          refl c.new.ensures c.in_ok-write_head.ensures.ok c.in_ok-look_up_features.ensures.ok stops) c.close.ensures.err;
       same = search rules;
     }
 
@@ -57,15 +57,12 @@ returns g c =
     let old = device_of g.W.Write.contents c.args.out.now in
     let headed = device_of g.W.Write.contents c.write_head.new.out in
     let new = device_of g.W.Write.contents c.run_notifying.new.out in
-    let report = reporter_of c.new-counting.result in
-    let styles = ap style_of c.new-counting.ensures.reporter ∙ c.new-report.ensures.style in
-    let none = ap prints_nothing c.new-counting.ensures.reporter ∙ c.new-report.ensures.first in
     let ran = rw (c.new-hooks.ensures) at c.run_notifying.ensures.ok in
     let failed = rw (c.new-hooks.ensures) at c.run_notifying.ensures.err in
     record {
       ok = if_ok c.run_notifying.result (λ status notified. subst (λ (dry : Bool). IsWhole (run_if dry) contents features style old new status) (sym c.if-options.false)
-          (run_reported (run_if false) contents features report style old headed new status styles none c.in_ok-write_head.ensures.ok notified)) ran;
+          (run_reported (run_if false) contents features style old headed new status c.in_ok-write_head.ensures.ok notified)) ran;
       err = if_err c.run_notifying.result (λ fault notified. subst (λ (dry : Bool). IsPrefix (run_if dry) contents features style old new fault) (sym c.if-options.false)
-          (run_stopped c.reports_grow_by_parts.ensures (run_if false) contents features report style old headed new fault styles none c.in_ok-write_head.ensures.ok notified)) failed;
+          (run_stopped c.reports_grow_by_parts.ensures (run_if false) contents features style old headed new fault c.in_ok-write_head.ensures.ok notified)) failed;
       same = search rules;
     }
