@@ -95,7 +95,7 @@ pub use Rattle.gk_cli.specs.Modes.{IsWrittenAs, LintedInPart, SaysFaultAs}
 pub use Rattle.gk_cli.specs.OptionTable.{option_value, rule_of_option}
 pub use Rattle.gk_cli.specs.SameResult.{HasRow, IsSettledIn, ScenariosComeToTheSameInEachRun}
 pub use Rattle.gk_cli.specs.RowOrder.{JudgedRowsAreInFileOrder, RowsAreInFileOrder}
-pub use Rattle.gk_cli.specs.Suite.{AreJudged, IsReported, JudgedReport, OnlyReport, ReportedInPart, SaysFaultBy, run_by, run_with}
+pub use Rattle.gk_cli.specs.Suite.{AreJudged, IsReported, JudgedReport, OnlyReport, ReportedInPart, SaysFault, SaysFaultBy, run_by, run_with}
 pub use Rattle.gk_cli.specs.Writing.{Device, IsStopped, IsUntouched, IsWritten, StopsBy, UsesWriter, device_of}
 pub use Rattle.gk_cli.specs.declared.arguments.Mode.{Mode}
 pub use Rattle.gk_cli.specs.declared.arguments.Words.{Words}

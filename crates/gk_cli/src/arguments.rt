@@ -155,7 +155,7 @@ fn command_of_files<'a>(alloc: Global) -> Result<Command<'a>, AllocError>
         .arg(files_arg(alloc))
 }
 
-// Makes the command with the options of these rows.
+// Makes the command that reads the arguments, with the options of these rows.
 fn with_options<'a>(alloc: Global, rows: &[OptionRow]) -> Result<Command<'a>, AllocError>
     ensures { IfOk result (IsCommand (fold with_rule spec.command_of_files
         (map rule_of_option (map option_value rows.now)))) }
@@ -165,13 +165,6 @@ fn with_options<'a>(alloc: Global, rows: &[OptionRow]) -> Result<Command<'a>, Al
         command = command.arg(arg_of(alloc, row))?;
     }
     Ok(command)
-}
-
-// Makes the command that reads the arguments.
-fn command_of<'a>(alloc: Global) -> Result<Command<'a>, AllocError>
-    ensures { IfOk result (IsCommand command) }
-{
-    with_options(alloc, &OPTIONS)
 }
 
 // Returns the values of an option, or the files, in order.
@@ -451,7 +444,7 @@ fn words_by<'a>(
 pub fn read_words(alloc: Global, words: &[String]) -> Result<Words, WordsFault>
     ensures { SaysArguments (map string_bytes words.now) result }
 {
-    let mut reader = command_of(alloc)?;
+    let mut reader = with_options(alloc, &OPTIONS)?;
     let read = words_by(alloc, &mut reader, words);
     // No part of the command was moved out, so it is dropped as a whole.
     drop(reader);

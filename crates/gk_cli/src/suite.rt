@@ -69,10 +69,8 @@ pub fn run_suite<W: Write>(
     // memory are the plain ones.
     inputs_are_unique();
     without_memory_there_is_one_list();
-    match read_inputs(alloc, options, false, library, hooks, sources) {
-        Ok(inputs) => write_run(alloc, sandbox, options, inputs, out),
-        Err(fault) => Err(fault),
-    }
+    let inputs = read_inputs(alloc, options, false, library, hooks, sources)?;
+    write_run(alloc, sandbox, options, inputs, out)
 }
 
 // Runs these files and writes an explanation.
@@ -100,20 +98,9 @@ fn explain_suite<W: Write>(
 {
     let library = bytes_of(&files.library);
     let hooks = bytes_of(&files.hooks);
-    match read_inputs(
-        alloc,
-        options,
-        true,
-        library,
-        hooks,
-        files.sources.as_slice(),
-    ) {
-        Ok(inputs) => {
-            let name = name_of(&files.hooks);
-            write_explanation(alloc, sandbox, options, name, inputs, out)
-        }
-        Err(fault) => Err(fault),
-    }
+    let sources = files.sources.as_slice();
+    let inputs = read_inputs(alloc, options, true, library, hooks, sources)?;
+    write_explanation(alloc, sandbox, options, name_of(&files.hooks), inputs, out)
 }
 
 // Returns the status of a lint that writes this text.
@@ -124,7 +111,7 @@ fn lint_status(text: &str) -> u8
 }
 
 // Reads the request, runs nothing, and writes the findings.
-#[tactic(auto, using(crate::proofs::ModesLemmas::part_of_lint))]
+#[tactic(auto, using(gk_request::proofs::ResultLemmas::passed_on, crate::proofs::ModesLemmas::part_of_lint))]
 fn lint_suite<W: Write>(
     alloc: Global,
     options: &Options,
@@ -147,13 +134,9 @@ fn lint_suite<W: Write>(
     ensures used { UsesWriter result
         (device_of W.contents out.old) (device_of W.contents out.new) }
 {
-    match findings_text(alloc, options, steps, files) {
-        Ok(text) => match write_piece(out, text.as_str()) {
-            Ok(()) => Ok(lint_status(text.as_str())),
-            Err(fault) => Err(fault),
-        },
-        Err(fault) => Err(fault),
-    }
+    let text = findings_text(alloc, options, steps, files)?;
+    write_piece(out, text.as_str())?;
+    Ok(lint_status(text.as_str()))
 }
 
 /// Reads these files, and writes what the mode asks for.

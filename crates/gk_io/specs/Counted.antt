@@ -55,15 +55,10 @@ counted_write (Ok zero) (b ∷ bs) n = one_more n
 counted_write (Ok (suc k)) bs n = n
 counted_write (Err e) bs n = one_more n
 
--- The count of failures after a read.
-abbrev pub counted_read : {E : Type 0} → Result ℕ E → ℕ → ℕ
-counted_read (Ok k) n = n
-counted_read (Err e) n = one_more n
-
--- The count of failures after a flush.
-abbrev pub counted_flush : {E : Type 0} → Result (Unit {0}) E → ℕ → ℕ
-counted_flush (Ok u) n = n
-counted_flush (Err e) n = one_more n
+-- The count of failures after a read or a flush.
+abbrev pub counted_failure : {T E : Type 0} → Result T E → ℕ → ℕ
+counted_failure (Ok x) n = n
+counted_failure (Err e) n = one_more n
 
 -- A prefix of the bytes was written.
 abbrev pub IsPrefixWritten : Option (List ℕ) → Option (List ℕ) → List ℕ → Type 0

@@ -100,7 +100,7 @@ impl<W: Write> Write for Counted<W> {
     ghost use Rattle.std.specs.Prelude.{◌≡◌};
     ghost use Rattle.std.specs.Io.{WritesAtMost};
     ghost use Rattle.std.specs.Io.KnownBytes.{Keeps, WriteAppends};
-    ghost use Rattle.gk_io.specs.Counted.{one_more, counted_write, counted_flush, counted_idle, IsCalledOnce, IsUnflushed, IsNeverIdle};
+    ghost use Rattle.gk_io.specs.Counted.{one_more, counted_write, counted_failure, counted_idle, IsCalledOnce, IsUnflushed, IsNeverIdle};
 
     ghost contents = { λ c. W.contents c.inner };
 
@@ -136,7 +136,7 @@ impl<W: Write> Write for Counted<W> {
         ensures bytes { Keeps (W.contents self.old.inner) (W.contents self.new.inner) }
         ensures calls { self.new.calls ≡ self.old.calls }
         ensures flushes { self.new.flushes ≡ one_more self.old.flushes }
-        ensures failures { self.new.failures ≡ counted_flush result self.old.failures }
+        ensures failures { self.new.failures ≡ counted_failure result self.old.failures }
         ensures idle { IsNeverIdle self.old self.new }
     {
         count_one(&mut self.flushes);
@@ -152,7 +152,7 @@ impl<R: Read> Read for Counted<R> {
     ghost use Rattle.std.specs.Prelude.{◌≡◌};
     ghost use Rattle.std.specs.Io.{ReadsAtMost};
     ghost use Rattle.std.specs.Io.KnownBytes.{ReadConsumes};
-    ghost use Rattle.gk_io.specs.Counted.{counted_read, counted_idle, IsCalledOnce, IsUnflushed};
+    ghost use Rattle.gk_io.specs.Counted.{counted_failure, counted_idle, IsCalledOnce, IsUnflushed};
 
     ghost remaining = { λ c. R.remaining c.inner };
 
@@ -162,7 +162,7 @@ impl<R: Read> Read for Counted<R> {
             (R.remaining self.old.inner) (R.remaining self.new.inner) result buf.new }
         ensures calls { IsCalledOnce self.old self.new }
         ensures flushes { IsUnflushed self.old self.new }
-        ensures failures { self.new.failures ≡ counted_read result self.old.failures }
+        ensures failures { self.new.failures ≡ counted_failure result self.old.failures }
         ensures idle { self.new.idle ≡ counted_idle result self.old.idle }
     {
         count_one(&mut self.calls);
