@@ -199,10 +199,10 @@ whole_notified hears notifies closes run contents opening features rows around p
     record {
       results = results_with rows around;
       judged = so.judged;
-      text = parts ++ done.text;
-      notifies_all = record { opening = opening; parts = parts; notified = notified; begins = so.begins; last = end.reporter; finish = so.finish; tail = done.text; closed = done.closed; whole = refl };
-      written = written_more old there new parts done.text written done.written;
-      returned = done.returned;
+      text = parts ++ done.0;
+      notifies_all = record { opening = opening; parts = parts; notified = notified; begins = so.begins; last = end.reporter; finish = so.finish; tail = done.0; closed = done.1; whole = refl };
+      written = written_more old there new parts done.0 written done.2;
+      returned = done.3;
     }
 
 -- The last text of a run wasn't written whole.

@@ -57,6 +57,10 @@ stopped_before a b xs ys p = record {
 pub stopped_here : (a b : Device) (xs : List ℕ) → IsWritten a b xs → IsStopped a b xs Memory
 stopped_here a b xs p = subst (λ ys. IsStopped a b ys Memory) (append-nil xs) (stopped_before a b xs [] p)
 
+-- Memory was refused, and nothing was written.
+pub refused : (d : Device) (xs : List ℕ) → IsStopped d d xs Memory
+refused d xs = grind (arith, common_steps)
+
 -- What stops in a prefix stops in the whole.
 pub stopped_within : (a b : Device) (xs ys whole : List ℕ) (fault : RunFault) → whole ≡ xs ++ ys → IsStopped a b xs fault → IsStopped a b whole fault
 stopped_within a b xs ys whole fault is q = grind (arith, common_steps)
@@ -204,12 +208,12 @@ pub dry_reported : DryRunsAreJudged → (run : Run) → run.dry_run ≡ true →
 dry_reported judge run dry contents features so_far end style old headed there new answer fresh counts head_written notified closed =
     let last = closed notified.rows (notified.counted counts) in
     let is = dry_parts run.library features notified.rows so_far notified.text end.reporter style fresh notified.notified in
-    let tail_is = last.closed ∙ ap (λ (s : Style). tail s notified.rows statuses.Passed) is.1 in
+    let tail_is = last.1 ∙ ap (λ (s : Style). tail s notified.rows statuses.Passed) is.1 in
     let results = results_with notified.rows statuses.Passed in (
       results,
       judge run contents features notified.rows dry notified.results,
-      reported style old headed new (notified.text ++ last.text) results answer head_written (written_more headed there new notified.text last.text notified.written last.written)
-          (ap (λ (xs : List ℕ). head style ++ xs) (ap₂ (λ (xs ys : List ℕ). xs ++ ys) is.0 tail_is)) last.returned,
+      reported style old headed new (notified.text ++ last.0) results answer head_written (written_more headed there new notified.text last.0 notified.written last.2)
+          (ap (λ (xs : List ℕ). head style ++ xs) (ap₂ (λ (xs ys : List ℕ). xs ++ ys) is.0 tail_is)) last.3,
     )
 
 -- Its last text wasn't written whole.

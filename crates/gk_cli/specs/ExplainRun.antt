@@ -62,14 +62,10 @@ explained_run r inputs = record (run_with r inputs) { dry_run = false }
 abbrev pub explained_by : Options → Inputs → Run
 explained_by options inputs = explained_run (request_of options None None []) inputs
 
--- The request reads as these inputs, with these rows of each feature's cases.
-abbrev pub AreExplainable : Request → Inputs → List (List (Option ExampleRowValue)) → Type 0
-AreExplainable r inputs rows = AreInputs r inputs × AreRowsOf r.sources rows
-
--- The request reads, the explanation of a run of it with judged results was written, and their status is returned.
+-- The request reads, with the rows of each feature's cases, the explanation of a run of it with judged results was written, and their status is returned.
 abbrev pub Explained : Request → List ℕ → Contents → Device → Device → ℕ → Type 0
-Explained r hooks contents old new answer = (inputs : Inputs) × (rows : List (List (Option ExampleRowValue))) × AreExplainable r inputs rows × IsExplained (explained_run r inputs) hooks rows contents inputs.features old new answer
+Explained r hooks contents old new answer = (inputs : Inputs) × (rows : List (List (Option ExampleRowValue))) × AreInputs r inputs × AreRowsOf r.sources rows × IsExplained (explained_run r inputs) hooks rows contents inputs.features old new answer
 
 -- The request reads, and a prefix of the text that explains a run of it was written.
 abbrev pub ExplainedInPart : Request → List ℕ → Contents → Device → Device → RunFault → Type 0
-ExplainedInPart r hooks contents old new fault = (inputs : Inputs) × (rows : List (List (Option ExampleRowValue))) × AreExplainable r inputs rows × IsExplainedUpTo (explained_run r inputs) hooks rows contents inputs.features old new fault
+ExplainedInPart r hooks contents old new fault = (inputs : Inputs) × (rows : List (List (Option ExampleRowValue))) × AreInputs r inputs × AreRowsOf r.sources rows × IsExplainedUpTo (explained_run r inputs) hooks rows contents inputs.features old new fault

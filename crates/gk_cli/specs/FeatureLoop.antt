@@ -164,16 +164,10 @@ pub record AreWrittenUpTo {R : Type 0} (notifies : Bool → ChosenValue → Feat
   pub notified : NotifiesOfFeatures notifies next is_open done rows text so_far.reporter last
   pub stopped : IsStopped old new text fault
 
--- For any results with these counts, the last text was written, and their status is returned.
-pub record IsClosedWith {R : Type 0} (closes : R → Results → List ℕ → Type 0) (notified : CountingReporter R) (around : Status) (old new : Device) (answer : ℕ) (rows : List FeatureRow) : Type 0 where
-  pub text : List ℕ
-  pub closed : closes notified.reporter (results_with rows around) text
-  pub written : IsWritten old new text
-  pub returned : answer ≡ status_of rows around
-
--- A reporter was notified of the end of the run, and its last text was written, whatever features came before, if their counts are these.
+-- A reporter was notified of the end of the run, its last text was written, and the status is returned, whatever features came before, if their counts are these.
 abbrev pub IsClosed : {R : Type 0} → (R → Results → List ℕ → Type 0) → CountingReporter R → Status → Device → Device → ℕ → Type 0
-IsClosed closes notified around old new answer = (rows : List FeatureRow) → notified.summary ≡ summary_of rows → IsClosedWith closes notified around old new answer rows
+IsClosed closes notified around old new answer =
+    (rows : List FeatureRow) → notified.summary ≡ summary_of rows → (text : List ℕ) × closes notified.reporter (results_with rows around) text × IsWritten old new text × (answer ≡ status_of rows around)
 
 -- The last text wasn't written whole: memory was refused and nothing was written, or a prefix was.
 abbrev pub StopsClosing : {R : Type 0} → (R → Results → List ℕ → Type 0) → CountingReporter R → Status → Device → Device → RunFault → Type 0

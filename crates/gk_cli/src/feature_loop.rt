@@ -112,13 +112,15 @@ fn run_next<R: Reporter, W: Write>(
 ) -> Result<(), RunFault>
     requires innermost { suite.old.layer ≡ depth sandbox.old }
     requires formed { IsFormed feature }
-    ensures ok { let run = run_of library.now hooks.now.file.now suite.old.stop in OnOk result (WritesNext
+    ensures ok { let run = run_of library.now hooks.now.file.now suite.old.stop in
+        OnOk result (WritesNext
         (NotifiesOfFeature R.hears R.ends R.begins R.adds run (state_of sandbox.old.now))
         (IsNextResult run (state_of sandbox.old.now)
         (opens_features suite.old) (opens_features suite.new) (chosen_value feature))
         (opens_features suite.old) (chosen_value feature)
         (device_of W.contents out.old) counting.old (device_of W.contents out.new) counting.new) }
-    ensures err { let run = run_of library.now hooks.now.file.now suite.old.stop in IfErr result (StopsAtNext
+    ensures err { let run = run_of library.now hooks.now.file.now suite.old.stop in
+        IfErr result (StopsAtNext
         (NotifiesOfFeature R.hears R.ends R.begins R.adds run (state_of sandbox.old.now))
         (IsFeatureResult run (state_of sandbox.old.now)
         (opens_features suite.old) (chosen_value feature))
@@ -155,13 +157,17 @@ fn run_features<R: Reporter, W: Write>(
 ) -> Result<(), RunFault>
     requires innermost { suite.old.layer ≡ depth sandbox.old }
     requires formed { AllByRecursion IsFormed features.items }
-    ensures ok { let run = run_of library.now hooks.now.file.now suite.old.stop in OnOk result (AreWritten
-        (NotifiesOfFeature R.hears R.ends R.begins R.adds run (state_of sandbox.old.now)) (stays run)
+    ensures ok { let run = run_of library.now hooks.now.file.now suite.old.stop in
+        OnOk result (AreWritten
+        (NotifiesOfFeature R.hears R.ends R.begins R.adds run (state_of sandbox.old.now))
+        (stays run)
         (AreFeatures run (state_of sandbox.old.now) (opens_features suite.old))
         (opens_features suite.old) (map chosen_value features.items)
         (device_of W.contents out.old) counting.old (device_of W.contents out.new) counting.new) }
-    ensures err { let run = run_of library.now hooks.now.file.now suite.old.stop in IfErr result (AreWrittenUpTo
-        (NotifiesOfFeature R.hears R.ends R.begins R.adds run (state_of sandbox.old.now)) (stays run)
+    ensures err { let run = run_of library.now hooks.now.file.now suite.old.stop in
+        IfErr result (AreWrittenUpTo
+        (NotifiesOfFeature R.hears R.ends R.begins R.adds run (state_of sandbox.old.now))
+        (stays run)
         (AreFeatures run (state_of sandbox.old.now) (opens_features suite.old))
         (opens_features suite.old) (map chosen_value features.items)
         (device_of W.contents out.old) counting.old (device_of W.contents out.new)) }

@@ -53,18 +53,6 @@ fn write_part<W: Write>(
     Ok(still_first)
 }
 
-// Writes the head of a report. `Memory` comes if the head couldn't be made; nothing was written then. `Write` comes if
-// the writer failed; a prefix of the head was written then.
-fn write_head<W: Write>(alloc: Global, style: Style, out: &mut Counted<W>) -> Result<(), RunFault>
-    ensures ok { OnOk result (IsWritten
-        (device_of W.contents out.old) (device_of W.contents out.new) (spec.head style)) }
-    ensures err { IfErr result (IsStopped
-        (device_of W.contents out.old) (device_of W.contents out.new) (spec.head style)) }
-{
-    let text = head(alloc, style)?;
-    write_piece(out, text.as_str())
-}
-
 /// A report with its head and the parts of some features written. The written text isn't kept.
 #[derive(Debug, Drop)]
 pub struct GrowingReport {
@@ -159,7 +147,8 @@ pub fn write_run<W: Write>(
         features,
         rows: _,
     } = inputs;
-    write_head(alloc, options.style, out)?;
+    let text = head(alloc, options.style)?;
+    write_piece(out, text.as_str())?;
     let mut counting = CountingReporter {
         alloc,
         reporter: GrowingReport {

@@ -40,7 +40,7 @@ pub use denote.Ref.{Bor}
 pub use Rattle.gk_request.specs.AllFaults.{AllFaultsAreFound, AreFaultsOf, IsFoundIn, SaysOfFile, files_after, run_files}
 pub use Rattle.gk_request.specs.Inputs.{AreHooks, AreRead, AreRowsIf, AreRowsOf, AreRules, Inputs, InputsAreUnique, IsFirstBadText, IsLibrary, IsReadAs, IsReadOnto, IsWithinLimit, chosen_of, head_of, member_by, rows_onto, with_reading, with_rows}
 pub use Rattle.gk_request.specs.Request.{FilesValue, Request, asked, asked_of, bytes_of, request_of_files, files_value}
-pub use Rattle.gk_request.specs.RunFault.{DoesRead, IsFaultOf, IsFirstUnread, IsUnread, IsUnreadBefore, RunFile, SaysFile, SaysSourceAt, SaysSources, StopsAtFile, files_in_order, hooks_file, library_file, number_of, source_at, sources_from}
+pub use Rattle.gk_request.specs.RunFault.{DoesRead, IsFaultOf, IsFirstUnread, IsUnread, IsUnreadBefore, RunFile, SaysFile, SaysSourceAt, SaysSources, StopsAtFile, reading_order, hooks_file, library_file, number_of, source_at, sources_from}
 pub use Rattle.gk_request.specs.Source.{SourceValue, source_value}
 pub use Rattle.gk_request.specs.declared.request.Options.{Options}
 pub use Rattle.gk_request.specs.declared.run_fault.RunFault.{RunFault}

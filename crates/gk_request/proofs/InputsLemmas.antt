@@ -1,5 +1,5 @@
 -- Inputs, one after another, and that they are determined.
-use Rattle.gk_request.proofs.Common.{◌≡◌, ◌⊎◌, inl, inr, SelectFault, ℕ, suc, zero, ◌+◌, ◌<◌, Bool, true, false, List, [], ◌∷◌, ◌++◌, map, take, drop, length, get_or, Option, Some, None, refl, ap, ap₂, sym, subst, ◌∙◌, arith, add-one, slice_get, zip, AllByRecursion, lines_of, FeatureValue, Reads, HasOneReading, HookValue, HaveOneHooksReading, Case, CaseValue, case_value, ExampleRowValue, with_own_tags, Expression, ReadsTags, is_chosen, LibraryValue, default_text, LibraryReadingIsUnique, HeadValue, MemberValue, ChosenValue, member_of, members_of, SourceValue, Inputs, InputsAreUnique, IsFirstBadText, AreRules, IsLibrary, AreHooks, IsReadAs, member_by, with_reading, AreRead, with_rows, rows_onto, AreRowsOf, AreRowsIf, Request, RunFault, Read, Library, Hooks, Select, Memory, library_file, hooks_file, source_at, DoesRead, sources_from, files_in_order, number_of, StopsAtFile, IsUnread, RunFile, SaysFile, SaysSourceAt, IsFirstUnread, SaysSources}
+use Rattle.gk_request.proofs.Common.{◌≡◌, ◌⊎◌, inl, inr, SelectFault, ℕ, suc, zero, ◌+◌, ◌<◌, Bool, true, false, List, [], ◌∷◌, ◌++◌, map, take, drop, length, get_or, Option, Some, None, refl, ap, ap₂, sym, subst, ◌∙◌, arith, add-one, slice_get, zip, AllByRecursion, lines_of, FeatureValue, Reads, HasOneReading, HookValue, HaveOneHooksReading, Case, CaseValue, case_value, ExampleRowValue, with_own_tags, Expression, ReadsTags, is_chosen, LibraryValue, default_text, LibraryReadingIsUnique, HeadValue, MemberValue, ChosenValue, member_of, members_of, SourceValue, Inputs, InputsAreUnique, IsFirstBadText, AreRules, IsLibrary, AreHooks, IsReadAs, member_by, with_reading, AreRead, with_rows, rows_onto, AreRowsOf, AreRowsIf, Request, RunFault, Read, Library, Hooks, Select, Memory, library_file, hooks_file, source_at, DoesRead, sources_from, reading_order, number_of, StopsAtFile, IsUnread, RunFile, SaysFile, SaysSourceAt, IsFirstUnread, SaysSources}
 use Rattle.gk_select.specs.declared.select_fault.SelectFault.TheVariants as select_faults
 
 -- The element at a place, as a loop has it.
@@ -136,7 +136,7 @@ file_there place n (s ∷ ss) (suc input) source at is = file_there (suc place) 
 
 -- So it is among the files of a run.
 pub source_file : (library hooks : Option (List ℕ)) (sources : List SourceValue) (place input : ℕ) (source : SourceValue) (file : RunFile) → place ≡ input + 2 → slice_get sources input ≡ Some source →
-    slice_get (files_in_order library hooks sources) place ≡ Some file → source_at input source.bytes ≡ file
+    slice_get (reading_order library hooks sources) place ≡ Some file → source_at input source.bytes ≡ file
 source_file library hooks sources zero input source file at is there = absurd (omega arith)
 source_file library hooks sources (suc zero) input source file at is there = absurd (omega arith)
 source_file library hooks sources (suc (suc n)) input source file at is there =
@@ -155,9 +155,9 @@ stops_at_source : (r : Request) (rules : List Expression) (entries : LibraryValu
 stops_at_source r rules entries hooks fault tags library around first is = record {
   rules = rules;
   tags = tags;
-  before = subst (λ n. AllByRecursion DoesRead (take n (files_in_order r.library r.hooks r.sources))) (sym is) ((entries, library), ((hooks, around), do_read (is_chosen rules r.lines) 0 first.input r.sources first.features first.read));
+  before = subst (λ n. AllByRecursion DoesRead (take n (reading_order r.library r.hooks r.sources))) (sym is) ((entries, library), ((hooks, around), do_read (is_chosen rules r.lines) 0 first.input r.sources first.features first.read));
   file = source_at first.input first.source.bytes;
-  numbered = subst (λ n. slice_get (files_in_order r.library r.hooks r.sources) n ≡ Some (source_at first.input first.source.bytes)) (sym is) (file_there 0 first.input r.sources first.input first.source (omega arith) first.place);
+  numbered = subst (λ n. slice_get (reading_order r.library r.hooks r.sources) n ≡ Some (source_at first.input first.source.bytes)) (sym is) (file_there 0 first.input r.sources first.input first.source (omega arith) first.place);
   says = first.says;
 }
 

@@ -4,7 +4,7 @@ use Rattle.gk_request.specs.declared.run_fault.RunFault.{RunFault}
 use Rattle.gk_request.specs.declared.run_fault.RunFault.TheVariants.{Select, Write, Memory}
 use Rattle.gk_request.specs.declared.request.Options.{Options}
 use Rattle.gk_request.specs.Request.{FilesValue, bytes_of, request_of_files}
-use Rattle.gk_request.specs.RunFault.{RunFile, DoesRead, IsFaultOf, IsUnread, SaysFile, files_in_order, number_of}
+use Rattle.gk_request.specs.RunFault.{RunFile, DoesRead, IsFaultOf, IsUnread, SaysFile, reading_order, number_of}
 
 -- The faults of files, in order: one for each file that doesn't read.
 abbrev pub AreFaultsOf : List RunFile → List RunFault → Type 0
@@ -15,7 +15,7 @@ AreFaultsOf (file ∷ files) faults =
 
 -- All files of a run, in the order in which they are read.
 abbrev pub run_files : FilesValue → List RunFile
-run_files files = files_in_order (bytes_of files.library) (bytes_of files.hooks) files.sources
+run_files files = reading_order (bytes_of files.library) (bytes_of files.hooks) files.sources
 
 -- The files of a run that are read after the one with the fault. After a fault of the texts of tags these are all files, and after Write and Memory none.
 abbrev pub files_after : FilesValue → RunFault → List RunFile

@@ -8,7 +8,7 @@ use Rattle.gk_gherkin.specs.Hooks.{HookValue, hooks_value}
 use Rattle.gk_gherkin.specs.HooksGrammar.{ReadsHooks}
 use Rattle.gk_select.specs.Case.{CaseValue}
 use Rattle.gk_select.specs.ExampleRows.{ExampleRowValue, outline_rows, row_lists}
-use Rattle.gk_select.specs.Expansion.{cases, step_count, step_limit, HasTooManySteps}
+use Rattle.gk_select.specs.Expansion.{cases, step_count, step_limit}
 use Rattle.gk_select.specs.OwnTags.{with_own_tags}
 use Rattle.gk_select.specs.TagGrammar.{Expression}
 use Rattle.gk_select.specs.TagRules.{ReadsTags}
@@ -122,18 +122,10 @@ pub record IsFirstBadText (tags : List (List ℕ)) (text : List ℕ) : Type 0 wh
   pub read : AreRules before rules
   pub bad : (rule : Expression) → ReadsTags text rule → ⊥
 
--- One of the texts of tags is the first that spells no rule.
-abbrev pub HasBadTags : List (List ℕ) → Type 0
-HasBadTags tags = (text : List ℕ) × IsFirstBadText tags text
-
 -- This is the first of the texts of tags that spells no rule, or each spells one.
 abbrev pub IsBadText : List (List ℕ) → Option (List ℕ) → Type 0
 IsBadText tags (Some text) = IsFirstBadText tags text
 IsBadText tags None = (rules : List Expression) × AreRules tags rules
-
--- These bytes spell a feature whose cases have more steps than the limit.
-abbrev pub HasTooMany : List ℕ → Type 0
-HasTooMany bytes = (f : FeatureValue) × IsText bytes × Reads (lines_of bytes) (Some f) × HasTooManySteps f
 
 -- The value of a `ReadInputs`.
 abbrev pub inputs_value : ReadInputs → Inputs

@@ -5,9 +5,12 @@ use denote.Ref.{Bor}
 use Rattle.gk_gherkin.specs.declared.read_fault.ReadFault.TheVariants as read_faults
 use Rattle.gk_select.specs.declared.select_fault.SelectFault.TheVariants as select_faults
 use Rattle.gk_gherkin.specs.Feature.{FeatureValue}
+use Rattle.gk_gherkin.specs.Grammar.{Reads}
 use Rattle.gk_gherkin.specs.Hooks.{HookValue}
+use Rattle.gk_gherkin.specs.Lines.{IsText, lines_of}
 use Rattle.gk_gherkin.specs.ReadFault.{FaultSays, FeatureFault, HooksFault}
 use Rattle.gk_select.specs.Case.{CaseValue}
+use Rattle.gk_select.specs.Expansion.{HasTooManySteps}
 use Rattle.gk_select.specs.TagGrammar.{Expression}
 use Rattle.gk_steps.specs.declared.library_fault.LibraryFault.TheVariants as library_faults
 use Rattle.gk_steps.specs.Finding.{LibraryValue}
@@ -17,7 +20,7 @@ use Rattle.gk_request.specs.declared.request.Options.{Options}
 use Rattle.gk_request.specs.declared.run_fault.RunFault.{RunFault}
 use Rattle.gk_request.specs.declared.run_fault.RunFault.TheVariants.{Read, Library, Hooks, Select, Write, Memory}
 use Rattle.gk_request.specs.Source.{SourceValue}
-use Rattle.gk_request.specs.Inputs.{AreHooks, AreRead, AreRules, HasBadTags, HasTooMany, IsLibrary, IsReadAs}
+use Rattle.gk_request.specs.Inputs.{AreHooks, AreRead, AreRules, IsFirstBadText, IsLibrary, IsReadAs}
 use Rattle.gk_request.specs.Request.{Request, asked_of}
 
 -- A file that a run reads: the library file and the hooks file, with their bytes if they are given, or the source at a place, counted from 0.
@@ -37,7 +40,7 @@ abbrev pub IsFaultOf : RunFile → RunFault → Type 0
 IsFaultOf (library_file file) (Library fault) = (bytes : List ℕ) × (file ≡ Some bytes) × LibraryFaultSays fault bytes × (fault ≢ library_faults.Memory)
 IsFaultOf (hooks_file file) (Hooks fault) = (bytes : List ℕ) × (file ≡ Some bytes) × FaultSays HooksFault fault bytes × (fault ≢ read_faults.Memory)
 IsFaultOf (source_at place bytes) (Read input fault) = (input ≡ place) × FaultSays FeatureFault fault bytes × (fault ≢ read_faults.Memory)
-IsFaultOf (source_at place bytes) (Select (Some input) select_faults.TooMany) = (input ≡ place) × HasTooMany bytes
+IsFaultOf (source_at place bytes) (Select (Some input) select_faults.TooMany) = (input ≡ place) × (f : FeatureValue) × IsText bytes × Reads (lines_of bytes) (Some f) × HasTooManySteps f
 IsFaultOf file fault = ⊥
 
 -- Sources, counted from this place.
@@ -46,8 +49,8 @@ sources_from place [] = []
 sources_from place (source ∷ sources) = source_at place source.bytes ∷ sources_from (suc place) sources
 
 -- The library file, the hooks file and the sources, in the order in which a run reads them.
-abbrev pub files_in_order : Option (List ℕ) → Option (List ℕ) → List SourceValue → List RunFile
-files_in_order library hooks sources = library_file library ∷ hooks_file hooks ∷ sources_from 0 sources
+abbrev pub reading_order : Option (List ℕ) → Option (List ℕ) → List SourceValue → List RunFile
+reading_order library hooks sources = library_file library ∷ hooks_file hooks ∷ sources_from 0 sources
 
 -- The number of the file with this fault among the files of a run, counted from 0.
 abbrev pub number_of : RunFault → ℕ
@@ -60,14 +63,14 @@ number_of fault = 0
 pub record StopsAtFile (r : Request) (fault : RunFault) : Type 0 where
   pub rules : List Expression
   pub tags : AreRules r.tags rules
-  pub before : AllByRecursion DoesRead (take (number_of fault) (files_in_order r.library r.hooks r.sources))
+  pub before : AllByRecursion DoesRead (take (number_of fault) (reading_order r.library r.hooks r.sources))
   pub file : RunFile
-  pub numbered : slice_get (files_in_order r.library r.hooks r.sources) (number_of fault) ≡ Some file
+  pub numbered : slice_get (reading_order r.library r.hooks r.sources) (number_of fault) ≡ Some file
   pub says : IsFaultOf file fault
 
 -- The request doesn't read, for this reason. Memory says nothing about the request.
 abbrev pub IsUnread : Request → RunFault → Type 0
-IsUnread r (Select None select_faults.BadTagText) = HasBadTags r.tags
+IsUnread r (Select None select_faults.BadTagText) = (text : List ℕ) × IsFirstBadText r.tags text
 IsUnread r (Select None fault) = ⊥
 IsUnread r Write = ⊥
 IsUnread r Memory = Unit {0}

@@ -20,10 +20,7 @@ pub fn file_at_fault(files: &SuiteFiles, fault: RunFault) -> Option<&Source>
         RunFault::Read { input, .. } => files.sources.get(input),
         RunFault::Library(_) => files.library.as_ref(),
         RunFault::Hooks(_) => files.hooks.as_ref(),
-        RunFault::Select { input, .. } => match input {
-            Some(input) => files.sources.get(input),
-            None => None,
-        },
+        RunFault::Select { input, .. } => files.sources.get(input?),
         RunFault::Write | RunFault::Memory => None,
     }
 }
@@ -33,10 +30,7 @@ pub fn name_at_fault(files: &SuiteFiles, fault: RunFault) -> Option<&str>
     ensures { option_map (λ name. name.now) result
         ≡ spec.name_at_fault (files_value files.now) fault }
 {
-    match file_at_fault(files, fault) {
-        Some(file) => Some(file.name.as_str()),
-        None => None,
-    }
+    Some(file_at_fault(files, fault)?.name.as_str())
 }
 
 /// Returns the line that a fault of a run names, if it names one. It doesn't allocate.

@@ -98,14 +98,14 @@ pub fn read_hook_file(alloc: Global, hooks: Option<&[u8]>) -> Result<HookFile, R
         (SaysFile (hooks_file (option_map (λ bytes. bytes.now) hooks.entry))) }
 {
     match hooks {
+        None => Ok(HookFile {
+            hooks: Vec::new(alloc),
+        }),
         Some(bytes) => match read_hooks(alloc, bytes) {
             Ok(hooks) => Ok(hooks),
             Err(ReadFault::Memory) => Err(RunFault::Memory),
             Err(fault) => Err(RunFault::Hooks(fault)),
         },
-        None => Ok(HookFile {
-            hooks: Vec::new(alloc),
-        }),
     }
 }
 

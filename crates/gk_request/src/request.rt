@@ -64,10 +64,7 @@ pub fn bytes_of(file: &Option<Source>) -> Option<&[u8]>
     ensures { option_map (λ bytes. bytes.now) result
         ≡ spec.bytes_of (option_map source_value file.now) }
 {
-    match file {
-        Some(source) => Some(source.bytes.as_slice()),
-        None => None,
-    }
+    Some(file.as_ref()?.bytes.as_slice())
 }
 
 /// Returns the name of a file, or an empty name if it isn't given. Doesn't allocate.

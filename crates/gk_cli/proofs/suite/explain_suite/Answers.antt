@@ -8,7 +8,7 @@ returns-clause-explained g c =
     let read = rw (c.bytes_of-library.ensures, c.bytes_of-hooks.ensures, c.as_slice-sources.ensures.value) at c.in_ok-inputs.ensures.read in
     let rows = rw c.as_slice-sources.ensures.value at c.in_ok-inputs.ensures.rows in
     let done = rw (c.name_of.ensures) at c.write_explanation.ensures.ok in
-    if_ok c.write_explanation.result (λ status explained. (inputs_value c.in_ok-inputs.inputs, row_lists c.in_ok-inputs.inputs.rows.items, (read, rows), explained)) done
+    if_ok c.write_explanation.result (λ status explained. (inputs_value c.in_ok-inputs.inputs, row_lists c.in_ok-inputs.inputs.rows.items, read, rows, explained)) done
 
 pub returns-clause-fault : goal.returns-clause-fault
 returns-clause-fault g c =
@@ -19,7 +19,7 @@ returns-clause-fault g c =
     let read = rw (c.bytes_of-library.ensures, c.bytes_of-hooks.ensures, c.as_slice-sources.ensures.value) at c.in_ok-inputs.ensures.read in
     let rows = rw c.as_slice-sources.ensures.value at c.in_ok-inputs.ensures.rows in
     let done = rw (c.name_of.ensures) at c.write_explanation.ensures.err in
-    if_err c.write_explanation.result (λ fault part. cut_says (ExplainedInPart request hooks c.args.sandbox.now.now old new) request old new fault part.2.2.why (inputs_value c.in_ok-inputs.inputs, row_lists c.in_ok-inputs.inputs.rows.items, (read, rows), part)) done
+    if_err c.write_explanation.result (λ fault part. cut_says (ExplainedInPart request hooks c.args.sandbox.now.now old new) request old new fault part.2.2.why (inputs_value c.in_ok-inputs.inputs, row_lists c.in_ok-inputs.inputs.rows.items, read, rows, part)) done
 
 pub returns-in_err-inputs-clause-fault : goal.returns-in_err-inputs-clause-fault
 returns-in_err-inputs-clause-fault g c = grind (arith, common_steps, unread_says, untouched, passed_on)
