@@ -102,7 +102,7 @@ impl<'a> InMemory<'a> {
 
 // Copies the bytes of a file.
 fn copied(alloc: Global, bytes: &[u8]) -> Result<Vec<u8>, SourceFault>
-    ensures said { SaysCopy bytes.now (bytes_or_fault result) }
+    ensures copied { SaysCopy bytes.now (bytes_or_fault result) }
     ensures within { IfOk result (λ copy. vec_len copy ≤ limit) }
 {
     if bytes.len() > LONGEST_FILE {

@@ -174,8 +174,8 @@ fn first_fault(alloc: Global, files: &SuiteFiles) -> Result<RunFault, Fail> {
     }
 }
 
-// What is said of a fault: the name of its file, the fault, and what is said below it.
-fn said(alloc: Global, files: &SuiteFiles, fault: RunFault) -> Result<String, AllocError> {
+// Returns the name of the file of a fault, the fault, and its notes.
+fn described(alloc: Global, files: &SuiteFiles, fault: RunFault) -> Result<String, AllocError> {
     let mut notes = String::new(alloc);
     push_notes(&mut notes, alloc, None, files, fault)?;
     format!(in alloc; "{:?} {fault:?}\n{notes}", name_at_fault(files, fault))
@@ -191,12 +191,15 @@ const IN_FEATURE: &str =
 fn all_faults_are_named(rt: HostRuntime) -> Result<(), Fail> {
     let files = oil(rt.alloc())?;
     let first = first_fault(rt.alloc(), &files)?;
-    assert_eq!(rt; said(rt.alloc(), &files, first)?.as_str(), IN_LIBRARY);
+    assert_eq!(rt; described(rt.alloc(), &files, first)?.as_str(), IN_LIBRARY);
     let others = faults_after(rt.alloc(), &files, first)?;
     let [second] = others.as_slice() else {
         return Err("other faults".into());
     };
-    assert_eq!(rt; said(rt.alloc(), &files, *second)?.as_str(), IN_FEATURE);
+    assert_eq!(rt;
+        described(rt.alloc(), &files, *second)?.as_str(),
+        IN_FEATURE
+    );
     assert!(rt; faults_after(rt.alloc(), &files, *second)?.is_empty());
     assert_eq!(rt; name_at_fault(&files, RunFault::Write), None);
     assert_eq!(rt; RunFault::status(&first), 3);

@@ -36,7 +36,7 @@ pub use Rattle.gk_program.specs.Asked.{SaysAsked, SaysError, SaysGiven, files_to
 pub use Rattle.gk_program.specs.Ended.{blocks}
 pub use Rattle.gk_program.specs.Files.{AreRead, IsNotRead, Reading, StopsReading, files_in_order, name_of, names_in_order, one_of}
 pub use Rattle.gk_program.specs.Fault.{alone}
-pub use Rattle.gk_program.specs.Program.{AreGiven, IsOutput, IsPrepared, IsResultOf, IsRun, IsShown, IsTextFault, SaysDone, SaysFlush, SaysRun, StopsBefore, contents_given, variables_given}
+pub use Rattle.gk_program.specs.Program.{AreGiven, IsOutput, IsPrepared, IsResultOf, IsRun, IsShown, IsTextFault, SaysDone, SaysFlush, SaysRun, StopsBefore, variables_given}
 pub use Rattle.gk_program.specs.WorldFiles.{ArePut, AreTaken, IsFaultOfVariable, IsNotPut, IsPut, IsText, PutFile, StopsAtVariable, StopsPutting, given_of, read_of, with_files, with_variables}
 pub use Rattle.gk_program.specs.declared.asked.ArgumentsFault.{ArgumentsFault}
 pub use Rattle.gk_program.specs.declared.asked.Asked.{Asked}

@@ -76,13 +76,9 @@ IsListing mode faults text place =
 abbrev pub IsTaken : List ℕ → Device → Device → Type 0
 IsTaken text old new = (Appends old.bytes new.bytes text × (new.failures ≡ old.failures)) ⊎ (new.failures ≡ one_more old.failures)
 
--- How the program ends with a fault in a file of this name, if a file has it.
-abbrev pub line_end : Option (List ℕ) → Fault → ProgramEnd
-line_end name fault = record { status = status_of fault; place = place_of name fault }
-
--- The line of such a fault is printed, and the program ends with it.
+-- The line of a fault in a file of this name, if a file has it, is printed, and the program ends with its status and its place.
 abbrev pub IsLineEnd : Option (List ℕ) → Fault → Device → Device → ProgramEnd → Type 0
-IsLineEnd name fault old new ended = (ended ≡ line_end name fault) × IsTaken (line_of name fault) old new
+IsLineEnd name fault old new ended = (ended ≡ record { status = status_of fault; place = place_of name fault }) × IsTaken (line_of name fault) old new
 
 -- What is printed if memory is refused for the text: the line of the first fault alone. If the name in it isn't printed as it was given, the line says that memory was refused.
 abbrev pub IsPlainEnd : Mode → Option (List ℕ) → Fault → Device → Device → ProgramEnd → Type 0
@@ -90,14 +86,12 @@ IsPlainEnd Report name fault old new ended = IsLineEnd name fault old new ended
 IsPlainEnd mode None fault old new ended = IsLineEnd None fault old new ended
 IsPlainEnd mode (Some name) fault old new ended = IsLineEnd None (OfRun run.Memory) old new ended
 
--- All of the text for the faults is printed, and the program ends with the status and the place of the first.
-abbrev pub IsWholeEnd : Mode → Faults → Device → Device → ProgramEnd → Type 0
-IsWholeEnd mode faults old new ended = (ended.status ≡ status_of faults.first) × ((text : List ℕ) × IsListing mode faults text ended.place × IsTaken text old new)
-
--- How the program ends, and what it writes to standard error: nothing without a fault, and then it isn't called.
+-- How the program ends, and what it writes to standard error: nothing without a fault, and then it isn't called. Otherwise all of the text for the faults, with the status and the place of the first, or what is printed if memory is refused.
 abbrev pub SaysEnd : Mode → Result ℕ Faults → Device → Device → ProgramEnd → Type 0
 SaysEnd mode (Ok status) old new ended = (new ≡ old) × (ended ≡ record { status = status; place = nowhere })
-SaysEnd mode (Err faults) old new ended = IsWholeEnd mode faults old new ended ⊎ IsPlainEnd mode (name_of faults.inputs faults.first) faults.first old new ended
+SaysEnd mode (Err faults) old new ended =
+    ((ended.status ≡ status_of faults.first) × (text : List ℕ) × IsListing mode faults text ended.place × IsTaken text old new)
+    ⊎ IsPlainEnd mode (name_of faults.inputs faults.first) faults.first old new ended
 
 -- The program ended so with these arguments: its status and the place of its fault, what it wrote to standard output, and what it wrote to standard error.
 pub record IsEnded {S : Type 0} (reads : Reading S) (arguments : Result (List Text) ArgumentsFault) (before after : S) (old new errors_old errors_new : Device) (ended : ProgramEnd) : Type 0 where

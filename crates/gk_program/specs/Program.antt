@@ -75,14 +75,10 @@ pub record AreGiven (w : Words) (files : FilesValue) : Type 0 where
 abbrev pub variables_given : Words → List PairValue
 variables_given w = map pair_value w.env.items
 
--- The contents with the variables alone.
-abbrev pub contents_given : Words → Contents
-contents_given w = with_variables nothing_yet (variables_given w)
-
 -- The world has these contents before a run: the variables are taken, and then each file of `--file` was read from the system and put under its name, in order.
 pub record IsPrepared {S : Type 0} (reads : Reading S) (w : Words) (before after : S) (contents : Contents) : Type 0 where
   pub taken : AreTaken (variables_given w)
-  pub put : ArePut reads (files_to_put w) before after (contents_given w) contents
+  pub put : ArePut reads (files_to_put w) before after (with_variables nothing_yet (variables_given w)) contents
 
 -- Why a run isn't begun: a variable isn't taken, a file of `--file` isn't put, or a given file isn't read. It is the first such fault, and no file was read after it.
 abbrev pub StopsBefore : {S : Type 0} → Reading S → Words → S → S → Fault → Type 0

@@ -6,7 +6,6 @@ use Rattle.gk_world.specs.Refusals.{IsFault, is_bad_name, is_too_long, put_refus
 use Rattle.gk_world.specs.Sandbox.{SandboxValue, with_env, with_file}
 use Rattle.gk_world.specs.declared.refusals.WorldFault.{WorldFault}
 use Rattle.gk_world.specs.declared.refusals.WorldFault.TheVariants as world
-use Rattle.gk_findings.specs.declared.hints.EnvMistake.{EnvMistake}
 use Rattle.gk_findings.specs.declared.hints.EnvMistake.TheVariants.{BadName, LongValue}
 use Rattle.gk_cli.specs.Arguments.{PairValue}
 use Rattle.gk_request.specs.Source.{SourceValue}
@@ -24,15 +23,11 @@ with_variables c variables = fold (λ c v. with_env c v.name v.text) c variables
 abbrev pub AreTaken : List PairValue → Type 0
 AreTaken variables = All (λ v. put_refusal v.name v.text ≡ None) variables
 
--- What is wrong with a variable that the world refuses for this reason.
-abbrev pub mistake_of : WorldFault → EnvMistake
-mistake_of world.TextTooLong = LongValue
-mistake_of fault = BadName
-
 -- The fault of a variable of this name that the world refuses, for this reason.
 abbrev pub IsFaultOfVariable : List ℕ → WorldFault → Fault → Type 0
 IsFaultOfVariable name world.Memory fault = fault ≡ OfRun Memory
-IsFaultOfVariable name by (Env mistake same) = (string_bytes same ≡ name) × (mistake ≡ mistake_of by)
+IsFaultOfVariable name world.TextTooLong (Env mistake same) = (string_bytes same ≡ name) × (mistake ≡ LongValue)
+IsFaultOfVariable name by (Env mistake same) = (string_bytes same ≡ name) × (mistake ≡ BadName)
 IsFaultOfVariable name by fault = ⊥
 
 -- Some variables are taken, and the next isn't, for this reason: its name is bad or its text is too long, or there is no such reason and memory was refused.

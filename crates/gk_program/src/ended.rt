@@ -3,8 +3,8 @@ ghost use Rattle.std.specs.Prelude.{◌≡◌, option_map, IfOk, OnOk, string_by
 ghost use Rattle.gk_report.specs.ReportTexts.{Pushes};
 ghost use Rattle.gk_cli.specs.Writing.{device_of};
 ghost use Rattle.gk_program.specs.Ended as spec;
-ghost use Rattle.gk_program.specs.Ended.{AreLater, IsListing, IsPlainEnd, IsTaken, IsTextAt, SaysEnd};
-ghost use Rattle.gk_program.specs.Fault.{line_of, name_of, place_of};
+ghost use Rattle.gk_program.specs.Ended.{AreLater, IsLineEnd, IsListing, IsPlainEnd, IsTextAt, SaysEnd};
+ghost use Rattle.gk_program.specs.Fault.{name_of, place_of};
 
 use crate::fault::{Fault, FaultLine, FaultPlace, Faults, FileFault, Inputs, NOWHERE};
 use gk_cli::Mode;
@@ -183,11 +183,8 @@ fn list_faults(alloc: Global, mode: Mode, faults: &Faults) -> Result<Listing, Al
 
 // Writes the line of a fault piece by piece, and returns how the program ends with it.
 fn print_line<E: Write>(line: FaultLine<'_, '_>, errors: &mut Counted<E>) -> ProgramEnd
-    ensures ended { result ≡ spec.line_end
-        (option_map (λ name. name.now) line.entry.name) line.entry.fault.now }
-    ensures taken { IsTaken
-        (line_of (option_map (λ name. name.now) line.entry.name) line.entry.fault.now)
-        (device_of E.contents errors.old) (device_of E.contents errors.new) }
+    ensures { IsLineEnd (option_map (λ name. name.now) line.entry.name) line.entry.fault.now
+        (device_of E.contents errors.old) (device_of E.contents errors.new) result }
 {
     let _ = write_displayed(errors, line);
     ProgramEnd {

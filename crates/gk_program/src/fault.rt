@@ -82,10 +82,7 @@ impl Fault {
     {
         match self {
             Fault::OfFile { name, .. } => Some(name.as_str()),
-            Fault::OfRun(fault) => match inputs {
-                Some(inputs) => name_at_fault(&inputs.files, *fault),
-                None => None,
-            },
+            Fault::OfRun(fault) => name_at_fault(&inputs.as_ref()?.files, *fault),
             _ => None,
         }
     }

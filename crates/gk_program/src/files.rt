@@ -1,6 +1,6 @@
 //! Reading the library file, the hooks file and the feature files.
 ghost use Rattle.std.specs.Prelude.{◌≡◌, ◌≤◌, map, IfOk, IfErr, Ok, option_map, string_bytes, vec_len};
-ghost use Rattle.gk_program.specs.Files.{AreRead, IsFaultOfReading, IsNotRead, StopsReading, files_in_order, name_of, names_in_order, one_of};
+ghost use Rattle.gk_program.specs.Files.{AreRead, IsNotRead, StopsReading, files_in_order, name_of, names_in_order, one_of};
 ghost use Rattle.gk_request.specs.Source.{source_value};
 ghost use Rattle.gk_request.specs.Request.{files_value};
 
@@ -27,23 +27,6 @@ pub trait System {
         ensures within { IfOk result (λ bytes. vec_len bytes ≤ LONGEST_FILE) };
 }
 
-// Returns the fault of a file that can't be read, for this reason. `over_limit` is that of one with too many bytes.
-fn fault_of_reading(name: String, fault: SourceFault, over_limit: FileFault) -> Fault
-    ensures { IsFaultOfReading over_limit (string_bytes name) fault result }
-{
-    match fault {
-        SourceFault::Device => Fault::OfFile {
-            name,
-            fault: FileFault::CannotRead,
-        },
-        SourceFault::TooLong => Fault::OfFile {
-            name,
-            fault: over_limit,
-        },
-        SourceFault::Memory => Fault::OfRun(RunFault::Memory),
-    }
-}
-
 /// Returns all bytes of the file of this name. A file that can't be opened or read is `CannotRead`, and one with more
 /// bytes than `gk_gherkin::LONGEST_FILE` has the fault `over_limit`.
 pub fn read_file<S: System>(
@@ -61,7 +44,15 @@ pub fn read_file<S: System>(
 {
     match system.read(alloc, name.as_str()) {
         Ok(bytes) => Ok(Source { name, bytes }),
-        Err(fault) => Err(fault_of_reading(name, fault, over_limit)),
+        Err(SourceFault::Memory) => Err(Fault::OfRun(RunFault::Memory)),
+        Err(SourceFault::TooLong) => Err(Fault::OfFile {
+            name,
+            fault: over_limit,
+        }),
+        Err(SourceFault::Device) => Err(Fault::OfFile {
+            name,
+            fault: FileFault::CannotRead,
+        }),
     }
 }
 

@@ -22,12 +22,10 @@ fn flushed<W: Write>(written: Result<u8, RunFault>, out: &mut Counted<W>) -> Res
     ensures { SaysFlush written
         (device_of W.contents out.old) (device_of W.contents out.new) result }
 {
-    match written {
-        Ok(status) => match out.flush() {
-            Ok(()) => Ok(status),
-            Err(_) => Err(RunFault::Write),
-        },
-        Err(fault) => Err(fault),
+    let status = written?;
+    match out.flush() {
+        Ok(()) => Ok(status),
+        Err(_) => Err(RunFault::Write),
     }
 }
 

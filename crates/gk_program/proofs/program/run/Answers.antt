@@ -1,5 +1,5 @@
 use Rattle.gk_program.proofs.Common.{ap, refl, subst, Err, device_of, given_value, SaysGiven, Nothing}
-use Rattle.gk_program.proofs.ProgramLemmas.{untouched}
+use Rattle.gk_cli.proofs.ReportRunLemmas.{untouched}
 use Rattle.gk_program.proofs.program.run.Goals as goal
 
 pub returns-in-Nothing : goal.returns-in-Nothing
