@@ -69,7 +69,7 @@ pub trait Reporter: Observer + Drop {
             ClosesWith closes self summary.now around (string_bytes text)) };
 }
 
-/// A reporter of a run, and the counts of the features that it was notified of.
+/// A reporter of a run, the counts of the features that it was notified of, and the allocator of its texts.
 #[derive(Drop)]
 pub struct CountingReporter<R> {
     pub alloc: Global,
