@@ -44,18 +44,22 @@ def ended(function="run", **options):
     try:
         result = getattr(gherkin_run, function)(**options)
     except gherkin_run.Fault as fault:
-        return fault.status, b"", f"{fault}\n".encode()
+        # A run of the program prints no hint.
+        text = fault.args[0] if function == "run" else fault
+        return fault.status, b"", f"{text}\n".encode()
     return result.status, result.text.encode(), b""
 
 
 def fault_of(function="run", **given):
-    """The text, status, file, line and reason of the fault of a call, after it was pickled."""
+    """The text, status, file, line, reason and hint of the fault of a call, after it was pickled."""
     try:
         getattr(gherkin_run, function)(**given)
     except gherkin_run.Fault as fault:
         again = pickle.loads(pickle.dumps(fault))
-        return [str(again), again.status, again.file, again.line, again.reason]
-    return [None] * 5
+        text = f"{again.args[0]}\n{again.hint}" if again.hint else again.args[0]
+        assert str(again) == text, (str(again), text)
+        return [again.args[0], again.status, again.file, again.line, again.reason, again.hint]
+    return [None] * 6
 
 
 @contextlib.contextmanager
@@ -116,7 +120,7 @@ class Functions(Package):
         """The fault of a run, and of an explanation, where the name of a file is escaped."""
         found = fault_of("run", **given)
         shown = [it.replace("\0", "\\u{0}") if isinstance(it, str) else it for it in found]
-        return found if shown == fault_of("explain", **given) else "another fault if it is explained"
+        return found[:-1] if shown == fault_of("explain", **given) else "another fault if it is explained"
 
     def raises(self, call=None, **given):
         """The name of the exception of a call, or of a run."""
