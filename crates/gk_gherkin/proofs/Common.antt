@@ -40,7 +40,7 @@ pub use Rattle.gk_gherkin.specs.HookIndex.{AreListed, AreListedTo, IsFirst, List
 pub use Rattle.gk_gherkin.specs.HookTable.{hook_for}
 pub use Rattle.gk_gherkin.specs.Hooks.{HookValue, hook_value, hooks_value, is_for, is_same_kind, is_same_tag, number_of_kind}
 pub use Rattle.gk_gherkin.specs.HooksGrammar.{AreDistinct, AreHooksReadable, HaveOneHooksReading, IsHook, ReadsHooks, heading_of}
-pub use Rattle.gk_gherkin.specs.HooksReader.{HooksReader, InHook, Needs, NoHook, OpenedValue, has_heading, hook_after, hook_begun, hook_of, hooks_of, hooks_readers, opened_from}
+pub use Rattle.gk_gherkin.specs.HooksReader.{Needs, has_heading, hook_after, hook_begun, hook_from, hook_with, hooks_readers, last_hook_takes_text, last_hook_with_text, under_last}
 unfoldable pub use Rattle.gk_gherkin.specs.HooksReader.{on_hook, on_plain_line}
 pub use Rattle.gk_gherkin.specs.HooksSoFar.{so_far_value}
 pub use Rattle.gk_gherkin.specs.Language.{IsEnglishOrNone, language_word, rest_after}
@@ -50,7 +50,7 @@ pub use Rattle.gk_gherkin.specs.OpenParts.{ChildrenValue, background_takes_text,
 pub use Rattle.gk_gherkin.specs.OpenParts.Views.{children_value}
 unfoldable pub use Rattle.gk_gherkin.specs.OpenParts.{heading_in, on_background, on_block, on_body, on_examples, on_row, on_steps, with_last}
 pub use Rattle.gk_gherkin.specs.ReadFault.{AnswersOrLacksMemory, AnyLineSays, BeginsNone, BeginsSome, BeginsWithTag, EndsInDocString, EndsInTags, FaultSays, FeatureFault, HaveOneFault, HooksFault, HooksLineSays, HooksNeedMemory, IsBadRow, IsBadTag, IsHooksLineFault, IsLineFault, IsOtherWidth, LineSays, LinesFaultSays, NeedsMemory, NoneLikeIt, SomeLikeIt, StoodBefore, StopsAt, TakesTags, line_of_fault}
-pub use Rattle.gk_gherkin.specs.Reading.{DocStringValue, FailsAs, FailsBy, InText, Need, NeedSome, NeedsAtEnd, NeedsIn, Outside, Readers, State, in_text, longer, need_at_end, need_here, need_later, opened, opening, outside, outside_text, run, whole_text, with_line}
+pub use Rattle.gk_gherkin.specs.Reading.{DocStringValue, FailsAs, FailsBy, InText, Need, NeedSome, NeedsIn, Outside, Readers, State, in_text, longer, need_here, need_later, opened, opening, outside, outside_text, run, whole_text, with_line}
 unfoldable pub use Rattle.gk_gherkin.specs.Reading.{finish, reading, run_by, step}
 pub use Rattle.gk_gherkin.specs.Reading.Views.{state_value, text_value}
 pub use Rattle.gk_gherkin.specs.Results.{Agrees, Fails, ◌>>=◌}

@@ -1,5 +1,5 @@
 -- A clone of a part of a feature has the same value.
-use Rattle.gk_gherkin.proofs.Common.{◌≡◌, List, [], ◌∷◌, Option, Some, None, String, refl, ap, map, option_map, string_bytes, texts, Text, Table, background_value, block_value, examples_value, feature_value, row_value, rule_value, scenario_value, step_value, Feature}
+use Rattle.gk_gherkin.proofs.Common.{◌≡◌, List, [], ◌∷◌, Option, Some, None, refl, ap, map, option_map, string_bytes, texts, Text, Table, background_value, block_value, examples_value, feature_value, row_value, rule_value, scenario_value, step_value, Feature}
 use Rattle.std.specs.List.{AllZip}
 use Rattle.gk_gherkin.specs.declared.feature.Block.{Block}
 use Rattle.gk_gherkin.specs.declared.feature.Block.TheVariants as blocks

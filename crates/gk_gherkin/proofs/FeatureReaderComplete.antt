@@ -177,23 +177,23 @@ module _ (F : ChildrenValue → FeatureValue) (gets : (k : ChildrenValue) → la
       (takes : (steps : List StepValue) → children_take_text (B steps) ≡ steps_take_text steps)
       (texts : (steps : List StepValue) (text : List ℕ) → children_with_text (B steps) text ≡ B (steps_with_text steps text))
     where
-    stays_bodied : (l : LineValue) (c : Class) → MayDescribeScenario c → IsPlainClass c × (on_children (B []) l c ≡ Ok (B []))
-    unfolding on_body
-    stays_bodied l RowLine m = (tt, goes [] [] l RowLine refl)
-    stays_bodied l (FenceLine fence) m = (tt, goes [] [] l (FenceLine fence) refl)
-    stays_bodied l Other m = (tt, goes [] [] l Other refl)
-    stays_bodied l _ m = absurd m
+      stays_bodied : (l : LineValue) (c : Class) → MayDescribeScenario c → IsPlainClass c × (on_children (B []) l c ≡ Ok (B []))
+      unfolding on_body
+      stays_bodied l RowLine m = (tt, goes [] [] l RowLine refl)
+      stays_bodied l (FenceLine fence) m = (tt, goes [] [] l (FenceLine fence) refl)
+      stays_bodied l Other m = (tt, goes [] [] l Other refl)
+      stays_bodied l _ m = absurd m
 
-    steps_taken : (steps next : List StepValue) (l : LineValue) (c : Class) → class l ≡ c → on_steps steps l c ≡ Ok next → on (at (B steps)) l (class l) ≡ Ok (at (B next))
-    steps_taken steps next l c is e = ap (on (at (B steps)) l) is ∙ line_taken (B steps) (B next) l c (steps_plain steps next l c e) (goes steps next l c (body_taken steps next l c e))
+      steps_taken : (steps next : List StepValue) (l : LineValue) (c : Class) → class l ≡ c → on_steps steps l c ≡ Ok next → on (at (B steps)) l (class l) ≡ Ok (at (B next))
+      steps_taken steps next l c is e = ap (on (at (B steps)) l) is ∙ line_taken (B steps) (B next) l c (steps_plain steps next l c e) (goes steps next l c (body_taken steps next l c e))
 
-    with_text_at : (k : ChildrenValue) (text : List ℕ) → after_text (at k) text ≡ at (children_with_text k text)
-    with_text_at k text = ap (λ (j : ChildrenValue). Untagged (Some (with_children (F k) (children_with_text j text)))) (gets k) ∙ ap (λ (f : FeatureValue). Untagged (Some f)) (puts k (children_with_text k text))
+      with_text_at : (k : ChildrenValue) (text : List ℕ) → after_text (at k) text ≡ at (children_with_text k text)
+      with_text_at k text = ap (λ (j : ChildrenValue). Untagged (Some (with_children (F k) (children_with_text j text)))) (gets k) ∙ ap (λ (f : FeatureValue). Untagged (Some f)) (puts k (children_with_text k text))
 
-    run_body : {ls mid rest : Lines} {sts : List StepValue} → Describes MayDescribeScenario ls mid → AreSteps mid sts rest → runs_over (at (B [])) ls ≡ runs_over (at (B sts)) rest
-    run_body d s =
-        run_describes (B []) (takes []) stays_bodied d
-        ∙ run_steps feature_readers (λ steps. at (B steps)) (λ steps l i. quiet (at (B steps)) l i) steps_taken (λ steps. ap children_take_text (gets (B steps)) ∙ takes steps) (λ steps text. with_text_at (B steps) text ∙ ap at (texts steps text)) [] s.parts s.types
+      run_body : {ls mid rest : Lines} {sts : List StepValue} → Describes MayDescribeScenario ls mid → AreSteps mid sts rest → runs_over (at (B [])) ls ≡ runs_over (at (B sts)) rest
+      run_body d s =
+          run_describes (B []) (takes []) stays_bodied d
+          ∙ run_steps feature_readers (λ steps. at (B steps)) (λ steps l i. quiet (at (B steps)) l i) steps_taken (λ steps. ap children_take_text (gets (B steps)) ∙ takes steps) (λ steps text. with_text_at (B steps) text ∙ ap at (texts steps text)) [] s.parts s.types
 
   -- the last scenario of some children
   module _ (k : ChildrenValue) where

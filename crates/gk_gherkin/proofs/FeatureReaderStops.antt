@@ -381,7 +381,7 @@ later FeatureHeading l ls t is e again = record { line = l; rest = ls; next = sk
 later _ l ls t is e again = no_ok e
 
 feature_fails : (e : ReadFault) (ls : Lines) → FailsBy feature_readers e ls → FeatureFault e ls
-feature_fails Memory ls h = needed feature_readers NeedsMemory (λ l ls n. here (class l) l ls refl n) (λ l ls next e again. later (class l) l ls next refl e again) (λ n. n) refl ls h
+feature_fails Memory ls h = needed feature_readers NeedsMemory (λ l ls n. here (class l) l ls refl n) (λ l ls next e again. later (class l) l ls next refl e again) refl ls h
 feature_fails e ls h = faulty ls e h
 
 -- What a fault of the reading says of the bytes.

@@ -280,7 +280,6 @@ Skips-append : {Ignored : LineValue → Type 0} {ls mid rest : Lines} → Skips 
 Skips-append skip_none t = t
 Skips-append (skip n s) t = skip n (Skips-append s t)
 
-
 text_block : (after mid ls rest : Lines) (block : BlockValue) (text : List ℕ) → block ≡ Empty → Skips IsIgnored mid ls → IsDocString ls text rest → IsBlock after block mid → IsDocString after text rest
 text_block after mid ls rest block text is n d b =
     let start : after ≡ mid = subst (λ block. IsBlock after block mid) is b in

@@ -113,12 +113,6 @@ module _ {S : Type 0} (step : S → LineValue → Result S ReadFault) (at : List
         ∙ run_all_steps (steps ++ st ∷ []) many (subst (λ (o : Option StepValue). AreTypedAfter (type_of_last o) sts) (sym (last_or-push None steps st)) ty.1)
         ∙ ap (λ (steps : List StepValue). run_by step (at steps) rest) (append_assoc steps (st ∷ []) sts)
 
--- The classes of lines that steps take.
-abbrev pub IsStepsClass : Class → Type 0
-IsStepsClass StepLine = Unit {0}
-IsStepsClass RowLine = Unit {0}
-IsStepsClass _ = ⊥
-
 -- The same over the lines of a kind of file. at: the reader with some steps.
 module _ {P A : Type 0} (readers : Readers P A) (at : List StepValue → P)
     (quiet : (steps : List StepValue) (l : LineValue) → IsIgnored l → readers.after_line (at steps) l ≡ Ok (at steps))

@@ -1,5 +1,5 @@
 -- Where a run stops, and what the lines before say, the same for both kinds of file.
-use Rattle.gk_gherkin.proofs.Common.{◌≡◌, ℕ, Bool, true, false, List, [], ◌∷◌, ◌++◌, Option, Some, None, Result, Ok, Err, refl, ap, sym, subst, ◌∙◌, append_assoc, append-nil, AllByRecursion, FenceLine, Fence, ReadFault, LineValue, Lines, class, closes, BeginsSome, BeginsNone, EndsInDocString, ◌>>=◌, DocStringValue, Readers, State, Outside, InText, opening, opened, longer, whole_text, outside_text, in_text, step, run, run_by, need_at_end, need_here, need_later, NeedsIn, NeedsAtEnd, NeedSome}
+use Rattle.gk_gherkin.proofs.Common.{◌≡◌, ℕ, Bool, true, false, List, [], ◌∷◌, ◌++◌, Option, Some, None, Result, Ok, Err, refl, ap, sym, subst, ◌∙◌, append_assoc, append-nil, AllByRecursion, FenceLine, Fence, ReadFault, LineValue, Lines, class, closes, BeginsSome, BeginsNone, EndsInDocString, ◌>>=◌, DocStringValue, Readers, State, Outside, InText, opening, opened, longer, whole_text, outside_text, in_text, step, run, run_by, need_here, need_later, NeedsIn, NeedSome}
 use Rattle.gk_gherkin.proofs.ReadingRuns.{ok_same, no_ok, run-append, run_nil, halted_run, one_more_line, no_err}
 use Rattle.gk_gherkin.proofs.ReadingSound.{All-push}
 use Rattle.gk_gherkin.proofs.ReadingStates.{opens_by, outside_ok, step_at, step_refused, step_plain, step_opens, step_closes, step_stays}
@@ -8,14 +8,13 @@ use Rattle.gk_gherkin.proofs.ReadingStates.{opens_by, outside_ok, step_at, step_
 module _ {P A : Type 0} (readers : Readers P A) (Needed : Lines → Type 0)
     (here : (l : LineValue) (ls : Lines) → readers.needs readers.first l → Needed (l ∷ ls))
     (later : (l : LineValue) (ls : Lines) (next : P) → readers.after_line readers.first l ≡ Ok next → (readers.first ≡ next → Needed ls) → Needed (l ∷ ls))
-    (no_end : readers.needs_at_end readers.first → ⊥)
     (no_text : readers.takes_text readers.first ≡ false)
   where
     none_opens : (l : LineValue) → opening (readers.takes_text readers.first) (class l) ≡ None
     none_opens l = ap (λ (b : Bool). opening b (class l)) no_text
 
     needs_from : (s : State P) (ls : Lines) → Outside readers.first ≡ s → NeedSome readers s ls → Needed ls
-    needs_from s [] same (need_at_end h) = absurd (no_end (subst (NeedsAtEnd readers) (sym same) h))
+    needs_from s [] same h = elim h [ ]
     needs_from s (l ∷ ls) same (need_here h) = here l ls (subst (λ (s : State P). NeedsIn readers s l) (sym same) h)
     needs_from s (l ∷ ls) same (need_later {next = t} e rest) =
         let taken : outside_text readers None readers.first l ≡ Ok t = sym (step_at readers readers.first l None (none_opens l)) ∙ subst (λ (s : State P). step readers s l ≡ Ok t) (sym same) e in

@@ -153,4 +153,4 @@ Needs (Tagged feature tags last) line class = Unit {0}
 
 -- The functions that read a feature file.
 abbrev pub feature_readers : Readers FeatureReader (Option FeatureValue)
-feature_readers = record { first = Untagged None; after_line = λ reader line. on reader line (class line); takes_text = takes_text; after_text = after_text; answer = answer; needs = λ reader line. Needs reader line (class line); needs_at_end = λ reader. ⊥ }
+feature_readers = record { first = Untagged None; after_line = λ reader line. on reader line (class line); takes_text = takes_text; after_text = after_text; answer = answer; needs = λ reader line. Needs reader line (class line) }

@@ -31,9 +31,8 @@ pub record Readers (P A : Type 0) : Type 1 where
   pub after_text : P → List ℕ → P
   -- what the file says if the lines end there
   pub answer : P → Result A ReadFault
-  -- whether a line there, or the end of the lines, needs memory
+  -- whether a line there needs memory
   pub needs : P → LineValue → Type 0
-  pub needs_at_end : P → Type 0
 
 -- The state of reading: outside of doc strings, or in a doc string under the last step.
 pub data State (P : Type 0) : Type 0 where
@@ -78,11 +77,10 @@ unfoldable pub run_by : {S : Type 0} → (S → LineValue → Result S ReadFault
 run_by step state [] = Ok state
 run_by step state (line ∷ lines) = step state line >>= λ next. run_by step next lines
 
--- Starting in a state, some line that is reached needs memory, or the end does.
-pub data Need {S : Type 0} (step : S → LineValue → Result S ReadFault) (In : S → LineValue → Type 0) (AtEnd : S → Type 0) : S → Lines → Type 0 where
-  need_at_end : {state : S} → AtEnd state → Need step In AtEnd state []
-  need_here : {state : S} {line : LineValue} {lines : Lines} → In state line → Need step In AtEnd state (line ∷ lines)
-  need_later : {state next : S} {line : LineValue} {lines : Lines} → step state line ≡ Ok next → Need step In AtEnd next lines → Need step In AtEnd state (line ∷ lines)
+-- Starting in a state, some line that is reached needs memory.
+pub data Need {S : Type 0} (step : S → LineValue → Result S ReadFault) (In : S → LineValue → Type 0) : S → Lines → Type 0 where
+  need_here : {state : S} {line : LineValue} {lines : Lines} → In state line → Need step In state (line ∷ lines)
+  need_later : {state next : S} {line : LineValue} {lines : Lines} → step state line ≡ Ok next → Need step In next lines → Need step In state (line ∷ lines)
 
 module _ {P A : Type 0} (readers : Readers P A) where
   -- The state after a line outside of doc strings, given its fence if it opens one.
@@ -118,16 +116,11 @@ module _ {P A : Type 0} (readers : Readers P A) where
   NeedsIn (Outside reader) line = readers.needs reader line
   NeedsIn (InText reader text) line = Unit {0}
 
-  -- The end of the lines needs memory in a state.
-  abbrev pub NeedsAtEnd : State P → Type 0
-  NeedsAtEnd (Outside reader) = readers.needs_at_end reader
-  NeedsAtEnd (InText reader text) = ⊥
-
-  -- Starting in a state, some line that is reached needs memory, or the end does.
+  -- Starting in a state, some line that is reached needs memory.
   abbrev pub NeedSome : State P → Lines → Type 0
-  NeedSome state lines = Need step NeedsIn NeedsAtEnd state lines
+  NeedSome state lines = Need step NeedsIn state lines
 
-  -- A fault of the lines is that of reading them. For refused memory, some line or the end needs memory.
+  -- A fault of the lines is that of reading them. For refused memory, some line needs memory.
   abbrev pub FailsBy : ReadFault → Lines → Type 0
   FailsBy Memory lines = NeedSome (Outside readers.first) lines
   FailsBy fault lines = reading lines ≡ Err fault

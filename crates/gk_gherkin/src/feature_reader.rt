@@ -314,7 +314,7 @@ impl FileReader for FeatureReader {
 
     ghost readers = { spec.feature_readers };
 
-    fn first() -> FeatureReader {
+    fn first(_: Global) -> FeatureReader {
         FeatureReader {
             feature: None,
             tags: None,
@@ -350,7 +350,7 @@ impl FileReader for FeatureReader {
         Ok(())
     }
 
-    fn answer(self, _: Global) -> Result<Option<Feature>, ReadFault> {
+    fn answer(self) -> Result<Option<Feature>, ReadFault> {
         let FeatureReader { feature, tags } = self;
         match tags {
             None => Ok(feature),

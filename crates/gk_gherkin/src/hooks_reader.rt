@@ -1,4 +1,4 @@
-//! The reader of a hooks file: what it has read so far, and the effect of each line.
+//! The reader of a hooks file: the hooks so far, and the effect of each line.
 ghost use Rattle.std.specs.Prelude.{List, option_map, Ok, IfOk, IfErr, ◌≡◌};
 ghost use Rattle.std.specs.String.{string_bytes};
 ghost use Rattle.gk_gherkin.specs.Lines.{borrowed_value, lines_of, IsText};
@@ -9,65 +9,18 @@ ghost use Rattle.gk_gherkin.specs.HooksGrammar.{ReadsHooks};
 ghost use Rattle.gk_gherkin.specs.ReadFault.{AnswersOrLacksMemory, FaultSays, HooksFault};
 ghost use Rattle.gk_gherkin.specs.Results.{Agrees};
 ghost use Rattle.gk_gherkin.specs.HooksReader as spec;
-ghost use Rattle.gk_gherkin.specs.HooksReader.Views.{reader_value};
 ghost use Rattle.gk_gherkin.specs.HooksSoFar.{so_far_value};
 ghost use Rattle.gk_gherkin.specs.declared.hook_headings.HooksClass.TheVariants.{HookLine, Plain};
 ghost use Rattle.gk_gherkin.specs.declared.read_fault.ReadFault.TheVariants.{BadHook, Memory};
 
 use crate::class::Class;
-use crate::feature::Step;
 use crate::hook_headings::{HookHeading, HooksClass, hook_heading, hooks_class};
-use crate::hooks::{Hook, HookFile, HookKind};
+use crate::hooks::{Hook, HookFile};
 use crate::hooks_so_far::HooksSoFar;
 use crate::lines::BorrowedLine;
-use crate::open_parts::{on_steps, put, put_text, steps_take_text, unexpected};
 use crate::read_fault::ReadFault;
 use crate::reading::{FileReader, read};
 use std::alloc::Global;
-use std::mem;
-
-/// The hooks before the open one, and the open one's heading with its line.
-#[derive(Drop)]
-pub struct Opened {
-    pub before: HooksSoFar,
-    pub kind: HookKind,
-    pub tag: Option<String>,
-    pub line: u32,
-}
-
-/// The state before the first hook, or in the steps of a hook.
-#[derive(Drop)]
-pub enum HooksReader {
-    NoHook,
-    InHook { opened: Opened, steps: Vec<Step> },
-}
-
-// Returns the hooks read so far. The open one is the last.
-fn hooks_of(alloc: Global, reader: HooksReader) -> Result<HooksSoFar, ReadFault>
-    ensures says { Agrees so_far_value result (Ok (spec.hooks_of (reader_value reader))) }
-    ensures memory { IfErr result (λ e. spec.NeedsAtEnd (reader_value reader)) }
-{
-    match reader {
-        HooksReader::NoHook => Ok(HooksSoFar::new(alloc)),
-        HooksReader::InHook { opened, steps } => {
-            let mut hooks = opened.before;
-            hooks.push(Hook {
-                kind: opened.kind,
-                tag: opened.tag,
-                line: opened.line,
-                steps,
-            })?;
-            Ok(hooks)
-        }
-    }
-}
-
-// Returns whether one of these hooks has this heading.
-fn has_heading(heading: &HookHeading<'_>, hooks: &HooksSoFar) -> bool
-    ensures { result ≡ spec.has_heading (heading_value heading.now) (so_far_value hooks.now) }
-{
-    hooks.has(heading.kind, heading.tag)
-}
 
 fn tag_of(alloc: Global, heading: &HookHeading<'_>) -> Result<Option<String>, ReadFault>
     ensures { Agrees (λ o. option_map string_bytes o) result (Ok (heading_value heading.now).tag) }
@@ -88,58 +41,27 @@ fn bad_hook(line: &BorrowedLine<'_>) -> ReadFault
 
 #[inline(never)]
 #[tactic(auto, unfolding(crate::specs::HooksReader::on_hook))]
-fn on_hook(
-    alloc: Global,
-    reader: &mut HooksReader,
-    line: &BorrowedLine<'_>,
-) -> Result<(), ReadFault>
-    ensures says { Agrees (λ _. reader_value reader.new) result
-        (spec.on_hook (reader_value reader.old) (borrowed_value line.now)) }
+fn on_hook(alloc: Global, hooks: &mut HooksSoFar, line: &BorrowedLine<'_>) -> Result<(), ReadFault>
+    ensures says { Agrees (λ _. so_far_value hooks.new) result
+        (spec.on_hook (so_far_value hooks.old) (borrowed_value line.now)) }
     ensures memory { IfErr result (λ e. e ≡ Memory →
-        spec.Needs (reader_value reader.old) (borrowed_value line.now) HookLine) }
+        spec.Needs (so_far_value hooks.old) (borrowed_value line.now) HookLine) }
 {
     match hook_heading(line) {
         None => Err(bad_hook(line)),
         Some(heading) => {
-            let before = hooks_of(alloc, mem::replace(reader, HooksReader::NoHook))?;
-            if has_heading(&heading, &before) {
+            if hooks.has(heading.kind, heading.tag) {
                 return Err(bad_hook(line));
             }
-            let opened = Opened {
-                before,
+            let tag = tag_of(alloc, &heading)?;
+            hooks.push(Hook {
                 kind: heading.kind,
-                tag: tag_of(alloc, &heading)?,
+                tag,
                 line: line.place.line,
-            };
-            put(
-                reader,
-                HooksReader::InHook {
-                    opened,
-                    steps: Vec::new(alloc),
-                },
-            );
+                steps: Vec::new(alloc),
+            })?;
             Ok(())
         }
-    }
-}
-
-#[tactic(auto, unfolding(crate::specs::HooksReader::on_plain_line))]
-fn on_plain_line(
-    alloc: Global,
-    reader: &mut HooksReader,
-    line: &BorrowedLine<'_>,
-    class: Class,
-) -> Result<(), ReadFault>
-    requires { class ≡ words.class (borrowed_value line.now) }
-    ensures says { let old = reader_value reader.old in
-        Agrees (λ _. reader_value reader.new) result
-        (spec.on_plain_line old (borrowed_value line.now) class) }
-    ensures memory { let old = reader_value reader.old in
-        IfErr result (λ e. e ≡ Memory → spec.Needs old (borrowed_value line.now) (Plain class)) }
-{
-    match reader {
-        HooksReader::NoHook => Err(unexpected(line)),
-        HooksReader::InHook { steps, .. } => on_steps(alloc, steps, line, class),
     }
 }
 
@@ -147,52 +69,46 @@ fn on_plain_line(
 #[tactic(auto, using(crate::proofs::HookClasses::plain_class), unfolding(crate::specs::HooksReader::on))]
 fn take(
     alloc: Global,
-    reader: &mut HooksReader,
+    hooks: &mut HooksSoFar,
     line: &BorrowedLine<'_>,
     class: HooksClass,
 ) -> Result<(), ReadFault>
     requires { class ≡ hooks_class (borrowed_value line.now) }
     ensures says { let said = borrowed_value line.now in
-        Agrees (λ _. reader_value reader.new) result
-        (spec.on (reader_value reader.old) said class) }
-    ensures memory { let said = borrowed_value line.now in
-        IfErr result (λ e. e ≡ Memory → spec.Needs (reader_value reader.old) said class) }
+        Agrees (λ _. so_far_value hooks.new) result (spec.on (so_far_value hooks.old) said class) }
+    ensures memory { IfErr result (λ e. e ≡ Memory →
+        spec.Needs (so_far_value hooks.old) (borrowed_value line.now) class) }
 {
     match class {
-        HooksClass::HookLine => on_hook(alloc, reader, line),
+        HooksClass::HookLine => on_hook(alloc, hooks, line),
         HooksClass::Plain(Class::Blank | Class::Comment) => Ok(()),
-        HooksClass::Plain(class) => on_plain_line(alloc, reader, line, class),
+        HooksClass::Plain(class) => hooks.on_line(alloc, line, class),
     }
 }
 
-impl FileReader for HooksReader {
+impl FileReader for HooksSoFar {
     type Answer = HookFile;
 
-    ghost Value = { spec.HooksReader };
+    ghost Value = { List HookValue };
 
     ghost AnswerValue = { List HookValue };
 
-    ghost value = { reader_value };
+    ghost value = { so_far_value };
 
     ghost answer_value = { hooks_value };
 
     ghost readers = { spec.hooks_readers };
 
-    fn first() -> HooksReader {
-        HooksReader::NoHook
+    fn first(alloc: Global) -> HooksSoFar {
+        HooksSoFar::new(alloc)
     }
 
     fn takes_text(&self) -> bool {
-        match self {
-            HooksReader::NoHook => false,
-            HooksReader::InHook { steps, .. } => steps_take_text(steps),
-        }
+        self.last_takes_text()
     }
 
     fn put_text(&mut self, text: String) {
-        if let HooksReader::InHook { steps, .. } = self {
-            put_text(steps, text);
-        }
+        self.put_text_below(text);
     }
 
     fn take(
@@ -204,8 +120,8 @@ impl FileReader for HooksReader {
         take(alloc, self, line, hooks_class(line, class))
     }
 
-    fn answer(self, alloc: Global) -> Result<HookFile, ReadFault> {
-        Ok(hooks_of(alloc, self)?.into_file())
+    fn answer(self) -> Result<HookFile, ReadFault> {
+        Ok(self.into_file())
     }
 }
 
@@ -239,5 +155,5 @@ pub fn read_hooks(alloc: Global, bytes: &[u8]) -> Result<HookFile, ReadFault>
     // Which fault is returned.
     ensures fault { IfErr result (λ e. FaultSays HooksFault e bytes.now) }
 {
-    read::<HooksReader>(alloc, bytes)
+    read::<HooksSoFar>(alloc, bytes)
 }

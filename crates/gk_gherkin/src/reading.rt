@@ -1,5 +1,5 @@
 //! Reading a file line by line, for feature files and hooks files alike.
-ghost use Rattle.std.specs.Prelude.{None, Ok, IfOk, IfErr, ◌≡◌, ◌≤◌, length};
+ghost use Rattle.std.specs.Prelude.{None, Ok, IfOk, IfErr, ◌≡◌, ◌≢◌, ◌≤◌, length};
 ghost use Rattle.std.specs.Str.Lines.{lines};
 ghost use Rattle.std.specs.String.{string_bytes};
 ghost use Rattle.gk_gherkin.specs.Lines.{LineValue, borrowed_value, numbered_from, lines_of, IsText};
@@ -33,8 +33,8 @@ pub trait FileReader: Drop {
 
     ghost readers: { spec.Readers Value AnswerValue };
 
-    /// Returns the reader before the first line.
-    fn first() -> Self
+    /// Returns the reader before the first line. Doesn't allocate.
+    fn first(alloc: Global) -> Self
         ensures { value result ≡ readers.first };
 
     /// Returns whether a doc string is allowed under the last step.
@@ -59,9 +59,9 @@ pub trait FileReader: Drop {
             readers.needs (value self.old) (borrowed_value line.now)) };
 
     /// Returns what the file says if the lines end here.
-    fn answer(self, alloc: Global) -> Result<Self::Answer, ReadFault>
+    fn answer(self) -> Result<Self::Answer, ReadFault>
         ensures says { Agrees answer_value result (readers.answer (value self)) }
-        ensures memory { IfErr result (λ e. e ≡ Memory → readers.needs_at_end (value self)) };
+        ensures free { IfErr result (λ e. e ≢ Memory) };
 }
 
 // Returns the fence of a line of this class, if it opens a doc string.
@@ -154,10 +154,6 @@ fn run<P: FileReader>(
     ensures memory { IfErr result (λ e. e ≡ Memory →
         spec.NeedSome P.readers (state_value (P.value reader.old) doc_string.old)
         (numbered_from 1 (lines text.now))) }
-    ensures end { IfOk result (λ _.
-        spec.NeedsAtEnd P.readers (state_value (P.value reader.new) doc_string.new) →
-        spec.NeedSome P.readers (state_value (P.value reader.old) doc_string.old)
-        (numbered_from 1 (lines text.now))) }
 {
     let mut number: u32 = 1;
     let mut rest = text;
@@ -172,18 +168,13 @@ fn run<P: FileReader>(
 
 // Returns what the file says if the lines end here.
 #[tactic(auto, unfolding(crate::specs::Reading::finish))]
-fn finish<P: FileReader>(
-    alloc: Global,
-    reader: P,
-    doc_string: Option<DocString>,
-) -> Result<P::Answer, ReadFault>
+fn finish<P: FileReader>(reader: P, doc_string: Option<DocString>) -> Result<P::Answer, ReadFault>
     ensures says { Agrees P.answer_value result
         (spec.finish P.readers (state_value (P.value reader) doc_string)) }
-    ensures memory { IfErr result (λ e. e ≡ Memory →
-        spec.NeedsAtEnd P.readers (state_value (P.value reader) doc_string)) }
+    ensures free { IfErr result (λ e. e ≢ Memory) }
 {
     match doc_string {
-        None => reader.answer(alloc),
+        None => reader.answer(),
         Some(text) => Err(ReadFault::UnclosedText { line: text.line }),
     }
 }
@@ -196,10 +187,10 @@ fn read_text<P: FileReader>(alloc: Global, text: &str) -> Result<P::Answer, Read
     ensures memory { IfErr result (λ e. e ≡ Memory →
         spec.NeedSome P.readers (spec.Outside P.readers.first) (numbered_from 1 (lines text.now))) }
 {
-    let mut reader = P::first();
+    let mut reader = P::first(alloc);
     let mut doc_string = None;
     run(alloc, &mut reader, &mut doc_string, text)?;
-    finish(alloc, reader, doc_string)
+    finish(reader, doc_string)
 }
 
 /// Reads the bytes of a file line by line: returns what they say, or the first fault.

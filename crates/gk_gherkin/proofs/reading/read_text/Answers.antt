@@ -10,6 +10,4 @@ returns-in_err-run-clause-memory g c =
     rw (p.1, p.2) (λ memory. subst (λ reader. spec.NeedSome readers (spec.Outside reader) (numbered_from 1 (lines c.args.text.now))) c.first-reader.ensures (c.in_err-run.ensures.memory memory))
 
 pub returns-clause-memory : goal.returns-clause-memory
-returns-clause-memory g c =
-    let readers = g.P.FileReader.readers in
-    if_err c.finish.result _ _ (λ e needs memory. subst (λ reader. spec.NeedSome readers (spec.Outside reader) (numbered_from 1 (lines c.args.text.now))) c.first-reader.ensures (c.in_ok-run.ensures.end (needs memory))) c.finish.ensures.memory
+returns-clause-memory g c = if_err c.finish.result _ _ (λ e free memory. absurd (free memory)) c.finish.ensures.free

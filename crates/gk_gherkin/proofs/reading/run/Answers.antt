@@ -1,7 +1,7 @@
 use Rattle.gk_gherkin.proofs.Common.{rules, ap, sym, ◌∙◌, subst, arith, common_steps, err_from_is_err_and, lines, Fails, LineValue, state_value}
 use Rattle.gk_gherkin.specs.Reading as spec
 use Rattle.gk_gherkin.proofs.FirstLines.{no_lines}
-use Rattle.gk_gherkin.proofs.ReadingLoop.{rest_of_run, ends, is_done, needed_here, needed_later, needed_at_end}
+use Rattle.gk_gherkin.proofs.ReadingLoop.{rest_of_run, ends, is_done, needed_here, needed_later}
 use Rattle.gk_gherkin.proofs.reading.run.Goals as goal
 
 pub returns-in_err-next_line-clause-says : goal.returns-in_err-next_line-clause-says
@@ -17,7 +17,7 @@ returns-in_err-next_line-clause-memory g c =
     let readers = g.P.FileReader.readers in
     let s = state_value (g.P.FileReader.value c.lines.reader) c.lines.doc_string in
     let p = err_from_is_err_and c.from_residual.result c.from_residual.ensures.1 in
-    rw (p.1, p.2) (λ memory. c.lines.invariant.needs (needed_here (spec.step readers) s c.lines.number (lines c.lines.rest.now) (lines c.first_line.result.1.now) c.first_line.result.0.now c.first_line.ensures.lines (spec.NeedsIn readers) (spec.NeedsAtEnd readers)
+    rw (p.1, p.2) (λ memory. c.lines.invariant.needs (needed_here (spec.step readers) s c.lines.number (lines c.lines.rest.now) (lines c.first_line.result.1.now) c.first_line.result.0.now c.first_line.ensures.lines (spec.NeedsIn readers)
     (subst (λ (l : LineValue). spec.NeedsIn readers s l) c.borrowed_line.ensures (c.in_err-next_line.ensures.memory memory))))
 
 pub lines-preserved : goal.lines-preserved
@@ -31,11 +31,8 @@ lines-preserved g c =
       so_far = rest_of_run (spec.step readers) s c.lines.number (lines c.lines.rest.now) (lines c.first_line.result.1.now) c.first_line.result.0.now c.first_line.ensures.lines _ c.lines.invariant.so_far next taken;
       counted = omega (arith, c.lines.invariant.counted, c.first_line.ensures.shorter);
       within = omega (arith, c.lines.invariant.within, c.first_line.ensures.shorter);
-      needs = λ h. c.lines.invariant.needs (needed_later (spec.step readers) s c.lines.number (lines c.lines.rest.now) (lines c.first_line.result.1.now) c.first_line.result.0.now c.first_line.ensures.lines (spec.NeedsIn readers) (spec.NeedsAtEnd readers) next taken h);
+      needs = λ h. c.lines.invariant.needs (needed_later (spec.step readers) s c.lines.number (lines c.lines.rest.now) (lines c.first_line.result.1.now) c.first_line.result.0.now c.first_line.ensures.lines (spec.NeedsIn readers) next taken h);
     }
 
 pub returns-clause-says : goal.returns-clause-says
 returns-clause-says g c = grind (arith, common_steps, is_done, no_lines)
-
-pub returns-clause-end : goal.returns-clause-end
-returns-clause-end g c = grind (arith, common_steps, needed_at_end, no_lines)
