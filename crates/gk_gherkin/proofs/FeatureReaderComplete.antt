@@ -138,17 +138,10 @@ module _ (F : ChildrenValue → FeatureValue) (gets : (k : ChildrenValue) → la
 
   line_taken : (k next : ChildrenValue) (l : LineValue) (c : Class) → IsPlainClass c → on_children k l c ≡ Ok next → on (at k) l c ≡ Ok (at next)
   unfolding on_line
-  line_taken k next l c i e =
-      takes_plain (F k) (F next) l c i
-      (ap (λ (j : ChildrenValue). (on_children j l c >>= λ next. let r : Result FeatureValue ReadFault = Ok (with_children (F k) next) in r) >>= λ f. let r : Result (Option FeatureValue) ReadFault = Ok (Some f) in r) (gets k)
-      ∙ ap (λ (r : Result ChildrenValue ReadFault). (r >>= λ next. let r : Result FeatureValue ReadFault = Ok (with_children (F k) next) in r) >>= λ f. let r : Result (Option FeatureValue) ReadFault = Ok (Some f) in r) e
-      ∙ ap (λ (f : FeatureValue). let r : Result (Option FeatureValue) ReadFault = Ok (Some f) in r) (puts k next))
+  line_taken k next l c i e = takes_plain (F k) (F next) l c i (rw (gets k, e, puts k next) refl)
 
   heading_taken : (k : ChildrenValue) (scenarios : List ScenarioValue) (tags : List (List ℕ)) (l : LineValue) (c : Class) → heading_in k.scenarios tags l c ≡ Ok scenarios → heading_in_feature (F k) tags l c ≡ Ok (F (with_scenarios k scenarios))
-  heading_taken k scenarios tags l c e =
-      ap (λ (j : ChildrenValue). heading_in j.scenarios tags l c >>= λ scenarios. let r : Result FeatureValue ReadFault = Ok (with_children (F k) (with_scenarios j scenarios)) in r) (gets k)
-      ∙ ap (λ (r : Result (List ScenarioValue) ReadFault). r >>= λ scenarios. let r : Result FeatureValue ReadFault = Ok (with_children (F k) (with_scenarios k scenarios)) in r) e
-      ∙ ap (λ (f : FeatureValue). let r : Result FeatureValue ReadFault = Ok f in r) (puts k (with_scenarios k scenarios))
+  heading_taken k scenarios tags l c e = rw (gets k, e, puts k (with_scenarios k scenarios)) refl
 
   run_scenario_heading : {ls rest : Lines} {tags : List (List ℕ)} (k : ChildrenValue) (l : LineValue) → IsTaggedHeading IsIgnored ScenarioHeading ls tags l rest → runs_over (at k) ls ≡ runs_over (at (with_scenarios k (k.scenarios ++ scenario_from tags l ∷ []))) rest
   unfolding on_heading heading_in
@@ -188,7 +181,7 @@ module _ (F : ChildrenValue → FeatureValue) (gets : (k : ChildrenValue) → la
       steps_taken steps next l c is e = ap (on (at (B steps)) l) is ∙ line_taken (B steps) (B next) l c (steps_plain steps next l c e) (goes steps next l c (body_taken steps next l c e))
 
       with_text_at : (k : ChildrenValue) (text : List ℕ) → after_text (at k) text ≡ at (children_with_text k text)
-      with_text_at k text = ap (λ (j : ChildrenValue). Untagged (Some (with_children (F k) (children_with_text j text)))) (gets k) ∙ ap (λ (f : FeatureValue). Untagged (Some f)) (puts k (children_with_text k text))
+      with_text_at k text = rw (gets k, puts k (children_with_text k text)) refl
 
       run_body : {ls mid rest : Lines} {sts : List StepValue} → Describes MayDescribeScenario ls mid → AreSteps mid sts rest → runs_over (at (B [])) ls ≡ runs_over (at (B sts)) rest
       run_body d s =
@@ -201,18 +194,13 @@ module _ (F : ChildrenValue → FeatureValue) (gets : (k : ChildrenValue) → la
     Z s = with_scenarios k (k.scenarios ++ s ∷ [])
 
     scenario_goes : (s next : ScenarioValue) (l : LineValue) (c : Class) → on_scenario s l c ≡ Ok next → on_children (Z s) l c ≡ Ok (Z next)
-    scenario_goes s next l c e =
-        ap (λ (o : Option ScenarioValue). in_scenario o (Z s) l c) (last_or-push None k.scenarios s)
-        ∙ ap (λ (r : Result ScenarioValue ReadFault). r >>= λ t. let r : Result ChildrenValue ReadFault = Ok (with_scenarios k (with_last t (k.scenarios ++ s ∷ []))) in r) e
-        ∙ ap (λ (scenarios : List ScenarioValue). let r : Result ChildrenValue ReadFault = Ok (with_scenarios k scenarios) in r) (with_last-push next k.scenarios s)
+    scenario_goes s next l c e = rw (last_or-push None k.scenarios s, e, with_last-push next k.scenarios s) refl
 
     scenario_takes : (s : ScenarioValue) → children_take_text (Z s) ≡ scenario_takes_text s.examples s
     scenario_takes s = ap (λ (o : Option ScenarioValue). last_takes_text o (Z s)) (last_or-push None k.scenarios s)
 
     scenario_texts : (s : ScenarioValue) (text : List ℕ) → children_with_text (Z s) text ≡ Z (with_steps s (steps_with_text s.steps text))
-    scenario_texts s text =
-        ap (λ (o : Option ScenarioValue). last_with_text o (Z s) text) (last_or-push None k.scenarios s)
-        ∙ ap (λ (scenarios : List ScenarioValue). with_scenarios k scenarios) (with_last-push (with_steps s (steps_with_text s.steps text)) k.scenarios s)
+    scenario_texts s text = rw (last_or-push None k.scenarios s, with_last-push (with_steps s (steps_with_text s.steps text)) k.scenarios s) refl
 
     -- the last examples of the last scenario
     module _ (s : ScenarioValue) where
@@ -221,10 +209,7 @@ module _ (F : ChildrenValue → FeatureValue) (gets : (k : ChildrenValue) → la
 
       examples_goes : (x next : ExamplesValue) (l : LineValue) (c : Class) → on_examples x l c ≡ Ok next → on_children (E x) l c ≡ Ok (E next)
       examples_goes x next l c e =
-          scenario_goes (with_examples s (s.examples ++ x ∷ [])) (with_examples s (s.examples ++ next ∷ [])) l c
-          (ap (λ (o : Option ExamplesValue). in_examples o (with_examples s (s.examples ++ x ∷ [])) l c) (last_or-push None s.examples x)
-          ∙ ap (λ (r : Result ExamplesValue ReadFault). r >>= λ y. let r : Result ScenarioValue ReadFault = Ok (with_examples s (with_last y (s.examples ++ x ∷ []))) in r) e
-          ∙ ap (λ (examples : List ExamplesValue). let r : Result ScenarioValue ReadFault = Ok (with_examples s examples) in r) (with_last-push next s.examples x))
+          scenario_goes (with_examples s (s.examples ++ x ∷ [])) (with_examples s (s.examples ++ next ∷ [])) l c (rw (last_or-push None s.examples x, e, with_last-push next s.examples x) refl)
 
       no_text : (xs : List ExamplesValue) (x : ExamplesValue) → scenario_takes_text (xs ++ x ∷ []) (with_examples s (xs ++ x ∷ [])) ≡ false
       no_text [] x = refl
@@ -235,9 +220,7 @@ module _ (F : ChildrenValue → FeatureValue) (gets : (k : ChildrenValue) → la
 
       examples_begin : (tags : List (List ℕ)) (l : LineValue) → heading_in (k.scenarios ++ s ∷ []) tags l ExamplesHeading ≡ Ok (k.scenarios ++ with_examples s (s.examples ++ examples_from tags l ∷ []) ∷ [])
       unfolding heading_in
-      examples_begin tags l =
-          ap (λ (o : Option ScenarioValue). examples_under o (k.scenarios ++ s ∷ []) tags l) (last_or-push None k.scenarios s)
-          ∙ ap (λ (scenarios : List ScenarioValue). let r : Result (List ScenarioValue) ReadFault = Ok scenarios in r) (with_last-push (with_examples s (s.examples ++ examples_from tags l ∷ [])) k.scenarios s)
+      examples_begin tags l = rw (last_or-push None k.scenarios s, with_last-push (with_examples s (s.examples ++ examples_from tags l ∷ [])) k.scenarios s) refl
 
       stays_exampled : (tags : List (List ℕ)) (head l : LineValue) (c : Class) → MayDescribeExamples c → IsPlainClass c × (on_children (E (examples_from tags head)) l c ≡ Ok (E (examples_from tags head)))
       unfolding on_examples
@@ -296,7 +279,7 @@ module _ (F : ChildrenValue → FeatureValue) (gets : (k : ChildrenValue) → la
     begun s steps = with_examples (with_steps s steps) []
 
     begun_goes : (s : ScenarioValue) (steps next : List StepValue) (l : LineValue) (c : Class) → on_body steps l c ≡ Ok next → on_children (Z (begun s steps)) l c ≡ Ok (Z (begun s next))
-    begun_goes s steps next l c e = scenario_goes (begun s steps) (begun s next) l c (ap (λ (r : Result (List StepValue) ReadFault). r >>= λ steps. let r : Result ScenarioValue ReadFault = Ok (begun s steps) in r) e)
+    begun_goes s steps next l c e = scenario_goes (begun s steps) (begun s next) l c (rw e refl)
 
     same_scenario : (s : ScenarioValue) (l : LineValue) → s.keyword ≡ heading_keyword l → s.name ≡ heading_name l → s.line ≡ l.line → scenario_from s.tags l ≡ begun s []
     same_scenario s l w e n = rw (← w, ← e, ← n) refl
@@ -329,7 +312,7 @@ module _ (F : ChildrenValue → FeatureValue) (gets : (k : ChildrenValue) → la
 
   backed_goes : (n : ℕ) (steps next : List StepValue) (l : LineValue) (c : Class) → on_body steps l c ≡ Ok next → on_children (backed n steps) l c ≡ Ok (backed n next)
   unfolding on_background
-  backed_goes n steps next l c e = ap (λ (r : Result (List StepValue) ReadFault). (r >>= λ steps. let r : Result (Option BackgroundValue) ReadFault = Ok (Some (record { line = n; steps = steps })) in r) >>= λ b. let r : Result ChildrenValue ReadFault = Ok (record { background = b; scenarios = [] }) in r) e
+  backed_goes n steps next l c e = rw e refl
 
   run_background : (ls rest : Lines) (background : Option BackgroundValue) → Perhaps IsBackground ls background rest → runs_over (at no_children) ls ≡ runs_over (at (record { background = background; scenarios = [] })) rest
   unfolding on_background
@@ -351,9 +334,7 @@ module _ (f : FeatureValue) (r : RuleValue) where
   ruled_gets k = ap (λ (o : Option RuleValue). children_in o (ruled k)) (last_or-push None f.rules (rule_with r k))
 
   ruled_puts : (k next : ChildrenValue) → with_children (ruled k) next ≡ ruled next
-  ruled_puts k next =
-      ap (λ (o : Option RuleValue). children_put o (ruled k) next) (last_or-push None f.rules (rule_with r k))
-      ∙ ap (with_rules f) (with_last-push (rule_with r next) f.rules (rule_with r k))
+  ruled_puts k next = rw (last_or-push None f.rules (rule_with r k), with_last-push (rule_with r next) f.rules (rule_with r k)) refl
 
   same_rule : (l : LineValue) → r.name ≡ heading_name l → r.line ≡ l.line → rule_from r.tags l ≡ rule_with r no_children
   same_rule l e n = rw (← e, ← n) refl

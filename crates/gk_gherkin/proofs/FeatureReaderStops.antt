@@ -8,7 +8,7 @@ use Rattle.gk_gherkin.proofs.LastItems.{Many-last, no_items}
 use Rattle.gk_gherkin.proofs.OpenPartsSound.{BackgroundBuilt, ChildrenBuilt, StepsBuilt, background_of, body_of, some_table}
 use Rattle.gk_gherkin.proofs.FeatureReaderSound.{FeatureBuilt, blank_at, comment_ok, last_built, reached_built, sound}
 use Rattle.gk_gherkin.proofs.FeatureReaderComplete.{complete, runs}
-use Rattle.gk_gherkin.proofs.RowStops.{Refuses, RowStop, Stopped, first_of, first_row, line_of, row_says, row_stops, row_takes, steps_stop, stopped_then}
+use Rattle.gk_gherkin.proofs.RowStops.{Refuses, Stopped, first_of, first_row, line_of, row_says, row_stop, row_stops, row_takes, steps_stop, stopped_then}
 use Rattle.gk_gherkin.proofs.FirstTags.{good_tags}
 
 pub feature_runs : (ls : Lines) → IsReadable ls → (reader : FeatureReader) × (run feature_readers (Outside feature_readers.first) ls ≡ Ok (Outside reader))
@@ -110,27 +110,14 @@ body_stops [] ls mid l (FenceLine fence) e b h = no_err h
 body_stops [] ls mid l Other e b h = no_err h
 body_stops steps ls mid l k e b h = steps_stop (Describes MayDescribeScenario) steps ls mid l k e b h
 
--- a row under a header: what is kept is the row with its line, so its result is a function of the line too
-under_header : (x : ExamplesValue) (header : List (List ℕ)) (l : LineValue) (e : ReadFault) (row : LineValue) (cells : List (List ℕ)) → class row ≡ RowLine → cells_of row ≡ Some cells → length cells ≡ length header → on_row (Some (length header)) l ≡ Err e
-    → RowStop (λ o. on_row (Some (length header)) o >>= λ found. Ok (with_table x x.header (x.rows ++ row_from o found ∷ []))) l RowLine e
-under_header x header l e row cells is w fits h = record {
-  is = refl;
-  width = Some (length header);
-  row = row;
-  cells = cells;
-  row_is = is;
-  row_cells = row_takes (Some (length header)) row cells w fits;
-  takes = λ o cells k. (with_table x x.header (x.rows ++ row_from o cells ∷ []), ap (λ (r : Result (List (List ℕ)) ReadFault). r >>= λ found. let a : Result ExamplesValue ReadFault = Ok (with_table x x.header (x.rows ++ row_from o found ∷ [])) in a) k);
-  refuses = λ o e k. ap (λ (r : Result (List (List ℕ)) ReadFault). r >>= λ found. let a : Result ExamplesValue ReadFault = Ok (with_table x x.header (x.rows ++ row_from o found ∷ [])) in a) k;
-  stops = h;
-}
-
 row_in_stops : (header : List (List ℕ)) (x : ExamplesValue) (ls mid : Lines) (l : LineValue) (e : ReadFault) → x.header ≡ header → AreExamples ls x mid → row_in header x l ≡ Err e → Stopped (row_in header x) l RowLine e
 row_in_stops [] x ls mid l e is i h = inr (first_row (λ cells. with_table x cells x.rows) l e (bind_err (on_row None l) (λ (cells : List (List ℕ)). with_table x cells x.rows) e h))
 row_in_stops (cell ∷ cells) x ls mid l e is i h =
     let t = some_table i.after_description mid x.header x.rows cell cells is i.table in
     let r = first_of t.2.lines in
-    inr (under_header x (cell ∷ cells) l e r.0 t.0.cells r.1 r.2 (ap length (sym t.1 ∙ is)) (bind_err (on_row (Some (length (cell ∷ cells))) l) (λ (found : List (List ℕ)). with_table x x.header (x.rows ++ row_from l found ∷ [])) e h))
+    let width = Some (length (cell ∷ cells)) in
+    let good = row_takes width r.0 t.0.cells r.2 (ap length (sym t.1 ∙ is)) in
+    inr (row_stop width (λ o found. with_table x x.header (x.rows ++ row_from o found ∷ [])) l e r.0 t.0.cells r.1 good (bind_err (on_row width l) (λ (found : List (List ℕ)). with_table x x.header (x.rows ++ row_from l found ∷ [])) e h))
 
 described_stops : (header : List (List ℕ)) (x : ExamplesValue) (l : LineValue) (c : Class) (e : ReadFault) → described_in header x l ≡ Err e → Stopped (described_in header x) l c e
 described_stops [] x l c e h = no_err h

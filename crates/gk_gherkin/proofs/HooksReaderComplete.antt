@@ -30,10 +30,7 @@ module _ (before : List HookValue) (hook : HookValue) where
 
   line_under : (steps next : List StepValue) (l : LineValue) (c : Class) → on_steps steps l c ≡ Ok next → on_plain_line (at steps) l c ≡ Ok (at next)
   unfolding on_plain_line
-  line_under steps next l c e =
-      ap (λ (o : Option HookValue). under_last o (at steps) l c) (last_or-push None before (hook_with hook steps))
-      ∙ ap (λ (r : Result (List StepValue) ReadFault). r >>= λ next. let r : Result (List HookValue) ReadFault = Ok (with_last (hook_with hook next) (at steps)) in r) e
-      ∙ ap (λ (hooks : List HookValue). let r : Result (List HookValue) ReadFault = Ok hooks in r) (with_last-push (hook_with hook next) before (hook_with hook steps))
+  line_under steps next l c e = rw (last_or-push None before (hook_with hook steps), e, with_last-push (hook_with hook next) before (hook_with hook steps)) refl
 
   taken : (steps next : List StepValue) (l : LineValue) (c : Class) → class l ≡ c → on_steps steps l c ≡ Ok next → on (at steps) l (hooks_class l) ≡ Ok (at next)
   unfolding on on_steps
@@ -42,9 +39,7 @@ module _ (before : List HookValue) (hook : HookValue) where
   taken steps next l _ is e = no_ok e
 
   text_below : (steps : List StepValue) (text : List ℕ) → after_text (at steps) text ≡ at (steps_with_text steps text)
-  text_below steps text =
-      ap (λ (o : Option HookValue). last_hook_with_text o (at steps) text) (last_or-push None before (hook_with hook steps))
-      ∙ with_last-push (hook_with hook (steps_with_text steps text)) before (hook_with hook steps)
+  text_below steps text = rw (last_or-push None before (hook_with hook steps), with_last-push (hook_with hook (steps_with_text steps text)) before (hook_with hook steps)) refl
 
   run_steps_at : {ls rest : Lines} → AreSteps ls hook.steps rest → run hooks_readers (Outside (at [])) ls ≡ run hooks_readers (Outside (before ++ hook ∷ [])) rest
   run_steps_at s = run_steps hooks_readers at (λ steps l i. quiet (at steps) l i) taken (λ steps. ap last_hook_takes_text (last_or-push None before (hook_with hook steps))) text_below [] s.parts s.types

@@ -20,13 +20,10 @@ AllAre width rows = AllByRecursion (λ (row : RowValue). length row.cells ≡ wi
 -- steps and the last of them
 takes_row : (steps : List StepValue) (st : StepValue) (l : LineValue) (next : BlockValue) → on_block st.block l ≡ Ok next → on_steps (steps ++ st ∷ []) l RowLine ≡ Ok (steps ++ with_block st next ∷ [])
 unfolding on_steps
-takes_row steps st l next e =
-    ap (λ (o : Option StepValue). row_under_last o (steps ++ st ∷ []) l) (last_or-push None steps st)
-    ∙ ap (λ (r : Result BlockValue ReadFault). let b : Result (List StepValue) ReadFault = r >>= λ block. Ok (with_last (with_block st block) (steps ++ st ∷ [])) in b) e
-    ∙ ap (λ (steps : List StepValue). let b : Result (List StepValue) ReadFault = Ok steps in b) (with_last-push (with_block st next) steps st)
+takes_row steps st l next e = rw (last_or-push None steps st, e, with_last-push (with_block st next) steps st) refl
 
 text_below : (steps : List StepValue) (st : StepValue) (text : List ℕ) → steps_with_text (steps ++ st ∷ []) text ≡ steps ++ with_block st (Text text) ∷ []
-text_below steps st text = ap (λ (o : Option StepValue). text_under_last o (steps ++ st ∷ []) text) (last_or-push None steps st) ∙ with_last-push (with_block st (Text text)) steps st
+text_below steps st text = rw (last_or-push None steps st, with_last-push (with_block st (Text text)) steps st) refl
 
 takes_step : (steps : List StepValue) (l : LineValue) → on_steps steps l StepLine ≡ Ok (steps ++ step_from (last_type steps) l ∷ [])
 unfolding on_steps

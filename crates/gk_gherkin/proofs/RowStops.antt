@@ -29,17 +29,7 @@ Stopped f l c e = Refuses f l e ⊎ RowStop f l c e
 
 pub stopped_then : {A B : Type 0} (g : LineValue → Result A ReadFault) (f : A → B) (l : LineValue) (c : Class) (e : ReadFault) → Stopped g l c e → Stopped (λ o. g o >>= λ x. Ok (f x)) l c e
 stopped_then g f l c e (inl r) = grind (arith, common_steps)
-stopped_then {A} {B} g f l c e (inr r) = inr (record {
-  is = r.is;
-  width = r.width;
-  row = r.row;
-  cells = r.cells;
-  row_is = r.row_is;
-  row_cells = r.row_cells;
-  takes = λ o cells h. let t = r.takes o cells h in (f t.0, ap (λ (k : Result A ReadFault). k >>= λ x. Ok (f x)) t.1);
-  refuses = λ o e h. ap (λ (k : Result A ReadFault). k >>= λ x. Ok (f x)) (r.refuses o e h);
-  stops = r.stops;
-})
+stopped_then g f l c e (inr r) = inr (record { is = r.is; width = r.width; row = r.row; cells = r.cells; row_is = r.row_is; row_cells = r.row_cells; takes = λ o cells h. let t = r.takes o cells h in (f t.0, rw t.1 refl); refuses = λ o e h. rw (r.refuses o e h) refl; stops = r.stops })
 
 pub good_row : LineValue
 good_row = line_of (codes "|a|")
@@ -60,33 +50,13 @@ unfolding on_row
 row_takes None l cells w f = ap (row_of None l) w
 row_takes (Some width) l cells w f = ap (row_of (Some width) l) w ∙ ap (λ (b : Bool). let r : Result (List (List ℕ)) ReadFault = cond b (Ok cells) (Err (CellCount l.line)) in r) (same_eqb (length cells) width f)
 
+-- where rows of a width are taken, and one of them may stand
+pub row_stop : {A : Type 0} (width : Option ℕ) (f : LineValue → List (List ℕ) → A) (l : LineValue) (e : ReadFault) (row : LineValue) (cells : List (List ℕ)) → class row ≡ RowLine → on_row width row ≡ Ok cells → on_row width l ≡ Err e → RowStop (λ o. on_row width o >>= λ cells. Ok (f o cells)) l RowLine e
+row_stop width f l e row cells is good h = record { is = refl; width = width; row = row; cells = cells; row_is = is; row_cells = good; takes = λ o found k. (f o found, rw k refl); refuses = λ o e k. rw k refl; stops = h }
+
 -- any width: the row of one cell
 pub first_row : {A : Type 0} (f : List (List ℕ) → A) (l : LineValue) (e : ReadFault) → on_row None l ≡ Err e → RowStop (λ o. on_row None o >>= λ cells. Ok (f cells)) l RowLine e
-first_row {A} f l e h = record {
-  is = refl;
-  width = None;
-  row = good_row;
-  cells = codes "a" ∷ [];
-  row_is = good_row_class;
-  row_cells = good_row_cells;
-  takes = λ o cells k. (f cells, ap (λ (r : Result (List (List ℕ)) ReadFault). r >>= λ cells. let a : Result A ReadFault = Ok (f cells) in a) k);
-  refuses = λ o e k. ap (λ (r : Result (List (List ℕ)) ReadFault). r >>= λ cells. let a : Result A ReadFault = Ok (f cells) in a) k;
-  stops = h;
-}
-
--- a known width: a row that stands there
-pub next_row : {A : Type 0} (f : List (List ℕ) → A) (l : LineValue) (e : ReadFault) (width : ℕ) (row : LineValue) (cells : List (List ℕ)) → class row ≡ RowLine → cells_of row ≡ Some cells → length cells ≡ width → on_row (Some width) l ≡ Err e → RowStop (λ o. on_row (Some width) o >>= λ cells. Ok (f cells)) l RowLine e
-next_row {A} f l e width row cells is w fits h = record {
-  is = refl;
-  width = Some width;
-  row = row;
-  cells = cells;
-  row_is = is;
-  row_cells = row_takes (Some width) row cells w fits;
-  takes = λ o cells k. (f cells, ap (λ (r : Result (List (List ℕ)) ReadFault). r >>= λ cells. let a : Result A ReadFault = Ok (f cells) in a) k);
-  refuses = λ o e k. ap (λ (r : Result (List (List ℕ)) ReadFault). r >>= λ cells. let a : Result A ReadFault = Ok (f cells) in a) k;
-  stops = h;
-}
+first_row f l e h = row_stop None (λ o. f) l e good_row (codes "a" ∷ []) good_row_class good_row_cells h
 
 -- the first row of a table
 pub first_of : {ls rest : Lines} {first : RowValue} {rows : List RowValue} → Many IsRow ls (first ∷ rows) rest → (line : LineValue) × (class line ≡ RowLine) × (cells_of line ≡ Some first.cells)
@@ -97,7 +67,7 @@ rows_stop : (rows : List RowValue) (ls mid : Lines) (l : LineValue) (e : ReadFau
 rows_stop [] ls mid l e t cells h = absurd t.width
 rows_stop (first ∷ rows) ls mid l e t cells h =
     let r = first_of t.lines in
-    next_row (λ new. Table (cells ++ new ∷ [])) l e (length first.cells) r.0 first.cells r.1 r.2 refl h
+    row_stop (Some (length first.cells)) (λ o new. Table (cells ++ new ∷ [])) l e r.0 first.cells r.1 (row_takes (Some (length first.cells)) r.0 first.cells r.2 refl) h
 
 pub block_stops : (block : BlockValue) (ls mid : Lines) (l : LineValue) (e : ReadFault) → IsBlock ls block mid → on_block block l ≡ Err e → Stopped (on_block block) l RowLine e
 unfolding on_block
