@@ -1,5 +1,5 @@
 -- What has a reading as a feature file is read so, and so no lines have two.
-use Rattle.gk_gherkin.proofs.Common.{◌≡◌, ℕ, Bool, false, List, [], ◌∷◌, ◌++◌, length, Option, Some, None, Result, Ok, refl, sym, subst, ap, ◌∙◌, append_assoc, inl, inr, arith, append-nil, BackgroundHeading, Blank, Comment, ExamplesHeading, FeatureHeading, FenceLine, Other, RowLine, RuleHeading, ScenarioHeading, StepLine, TagLine, Class, ReadFault, FeatureReader, Tagged, Untagged, after_text, children_in, children_put, feature_from, feature_readers, heading_in_feature, last_children, on, on_heading, on_line, rule_from, rule_with, tag_line, takes_text, with_children, with_rules, without_tags, Outside, State, finish, opening, reading, run, step, ChildrenValue, children_take_text, children_with_text, examples_from, examples_under, heading_in, in_examples, in_scenario, last_takes_text, last_with_text, on_background, on_body, on_children, on_examples, on_scenario, on_steps, row_from, row_in, scenario_from, scenario_takes_text, steps_take_text, steps_with_text, with_examples, with_last, with_scenarios, with_steps, with_table, LineValue, Lines, class, heading_keyword, heading_name, tags_of, BackgroundValue, ExamplesValue, FeatureValue, RowValue, RuleValue, ScenarioValue, StepValue, AreExamples, AreSteps, AreTags, Describes, HasOneReading, HasTable, IsBackground, IsFeature, IsIgnored, IsIgnoredClass, IsRow, IsRule, IsScenario, IsTaggedHeading, Many, MayDescribeExamples, MayDescribeFeature, MayDescribeScenario, Next, Perhaps, Reads, Skips, describe, described, more, none, skip, skip_none, tagged, untagged, ◌>>=◌, common_steps}
+use Rattle.gk_gherkin.proofs.Common.{◌≡◌, ℕ, Bool, false, List, [], ◌∷◌, ◌++◌, length, Option, Some, None, Result, Ok, refl, sym, subst, ap, ◌∙◌, append_assoc, inl, inr, arith, append-nil, BackgroundHeading, Blank, Comment, ExamplesHeading, FeatureHeading, FenceLine, Other, RowLine, RuleHeading, ScenarioHeading, StepLine, TagLine, Class, ReadFault, FeatureReader, Tagged, Untagged, after_text, children_in, feature_from, feature_readers, heading_in_feature, last_children, on, on_heading, on_line, rule_from, rule_with, tag_line, takes_text, with_children, with_rules, without_tags, Outside, State, finish, opening, reading, run, step, ChildrenValue, children_take_text, children_with_text, examples_from, heading_in, last_takes_text, on_background, on_body, on_children, on_examples, on_scenario, on_steps, row_from, row_in, scenario_from, scenario_takes_text, steps_take_text, steps_with_text, with_examples, with_scenarios, with_steps, with_table, LineValue, Lines, class, heading_keyword, heading_name, tags_of, BackgroundValue, ExamplesValue, FeatureValue, RowValue, RuleValue, ScenarioValue, StepValue, AreExamples, AreSteps, AreTags, Describes, HasOneReading, HasTable, IsBackground, IsFeature, IsIgnored, IsIgnoredClass, IsRow, IsRule, IsScenario, IsTaggedHeading, Many, MayDescribeExamples, MayDescribeFeature, MayDescribeScenario, Next, Perhaps, Reads, Skips, describe, described, more, none, skip, skip_none, tagged, untagged, ◌>>=◌, common_steps}
 use Rattle.gk_gherkin.proofs.LastItems.{last_or-push, with_last-push}
 use Rattle.gk_gherkin.proofs.ReadingRuns.{no_ok, ok_same, run_nil, run_over}
 use Rattle.gk_gherkin.proofs.ReadingStates.{IsNoFence, ignored_no_fence, no_fence, step_plain}

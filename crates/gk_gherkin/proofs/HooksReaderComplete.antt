@@ -1,5 +1,5 @@
 -- What has a reading as hooks is read so, and so no lines have two.
-use Rattle.gk_gherkin.proofs.Common.{◌≡◌, ℕ, Bool, false, List, [], ◌∷◌, Option, None, Some, Result, Ok, refl, sym, subst, ◌++◌, ap, ◌∙◌, append_assoc, append-nil, HookLine, Blank, Comment, RowLine, StepLine, Class, ReadFault, hook_after, hook_begun, hook_from, hook_with, hooks_readers, last_hook_takes_text, last_hook_with_text, on_hook, on_plain_line, under_last, on_steps, steps_with_text, with_last, has_heading, Outside, State, finish, reading, run, step, HookValue, HookHeadingValue, StepValue, hook_heading, hooks_class, AreDistinct, HaveOneHooksReading, IsHook, ReadsHooks, heading_of, LineValue, Lines, class, AreSteps, IsIgnored, IsIgnoredClass, Many, Skips, more, none, skip, skip_none, ◌>>=◌}
+use Rattle.gk_gherkin.proofs.Common.{◌≡◌, ℕ, Bool, false, List, [], ◌∷◌, Option, None, Some, Result, Ok, refl, sym, subst, ◌++◌, ap, ◌∙◌, append_assoc, append-nil, HookLine, Blank, Comment, RowLine, StepLine, Class, ReadFault, hook_after, hook_begun, hook_from, hook_with, hooks_readers, last_hook_takes_text, on_hook, on_plain_line, on_steps, steps_with_text, has_heading, Outside, State, finish, reading, run, step, HookValue, HookHeadingValue, StepValue, hook_heading, hooks_class, AreDistinct, HaveOneHooksReading, IsHook, ReadsHooks, heading_of, LineValue, Lines, class, AreSteps, IsIgnored, IsIgnoredClass, Many, Skips, more, none, skip, skip_none, ◌>>=◌}
 use Rattle.gk_gherkin.specs.HooksReader.{after_text, on, takes_text}
 use Rattle.gk_gherkin.proofs.LastItems.{last_or-push, with_last-push}
 use Rattle.gk_gherkin.proofs.ReadingRuns.{no_ok, ok_same, run_nil, run_over}

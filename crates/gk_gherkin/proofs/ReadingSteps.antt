@@ -1,5 +1,5 @@
 -- Steps with their tables and doc strings, run over line after line, the same for both kinds of file.
-use Rattle.gk_gherkin.proofs.Common.{◌≡◌, ℕ, ◌-◌, true, false, List, [], ◌∷◌, ◌++◌, length, map, Option, Some, None, Result, Ok, refl, sym, subst, ap, ◌∙◌, append_assoc, append-nil, AllByRecursion, FenceLine, Class, RowLine, StepLine, Fence, ReadFault, StepType, Outside, InText, Readers, State, opening, run, run_by, step, whole_text, with_line, is_empty, last_type, on_block, on_steps, row_under_last, step_from, steps_take_text, steps_with_text, takes_text_under, text_under_last, type_of_last, with_block, with_last, LineValue, Lines, class, step_keyword, step_text, closes, content_of, doc_string, AreTypedAfter, type_after, BlockValue, Empty, RowValue, StepValue, Table, Text, texts, AreOfOneWidth, IsBlock, IsDocString, IsIgnored, IsRow, IsStep, Many, Next, Skips, more, none, skip, skip_none, ◌>>=◌}
+use Rattle.gk_gherkin.proofs.Common.{◌≡◌, ℕ, ◌-◌, true, false, List, [], ◌∷◌, ◌++◌, length, map, Option, Some, None, Result, Ok, refl, sym, subst, ap, ◌∙◌, append_assoc, append-nil, AllByRecursion, FenceLine, Class, RowLine, StepLine, Fence, ReadFault, StepType, Outside, InText, Readers, State, opening, run, run_by, step, whole_text, with_line, is_empty, last_type, on_block, on_steps, step_from, steps_take_text, steps_with_text, takes_text_under, type_of_last, with_block, LineValue, Lines, class, step_keyword, step_text, closes, content_of, doc_string, AreTypedAfter, type_after, BlockValue, Empty, RowValue, StepValue, Table, Text, texts, AreOfOneWidth, IsBlock, IsDocString, IsIgnored, IsRow, IsStep, Many, Next, Skips, more, none, skip, skip_none, ◌>>=◌}
 use Rattle.gk_gherkin.proofs.LastItems.{last_or-push, with_last-push}
 use Rattle.gk_gherkin.proofs.ReadingRuns.{no_ok, run_over}
 use Rattle.gk_gherkin.proofs.ReadingSound.{joined, joined_push, joined_text}

@@ -51,8 +51,9 @@ fn feature_from(
     ensures { Agrees feature_value result
         (Ok (spec.feature_from (texts tags.items) (borrowed_value line.now))) }
 {
+    let name = String::from_str(alloc, heading_name(line))?;
     Ok(Feature {
-        name: String::from_str(alloc, heading_name(line))?,
+        name,
         line: line.place.line,
         tags,
         background: None,
@@ -132,9 +133,8 @@ fn line_in_feature(
     class: Class,
 ) -> Result<(), ReadFault>
     requires { class ≡ words.class (borrowed_value line.now) }
-    ensures { let old = feature_value feature.old in
-        Agrees (λ _. feature_value feature.new) result
-        (spec.line_in_feature old (borrowed_value line.now) class) }
+    ensures { Agrees (λ _. feature_value feature.new) result
+        (spec.line_in_feature (feature_value feature.old) (borrowed_value line.now) class) }
 {
     match feature.rules.last_mut() {
         Some(rule) => on_children(

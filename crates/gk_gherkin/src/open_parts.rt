@@ -177,9 +177,8 @@ fn on_body(
     class: Class,
 ) -> Result<(), ReadFault>
     requires { class ≡ words.class (borrowed_value line.now) }
-    ensures { let old = map step_value steps.old.items in
-        Agrees (λ _. map step_value steps.new.items) result
-        (spec.on_body old (borrowed_value line.now) class) }
+    ensures { Agrees (λ _. map step_value steps.new.items) result
+        (spec.on_body (map step_value steps.old.items) (borrowed_value line.now) class) }
 {
     match class {
         Class::RowLine | Class::FenceLine(_) | Class::Other => {
