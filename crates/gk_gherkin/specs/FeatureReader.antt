@@ -34,13 +34,9 @@ last_children f = children_in (last_or None f.rules) f
 abbrev pub with_rules : FeatureValue → List RuleValue → FeatureValue
 with_rules f rules = record { name = f.name; line = f.line; tags = f.tags; background = f.background; scenarios = f.scenarios; rules = rules }
 
--- A feature with these children, if it has no rule.
-abbrev pub own_children : FeatureValue → ChildrenValue → FeatureValue
-own_children f children = record { name = f.name; line = f.line; tags = f.tags; background = children.background; scenarios = children.scenarios; rules = f.rules }
-
 -- A feature with these children of this last rule, or of its own if there is no rule.
 abbrev pub children_put : Option RuleValue → FeatureValue → ChildrenValue → FeatureValue
-children_put None f children = own_children f children
+children_put None f children = record { name = f.name; line = f.line; tags = f.tags; background = children.background; scenarios = children.scenarios; rules = f.rules }
 children_put (Some r) f children = with_rules f (with_last (rule_with r children) f.rules)
 
 -- A feature with these children of its last rule, or of its own if it has no rule.

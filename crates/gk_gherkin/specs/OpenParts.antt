@@ -66,23 +66,15 @@ type_of_last (Some step) = step.step_type
 abbrev pub last_type : List StepValue → StepType
 last_type steps = type_of_last (last_or None steps)
 
--- These steps and the step that a line spells after them.
-abbrev pub step_after : List StepValue → LineValue → List StepValue
-step_after steps line = steps ++ step_from (last_type steps) line ∷ []
-
 -- These steps with a row under this last one, or the row's fault. There is no row before the first step.
 abbrev pub row_under_last : Option StepValue → List StepValue → LineValue → Result (List StepValue) ReadFault
 row_under_last None steps line = Err (Unexpected line.line)
 row_under_last (Some step) steps line = on_block step.block line >>= λ block. Ok (with_last (with_block step block) steps)
 
--- These steps with a row under the last of them, or the row's fault.
-abbrev pub row_below : List StepValue → LineValue → Result (List StepValue) ReadFault
-row_below steps line = row_under_last (last_or None steps) steps line
-
 -- These steps after a line, or the line's fault.
 unfoldable pub on_steps : List StepValue → LineValue → Class → Result (List StepValue) ReadFault
-on_steps steps line StepLine = Ok (step_after steps line)
-on_steps steps line RowLine = row_below steps line
+on_steps steps line StepLine = Ok (steps ++ step_from (last_type steps) line ∷ [])
+on_steps steps line RowLine = row_under_last (last_or None steps) steps line
 on_steps steps line _ = Err (Unexpected line.line)
 
 -- The steps of a background or a scenario after a line. Lines of a description may come before the first step.

@@ -1,5 +1,5 @@
 //! The effect of each line on the last parts of what was read so far.
-ghost use Rattle.std.specs.Prelude.{None, option_map, map, Ok, ◌≡◌};
+ghost use Rattle.std.specs.Prelude.{None, option_map, map, Ok, ◌≡◌, ◌++◌, ◌∷◌, []};
 ghost use Rattle.std.specs.List.{last_or};
 ghost use Rattle.std.specs.String.{string_bytes};
 ghost use Rattle.gk_gherkin.specs.Lines.{borrowed_value};
@@ -128,8 +128,9 @@ fn step_after(
     line: &BorrowedLine<'_>,
 ) -> Result<(), ReadFault>
     requires { words.class (borrowed_value line.now) ≡ StepLine }
-    ensures { Agrees (λ _. map step_value steps.new.items) result
-        (Ok (spec.step_after (map step_value steps.old.items) (borrowed_value line.now))) }
+    ensures { let old = map step_value steps.old.items in
+        Agrees (λ _. map step_value steps.new.items) result
+        (Ok (old ++ spec.step_from (spec.last_type old) (borrowed_value line.now) ∷ [])) }
 {
     let step = step_from(alloc, last_type(steps), line)?;
     steps.push(step)?;
@@ -139,8 +140,9 @@ fn step_after(
 // Takes a row under the last step.
 #[tactic(auto, unfolding(crate::specs::OpenParts::on_steps))]
 fn row_below(alloc: Global, steps: &mut Vec<Step>, line: &BorrowedLine<'_>) -> Result<(), ReadFault>
-    ensures { Agrees (λ _. map step_value steps.new.items) result
-        (spec.row_below (map step_value steps.old.items) (borrowed_value line.now)) }
+    ensures { let old = map step_value steps.old.items in
+        Agrees (λ _. map step_value steps.new.items) result
+        (spec.row_under_last (last_or None old) old (borrowed_value line.now)) }
 {
     match steps.last_mut() {
         Some(step) => on_block(alloc, &mut step.block, line),
