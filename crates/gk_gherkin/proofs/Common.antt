@@ -47,7 +47,6 @@ pub use Rattle.gk_gherkin.specs.Language.{IsEnglishOrNone, language_word, rest_a
 unfoldable pub use Rattle.gk_gherkin.specs.Language.{language_of}
 pub use Rattle.gk_gherkin.specs.Lines.{IsNotUtf8At, IsText, IsTooLong, LineValue, Lines, borrowed_value, byte_order_mark, limit, line_at, line_value, lines_of, numbered_from, without_mark}
 pub use Rattle.gk_gherkin.specs.OpenParts.{ChildrenValue, background_takes_text, background_with, background_with_text, children_take_text, children_with_text, described_in, examples_from, examples_under, in_examples, in_scenario, is_empty, last_takes_text, last_type, last_with_text, on_children, on_scenario, row_from, row_in, row_of, row_under_last, scenario_from, scenario_takes_text, step_from, steps_take_text, steps_with_text, takes_text_under, text_under_last, type_of_last, width_of, with_background, with_block, with_examples, with_scenarios, with_steps, with_table}
-pub use Rattle.gk_gherkin.specs.OpenParts.Views.{children_value}
 unfoldable pub use Rattle.gk_gherkin.specs.OpenParts.{heading_in, on_background, on_block, on_body, on_examples, on_row, on_steps, with_last}
 pub use Rattle.gk_gherkin.specs.ReadFault.{AnswersOrLacksMemory, AnyLineSays, BeginsNone, BeginsSome, BeginsWithTag, EndsInDocString, EndsInTags, FaultSays, FeatureFault, HaveOneFault, HooksFault, HooksLineSays, HooksNeedMemory, IsBadRow, IsBadTag, IsHooksLineFault, IsLineFault, IsOtherWidth, LineSays, LinesFaultSays, NeedsMemory, NoneLikeIt, SomeLikeIt, StoodBefore, StopsAt, TakesTags, line_of_fault}
 pub use Rattle.gk_gherkin.specs.Reading.{DocStringValue, FailsAs, FailsBy, InText, Need, NeedSome, NeedsIn, Outside, Readers, State, in_text, longer, need_here, need_later, opened, opening, outside, outside_text, run, whole_text, with_line}

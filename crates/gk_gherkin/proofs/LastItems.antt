@@ -1,6 +1,6 @@
 -- The last item of a list, read and replaced.
-use Rattle.gk_gherkin.proofs.Common.{Lines, Many, more, none, subst, Bor, option_copied, ◌≡◌, ℕ, zero, suc, ◌+◌, ◌-◌, ◌<◌, List, [], ◌∷◌, ◌++◌, length, map, get_or, set, refl, sym, ap, arith, Memory, Option, Some, None, last_or, slice_get, Result, Ok, Err, ReadFault, Agrees, ◌>>=◌}
-use Rattle.std.proofs.lemmas.Option.{get_or_from_slice_get, slice_get-get_or}
+use Rattle.gk_gherkin.proofs.Common.{Lines, Many, more, none, subst, Bor, option_copied, ◌≡◌, ℕ, zero, suc, ◌+◌, ◌-◌, ◌<◌, List, [], ◌∷◌, ◌++◌, length, map, get_or, set, refl, sym, ap, arith, Option, Some, None, last_or, slice_get}
+use Rattle.std.proofs.lemmas.Option.{get_or_from_slice_get}
 unfoldable use Rattle.gk_gherkin.specs.OpenParts.{with_last}
 
 pub with_last-push : {A : Type 0} (y : A) (xs : List A) (x : A) → with_last y (xs ++ x ∷ []) ≡ xs ++ y ∷ []
@@ -41,31 +41,9 @@ pub last_read : {A V : Type 0} (v : A → V) (xs : List A) (last : A) → slice_
 last_read v [] last is = let no : ⊥ = cc in absurd no
 last_read v (x ∷ xs) last is = get_last v (x ∷ xs) (length (x ∷ xs)) last refl (omega arith) (sym (get_or_from_slice_get (x ∷ xs) (length (x ∷ xs) - 1) last last is))
 
-some_or_none : {A P : Type 0} {o : Option A} {x : A} → o ≡ Some x → o ≡ None → P
-some_or_none some nothing = let no : ⊥ = cc in absurd no
-
-pub last_none : {A V : Type 0} (v : A → V) (xs : List A) → slice_get xs (length xs - 1) ≡ None → last_or None (map v xs) ≡ None
-last_none v [] is = refl
-last_none v (x ∷ xs) is = some_or_none (slice_get-get_or (x ∷ xs) (length (x ∷ xs) - 1) x (omega arith)) is
-
 -- The same, of what is behind the reference that it returns.
 pub last_is : {A V : Type 0} (v : A → V) (xs slice : List A) (r : Option (Bor A)) (last : Bor A) → slice ≡ xs → option_copied r ≡ slice_get slice (length slice - 1) → r ≡ Some last → last_or None (map v xs) ≡ Some (v last.now)
 last_is v xs slice r last same read is = last_read v xs last.now (rw (← same) (rw is at (sym read)))
-
--- An empty list has no last item.
-pub no_last : {A V : Type 0} (v : A → V) (xs : List A) (n : ℕ) → n ≡ length xs → n ≡ 0 → last_or None (map v xs) ≡ None
-no_last v [] n e zero_items = refl
-no_last v (x ∷ xs) n e zero_items = absurd (omega arith)
-
-agrees_then : {X U W : Type 0} (f : U → W) (u : U) (r : Result X ReadFault) (h : Result U ReadFault) → Agrees (λ _. u) r h → Agrees (λ _. f u) r (h >>= λ u. Ok (f u))
-agrees_then f u (Ok x) h a = ap (λ h. h >>= λ u. Ok (f u)) a
-agrees_then f u (Err Memory) h a = tt
-agrees_then f u (Err e) h a = ap (λ h. h >>= λ u. Ok (f u)) a
-
--- A function changed the last item, and its result is that of the definitions: so is that of the whole.
-pub replaced_last : {X A U V W : Type 0} (v : A → V) (w : U → V) (whole : List V → W) (xs : List A) (n : ℕ) (old new : A) (u : U) (r : Result X ReadFault) (g : Option V → Result W ReadFault) (h : Result U ReadFault) → n ≡ length xs → 0 < n → old ≡ get_or xs (n - 1) old → v new ≡ w u → Agrees (λ _. u) r h → g (Some (v old)) ≡ (h >>= λ u. Ok (whole (with_last (w u) (map v xs)))) → Agrees (λ _. whole (map v (set xs (n - 1) new))) r (g (last_or None (map v xs)))
-replaced_last v w whole xs n old new u r g h e some is is_new a by =
-    rw (get_last v xs n old e some is, set_last v xs n new e some, is_new, by) (agrees_then (λ u. whole (with_last (w u) (map v xs))) u r h a)
 
 -- The last item was changed as the definitions say, and so was the whole.
 pub changed_last : {A V W : Type 0} (v : A → V) (whole : List V → W) (xs : List A) (n : ℕ) (old new : A) (g : Option V → W) → n ≡ length xs → 0 < n → old ≡ get_or xs (n - 1) old → g (Some (v old)) ≡ whole (with_last (v new) (map v xs)) → whole (map v (set xs (n - 1) new)) ≡ g (last_or None (map v xs))

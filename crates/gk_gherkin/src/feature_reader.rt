@@ -77,6 +77,7 @@ fn rule_from(alloc: Global, tags: Vec<String>, line: &BorrowedLine<'_>) -> Resul
 }
 
 // Takes the heading of a scenario or of examples.
+#[tactic(auto, using(crate::proofs::LastItems::get_last, crate::proofs::LastItems::set_last))]
 fn heading_in_feature(
     alloc: Global,
     feature: &mut Feature,
@@ -126,6 +127,7 @@ fn on_heading(
     }
 }
 
+#[tactic(auto, using(crate::proofs::LastItems::get_last, crate::proofs::LastItems::set_last))]
 fn line_in_feature(
     alloc: Global,
     feature: &mut Feature,
@@ -291,6 +293,7 @@ fn feature_takes_text(feature: &Feature) -> bool
     }
 }
 
+#[tactic(auto, using(crate::proofs::LastItems::get_last, crate::proofs::LastItems::set_last))]
 fn put_text_below(feature: &mut Feature, text: String)
     ensures { feature_value feature.new
         ≡ spec.with_text (string_bytes text) (feature_value feature.old) }

@@ -60,7 +60,7 @@ impl HooksSoFar {
     }
 
     /// Takes a line under the last hook. The line isn't content of a doc string.
-    #[tactic(auto, unfolding(crate::specs::HooksReader::on_plain_line))]
+    #[tactic(auto, using(crate::proofs::LastItems::get_last, crate::proofs::LastItems::set_last), unfolding(crate::specs::HooksReader::on_plain_line))]
     pub fn on_line(
         &mut self,
         alloc: Global,
@@ -79,6 +79,7 @@ impl HooksSoFar {
     }
 
     /// Returns whether a doc string is allowed under the last step of the last hook.
+    #[tactic(auto, using(crate::proofs::LastItems::last_is))]
     pub fn last_takes_text(&self) -> bool
         ensures { result ≡ spec.takes_text (so_far_value self.now) }
     {
@@ -89,6 +90,7 @@ impl HooksSoFar {
     }
 
     /// Puts a doc string under the last step of the last hook, if there is one.
+    #[tactic(auto, using(crate::proofs::LastItems::get_last, crate::proofs::LastItems::set_last))]
     pub fn put_text_below(&mut self, text: String)
         ensures { so_far_value self.new
             ≡ spec.after_text (so_far_value self.old) (string_bytes text) }

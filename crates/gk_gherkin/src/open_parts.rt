@@ -112,6 +112,7 @@ fn on_block(alloc: Global, block: &mut Block, line: &BorrowedLine<'_>) -> Result
 }
 
 // Returns the type of the last step, or `Given` if there is none.
+#[tactic(auto, using(crate::proofs::LastItems::last_is))]
 fn last_type(steps: &Vec<Step>) -> StepType
     ensures { result ≡ spec.last_type (map step_value steps.now.items) }
 {
@@ -138,7 +139,7 @@ fn step_after(
 }
 
 // Takes a row under the last step.
-#[tactic(auto, unfolding(crate::specs::OpenParts::on_steps))]
+#[tactic(auto, using(crate::proofs::LastItems::get_last, crate::proofs::LastItems::set_last))]
 fn row_below(alloc: Global, steps: &mut Vec<Step>, line: &BorrowedLine<'_>) -> Result<(), ReadFault>
     ensures { let old = map step_value steps.old.items in
         Agrees (λ _. map step_value steps.new.items) result
@@ -235,6 +236,7 @@ fn on_examples(
     }
 }
 
+#[tactic(auto, using(crate::proofs::LastItems::get_last, crate::proofs::LastItems::set_last))]
 fn on_scenario(
     alloc: Global,
     scenario: &mut Scenario,
@@ -281,6 +283,7 @@ fn on_background(
 
 /// Takes a line that takes no tags, in a feature or a rule with this background and these
 /// scenarios. The line isn't content of a doc string.
+#[tactic(auto, using(crate::proofs::LastItems::get_last, crate::proofs::LastItems::set_last))]
 pub fn on_children(
     alloc: Global,
     background: &mut Option<Background>,
@@ -388,6 +391,7 @@ fn is_empty(block: &Block) -> bool
 }
 
 /// Returns whether a doc string is allowed under the last of these steps.
+#[tactic(auto, using(crate::proofs::LastItems::last_is))]
 pub fn steps_take_text(steps: &Vec<Step>) -> bool
     ensures { result ≡ spec.steps_take_text (map step_value steps.now.items) }
 {
@@ -398,6 +402,7 @@ pub fn steps_take_text(steps: &Vec<Step>) -> bool
 }
 
 /// Puts a doc string under the last of these steps, if there is one.
+#[tactic(auto, using(crate::proofs::LastItems::get_last, crate::proofs::LastItems::set_last))]
 pub fn put_text(steps: &mut Vec<Step>, text: String)
     ensures { map step_value steps.new.items
         ≡ spec.steps_with_text (map step_value steps.old.items) (string_bytes text) }
@@ -417,6 +422,7 @@ fn scenario_takes_text(scenario: &Scenario) -> bool
 
 /// Returns whether a doc string is allowed under the last step of a feature or a rule with this
 /// background and these scenarios.
+#[tactic(auto, using(crate::proofs::LastItems::last_is))]
 pub fn children_take_text(background: &Option<Background>, scenarios: &Vec<Scenario>) -> bool
     ensures { result ≡ spec.children_take_text (children_value background.now scenarios.now) }
 {
@@ -431,6 +437,7 @@ pub fn children_take_text(background: &Option<Background>, scenarios: &Vec<Scena
 
 /// Puts a doc string under the last step of a feature or a rule with this background and these
 /// scenarios, if there is a step.
+#[tactic(auto, using(crate::proofs::LastItems::get_last, crate::proofs::LastItems::set_last))]
 pub fn put_text_in(background: &mut Option<Background>, scenarios: &mut Vec<Scenario>, text: String)
     ensures { let old = children_value background.old scenarios.old in
         children_value background.new scenarios.new
