@@ -13,7 +13,7 @@ abbrev FeatureOf : FeatureReader → Option FeatureValue
 FeatureOf (Untagged feature) = feature
 FeatureOf (Tagged feature tags last) = feature
 
-ignored_class : (feature : (Option FeatureValue)) (l : LineValue) → IgnoredAt feature l → IsIgnoredClass (class l)
+ignored_class : (feature : Option FeatureValue) (l : LineValue) → IgnoredAt feature l → IsIgnoredClass (class l)
 ignored_class None l i = i.0
 ignored_class (Some f) l i = i
 
@@ -43,20 +43,20 @@ run_next : {ls rest : Lines} (s t : FeatureReader) (l : LineValue) (c : Class) �
 run_next {ls} {rest} s t l c n i o e = run_skips s n ∙ line_over s t l rest (ap (opening (takes_text s)) i ∙ o) (ap (on s l) i ∙ e)
 
 -- tags
-data Waits (feature : (Option FeatureValue)) : FeatureReader → List (List ℕ) → Type 0 where
+data Waits (feature : Option FeatureValue) : FeatureReader → List (List ℕ) → Type 0 where
   bare : Waits feature (Untagged feature) []
   behind : {tags : List (List ℕ)} {last : ℕ} → Waits feature (Tagged feature tags last) tags
 
-takes_tags : {feature : (Option FeatureValue)} {s : FeatureReader} {tags some : List (List ℕ)} (l : LineValue) → Waits feature s tags → tags_of l ≡ Some some → on s l TagLine ≡ Ok (Tagged feature (tags ++ some) l.line)
+takes_tags : {feature : Option FeatureValue} {s : FeatureReader} {tags some : List (List ℕ)} (l : LineValue) → Waits feature s tags → tags_of l ≡ Some some → on s l TagLine ≡ Ok (Tagged feature (tags ++ some) l.line)
 unfolding on
 takes_tags {feature} l bare e = ap (λ (r : Option (List (List ℕ))). tag_line r feature [] l) e
 takes_tags {feature} {s} {tags} l behind e = ap (λ (r : Option (List (List ℕ))). tag_line r feature tags l) e
 
-at_feature : {feature : (Option FeatureValue)} {s : FeatureReader} {tags : List (List ℕ)} {ls rest : Lines} → Waits feature s tags → Skips (IgnoredAt feature) ls rest → Skips (IgnoredAt (FeatureOf s)) ls rest
+at_feature : {feature : Option FeatureValue} {s : FeatureReader} {tags : List (List ℕ)} {ls rest : Lines} → Waits feature s tags → Skips (IgnoredAt feature) ls rest → Skips (IgnoredAt (FeatureOf s)) ls rest
 at_feature bare n = n
 at_feature behind n = n
 
-run_tags : {feature : (Option FeatureValue)} {ls rest : Lines} {tags others : List (List ℕ)} (s : FeatureReader) → Waits feature s tags → AreTags (IgnoredAt feature) ls others rest → (t : FeatureReader) × (runs_over s ls ≡ runs_over t rest) × Waits feature t (tags ++ others)
+run_tags : {feature : Option FeatureValue} {ls rest : Lines} {tags others : List (List ℕ)} (s : FeatureReader) → Waits feature s tags → AreTags (IgnoredAt feature) ls others rest → (t : FeatureReader) × (runs_over s ls ≡ runs_over t rest) × Waits feature t (tags ++ others)
 run_tags {tags = tags} s w untagged = (s, refl, subst (Waits _ s) (sym (append-nil tags)) w)
 run_tags {feature} {ls} {rest} {tags} s w (tagged {some = some} {others = others} first after_first) =
     let l = first.line in
@@ -79,7 +79,7 @@ tagged_no_fence ScenarioHeading i = tt
 tagged_no_fence ExamplesHeading i = tt
 tagged_no_fence _ i = absurd i
 
-takes_heading : {feature : (Option FeatureValue)} {s : FeatureReader} {tags : List (List ℕ)} (l : LineValue) (c : Class) → IsTaggedClass c → Waits feature s tags → on s l c ≡ without_tags (on_heading feature tags l c)
+takes_heading : {feature : Option FeatureValue} {s : FeatureReader} {tags : List (List ℕ)} (l : LineValue) (c : Class) → IsTaggedClass c → Waits feature s tags → on s l c ≡ without_tags (on_heading feature tags l c)
 unfolding on
 takes_heading l FeatureHeading i bare = refl
 takes_heading l RuleHeading i bare = refl
@@ -91,7 +91,7 @@ takes_heading l ScenarioHeading i behind = refl
 takes_heading l ExamplesHeading i behind = refl
 takes_heading l _ i w = absurd i
 
-run_heading : {ls rest : Lines} {tags : List (List ℕ)} (feature next : (Option FeatureValue)) (c : Class) (l : LineValue) → IsTaggedClass c → IsTaggedHeading (IgnoredAt feature) c ls tags l rest → on_heading feature tags l c ≡ Ok next → runs_over (Untagged feature) ls ≡ runs_over (Untagged next) rest
+run_heading : {ls rest : Lines} {tags : List (List ℕ)} (feature next : Option FeatureValue) (c : Class) (l : LineValue) → IsTaggedClass c → IsTaggedHeading (IgnoredAt feature) c ls tags l rest → on_heading feature tags l c ≡ Ok next → runs_over (Untagged feature) ls ≡ runs_over (Untagged next) rest
 run_heading feature next c l i h e =
     let r = run_tags (Untagged feature) bare h.above in
     r.1 ∙ run_next r.0 (Untagged next) l c (at_feature r.2 h.heading.next) h.heading.is (no_fence (takes_text r.0) c (tagged_no_fence c i)) (takes_heading l c i r.2 ∙ ap without_tags e)
@@ -143,16 +143,9 @@ module _ (F : ChildrenValue → FeatureValue) (gets : (k : ChildrenValue) → la
   heading_taken : (k : ChildrenValue) (scenarios : List ScenarioValue) (tags : List (List ℕ)) (l : LineValue) (c : Class) → heading_in k.scenarios tags l c ≡ Ok scenarios → heading_in_feature (F k) tags l c ≡ Ok (F (with_scenarios k scenarios))
   heading_taken k scenarios tags l c e = rw (gets k, e, puts k (with_scenarios k scenarios)) refl
 
-  run_scenario_heading : {ls rest : Lines} {tags : List (List ℕ)} (k : ChildrenValue) (l : LineValue) → IsTaggedHeading IsIgnored ScenarioHeading ls tags l rest → runs_over (at k) ls ≡ runs_over (at (with_scenarios k (k.scenarios ++ scenario_from tags l ∷ []))) rest
-  unfolding on_heading heading_in
-  run_scenario_heading {tags = tags} k l h =
-      let next : List ScenarioValue = k.scenarios ++ scenario_from tags l ∷ [] in
-      run_heading (Some (F k)) (Some (F (with_scenarios k next))) ScenarioHeading l tt h (ap (λ (r : Result FeatureValue ReadFault). r >>= λ f. let r : Result (Option FeatureValue) ReadFault = Ok (Some f) in r) (heading_taken k next tags l ScenarioHeading refl))
-
-  run_examples_heading : {ls rest : Lines} {tags : List (List ℕ)} (k : ChildrenValue) (next : List ScenarioValue) (l : LineValue) → IsTaggedHeading IsIgnored ExamplesHeading ls tags l rest → heading_in k.scenarios tags l ExamplesHeading ≡ Ok next → runs_over (at k) ls ≡ runs_over (at (with_scenarios k next)) rest
-  unfolding on_heading
-  run_examples_heading {tags = tags} k next l h e =
-      run_heading (Some (F k)) (Some (F (with_scenarios k next))) ExamplesHeading l tt h (ap (λ (r : Result FeatureValue ReadFault). r >>= λ f. let r : Result (Option FeatureValue) ReadFault = Ok (Some f) in r) (heading_taken k next tags l ExamplesHeading e))
+  run_heading_in : {ls rest : Lines} {tags : List (List ℕ)} (k : ChildrenValue) (next : List ScenarioValue) (l : LineValue) (c : Class) → IsTaggedClass c → on_heading (Some (F k)) tags l c ≡ (heading_in_feature (F k) tags l c >>= λ f. Ok (Some f)) → IsTaggedHeading IsIgnored c ls tags l rest → heading_in k.scenarios tags l c ≡ Ok next → runs_over (at k) ls ≡ runs_over (at (with_scenarios k next)) rest
+  run_heading_in {tags = tags} k next l c i same h e =
+      run_heading (Some (F k)) (Some (F (with_scenarios k next))) c l i h (same ∙ rw (heading_taken k next tags l c e) refl)
 
   run_plain : {ls rest : Lines} (k next : ChildrenValue) (l : LineValue) (c : Class) → Next IsIgnored ls l rest → class l ≡ c → IsPlainClass c → opening (children_take_text k) c ≡ None → on_children k l c ≡ Ok next → runs_over (at k) ls ≡ runs_over (at next) rest
   run_plain k next l c n is i o e = run_next (at k) (at next) l c n is (ap (λ (k : ChildrenValue). opening (children_take_text k) c) (gets k) ∙ o) (line_taken k next l c i e)
@@ -261,8 +254,9 @@ module _ (F : ChildrenValue → FeatureValue) (gets : (k : ChildrenValue) → la
       same_examples x l e n = rw (← e, ← n) refl
 
       run_example : {ls rest : Lines} (x : ExamplesValue) → AreExamples ls x rest → runs_over (at (Z s)) ls ≡ runs_over (at (E x)) rest
+      unfolding on_heading
       run_example {rest = rest} x i =
-          run_examples_heading (Z s) (k.scenarios ++ with_examples s (s.examples ++ examples_from x.tags i.line ∷ []) ∷ []) i.line i.heading (examples_begin x.tags i.line)
+          run_heading_in (Z s) (k.scenarios ++ with_examples s (s.examples ++ examples_from x.tags i.line ∷ []) ∷ []) i.line ExamplesHeading tt refl i.heading (examples_begin x.tags i.line)
           ∙ run_describes (E (examples_from x.tags i.line)) (examples_take (examples_from x.tags i.line)) (stays_exampled x.tags i.line) i.description
           ∙ ap (λ (x : ExamplesValue). runs_over (at (E x)) i.after_description) (same_examples x i.line i.name i.number)
           ∙ run_has_table i.after_description rest x x.header x.rows i.table
@@ -285,8 +279,9 @@ module _ (F : ChildrenValue → FeatureValue) (gets : (k : ChildrenValue) → la
     same_scenario s l w e n = rw (← w, ← e, ← n) refl
 
     run_scenario : {ls rest : Lines} (s : ScenarioValue) → IsScenario ls s rest → runs_over (at k) ls ≡ runs_over (at (Z s)) rest
+    unfolding on_heading heading_in
     run_scenario s i =
-        run_scenario_heading k i.line i.heading
+        run_heading_in k (k.scenarios ++ scenario_from s.tags i.line ∷ []) i.line ScenarioHeading tt refl i.heading refl
         ∙ ap (λ (s : ScenarioValue). runs_over (at (Z s)) i.after_heading) (same_scenario s i.line i.keyword i.name i.number)
         ∙ run_body (λ steps. Z (begun s steps)) (begun_goes s) (λ steps. scenario_takes (begun s steps)) (λ steps text. scenario_texts (begun s steps) text) i.description i.steps
         ∙ run_examples (begun s s.steps) i.examples

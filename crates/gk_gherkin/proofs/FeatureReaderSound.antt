@@ -92,7 +92,7 @@ blank_english : (l : LineValue) → class l ≡ Blank → IsEnglishOrNone (langu
 unfolding class language_of
 blank_english l c = no_hash (trim l.text) (begins (trim l.text) (codes "#")) refl c
 
-pub blank_at : (reader : (Option FeatureValue)) (l : LineValue) → class l ≡ Blank → IgnoredAt reader l
+pub blank_at : (reader : Option FeatureValue) (l : LineValue) → class l ≡ Blank → IgnoredAt reader l
 blank_at None l c = (subst IsIgnoredClass (sym c) tt, blank_english l c)
 blank_at (Some f) l c = subst IsIgnoredClass (sym c) tt
 
@@ -103,7 +103,7 @@ language_by : (r : Option (List ℕ)) (s t : FeatureReader) (l : LineValue) → 
 language_by None s t l e = (tt, ok_same e)
 language_by (Some word) s t l e = grind (arith, common_steps, cond_ok, bytes_same)
 
-pub comment_ok : (feature : (Option FeatureValue)) (s t : FeatureReader) (l : LineValue) → class l ≡ Comment → on_comment feature s l ≡ Ok t → IgnoredAt feature l × (s ≡ t)
+pub comment_ok : (feature : Option FeatureValue) (s t : FeatureReader) (l : LineValue) → class l ≡ Comment → on_comment feature s l ≡ Ok t → IgnoredAt feature l × (s ≡ t)
 comment_ok None s t l c e = let r = language_by (language_of l) s t l e in ((subst IsIgnoredClass (sym c) tt, r.0), r.1)
 comment_ok (Some f) s t l c e = (subst IsIgnoredClass (sym c) tt, ok_same e)
 
@@ -112,11 +112,11 @@ abbrev pub Holds : FeatureReader → Lines → Lines → Type 0
 Holds (Untagged feature) whole rest = (mid : Lines) × FeatureBuilt feature whole mid × Skips (IgnoredAt feature) mid rest
 Holds (Tagged feature tags last) whole rest = (a : Lines) × (b : Lines) × FeatureBuilt feature whole a × AreTags (IgnoredAt feature) a tags b × Skips (IgnoredAt feature) b rest
 
-untagged_ok : (r : Result (Option FeatureValue) ReadFault) (whole rest : Lines) (t : FeatureReader) → ((p : (Option FeatureValue)) → r ≡ Ok p → FeatureBuilt p whole rest) → without_tags r ≡ Ok t → Holds t whole rest
+untagged_ok : (r : Result (Option FeatureValue) ReadFault) (whole rest : Lines) (t : FeatureReader) → ((p : Option FeatureValue) → r ≡ Ok p → FeatureBuilt p whole rest) → without_tags r ≡ Ok t → Holds t whole rest
 untagged_ok (Ok p) whole rest t f e = subst (λ t. Holds t whole rest) (ok_same e) (rest, f p refl, skip_none)
 untagged_ok (Err x) whole rest t f e = no_ok e
 
-tagged_ok : (r : Option (List (List ℕ))) (feature : (Option FeatureValue)) (tags : List (List ℕ)) (whole a b rest : Lines) (l : LineValue) (t : FeatureReader) → tags_of l ≡ r → class l ≡ TagLine → FeatureBuilt feature whole a → AreTags (IgnoredAt feature) a tags b → Skips (IgnoredAt feature) b (l ∷ rest) → tag_line r feature tags l ≡ Ok t → Holds t whole rest
+tagged_ok : (r : Option (List (List ℕ))) (feature : Option FeatureValue) (tags : List (List ℕ)) (whole a b rest : Lines) (l : LineValue) (t : FeatureReader) → tags_of l ≡ r → class l ≡ TagLine → FeatureBuilt feature whole a → AreTags (IgnoredAt feature) a tags b → Skips (IgnoredAt feature) b (l ∷ rest) → tag_line r feature tags l ≡ Ok t → Holds t whole rest
 tagged_ok (Some others) feature tags whole a b rest l t w c p ts n e =
     subst (λ t. Holds t whole rest) (ok_same e) (a, rest, p, AreTags-push ts (record { line = l; next = n; is = c; words = w }), skip_none)
 tagged_ok None feature tags whole a b rest l t w c p ts n e = no_ok e
@@ -124,7 +124,7 @@ tagged_ok None feature tags whole a b rest l t w c p ts n e = no_ok e
 goes : (whole rest : Lines) {x t : FeatureReader} → ◌≡◌ {A = Result FeatureReader ReadFault} (Ok x) (Ok t) → Holds x whole rest → Holds t whole rest
 goes whole rest e b = subst (λ t. Holds t whole rest) (ok_same e) b
 
-after_no_tags : (feature : (Option FeatureValue)) (whole rest : Lines) (l : LineValue) (c : Class) (t : FeatureReader) → class l ≡ c → Holds (Untagged feature) whole (l ∷ rest) → on (Untagged feature) l c ≡ Ok t → Holds t whole rest
+after_no_tags : (feature : Option FeatureValue) (whole rest : Lines) (l : LineValue) (c : Class) (t : FeatureReader) → class l ≡ c → Holds (Untagged feature) whole (l ∷ rest) → on (Untagged feature) l c ≡ Ok t → Holds t whole rest
 unfolding on
 after_no_tags feature whole rest l Blank t c b e = goes whole rest e (b.0, b.1, Skips-more (blank_at feature l c) b.2)
 after_no_tags feature whole rest l Comment t c b e = let k = comment_ok feature (Untagged feature) t l c e in subst (λ t. Holds t whole rest) k.1 (b.0, b.1, Skips-more k.0 b.2)
@@ -135,7 +135,7 @@ after_no_tags feature whole rest l ScenarioHeading t c b e = untagged_ok (on_hea
 after_no_tags feature whole rest l ExamplesHeading t c b e = untagged_ok (on_heading feature [] l ExamplesHeading) whole rest t (λ p h. on_heading-built feature [] whole b.0 b.0 rest l ExamplesHeading p c b.1 untagged b.2 h) e
 after_no_tags feature whole rest l k t c b e = untagged_ok (on_line feature l k) whole rest t (λ p h. on_line-built feature whole b.0 rest l k p c b.1 b.2 h) e
 
-after_tags : (feature : (Option FeatureValue)) (tags : List (List ℕ)) (last : ℕ) (whole rest : Lines) (l : LineValue) (c : Class) (t : FeatureReader) → class l ≡ c → Holds (Tagged feature tags last) whole (l ∷ rest) → on (Tagged feature tags last) l c ≡ Ok t → Holds t whole rest
+after_tags : (feature : Option FeatureValue) (tags : List (List ℕ)) (last : ℕ) (whole rest : Lines) (l : LineValue) (c : Class) (t : FeatureReader) → class l ≡ c → Holds (Tagged feature tags last) whole (l ∷ rest) → on (Tagged feature tags last) l c ≡ Ok t → Holds t whole rest
 unfolding on
 after_tags feature tags last whole rest l Blank t c b e = goes whole rest e (b.0, b.1, b.2, b.3, Skips-more (blank_at feature l c) b.4)
 after_tags feature tags last whole rest l Comment t c b e = let k = comment_ok feature (Tagged feature tags last) t l c e in subst (λ t. Holds t whole rest) k.1 (b.0, b.1, b.2, b.3, Skips-more k.0 b.4)

@@ -19,7 +19,7 @@ pub feature_halted : (before : Lines) (l : LineValue) (s : State FeatureReader) 
 feature_halted before l s e r h = halted feature_readers IsReadable class feature_runs before l s e r h
 
 -- what is reached after no tags is readable
-pub readable_at : (ls : Lines) (feature : (Option FeatureValue)) → run feature_readers (Outside feature_readers.first) ls ≡ Ok (Outside (Untagged feature)) → IsReadable ls
+pub readable_at : (ls : Lines) (feature : Option FeatureValue) → run feature_readers (Outside feature_readers.first) ls ≡ Ok (Outside (Untagged feature)) → IsReadable ls
 unfolding reading finish
 readable_at ls feature r = (feature, sound ls feature (ap (λ (r : Result (State FeatureReader) ReadFault). r >>= finish feature_readers) r))
 
@@ -58,23 +58,23 @@ unfolding tags_of
 good_tag_tags = refl
 
 -- the heading that may follow tags
-abbrev pub heading_for : (Option FeatureValue) → LineValue
+abbrev pub heading_for : Option FeatureValue → LineValue
 heading_for None = feature_heading
 heading_for (Some f) = scenario_heading
 
-abbrev after_heading : (Option FeatureValue) → List (List ℕ) → (Option FeatureValue)
+abbrev after_heading : Option FeatureValue → List (List ℕ) → Option FeatureValue
 after_heading None tags = Some (feature_from tags feature_heading)
 after_heading (Some f) tags = Some (with_children f (with_scenarios (last_children f) ((last_children f).scenarios ++ scenario_from tags scenario_heading ∷ [])))
 
-heading_step : (feature : (Option FeatureValue)) (tags : List (List ℕ)) (n : ℕ) → step feature_readers (Outside (Tagged feature tags n)) (heading_for feature) ≡ Ok (Outside (Untagged (after_heading feature tags)))
+heading_step : (feature : Option FeatureValue) (tags : List (List ℕ)) (n : ℕ) → step feature_readers (Outside (Tagged feature tags n)) (heading_for feature) ≡ Ok (Outside (Untagged (after_heading feature tags)))
 unfolding step on on_heading heading_in
 heading_step None tags n = ap (λ (r : Result FeatureReader ReadFault). outside r) (ap (on (Tagged None tags n) feature_heading) feature_heading_class)
 heading_step (Some f) tags n = ap (λ (r : Result FeatureReader ReadFault). outside r) (ap (on (Tagged (Some f) tags n) scenario_heading) scenario_heading_class)
 
-pub readable_after_tags : (ls : Lines) (feature : (Option FeatureValue)) (tags : List (List ℕ)) (n : ℕ) → run feature_readers (Outside feature_readers.first) ls ≡ Ok (Outside (Tagged feature tags n)) → IsReadable (ls ++ heading_for feature ∷ [])
+pub readable_after_tags : (ls : Lines) (feature : Option FeatureValue) (tags : List (List ℕ)) (n : ℕ) → run feature_readers (Outside feature_readers.first) ls ≡ Ok (Outside (Tagged feature tags n)) → IsReadable (ls ++ heading_for feature ∷ [])
 readable_after_tags ls feature tags n r = readable_at (ls ++ heading_for feature ∷ []) (after_heading feature tags) (one_more_line (step feature_readers) (Outside feature_readers.first) ls (Outside (Tagged feature tags n)) (Outside (Untagged (after_heading feature tags))) (heading_for feature) r (heading_step feature tags n))
 
-heading_takes_tags : (reader : (Option FeatureValue)) → TakesTags (class (heading_for reader))
+heading_takes_tags : (reader : Option FeatureValue) → TakesTags (class (heading_for reader))
 heading_takes_tags None = subst TakesTags (sym feature_heading_class) tt
 heading_takes_tags (Some f) = subst TakesTags (sym scenario_heading_class) tt
 
@@ -92,7 +92,7 @@ examples_refuse : (last : Option ScenarioValue) (ss : List ScenarioValue) (F : L
 examples_refuse None ss F tags l e h = (err_same h, λ o. refl)
 examples_refuse (Some s) ss F tags l e h = no_err h
 
-heading_refuses : (reader : (Option FeatureValue)) (tags : List (List ℕ)) (l : LineValue) (c : Class) (e : ReadFault) → on_heading reader tags l c ≡ Err e → Refuses (λ o. on_heading reader tags o c) l e
+heading_refuses : (reader : Option FeatureValue) (tags : List (List ℕ)) (l : LineValue) (c : Class) (e : ReadFault) → on_heading reader tags l c ≡ Err e → Refuses (λ o. on_heading reader tags o c) l e
 unfolding on_heading heading_in
 heading_refuses None tags l FeatureHeading e h = no_err h
 heading_refuses None tags l _ e h = (err_same h, λ o. refl)
@@ -155,7 +155,7 @@ children_stop (Some s) children ls mid l k e is b h =
     let j = Many-last children.scenarios b.after_background mid s is b.scenarios in
     stopped_then (λ o. on_scenario s o k) (λ s. with_scenarios children (with_last s children.scenarios)) l k e (scenario_stops (last_or None s.examples) s j.0 mid l k e refl j.1 (bind_err (on_scenario s l k) (λ (s : ScenarioValue). with_scenarios children (with_last s children.scenarios)) e h))
 
-line_stops : (reader : (Option FeatureValue)) (ls mid : Lines) (l : LineValue) (c : Class) (e : ReadFault) → FeatureBuilt reader ls mid → on_line reader l c ≡ Err e → Stopped (λ o. on_line reader o c) l c e
+line_stops : (reader : Option FeatureValue) (ls mid : Lines) (l : LineValue) (c : Class) (e : ReadFault) → FeatureBuilt reader ls mid → on_line reader l c ≡ Err e → Stopped (λ o. on_line reader o c) l c e
 unfolding on_line
 line_stops None ls mid l k e b h = inl (err_same h, λ o. refl)
 line_stops (Some f) ls mid l k e b h =
@@ -177,7 +177,7 @@ module _ (before : Lines) (reader : FeatureReader) (reached : run feature_reader
       let refused : NoneLikeIt IsReadable class before l = λ other alike. feature_halted before other (Outside reader) (Unexpected other.line) reached (step_refused feature_readers reader other (Unexpected other.line) (ap (opening (takes_text reader)) (alike ∙ is) ∙ free) (ap (on reader other) (alike ∙ is) ∙ same other ∙ ap without_tags (r.1 other))) in
       subst (λ e. Says e before l) r.0 (refl, refused)
 
-  bad_tag : (feature : (Option FeatureValue)) (tags : List (List ℕ)) (r : Option (List (List ℕ))) (l : LineValue) (e : ReadFault) → class l ≡ TagLine → ((o : LineValue) → on reader o TagLine ≡ tag_line (tags_of o) feature tags o) → tags_of l ≡ r → tag_line r feature tags l ≡ Err e → Says e before l
+  bad_tag : (feature : Option FeatureValue) (tags : List (List ℕ)) (r : Option (List (List ℕ))) (l : LineValue) (e : ReadFault) → class l ≡ TagLine → ((o : LineValue) → on reader o TagLine ≡ tag_line (tags_of o) feature tags o) → tags_of l ≡ r → tag_line r feature tags l ≡ Err e → Says e before l
   bad_tag feature tags (Some others) l e is same w h = no_err h
   bad_tag feature tags None l e is same w h =
       let t : FeatureReader = Tagged feature (tags ++ codes "@a" ∷ []) 0 in
@@ -188,7 +188,7 @@ module _ (before : Lines) (reader : FeatureReader) (reached : run feature_reader
       let named : BadTag l.line ≡ e = err_same h in
       subst (λ e. Says e before l) named (refl, bad)
 
-stopped_says : (before : Lines) (feature : (Option FeatureValue)) (l : LineValue) (c : Class) (e : ReadFault) → run feature_readers (Outside feature_readers.first) before ≡ Ok (Outside (Untagged feature)) → class l ≡ c → opening (takes_text (Untagged feature)) c ≡ None → ((o : LineValue) → on (Untagged feature) o c ≡ without_tags (on_line feature o c)) → Stopped (λ o. on_line feature o c) l c e → Says e before l
+stopped_says : (before : Lines) (feature : Option FeatureValue) (l : LineValue) (c : Class) (e : ReadFault) → run feature_readers (Outside feature_readers.first) before ≡ Ok (Outside (Untagged feature)) → class l ≡ c → opening (takes_text (Untagged feature)) c ≡ None → ((o : LineValue) → on (Untagged feature) o c ≡ without_tags (on_line feature o c)) → Stopped (λ o. on_line feature o c) l c e → Says e before l
 stopped_says before feature l c e r is bare same (inl k) = says before (Untagged feature) r l c e (λ o. on_line feature o c) is bare same k
 stopped_says before feature l c e r is bare same (inr k) =
     let reader : FeatureReader = Untagged feature in
@@ -199,7 +199,7 @@ stopped_says before feature l c e r is bare same (inr k) =
     (λ o e o_is h. feature_halted before o (Outside reader) e r (step_refused feature_readers reader o e (free o o_is) (row o o_is ∙ ap without_tags (k.refuses o e h))))
     refl (row_stops k.width l e k.stops)
 
-plain_says : (before : Lines) (feature : (Option FeatureValue)) (l : LineValue) (c : Class) (e : ReadFault) → run feature_readers (Outside feature_readers.first) before ≡ Ok (Outside (Untagged feature)) → class l ≡ c → opening (takes_text (Untagged feature)) c ≡ None → ((o : LineValue) → on (Untagged feature) o c ≡ without_tags (on_line feature o c)) → on_line feature l c ≡ Err e → Says e before l
+plain_says : (before : Lines) (feature : Option FeatureValue) (l : LineValue) (c : Class) (e : ReadFault) → run feature_readers (Outside feature_readers.first) before ≡ Ok (Outside (Untagged feature)) → class l ≡ c → opening (takes_text (Untagged feature)) c ≡ None → ((o : LineValue) → on (Untagged feature) o c ≡ without_tags (on_line feature o c)) → on_line feature l c ≡ Err e → Says e before l
 plain_says before feature l c e r is bare same h =
     let built = reached_built before (Outside (Untagged feature)) r in
     stopped_says before feature l c e r is bare same (line_stops feature before built.0 l c e built.1 h)
@@ -219,21 +219,21 @@ tags_above : {ls rest : Lines} {tags : List (List ℕ)} → AreTags IsIgnoredAbo
 tags_above untagged a = a
 tags_above (tagged first behind) a = next_above first.line first.is first.next refl (tags_above behind a)
 
-at_above : (before : Lines) (feature : (Option FeatureValue)) → feature ≡ None → run feature_readers (Outside feature_readers.first) before ≡ Ok (Outside (Untagged feature)) → NoFeature before
+at_above : (before : Lines) (feature : Option FeatureValue) → feature ≡ None → run feature_readers (Outside feature_readers.first) before ≡ Ok (Outside (Untagged feature)) → NoFeature before
 at_above before feature e r = grind (arith, common_steps, reached_built, skips_above)
 
-tagged_above : (before : Lines) (feature : (Option FeatureValue)) (tags : List (List ℕ)) (n : ℕ) → feature ≡ None → run feature_readers (Outside feature_readers.first) before ≡ Ok (Outside (Tagged feature tags n)) → NoFeature before
+tagged_above : (before : Lines) (feature : Option FeatureValue) (tags : List (List ℕ)) (n : ℕ) → feature ≡ None → run feature_readers (Outside feature_readers.first) before ≡ Ok (Outside (Tagged feature tags n)) → NoFeature before
 tagged_above before feature tags n e r = grind (arith, common_steps, reached_built, tags_above, skips_above)
 
 language_says : (before : Lines) (r : Option (List ℕ)) (s : FeatureReader) (l : LineValue) (e : ReadFault) → NoFeature before → class l ≡ Comment → language_of l ≡ r → by_language r s l ≡ Err e → Says e before l
 language_says before None s l e a is w h = no_err h
 language_says before (Some word) s l e a is w h = grind (arith, common_steps)
 
-comment_says : (before : Lines) (s : FeatureReader) (feature : (Option FeatureValue)) (l : LineValue) (e : ReadFault) → (feature ≡ None → NoFeature before) → class l ≡ Comment → on_comment feature s l ≡ Err e → Says e before l
+comment_says : (before : Lines) (s : FeatureReader) (feature : Option FeatureValue) (l : LineValue) (e : ReadFault) → (feature ≡ None → NoFeature before) → class l ≡ Comment → on_comment feature s l ≡ Err e → Says e before l
 comment_says before s None l e a is h = grind (arith, common_steps)
 comment_says before s (Some f) l e a is h = no_err h
 
-untagged_says : (before : Lines) (feature : (Option FeatureValue)) (l : LineValue) (c : Class) (e : ReadFault) → run feature_readers (Outside feature_readers.first) before ≡ Ok (Outside (Untagged feature)) → class l ≡ c → opening (takes_text (Untagged feature)) c ≡ None → on (Untagged feature) l c ≡ Err e → Says e before l
+untagged_says : (before : Lines) (feature : Option FeatureValue) (l : LineValue) (c : Class) (e : ReadFault) → run feature_readers (Outside feature_readers.first) before ≡ Ok (Outside (Untagged feature)) → class l ≡ c → opening (takes_text (Untagged feature)) c ≡ None → on (Untagged feature) l c ≡ Err e → Says e before l
 unfolding on
 untagged_says before feature l Blank e r is bare h = no_err h
 untagged_says before feature l Comment e r is bare h = comment_says before (Untagged feature) feature l e (λ above. at_above before feature above r) is h
@@ -244,7 +244,7 @@ untagged_says before feature l ScenarioHeading e r is bare h = says before (Unta
 untagged_says before feature l ExamplesHeading e r is bare h = says before (Untagged feature) r l ExamplesHeading e (λ o. on_heading feature [] o ExamplesHeading) is bare (λ o. refl) (heading_refuses feature [] l ExamplesHeading e (tags_err (on_heading feature [] l ExamplesHeading) e h))
 untagged_says before feature l k e r is bare h = plain_says before feature l k e r is bare (λ o. refl) (tags_err (on_line feature l k) e h)
 
-tagged_says : (before : Lines) (feature : (Option FeatureValue)) (tags : List (List ℕ)) (n : ℕ) (l : LineValue) (c : Class) (e : ReadFault) → run feature_readers (Outside feature_readers.first) before ≡ Ok (Outside (Tagged feature tags n)) → class l ≡ c → on (Tagged feature tags n) l c ≡ Err e → Says e before l
+tagged_says : (before : Lines) (feature : Option FeatureValue) (tags : List (List ℕ)) (n : ℕ) (l : LineValue) (c : Class) (e : ReadFault) → run feature_readers (Outside feature_readers.first) before ≡ Ok (Outside (Tagged feature tags n)) → class l ≡ c → on (Tagged feature tags n) l c ≡ Err e → Says e before l
 unfolding on
 tagged_says before feature tags n l Blank e r is h = no_err h
 tagged_says before feature tags n l Comment e r is h = comment_says before (Tagged feature tags n) feature l e (λ above. tagged_above before feature tags n above r) is h
@@ -289,7 +289,7 @@ after_ignored done n l i b = record { before = b.before; line = b.line; ignored 
 to : {x t : FeatureReader} (done : Lines) → ◌≡◌ {A = Result FeatureReader ReadFault} (Ok x) (Ok t) → Marked x done → Marked t done
 to done e m = subst (λ t. Marked t done) (ok_same e) m
 
-tag_marked : (r : Option (List (List ℕ))) (feature : (Option FeatureValue)) (tags : List (List ℕ)) (l : LineValue) (t : FeatureReader) (done : Lines) → class l ≡ TagLine → tag_line r feature tags l ≡ Ok t → Marked t (done ++ l ∷ [])
+tag_marked : (r : Option (List (List ℕ))) (feature : Option FeatureValue) (tags : List (List ℕ)) (l : LineValue) (t : FeatureReader) (done : Lines) → class l ≡ TagLine → tag_line r feature tags l ≡ Ok t → Marked t (done ++ l ∷ [])
 tag_marked (Some others) feature tags l t done is e = to (done ++ l ∷ []) e (record { before = done; line = l; ignored = []; whole = refl; number = refl; is = is; skipped = skip_none })
 tag_marked None feature tags l t done is e = no_ok e
 
@@ -322,7 +322,7 @@ remembers ls s r = marks feature_readers Marked (λ reader next l done m e. mark
 pub text_takes : (ls : Lines) (reader : FeatureReader) (text : DocStringValue) → run feature_readers (Outside feature_readers.first) ls ≡ Ok (InText reader text) → takes_text reader ≡ true
 text_takes ls reader text r = let m = remembers ls (InText reader text) r in m.takes
 
-tagged_or_not : {feature other : (Option FeatureValue)} {tags : List (List ℕ)} {n : ℕ} {P : Type 0} → ◌≡◌ {A = Result (State FeatureReader) ReadFault} (Ok (Outside (Untagged feature))) (Ok (Outside (Tagged other tags n))) → P
+tagged_or_not : {feature other : Option FeatureValue} {tags : List (List ℕ)} {n : ℕ} {P : Type 0} → ◌≡◌ {A = Result (State FeatureReader) ReadFault} (Ok (Outside (Untagged feature))) (Ok (Outside (Tagged other tags n))) → P
 tagged_or_not e = cc
 
 end_fault : (ls : Lines) (s : State FeatureReader) (e : ReadFault) → run feature_readers (Outside feature_readers.first) ls ≡ Ok s → finish feature_readers s ≡ Err e → FeatureFault e ls
