@@ -298,10 +298,6 @@ unfolding on
 marked_on (Untagged feature) t l Blank done is m e = to _ e tt
 marked_on (Untagged feature) t l Comment done is m e = subst (λ t. Marked t (done ++ l ∷ [])) (comment_ok feature (Untagged feature) t l is e).1 tt
 marked_on (Untagged feature) t l TagLine done is m e = tag_marked (tags_of l) feature [] l t done is e
-marked_on (Untagged feature) t l FeatureHeading done is m e = grind (arith, common_steps)
-marked_on (Untagged feature) t l RuleHeading done is m e = grind (arith, common_steps)
-marked_on (Untagged feature) t l ScenarioHeading done is m e = grind (arith, common_steps)
-marked_on (Untagged feature) t l ExamplesHeading done is m e = grind (arith, common_steps)
 marked_on (Untagged feature) t l k done is m e = grind (arith, common_steps)
 marked_on (Tagged feature tags n) t l Blank done is m e = to _ e (after_ignored done n l (subst IsIgnoredClass (sym is) tt) m)
 marked_on (Tagged feature tags n) t l Comment done is m e = subst (λ t. Marked t (done ++ l ∷ [])) (comment_ok feature (Tagged feature tags n) t l is e).1 (after_ignored done n l (subst IsIgnoredClass (sym is) tt) m)
