@@ -1,5 +1,5 @@
 -- What has a reading as a feature file is read so, and so no lines have two.
-use Rattle.gk_gherkin.proofs.Common.{◌≡◌, ℕ, Bool, false, List, [], ◌∷◌, ◌++◌, length, Option, Some, None, Result, Ok, refl, sym, subst, ap, ◌∙◌, append_assoc, inl, inr, arith, append-nil, BackgroundHeading, Blank, Comment, ExamplesHeading, FeatureHeading, FenceLine, Other, RowLine, RuleHeading, ScenarioHeading, StepLine, TagLine, Class, ReadFault, FeatureReader, Tagged, Untagged, after_text, children_in, feature_from, feature_readers, heading_in_feature, last_children, on, on_heading, on_line, rule_from, rule_with, tag_line, takes_text, with_children, with_rules, without_tags, Outside, State, finish, opening, reading, run, step, ChildrenValue, children_take_text, children_with_text, examples_from, heading_in, last_takes_text, on_background, on_body, on_children, on_examples, on_scenario, on_steps, row_from, row_in, scenario_from, scenario_takes_text, steps_take_text, steps_with_text, with_examples, with_scenarios, with_steps, with_table, LineValue, Lines, class, heading_keyword, heading_name, tags_of, BackgroundValue, ExamplesValue, FeatureValue, RowValue, RuleValue, ScenarioValue, StepValue, AreExamples, AreSteps, AreTags, Describes, HasOneReading, HasTable, IsBackground, IsFeature, IsIgnored, IsIgnoredClass, IsRow, IsRule, IsScenario, IsTaggedHeading, Many, MayDescribeExamples, MayDescribeFeature, MayDescribeScenario, Next, Perhaps, Reads, Skips, describe, described, more, none, skip, skip_none, tagged, untagged, ◌>>=◌, common_steps}
+use Rattle.gk_gherkin.proofs.Common.{TakesTags, ◌≡◌, ℕ, Bool, false, List, [], ◌∷◌, ◌++◌, length, Option, Some, None, Result, Ok, refl, sym, subst, ap, ◌∙◌, append_assoc, inl, inr, arith, append-nil, BackgroundHeading, Blank, Comment, ExamplesHeading, FeatureHeading, FenceLine, Other, RowLine, RuleHeading, ScenarioHeading, StepLine, TagLine, Class, ReadFault, FeatureReader, Tagged, Untagged, after_text, children_in, feature_from, feature_readers, heading_in_feature, last_children, on, on_heading, on_line, rule_from, rule_with, tag_line, takes_text, with_children, with_rules, without_tags, Outside, State, finish, opening, reading, run, step, ChildrenValue, children_take_text, children_with_text, examples_from, heading_in, last_takes_text, on_background, on_body, on_children, on_examples, on_scenario, on_steps, row_from, row_in, scenario_from, scenario_takes_text, steps_take_text, steps_with_text, with_examples, with_scenarios, with_steps, with_table, LineValue, Lines, class, heading_keyword, heading_name, tags_of, BackgroundValue, ExamplesValue, FeatureValue, RowValue, RuleValue, ScenarioValue, StepValue, AreExamples, AreSteps, AreTags, Describes, HasOneReading, HasTable, IsBackground, IsFeature, IsIgnored, IsIgnoredClass, IsRow, IsRule, IsScenario, IsTaggedHeading, Many, MayDescribeExamples, MayDescribeFeature, MayDescribeScenario, Next, Perhaps, Reads, Skips, describe, described, more, none, skip, skip_none, tagged, untagged, ◌>>=◌, common_steps}
 use Rattle.gk_gherkin.proofs.LastItems.{last_or-push, with_last-push}
 use Rattle.gk_gherkin.proofs.ReadingRuns.{no_ok, ok_same, run_nil, run_over}
 use Rattle.gk_gherkin.proofs.ReadingStates.{IsNoFence, ignored_no_fence, no_fence, step_plain}
@@ -65,21 +65,14 @@ run_tags {feature} {ls} {rest} {tags} s w (tagged {some = some} {others = others
     (r.0, run_next s t l TagLine (at_feature w first.next) first.is (no_fence (takes_text s) TagLine tt) (takes_tags l w first.words) ∙ r.1, subst (Waits feature r.0) (append_assoc tags some others) r.2)
 
 -- headings that take tags
-abbrev IsTaggedClass : Class → Type 0
-IsTaggedClass FeatureHeading = Unit {0}
-IsTaggedClass RuleHeading = Unit {0}
-IsTaggedClass ScenarioHeading = Unit {0}
-IsTaggedClass ExamplesHeading = Unit {0}
-IsTaggedClass _ = ⊥
-
-tagged_no_fence : (c : Class) → IsTaggedClass c → IsNoFence c
+tagged_no_fence : (c : Class) → TakesTags c → IsNoFence c
 tagged_no_fence FeatureHeading i = tt
 tagged_no_fence RuleHeading i = tt
 tagged_no_fence ScenarioHeading i = tt
 tagged_no_fence ExamplesHeading i = tt
 tagged_no_fence _ i = absurd i
 
-takes_heading : {feature : Option FeatureValue} {s : FeatureReader} {tags : List (List ℕ)} (l : LineValue) (c : Class) → IsTaggedClass c → Waits feature s tags → on s l c ≡ without_tags (on_heading feature tags l c)
+takes_heading : {feature : Option FeatureValue} {s : FeatureReader} {tags : List (List ℕ)} (l : LineValue) (c : Class) → TakesTags c → Waits feature s tags → on s l c ≡ without_tags (on_heading feature tags l c)
 unfolding on
 takes_heading l FeatureHeading i bare = refl
 takes_heading l RuleHeading i bare = refl
@@ -91,7 +84,7 @@ takes_heading l ScenarioHeading i behind = refl
 takes_heading l ExamplesHeading i behind = refl
 takes_heading l _ i w = absurd i
 
-run_heading : {ls rest : Lines} {tags : List (List ℕ)} (feature next : Option FeatureValue) (c : Class) (l : LineValue) → IsTaggedClass c → IsTaggedHeading (IgnoredAt feature) c ls tags l rest → on_heading feature tags l c ≡ Ok next → runs_over (Untagged feature) ls ≡ runs_over (Untagged next) rest
+run_heading : {ls rest : Lines} {tags : List (List ℕ)} (feature next : Option FeatureValue) (c : Class) (l : LineValue) → TakesTags c → IsTaggedHeading (IgnoredAt feature) c ls tags l rest → on_heading feature tags l c ≡ Ok next → runs_over (Untagged feature) ls ≡ runs_over (Untagged next) rest
 run_heading feature next c l i h e =
     let r = run_tags (Untagged feature) bare h.above in
     r.1 ∙ run_next r.0 (Untagged next) l c (at_feature r.2 h.heading.next) h.heading.is (no_fence (takes_text r.0) c (tagged_no_fence c i)) (takes_heading l c i r.2 ∙ ap without_tags e)
@@ -143,7 +136,7 @@ module _ (F : ChildrenValue → FeatureValue) (gets : (k : ChildrenValue) → la
   heading_taken : (k : ChildrenValue) (scenarios : List ScenarioValue) (tags : List (List ℕ)) (l : LineValue) (c : Class) → heading_in k.scenarios tags l c ≡ Ok scenarios → heading_in_feature (F k) tags l c ≡ Ok (F (with_scenarios k scenarios))
   heading_taken k scenarios tags l c e = rw (gets k, e, puts k (with_scenarios k scenarios)) refl
 
-  run_heading_in : {ls rest : Lines} {tags : List (List ℕ)} (k : ChildrenValue) (next : List ScenarioValue) (l : LineValue) (c : Class) → IsTaggedClass c → on_heading (Some (F k)) tags l c ≡ (heading_in_feature (F k) tags l c >>= λ f. Ok (Some f)) → IsTaggedHeading IsIgnored c ls tags l rest → heading_in k.scenarios tags l c ≡ Ok next → runs_over (at k) ls ≡ runs_over (at (with_scenarios k next)) rest
+  run_heading_in : {ls rest : Lines} {tags : List (List ℕ)} (k : ChildrenValue) (next : List ScenarioValue) (l : LineValue) (c : Class) → TakesTags c → on_heading (Some (F k)) tags l c ≡ (heading_in_feature (F k) tags l c >>= λ f. Ok (Some f)) → IsTaggedHeading IsIgnored c ls tags l rest → heading_in k.scenarios tags l c ≡ Ok next → runs_over (at k) ls ≡ runs_over (at (with_scenarios k next)) rest
   run_heading_in {tags = tags} k next l c i same h e =
       run_heading (Some (F k)) (Some (F (with_scenarios k next))) c l i h (same ∙ rw (heading_taken k next tags l c e) refl)
 
