@@ -49,28 +49,22 @@ scenario_copy : (a b : Scenario) → (scenario.is_clone-value).it a b → scenar
 scenario_copy a b (keyword, (name, (line, (tags, (steps, parts))))) =
     rw (keyword, name, line, copies string_bytes _ a.tags.items b.tags.items (λ x y h. h) tags.0, copies step_value _ a.steps.items b.steps.items step_copy steps.0, copies examples_value _ a.examples.items b.examples.items examples_copy parts.0) refl
 
-rule_background : (a b : Rule) (x y : Option Background) → (rule.is_clone-value).it (record a { background = x }) (record b { background = y }) → option_map background_value y ≡ option_map background_value x
-rule_background a b None None h = refl
-rule_background a b None (Some y) h = absurd h.1.1.1.0
-rule_background a b (Some x) None h = absurd h.1.1.1.0
-rule_background a b (Some x) (Some y) h = ap Some (background_copy x y h.1.1.1.0)
+background_copies : (C : Option Background → Option Background → Type 0) → ((y : Background) → C None (Some y) → ⊥) → ((x : Background) → C (Some x) None → ⊥) → ((x y : Background) → C (Some x) (Some y) → background_value y ≡ background_value x) → (x y : Option Background) → C x y → option_map background_value y ≡ option_map background_value x
+background_copies C added lost each None None h = refl
+background_copies C added lost each None (Some y) h = absurd (added y h)
+background_copies C added lost each (Some x) None h = absurd (lost x h)
+background_copies C added lost each (Some x) (Some y) h = ap Some (each x y h)
 
 rule_copy : (a b : Rule) → (rule.is_clone-value).it a b → rule_value b ≡ rule_value a
 rule_copy a b h =
-    let same = rule_background a b a.background b.background h in
+    let same = background_copies (λ x y. (rule.is_clone-value).it (record a { background = x }) (record b { background = y })) (λ y h. h.1.1.1.0) (λ x h. h.1.1.1.0) (λ x y h. background_copy x y h.1.1.1.0) a.background b.background h in
     let tags = h.1.1.0 in
     let scenarios = h.1.1.1.1 in
     rw (h.0, h.1.0, copies string_bytes _ a.tags.items b.tags.items (λ x y h. h) tags.0, same, copies scenario_value _ a.scenarios.items b.scenarios.items scenario_copy scenarios.0) refl
 
-feature_background : (a b : Feature) (x y : Option Background) → (feature.is_clone-value).it (record a { background = x }) (record b { background = y }) → option_map background_value y ≡ option_map background_value x
-feature_background a b None None h = refl
-feature_background a b None (Some y) h = absurd h.1.1.1.0
-feature_background a b (Some x) None h = absurd h.1.1.1.0
-feature_background a b (Some x) (Some y) h = ap Some (background_copy x y h.1.1.1.0)
-
 pub feature_copy : (a b : Feature) → (feature.is_clone-value).it a b → feature_value b ≡ feature_value a
 feature_copy a b h =
-    let same = feature_background a b a.background b.background h in
+    let same = background_copies (λ x y. (feature.is_clone-value).it (record a { background = x }) (record b { background = y })) (λ y h. h.1.1.1.0) (λ x h. h.1.1.1.0) (λ x y h. background_copy x y h.1.1.1.0) a.background b.background h in
     let tags = h.1.1.0 in
     let scenarios = h.1.1.1.1.0 in
     let rules = h.1.1.1.1.1 in
