@@ -1,15 +1,13 @@
 -- What is found in small files, worked by computation.
-use Rattle.std.proofs.Common.{codes, ◌≡◌, List, [], ◌∷◌, ◌++◌, Some, None, refl}
+use Rattle.std.proofs.Common.{codes, ◌≡◌, ℕ, List, [], ◌∷◌, ◌++◌, Some, None, refl}
 use Rattle.std.specs.Str.{chars, is_utf8}
 use lib.Utf8
 use Rattle.gk_gherkin.specs.declared.feature.StepType.TheVariants.{Given}
 use Rattle.gk_gherkin.specs.Class.{class, class_of, class_of_words}
 use Rattle.gk_gherkin.specs.DocStrings.{closes}
 use Rattle.gk_gherkin.specs.Feature.{Empty, StepValue, ExamplesValue, ScenarioValue, FeatureValue}
-use Rattle.gk_gherkin.specs.Lines.{Lines, line_at}
 use Rattle.gk_lint.specs.declared.findings.FindingKind.TheVariants.{CrAlone, FileWithoutFeature, FeatureWithoutScenarios, ScenarioWithoutSteps, OutlineWithoutRows, LikeKeyword, StepOutside}
 use Rattle.gk_gherkin.specs.declared.keyword.Keyword.TheVariants as keywords
-use Rattle.gk_lint.specs.declared.line_context.LineContext.TheVariants.{Elsewhere}
 use Rattle.gk_lint.specs.Findings.{at_line}
 use Rattle.gk_lint.specs.Likeness.{is_like_heading, is_other_blank, letter, same_letters, common_len, differ_at_first, is_one_off, is_exchanged, spelt_heading, spelt_step, begun_like, like}
 use Rattle.gk_lint.specs.LineContext.{after}
@@ -19,75 +17,75 @@ use Rattle.gk_lint.specs.MissingParts.{missing_in_scenario}
 use Rattle.gk_lint.specs.FeatureFile.{of_reading}
 
 -- Two misspelt lines; the same words in a doc string are content.
-with_text : Lines
+with_text : List (List ℕ)
 with_text =
-    line_at 1 (codes "Feature: The lamp")
-    ∷ line_at 2 (codes "  Scenaro: old")
-    ∷ line_at 3 (codes "  Scenario: new")
-    ∷ line_at 4 (codes "    when it is dark")
-    ∷ line_at 5 (codes "    Given a note")
-    ∷ line_at 6 (codes "")
-    ∷ line_at 7 (codes "      ```")
-    ∷ line_at 8 (codes "      Scenaro: old")
-    ∷ line_at 9 (codes "      ```")
+    codes "Feature: The lamp"
+    ∷ codes "  Scenaro: old"
+    ∷ codes "  Scenario: new"
+    ∷ codes "    when it is dark"
+    ∷ codes "    Given a note"
+    ∷ codes ""
+    ∷ codes "      ```"
+    ∷ codes "      Scenaro: old"
+    ∷ codes "      ```"
     ∷ []
 
-misspelt_lines : misspelt Elsewhere with_text ≡ at_line 2 (LikeKeyword keywords.Scenario) ∷ at_line 4 (LikeKeyword keywords.When) ∷ []
+misspelt_lines : misspelt with_text ≡ at_line 2 (LikeKeyword keywords.Scenario) ∷ at_line 4 (LikeKeyword keywords.When) ∷ []
 unfolding with_text after closes class class_of class_of_words is_utf8 chars lib.Utf8.encode is_other_blank letter like begun_like spelt_heading spelt_step is_like_heading is_one_off is_exchanged differ_at_first common_len same_letters
 misspelt_lines = refl
 
 -- In a description a fence opens nothing, and neither does one after a step outside of a scenario. A fence is no prose, so the step above it is found. A step with `And` isn't found there.
-with_fences : Lines
+with_fences : List (List ℕ)
 with_fences =
-    line_at 1 (codes "Feature: The lamp")
-    ∷ line_at 2 (codes "  Given light")
-    ∷ line_at 3 (codes "  ```")
-    ∷ line_at 4 (codes "  Rul: one")
-    ∷ line_at 5 (codes "  And more")
+    codes "Feature: The lamp"
+    ∷ codes "  Given light"
+    ∷ codes "  ```"
+    ∷ codes "  Rul: one"
+    ∷ codes "  And more"
     ∷ []
 
-misspelt_in_description : misspelt Elsewhere with_fences ≡ at_line 2 StepOutside ∷ at_line 4 (LikeKeyword keywords.Rule) ∷ []
+misspelt_in_description : misspelt with_fences ≡ at_line 2 StepOutside ∷ at_line 4 (LikeKeyword keywords.Rule) ∷ []
 unfolding with_fences after closes class class_of class_of_words is_utf8 chars lib.Utf8.encode is_other_blank letter like begun_like spelt_heading spelt_step is_like_heading is_one_off is_exchanged differ_at_first common_len same_letters
 misspelt_in_description = refl
 
 -- A sentence in a description that begins like a step, at its end and in its middle; and steps below one.
-with_prose : Lines
+with_prose : List (List ℕ)
 with_prose =
-    line_at 1 (codes "Feature: The lamp")
-    ∷ line_at 2 (codes "  It is lit")
-    ∷ line_at 3 (codes "  when night falls.")
-    ∷ line_at 4 (codes "")
-    ∷ line_at 5 (codes "  When it rains,")
-    ∷ line_at 6 (codes "  it smokes.")
-    ∷ line_at 7 (codes "  Given oil")
-    ∷ line_at 8 (codes "  When it burns")
+    codes "Feature: The lamp"
+    ∷ codes "  It is lit"
+    ∷ codes "  when night falls."
+    ∷ codes ""
+    ∷ codes "  When it rains,"
+    ∷ codes "  it smokes."
+    ∷ codes "  Given oil"
+    ∷ codes "  When it burns"
     ∷ []
 
-steps_below_prose : misspelt Elsewhere with_prose ≡ at_line 7 StepOutside ∷ at_line 8 StepOutside ∷ []
+steps_below_prose : misspelt with_prose ≡ at_line 7 StepOutside ∷ at_line 8 StepOutside ∷ []
 unfolding with_prose after closes class class_of class_of_words is_utf8 chars lib.Utf8.encode is_other_blank letter like begun_like spelt_heading spelt_step is_like_heading is_one_off is_exchanged differ_at_first common_len same_letters
 steps_below_prose = refl
 
 -- Misspelt headings in a description: with its colon, between lines of prose; and without it, above one.
-with_headings : Lines
+with_headings : List (List ℕ)
 with_headings =
-    line_at 1 (codes "Feature: The lamp")
-    ∷ line_at 2 (codes "  It is lit.")
-    ∷ line_at 3 (codes "  scenario: by night")
-    ∷ line_at 4 (codes "  The moon is up.")
-    ∷ line_at 5 (codes "")
-    ∷ line_at 6 (codes "  Rule of thumb: oil first.")
-    ∷ line_at 7 (codes "  Wicks come second.")
+    codes "Feature: The lamp"
+    ∷ codes "  It is lit."
+    ∷ codes "  scenario: by night"
+    ∷ codes "  The moon is up."
+    ∷ codes ""
+    ∷ codes "  Rule of thumb: oil first."
+    ∷ codes "  Wicks come second."
     ∷ []
 
-heading_in_prose : misspelt Elsewhere with_headings ≡ at_line 3 (LikeKeyword keywords.Scenario) ∷ []
+heading_in_prose : misspelt with_headings ≡ at_line 3 (LikeKeyword keywords.Scenario) ∷ []
 unfolding with_headings after closes class class_of class_of_words is_utf8 chars lib.Utf8.encode is_other_blank letter like begun_like spelt_heading spelt_step is_like_heading is_one_off is_exchanged differ_at_first common_len same_letters
 heading_in_prose = refl
 
 -- One line with a carriage return in it, and two lines.
-one_with_cr : cr_alone (line_at 1 (codes "Feature: F" ++ 13 ∷ codes "Scenario: S") ∷ []) ≡ at_line 1 CrAlone ∷ []
+one_with_cr : cr_alone ((codes "Feature: F" ++ 13 ∷ codes "Scenario: S") ∷ []) ≡ at_line 1 CrAlone ∷ []
 one_with_cr = refl
 
-two_with_cr : cr_alone (line_at 1 (codes "Feature: F" ++ 13 ∷ codes "Scenario: S") ∷ line_at 2 (codes "text") ∷ []) ≡ []
+two_with_cr : cr_alone ((codes "Feature: F" ++ 13 ∷ codes "Scenario: S") ∷ codes "text" ∷ []) ≡ []
 two_with_cr = refl
 
 a_step : StepValue

@@ -16,7 +16,7 @@ pub use Rattle.gk_explain.specs.Shown.{unquoted}
 pub use Rattle.gk_gherkin.specs.Feature.{BlockValue, FeatureValue, StepValue, Table, feature_value}
 pub use Rattle.gk_gherkin.specs.Grammar.{Reads}
 pub use Rattle.gk_gherkin.specs.Hooks.{hooks_value}
-pub use Rattle.gk_gherkin.specs.Lines.{IsText, lines_of, numbered_from, without_mark}
+pub use Rattle.gk_gherkin.specs.Lines.{IsText, lines_of, without_mark}
 pub use Rattle.gk_lint.specs.Blocks.{block_faults, fault_if}
 pub use Rattle.gk_lint.specs.Findings.{AreInOrder, finding_values}
 pub use Rattle.gk_lint.specs.Lookups.{action_faults, cleanup_faults, cleanup_text, found_faults, has_text, site_faults}

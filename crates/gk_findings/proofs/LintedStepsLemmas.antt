@@ -1,5 +1,5 @@
 -- Why a step for which the linter finds a fault fails.
-use Rattle.gk_findings.proofs.Common.{Action, AlwaysComesTo, AlwaysFails, BlockValue, Bool, CleanupAlwaysFails, Failed, FoundFaultsAreFailures, FoundValue, Level, LibraryValue, List, None, Option, Outcome, Passed, Reason, Registered, RegistersFailure, Site, Some, State, StepFault, StepSite, StepValue, StepsRunAtTheirSites, Table, Takes, [], act, action_faults, action_of, after_kind, after_of, ap, arguments_of, arith, at_site, before_kind, before_of, block_faults, cleanup_faults, cleanup_text, codes, common_steps, doc_string, false, fault_if, faults_of, files_below, found, found_any, found_faults, has_fault, has_text, inl, inr, is_none, is_same_fault, is_some, lets_register, list_any-append, may_register, may_run_at, may_stand, not, option_or, or_cases, reason_of_fault, refl, row_of, site_faults, site_of, site_of_hook, subst, sym, text_field, true, write_below, write_table, ℕ, ◌++◌, ◌∙◌, ◌∷◌, ◌≡◌, ◌⊎◌}
+use Rattle.gk_findings.proofs.Common.{Action, AlwaysComesTo, AlwaysFails, BlockValue, Bool, CleanupAlwaysFails, Failed, FoundFaultsAreFailures, FoundValue, Level, LibraryValue, List, None, Option, Outcome, Passed, Reason, Registered, RegistersFailure, Site, Some, State, StepFault, StepSite, StepValue, StepsRunAtTheirSites, Table, Takes, [], act, action_faults, action_of, after_kind, after_of, arguments_of, arith, at_site, before_kind, before_of, block_faults, cleanup_faults, cleanup_text, codes, common_steps, doc_string, false, fault_if, faults_of, files_below, found, found_any, found_faults, has_fault, has_text, inl, inr, is_none, is_same_fault, is_some, lets_register, list_any-append, may_register, may_run_at, may_stand, not, option_or, or_cases, reason_of_fault, refl, row_of, site_faults, site_of, site_of_hook, subst, sym, text_field, true, write_below, write_table, ℕ, ◌++◌, ◌∙◌, ◌∷◌, ◌≡◌, ◌⊎◌}
 use Rattle.gk_steps.specs.declared.action.Action.TheVariants as actions
 use Rattle.gk_steps.specs.declared.action.Takes.TheVariants as takes
 use Rattle.gk_run.specs.declared.acting.Site.TheVariants as sites

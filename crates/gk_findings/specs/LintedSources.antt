@@ -1,7 +1,7 @@
 -- The findings of sources.
 use Rattle.std.specs.Prelude.{◌≡◌, ℕ, Bool, List, [], ◌∷◌, ◌++◌, map, flat_map, Option, Some, None, option_to_list, string_bytes, if◌then◌else◌}
 use Rattle.std.specs.Str.Lines.{lines}
-use Rattle.gk_gherkin.specs.Lines.{Lines, lines_of, without_mark}
+use Rattle.gk_gherkin.specs.Lines.{without_mark}
 use Rattle.gk_gherkin.specs.Feature.{FeatureValue, feature_value}
 use Rattle.gk_select.specs.Case.{CaseValue}
 use Rattle.gk_select.specs.Expansion.{IsExpandable}
@@ -33,14 +33,14 @@ abbrev pub used_by : NotedLibraryValue → List FeatureValue → List ℕ
 used_by library features = flat_map (λ (f : FeatureValue). used_in library.entries (looked_up library.steps (of_feature f))) features
 
 -- The findings of a source with this reading and these lines: those of its file, and those of its steps.
-abbrev pub source_findings : NotedLibraryValue → Option FeatureValue → Lines → List FindingValue
+abbrev pub source_findings : NotedLibraryValue → Option FeatureValue → List (List ℕ) → List FindingValue
 source_findings library reading lines = file_findings reading lines ++ step_findings library reading
 
 -- A source has this reading, and this is the text of all its findings with their notes, in the order of lines.
 pub record IsLintedAs (library : NotedLibraryValue) (source : SourceValue) (reading : Option FeatureValue) (text : List ℕ) : Type 0 where
   pub read : IsReadAs source.bytes reading
   pub ordered : List FindingValue
-  pub in_order : AreInOrder (source_findings library reading (lines_of source.bytes)) ordered
+  pub in_order : AreInOrder (source_findings library reading (lines (without_mark source.bytes))) ordered
   pub whole : text ≡ noted_lines library.name source.name (lines (without_mark source.bytes)) ordered
 
 -- Sources have these readings, one each, and this is the text of their findings, one source after the other.

@@ -1,11 +1,9 @@
 //! The findings of sources, which are read one after another.
 ghost use Rattle.std.specs.Prelude.{◌≡◌, ◌≤◌, ◌++◌, [], map, length, option_map, option_to_list, string_bytes, IfOk, IfErr, OnOk};
-ghost use Rattle.std.specs.Str.Lines.{lines};
-ghost use Rattle.gk_gherkin.specs.Lines.{IsText, without_mark, numbered_from};
+ghost use Rattle.gk_gherkin.specs.Lines.{IsText, without_mark};
 ghost use Rattle.gk_gherkin.specs.Feature.{feature_value};
 ghost use Rattle.gk_lint.specs.Findings.{AreInOrder, finding_values};
-ghost use Rattle.gk_report.specs.ReportTexts.{Pushes};
-ghost use Rattle.gk_findings.specs.FindingLines.{noted_library_value, noted_lines};
+ghost use Rattle.gk_findings.specs.FindingLines.{noted_library_value};
 ghost use Rattle.gk_request.specs.Inputs.{IsReadAs};
 ghost use Rattle.gk_request.specs.Source.{source_value};
 ghost use Rattle.gk_request.specs.RunFault.{SaysSourceAt};
@@ -97,44 +95,24 @@ pub fn with_findings<'a>(
     })
 }
 
-// Returns the findings of a file with this text and this feature, or none, in the order of lines.
+// Returns the findings of a file with these lines and this feature, or none, in the order of lines.
 fn all_findings<'a>(
     alloc: Global,
     library: &NotedLibrary<'a>,
     feature: &'a Option<Feature>,
-    text: &str,
+    lines: &[&str],
 ) -> Result<StepFindings<'a>, AllocError>
     requires expandable { spec.AreExpandable (option_map feature_value feature.now) }
-    requires within { length text.now ≤ LONGEST_FILE }
+    requires within { length lines.now ≤ LONGEST_FILE }
     ensures found { IfOk result (λ r. AreInOrder (spec.source_findings
         (noted_library_value library.now) (option_map feature_value feature.now)
-        (numbered_from 1 (lines text.now))) (finding_values r.findings.items)) }
+        (map (λ line. line.now) lines.now)) (finding_values r.findings.items)) }
     ensures used { IfOk result (λ r. r.used.items ≡ used_by (noted_library_value library.now)
         (option_to_list (option_map feature_value feature.now))) }
 {
-    let findings = lint_feature(alloc, feature, text)?;
+    let findings = lint_feature(alloc, feature, lines)?;
     let of_steps = step_findings(alloc, library, feature)?;
     with_findings(findings, of_steps)
-}
-
-// Appends findings in a file with this name and this text, if there are any.
-fn push_findings_in(
-    out: &mut String,
-    alloc: Global,
-    library: &str,
-    name: &str,
-    text: &str,
-    findings: &[Finding<'_>],
-) -> Result<(), AllocError>
-    ensures { Pushes out.old
-        (noted_lines library.now name.now (lines text.now) (finding_values findings.now))
-        result out.new }
-{
-    if findings.is_empty() {
-        return Ok(());
-    }
-    let lines = text_lines(alloc, text)?;
-    push_noted_findings(out, alloc, library, name, &lines, findings)
 }
 
 // Appends the findings of a source that reads as this feature, or as none. Returns the places of the entries that its
@@ -156,10 +134,10 @@ fn push_source(
 {
     // No code runs here: the law says that what was read can be expanded.
     read_features_are_expandable();
-    let text = known_text(source.bytes.as_slice());
-    let found = all_findings(alloc, library, feature, text)?;
+    let lines = text_lines(alloc, known_text(source.bytes.as_slice()))?;
+    let found = all_findings(alloc, library, feature, &lines)?;
     let name = source.name.as_str();
-    push_findings_in(out, alloc, library.name, name, text, &found.findings)?;
+    push_noted_findings(out, alloc, library.name, name, &lines, &found.findings)?;
     Ok(found.used)
 }
 

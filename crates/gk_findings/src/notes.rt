@@ -1,5 +1,5 @@
 //! Notes below faults and findings, and the lines that they quote.
-ghost use Rattle.std.specs.Prelude.{◌≡◌, ◌-◌, map, IfOk};
+ghost use Rattle.std.specs.Prelude.{◌≡◌, ◌≤◌, ◌-◌, length, map, IfOk};
 ghost use Rattle.std.specs.Str.Lines.{lines};
 ghost use Rattle.gk_gherkin.specs.Lines as of_lines;
 ghost use Rattle.gk_report.specs.ReportTexts.{Pushes};
@@ -42,7 +42,8 @@ pub fn without_mark(text: &str) -> &str
 
 /// Returns the lines of a text. An error comes only if a growth was refused.
 pub fn text_lines(alloc: Global, text: &str) -> Result<Vec<&str>, AllocError>
-    ensures { IfOk result (λ found. map (λ line. line.now) found.items ≡ lines text.now) }
+    ensures lines { IfOk result (λ found. map (λ line. line.now) found.items ≡ lines text.now) }
+    ensures within { IfOk result (λ found. length found.items ≤ length text.now) }
 {
     text.lines().collect(alloc)
 }

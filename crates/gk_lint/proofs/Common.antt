@@ -26,7 +26,6 @@ pub use Rattle.std.specs.Str.Lines.{lines}
 pub use Rattle.std.specs.String.{string_bytes}
 pub use Rattle.gk_gherkin.specs.Feature.{ExamplesValue, FeatureValue, RowValue, RuleValue, ScenarioValue, StepValue, examples_value, feature_value, row_value, rule_value, scenario_value, step_value, texts}
 pub use Rattle.gk_gherkin.specs.Hooks.{hook_value}
-pub use Rattle.gk_gherkin.specs.Lines.{LineValue, Lines, line_at, numbered_from}
 pub use Rattle.gk_gherkin.specs.Text.{begins, trim}
 pub use Rattle.gk_gherkin.specs.declared.class.Class.{Class}
 pub use Rattle.gk_gherkin.specs.declared.feature.Examples.{Examples}
@@ -47,11 +46,10 @@ pub use Rattle.gk_lint.specs.LibraryCauses.{first_match, further_field, has_othe
 pub use Rattle.gk_lint.specs.LibraryUse.{unused_entries, unused_from}
 pub use Rattle.gk_lint.specs.Likeness.{ExchangedIsWithinExchange, IsWithinExchange, IsWithinOne, OneOffIsWithinOne, exchanges_first, in_small, letters}
 unfoldable pub use Rattle.gk_lint.specs.Likeness.{common_len, differ_at_first, is_exchanged, is_one_off, letter, same_letters}
-pub use Rattle.gk_lint.specs.LineContext.{after, class_in}
-pub use Rattle.gk_lint.specs.LineEnds.{has_cr, have_cr, is_one_with_cr}
+pub use Rattle.gk_lint.specs.LineEnds.{has_cr}
 pub use Rattle.gk_lint.specs.Lookups.{faults_in, faults_of, positions_in, positions_of}
 pub use Rattle.gk_lint.specs.MissingParts.{missing_in_scenario, missing_parts}
-pub use Rattle.gk_lint.specs.Misspelt.{IsAbove, is_prose, of_worded, worded, wording}
+pub use Rattle.gk_lint.specs.Misspelt.{IsAbove, is_prose, of_worded, worded}
 pub use Rattle.gk_lint.specs.NamedTags.{named_by, without}
 pub use Rattle.gk_lint.specs.NearestEntry.{compared, first_as_near, greatest_from, is_like, is_near_length, nearest_of, nearness}
 pub use Rattle.gk_lint.specs.ScenarioLines.{lines_of_examples, lines_of_feature, lines_of_features, lines_of_rows, lines_of_scenarios}

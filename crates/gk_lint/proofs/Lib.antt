@@ -11,8 +11,5 @@ pub mod NamedAgain
 pub mod RunSteps
 pub mod FirstHints
 pub mod RisingNumbers
-pub mod LinesLoop
-pub mod MisspeltLoop
-pub mod OneLine
 pub mod NoColumns
 pub mod NearestLoop

@@ -1,9 +1,7 @@
 -- Findings of a feature file.
-use Rattle.std.specs.Prelude.{List, [], ◌∷◌, ◌++◌, Option, Some, None}
-use Rattle.gk_gherkin.specs.Lines.{Lines}
+use Rattle.std.specs.Prelude.{ℕ, List, [], ◌∷◌, ◌++◌, Option, Some, None}
 use Rattle.gk_gherkin.specs.Feature.{FeatureValue}
 use Rattle.gk_lint.specs.declared.findings.FindingKind.TheVariants.{FileWithoutFeature}
-use Rattle.gk_lint.specs.declared.line_context.LineContext.TheVariants.{Elsewhere}
 use Rattle.gk_lint.specs.Findings.{FindingValue, at_line}
 use Rattle.gk_lint.specs.LineEnds.{cr_alone}
 use Rattle.gk_lint.specs.MissingParts.{missing_parts}
@@ -21,5 +19,5 @@ of_reading None = at_line 1 FileWithoutFeature ∷ []
 of_reading (Some f) = of_feature f
 
 -- The findings of a file with this feature, or none, and these lines. They are of all kinds of `FindingKind` that need neither a library nor hooks.
-abbrev pub file_findings : Option FeatureValue → Lines → List FindingValue
-file_findings feature lines = cr_alone lines ++ (of_reading feature ++ misspelt Elsewhere lines)
+abbrev pub file_findings : Option FeatureValue → List (List ℕ) → List FindingValue
+file_findings feature lines = cr_alone lines ++ (of_reading feature ++ misspelt lines)

@@ -18,7 +18,7 @@ use Rattle.gk_steps.specs.LibraryLine.{has_right_kind}
 use Rattle.gk_lint.specs.declared.library_causes.LibraryCause.{LibraryCause}
 use Rattle.gk_lint.specs.declared.library_causes.LibraryCause.TheVariants as causes
 use Rattle.gk_lint.specs.Likeness.{is_one_off}
-use Rattle.gk_lint.specs.UnexpectedLines.{unplaced}
+use Rattle.gk_lint.specs.LineContext.{unplaced}
 
 -- The cause of a fault: a missing field that an action needs, a field of the wrong kind, an unknown name that is near that of an action, or the line of an earlier entry that matches the pattern, too.
 pub data CauseValue : Type 0 where

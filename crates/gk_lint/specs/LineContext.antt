@@ -1,5 +1,5 @@
 -- The context of a line: among steps, in a doc string or elsewhere.
-use Rattle.std.specs.Prelude.{if◌then◌else◌}
+use Rattle.std.specs.Prelude.{ℕ, List, if◌then◌else◌}
 use Rattle.gk_gherkin.specs.declared.class.Class.{Class}
 use Rattle.gk_gherkin.specs.declared.class.Class.TheVariants.{Blank, Comment, TagLine, FeatureHeading, RuleHeading, BackgroundHeading, ScenarioHeading, ExamplesHeading, StepLine, RowLine, FenceLine, Other}
 use Rattle.gk_gherkin.specs.declared.class.Fence.{Fence}
@@ -9,10 +9,14 @@ use Rattle.gk_gherkin.specs.DocStrings.{closes}
 use Rattle.gk_lint.specs.declared.line_context.LineContext.{LineContext}
 use Rattle.gk_lint.specs.declared.line_context.LineContext.TheVariants.{Elsewhere, AmongSteps, AfterStep, InText}
 
+-- A line with this text. Its place doesn't matter.
+abbrev pub unplaced : List ℕ → LineValue
+unplaced text = record { line = 1; column = 1; text = text }
+
 -- The class of a line in this context. A line of a doc string may hold anything, so it counts as blank.
-abbrev pub class_in : LineContext → LineValue → Class
-class_in (InText fence) line = Blank
-class_in context line = class line
+abbrev pub class_in : LineContext → List ℕ → Class
+class_in (InText fence) text = Blank
+class_in context text = class (unplaced text)
 
 -- The context `next` if steps are possible here. If none is possible here, none is possible on the next line either.
 abbrev pub under : LineContext → LineContext → LineContext
@@ -41,6 +45,6 @@ after_class context RowLine = under AmongSteps context
 after_class context Other = under AmongSteps context
 
 -- The context of the line after this one, which has this class in its own context. A doc string continues up to the line that closes it. (Cucumber's Gherkin reference: doc strings)
-unfoldable pub after : LineContext → Class → LineValue → LineContext
-after (InText fence) class line = if closes fence line then AmongSteps else InText fence
-after context class line = after_class context class
+unfoldable pub after : LineContext → Class → List ℕ → LineContext
+after (InText fence) class text = if closes fence (unplaced text) then AmongSteps else InText fence
+after context class text = after_class context class

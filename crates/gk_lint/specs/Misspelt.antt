@@ -1,10 +1,9 @@
 -- Description lines that were probably not meant as descriptions: those that begin like a keyword, and steps outside of scenarios.
-use Rattle.std.specs.Prelude.{◌≡◌, ℕ, Bool, true, false, ◌&&◌, not, List, [], ◌∷◌, ◌++◌, length, slice_index, Option, Some, None}
+use Rattle.std.specs.Prelude.{◌≡◌, ◌+◌, ℕ, Bool, true, false, ◌&&◌, not, List, [], ◌∷◌, ◌++◌, length, slice_index, Option, Some, None}
 use Rattle.std.specs.List.{list_any}
 use Rattle.gk_gherkin.specs.declared.class.Class.{Class}
 use Rattle.gk_gherkin.specs.declared.class.Class.TheVariants as classes
 use Rattle.gk_gherkin.specs.Keyword.{keyword_text}
-use Rattle.gk_gherkin.specs.Lines.{LineValue, Lines}
 use Rattle.gk_gherkin.specs.Text.{begins, is_blank, trim}
 use Rattle.gk_gherkin.specs.declared.keyword.Keyword.{Keyword}
 use Rattle.gk_gherkin.specs.declared.keyword.Keyword.TheVariants.{Given, When, Then}
@@ -48,10 +47,10 @@ wording context classes.Other text = likened text (like text)
 wording context classes.StepLine text = of_step context text
 wording context class text = Other
 
--- Lines with their wordings. The first of them is in this context.
-abbrev pub worded : LineContext → Lines → List WordedLine
-worded context [] = []
-worded context (line ∷ lines) = let class = class_in context line in record { line = line.line; wording = wording context class (trim line.text) } ∷ worded (after context class line) lines
+-- Lines with these texts and their wordings. The first of them is in this context, and has this number.
+abbrev pub worded : LineContext → ℕ → List (List ℕ) → List WordedLine
+worded context n [] = []
+worded context n (text ∷ texts) = let class = class_in context text in record { line = n; wording = wording context class (trim text) } ∷ worded (after context class text) (n + 1) texts
 
 -- Whether a line is prose by the wording of the next, by whether prose is directly above it, and by whether the next is prose if it begins like a keyword, too.
 abbrev pub prose_by : Wording → Bool → Bool → Bool
@@ -90,9 +89,9 @@ abbrev pub of_worded : Bool → List WordedLine → List FindingValue
 of_worded above [] = []
 of_worded above (line ∷ lines) = meant (is_prose above lines) line.line line.wording ++ of_worded (is_plain line.wording) lines
 
--- The findings of lines. The first of them is in this context.
-abbrev pub misspelt : LineContext → Lines → List FindingValue
-misspelt context lines = of_worded false (worded context lines)
+-- The findings of a file's lines.
+abbrev pub misspelt : List (List ℕ) → List FindingValue
+misspelt lines = of_worded false (worded Elsewhere 1 lines)
 
 -- Proof machinery: if the line above begins like a keyword, it is prose as these lines below it say, and no plain prose.
 abbrev pub IsGroup : Option Bool → Bool → List WordedLine → Type 0

@@ -2,7 +2,6 @@
 use Rattle.std.specs.Prelude.{codes, ℕ, Bool, true, false, List, [], ◌∷◌, ◌++◌, length, take, find, reverse, slice_get, Option, Some, None, if◌then◌else◌}
 use Rattle.gk_gherkin.specs.declared.class.Class.{Class}
 use Rattle.gk_gherkin.specs.declared.class.Class.TheVariants.{Blank, Comment, TagLine, FeatureHeading, RuleHeading, BackgroundHeading, ScenarioHeading, ExamplesHeading, RowLine, FenceLine, Other}
-use Rattle.gk_gherkin.specs.Lines.{LineValue}
 use Rattle.gk_gherkin.specs.Text.{begins, trim}
 use Rattle.gk_gherkin.specs.declared.keyword.Keyword.{Keyword}
 use Rattle.gk_lint.specs.declared.line_context.LineContext.{LineContext}
@@ -42,14 +41,10 @@ keyword_named cause = []
 abbrev pub cause_text : Cause → List ℕ
 cause_text cause = cause_words cause ++ keyword_named cause
 
--- A line with this text. Its place doesn't matter.
-abbrev pub unplaced : List ℕ → LineValue
-unplaced text = record { line = 1; column = 1; text = text }
-
 -- The classes of lines with these texts. The first of them is in this context.
 abbrev pub classes_from : LineContext → List (List ℕ) → List Class
 classes_from context [] = []
-classes_from context (text ∷ texts) = let class = class_in context (unplaced text) in class ∷ classes_from (after context class (unplaced text)) texts
+classes_from context (text ∷ texts) = let class = class_in context text in class ∷ classes_from (after context class text) texts
 
 -- Whether a line of this class is a heading. (Cucumber's Gherkin reference: keywords)
 abbrev pub is_heading : Class → Bool

@@ -1,7 +1,5 @@
 //! Findings of a feature file.
-ghost use Rattle.std.specs.Prelude.{◌≡◌, ◌≤◌, ◌++◌, length, option_map, OnOk, IfOk};
-ghost use Rattle.std.specs.Str.Lines.{lines};
-ghost use Rattle.gk_gherkin.specs.Lines.{numbered_from};
+ghost use Rattle.std.specs.Prelude.{◌≡◌, ◌≤◌, ◌++◌, length, map, option_map, OnOk, IfOk};
 ghost use Rattle.gk_gherkin.specs.Feature.{feature_value};
 ghost use Rattle.gk_lint.specs.Findings.{AreInOrder, finding_values};
 ghost use Rattle.gk_lint.specs.FeatureFile as spec;
@@ -52,22 +50,22 @@ fn add_of_reading<'a>(
 /// other, if a description line that begins like no keyword is directly below them, and a single one that is directly
 /// below such a line, unless a step is directly below it.
 ///
-/// `feature` and `text` are what `read_feature` and `text_of` returned for the file's bytes. The text has at most
-/// `gk_gherkin::LONGEST_FILE` bytes. An error comes only if a growth was refused.
+/// `feature` is what `read_feature` returned for the file's bytes, and `lines` are the lines of the text that `text_of`
+/// returned for them: at most `gk_gherkin::LONGEST_FILE`. An error comes only if a growth was refused.
 pub fn lint_feature<'a>(
     alloc: Global,
     feature: &'a Option<Feature>,
-    text: &str,
+    lines: &[&str],
 ) -> Result<Vec<Finding<'a>>, AllocError>
-    requires { length text.now ≤ LONGEST_FILE }
+    requires { length lines.now ≤ LONGEST_FILE }
     // Returns all findings, and no others.
     ensures { IfOk result (λ findings. AreInOrder (spec.file_findings
-        (option_map feature_value feature.now) (numbered_from 1 (lines text.now)))
+        (option_map feature_value feature.now) (map (λ line. line.now) lines.now))
         (finding_values findings.items)) }
 {
     let mut findings = Vec::new(alloc);
-    add_cr_alone(&mut findings, text)?;
+    add_cr_alone(&mut findings, lines)?;
     add_of_reading(&mut findings, alloc, feature)?;
-    add_misspelt(&mut findings, alloc, text)?;
+    add_misspelt(&mut findings, alloc, lines)?;
     in_order(findings)
 }

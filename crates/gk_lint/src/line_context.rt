@@ -3,7 +3,7 @@ ghost use Rattle.std.specs.Prelude.{◌≡◌};
 ghost use Rattle.gk_gherkin.specs.Lines.{borrowed_value};
 ghost use Rattle.gk_lint.specs.LineContext as spec;
 
-use gk_gherkin::{BorrowedLine, Class, Fence, class_of_line, closes};
+use gk_gherkin::{BorrowedLine, Class, Fence, Place, class_of_line, closes};
 
 /// The context of a line.
 #[derive(Clone, Copy)]
@@ -18,13 +18,23 @@ pub enum LineContext {
     InText(Fence),
 }
 
+/// Returns a line with this text. Its place doesn't matter.
+pub fn unplaced(text: &str) -> BorrowedLine<'_>
+    ensures { borrowed_value result ≡ spec.unplaced text.now }
+{
+    BorrowedLine {
+        place: Place { line: 1, column: 1 },
+        text,
+    }
+}
+
 /// Returns the class of a line in this context. A line of a doc string may hold anything, so it counts as blank.
-pub fn class_in(context: LineContext, line: &BorrowedLine<'_>) -> Class
-    ensures { result ≡ spec.class_in context (borrowed_value line.now) }
+pub fn class_in(context: LineContext, text: &str) -> Class
+    ensures { result ≡ spec.class_in context text.now }
 {
     match context {
         LineContext::InText(_) => Class::Blank,
-        _ => class_of_line(line),
+        _ => class_of_line(&unplaced(text)),
     }
 }
 
@@ -55,12 +65,12 @@ fn after_class(context: LineContext, class: Class) -> LineContext
 
 /// Returns the context of the line after this one, which has this class in its own context.
 #[tactic(auto, unfolding(crate::specs::LineContext::after))]
-pub fn after(context: LineContext, class: Class, line: &BorrowedLine<'_>) -> LineContext
-    ensures { result ≡ spec.after context class (borrowed_value line.now) }
+pub fn after(context: LineContext, class: Class, text: &str) -> LineContext
+    ensures { result ≡ spec.after context class text.now }
 {
     match context {
         LineContext::InText(fence) => {
-            if closes(fence, line) {
+            if closes(fence, &unplaced(text)) {
                 LineContext::AmongSteps
             } else {
                 LineContext::InText(fence)

@@ -1,8 +1,6 @@
 //! Description lines that were probably not meant as descriptions: those that begin like a keyword, and steps outside
 //! of scenarios. Lines that prose surrounds are part of it, except for headings with their colons.
-ghost use Rattle.std.specs.Prelude.{◌≡◌, ◌≤◌, ◌++◌, ◌∷◌, false, true, cond, None, Some, IfOk, OnOk, length};
-ghost use Rattle.std.specs.Str.Lines.{lines};
-ghost use Rattle.gk_gherkin.specs.Lines.{numbered_from};
+ghost use Rattle.std.specs.Prelude.{◌≡◌, ◌≤◌, ◌++◌, ◌∷◌, false, true, cond, None, Some, map, IfOk, OnOk, length};
 ghost use Rattle.gk_lint.specs.Findings.{finding_values};
 ghost use Rattle.gk_lint.specs.Likeness.{like};
 ghost use Rattle.gk_lint.specs.Misspelt as spec;
@@ -13,7 +11,7 @@ use crate::findings::{Finding, FindingKind, add_if};
 use crate::likeness::{is_like_heading, like};
 use crate::line_context::{LineContext, after, class_in};
 use gk_gherkin::text::{begins_word, trim};
-use gk_gherkin::{Class, Keyword, LONGEST_FILE, borrowed_line};
+use gk_gherkin::{Class, Keyword, LONGEST_FILE};
 use std::alloc::{AllocError, Global};
 
 /// How a line is worded.
@@ -97,25 +95,20 @@ fn wording_of(
     }
 }
 
-// Returns the lines of a text with their wordings.
-fn worded(alloc: Global, text: &str) -> Result<Vec<WordedLine>, AllocError>
-    requires { length text.now ≤ LONGEST_FILE }
+// Returns lines with their wordings.
+fn worded(alloc: Global, lines: &[&str]) -> Result<Vec<WordedLine>, AllocError>
+    requires { length lines.now ≤ LONGEST_FILE }
     ensures { IfOk result (λ all. all.items
-        ≡ spec.worded Elsewhere (numbered_from 1 (lines text.now))) }
+        ≡ spec.worded Elsewhere 1 (map (λ line. line.now) lines.now)) }
 {
     let mut all = Vec::new(alloc);
-    let mut number: u32 = 1;
     let mut context = LineContext::Elsewhere;
-    for part in text.lines() {
-        let line = borrowed_line(number, part);
-        let class = class_in(context, &line);
-        let wording = wording_of(alloc, context, class, trim(part))?;
-        all.push(WordedLine {
-            line: number,
-            wording,
-        })?;
-        context = after(context, class, &line);
-        number += 1;
+    for (index, text) in lines.iter().enumerate() {
+        let line = index as u32 + 1;
+        let class = class_in(context, *text);
+        let wording = wording_of(alloc, context, class, trim(*text))?;
+        all.push(WordedLine { line, wording })?;
+        context = after(context, class, *text);
     }
     Ok(all)
 }
@@ -246,18 +239,18 @@ fn add_of_worded(findings: &mut Vec<Finding<'_>>, all: &[WordedLine]) -> Result<
     Ok(())
 }
 
-/// Adds the findings of misspelt lines of a text. An error comes only if a growth was refused; some of the findings may
-/// have been added then.
+/// Adds the findings of the misspelt ones of a file's lines. An error comes only if a growth was refused; some of the
+/// findings may have been added then.
 pub fn add_misspelt(
     findings: &mut Vec<Finding<'_>>,
     alloc: Global,
-    text: &str,
+    lines: &[&str],
 ) -> Result<(), AllocError>
-    requires { length text.now ≤ LONGEST_FILE }
+    requires { length lines.now ≤ LONGEST_FILE }
     ensures { OnOk result (finding_values findings.new.items
         ≡ finding_values findings.old.items
-        ++ spec.misspelt Elsewhere (numbered_from 1 (lines text.now))) }
+        ++ spec.misspelt (map (λ line. line.now) lines.now)) }
 {
-    let all = worded(alloc, text)?;
+    let all = worded(alloc, lines)?;
     add_of_worded(findings, &all)
 }

@@ -1,7 +1,6 @@
 //! Causes of an unexpected line of a feature file, and what to do about each.
 ghost use Rattle.std.specs.Prelude.{◌≡◌, map, take, find, reverse, IfOk};
 ghost use Rattle.std.specs.String.{string_bytes};
-ghost use Rattle.gk_gherkin.specs.Lines.{borrowed_value};
 ghost use Rattle.gk_lint.specs.Likeness.{like};
 ghost use Rattle.gk_lint.specs.UnexpectedLines as spec;
 ghost use Rattle.gk_lint.specs.declared.line_context.LineContext.TheVariants.{Elsewhere};
@@ -9,7 +8,7 @@ ghost use Rattle.gk_lint.specs.declared.line_context.LineContext.TheVariants.{El
 use crate::likeness::{like, same_letters};
 use crate::line_context::{LineContext, after, class_in};
 use gk_gherkin::text::{begins, trim};
-use gk_gherkin::{BorrowedLine, Class, Keyword, Place};
+use gk_gherkin::{Class, Keyword};
 use std::alloc::{AllocError, Global};
 
 /// Why a line of a feature file is unexpected.
@@ -98,16 +97,6 @@ impl Cause {
     }
 }
 
-/// Returns a line with this text. Its place doesn't matter.
-pub(crate) fn unplaced(text: &str) -> BorrowedLine<'_>
-    ensures { borrowed_value result ≡ spec.unplaced text.now }
-{
-    BorrowedLine {
-        place: Place { line: 1, column: 1 },
-        text,
-    }
-}
-
 // Returns the classes of lines.
 fn classes_of(alloc: Global, lines: &[&str]) -> Result<Vec<Class>, AllocError>
     ensures { IfOk result (λ classes. classes.items
@@ -116,10 +105,9 @@ fn classes_of(alloc: Global, lines: &[&str]) -> Result<Vec<Class>, AllocError>
     let mut classes = Vec::new(alloc);
     let mut context = LineContext::Elsewhere;
     for text in lines {
-        let line = unplaced(*text);
-        let class = class_in(context, &line);
+        let class = class_in(context, *text);
         classes.push(class)?;
-        context = after(context, class, &line);
+        context = after(context, class, *text);
     }
     Ok(classes)
 }

@@ -32,10 +32,19 @@ fn shown(alloc: Global, findings: &[Finding<'_>]) -> Result<String, AllocError> 
     Ok(shown)
 }
 
+// Returns the lines of a text.
+fn lines_of(alloc: Global, text: &str) -> Result<Vec<&str>, AllocError> {
+    let mut lines = Vec::new(alloc);
+    for line in text.lines() {
+        lines.push(line)?;
+    }
+    Ok(lines)
+}
+
 // Shows what is found in a feature file, a line for each finding.
 fn found_in(alloc: Global, bytes: &[u8]) -> Result<String, ReadFault> {
     let feature = read_feature(alloc, bytes)?;
-    let findings = lint_feature(alloc, &feature, text_of(bytes)?)?;
+    let findings = lint_feature(alloc, &feature, &lines_of(alloc, text_of(bytes)?)?)?;
     Ok(shown(alloc, &findings)?)
 }
 
@@ -113,11 +122,7 @@ fn cause_of(
     text: &str,
     fault: LibraryFault,
 ) -> Result<Option<LibraryCause>, AllocError> {
-    let mut lines = Vec::new(alloc);
-    for line in text.lines() {
-        lines.push(line)?;
-    }
-    library_cause(alloc, &lines, fault)
+    library_cause(alloc, &lines_of(alloc, text)?, fault)
 }
 
 // Shows what to do about the fault of a library.

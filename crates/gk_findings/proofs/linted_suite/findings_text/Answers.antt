@@ -1,4 +1,4 @@
-use Rattle.gk_findings.proofs.Common.{source_value, map, ap, sym, ◌∙◌, subst, hooks_value, is_chosen, library_value, IsLibrary, bytes_of, library_name, files_value, request_of_files, noted_library, read_of, sources_unread}
+use Rattle.gk_findings.proofs.Common.{source_value, map, ap, sym, subst, hooks_value, is_chosen, library_value, IsLibrary, bytes_of, files_value, request_of_files, noted_library, read_of, sources_unread}
 use Rattle.gk_findings.proofs.linted_suite.findings_text.Goals as goal
 
 pub returns-in-Ok-lint_sources-clause-linted : goal.returns-in-Ok-lint_sources-clause-linted
