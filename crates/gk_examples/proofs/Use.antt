@@ -31,7 +31,7 @@ use Rattle.gk_lint.specs.declared.step_sites.StepSite.TheVariants.{Scenario, Cle
 use Rattle.gk_lint.specs.StepSites.{site_of_hook}
 use Rattle.gk_lint.specs.Lookups.{site_faults, faults_of}
 use Rattle.gk_lint.specs.Blocks.{block_faults}
-use Rattle.gk_lint.specs.WrittenSteps.{runs_in}
+use Rattle.gk_lint.specs.WrittenSteps.{rows_of, runs}
 use Rattle.gk_lint.specs.LibraryUse.{unused_entries}
 use Rattle.gk_lint.specs.ScenarioNames.{same_names, scenarios_of}
 use Rattle.gk_lint.specs.TagUse.{hooks_of_no_tag}
@@ -116,11 +116,11 @@ part = record { name = []; line = 6; tags = codes "@e" ∷ []; header = codes "x
 scenario : List ExamplesValue → ScenarioValue
 scenario examples = record { keyword = codes "Scenario"; name = codes "S"; line = 3; tags = []; steps = step ∷ []; examples = examples }
 
-in_outline : runs_in (scenario (part ∷ [])) step ≡ record step { text = codes "1" } ∷ record step { text = codes "2" } ∷ []
+in_outline : runs (rows_of (scenario (part ∷ []))) step ≡ record step { text = codes "1" } ∷ record step { text = codes "2" } ∷ []
 unfolding scenario part step filled filled_from cell_of
 in_outline = refl
 
-in_plain : runs_in (scenario []) step ≡ step ∷ []
+in_plain : runs (rows_of (scenario [])) step ≡ step ∷ []
 unfolding scenario
 in_plain = refl
 

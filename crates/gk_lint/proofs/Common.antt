@@ -41,6 +41,7 @@ pub use Rattle.gk_steps.specs.Finding.{EntryValue, LibraryValue, entry_value, en
 pub use Rattle.gk_steps.specs.Pattern.{PieceValue, piece_values}
 pub use Rattle.gk_steps.specs.PatternReading.{pieces_of}
 pub use denote.Param.Members.{Mut}
+pub use Rattle.gk_lint.specs.ExampleParts.{part_value}
 pub use Rattle.gk_lint.specs.Findings.{AreInOrder, FindingValue, HintValue, Nearest, finding_value, finding_values, hint_value, named_once}
 pub use Rattle.gk_lint.specs.LibraryCauses.{first_match, further_field, has_other_kind, is_near, lacks, parts_value}
 pub use Rattle.gk_lint.specs.LibraryUse.{unused_entries, unused_from}
@@ -59,11 +60,11 @@ pub use Rattle.gk_lint.specs.StepHints.{cleanup_hint, first_hint, step_hint}
 pub use Rattle.gk_lint.specs.TagUse.{idle_hooks, tags_in, tags_of, tags_of_rules, tags_of_scenario, tags_of_scenarios}
 pub use Rattle.gk_lint.specs.TextSets.{in_set, is_one_of}
 pub use Rattle.gk_lint.specs.UnexpectedLines.{classes_from}
-pub use Rattle.gk_lint.specs.WrittenSteps.{LooksUpWhatIsRun, WrittenStep, as_written, background_steps_of, found_in, in_examples, in_rows, in_scenario, of_background, of_feature, of_hooks, of_rules, of_scenario, of_scenarios, runs_in, used_in}
+pub use Rattle.gk_lint.specs.WrittenSteps.{LooksUpWhatIsRun, WrittenStep, all_written, background_steps_of, found_in, in_examples, in_rows, of_background, of_feature, of_hooks, of_rules, of_scenario, of_scenarios, rows_of, runs, runs_value, used_in, written}
 pub use Rattle.gk_lint.specs.declared.findings.Finding.{Finding}
 pub use Rattle.gk_lint.specs.declared.findings.FindingKind.TheVariants.{FileWithoutFeature}
 pub use Rattle.gk_lint.specs.declared.line_context.LineContext.{LineContext}
 pub use Rattle.gk_lint.specs.declared.line_context.LineContext.TheVariants.{Elsewhere}
 pub use Rattle.gk_lint.specs.declared.misspelt.WordedLine.{WordedLine}
 pub use Rattle.gk_lint.specs.declared.step_sites.StepSite.TheVariants.{Scenario}
-pub use Rattle.gk_lint.specs.declared.written_steps.Part.{Part}
+pub use Rattle.gk_lint.specs.declared.example_parts.Part.{Part}

@@ -1,9 +1,5 @@
 -- Hints and other results for the steps of lists that follow each other.
-use Rattle.gk_lint.proofs.Common.{ExamplesValue, Part, examples_value, ◌≡◌, List, [], ◌∷◌, ◌++◌, flat_map, Option, Some, None, refl, ap, sym, ◌∙◌, arith, common_steps, option_or, StepValue, HintValue, first_hint}
-
--- The Examples that a part of an outline has.
-abbrev pub part_value : Part → ExamplesValue
-part_value part = examples_value part.examples.now
+use Rattle.gk_lint.proofs.Common.{◌≡◌, List, [], ◌∷◌, ◌++◌, flat_map, Option, Some, None, refl, ap, sym, ◌∙◌, arith, common_steps, option_or, StepValue, HintValue, first_hint}
 
 pub no_other_hint : (a : Option HintValue) → option_or a None ≡ a
 no_other_hint None = refl

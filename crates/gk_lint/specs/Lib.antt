@@ -18,6 +18,7 @@ pub mod Blocks
 pub mod StepSites
 pub mod Lookups
 pub mod StepHints
+pub mod ExampleParts
 pub mod WrittenSteps
 pub mod NumberSets
 pub mod LibraryUse

@@ -1,6 +1,6 @@
 -- Steps of a feature and of a hooks file, as they are written and as they are run.
-use Rattle.std.specs.List.{list_any}
-use Rattle.std.specs.Prelude.{◌≡◌, ℕ, Bool, ◌||◌, List, [], ◌∷◌, ◌++◌, map, flat_map, Option, option_map, if◌then◌else◌}
+use Rattle.std.specs.List.{AllByRecursion, list_any}
+use Rattle.std.specs.Prelude.{◌≡◌, ℕ, Bool, ◌||◌, List, [], ◌∷◌, ◌++◌, map, flat_map, Option, Some, None, option_map, if◌then◌else◌}
 use Rattle.std.specs.Option.{option_or}
 use Rattle.gk_gherkin.specs.Feature.{StepValue, RowValue, ExamplesValue, BackgroundValue, ScenarioValue, RuleValue, FeatureValue}
 use Rattle.gk_gherkin.specs.Hooks.{HookValue}
@@ -8,15 +8,19 @@ use Rattle.gk_select.specs.Case.{CaseValue}
 use Rattle.gk_select.specs.Expansion.{cases}
 use Rattle.gk_select.specs.Filling.{filled, filled_step}
 use Rattle.gk_select.specs.Inherited.{background_steps}
-use Rattle.gk_select.specs.Outline.{is_outline}
+use Rattle.gk_select.specs.Outline.{AllFit, is_outline}
 use Rattle.gk_steps.specs.Finding.{LibraryValue}
 use Rattle.gk_lint.specs.StepFaults.{step_faults}
 use Rattle.gk_lint.specs.declared.findings.FindingKind.TheVariants.{UndefinedStep, CleanupWithoutStep}
 use Rattle.gk_lint.specs.declared.lookups.Lookups.{Lookups}
+use Rattle.gk_lint.specs.ExampleParts.{part_value}
+use Rattle.gk_lint.specs.declared.written_steps.Runs.{Runs}
+use Rattle.gk_lint.specs.declared.written_steps.Runs.TheVariants.{AsWritten, InRows}
+use Rattle.gk_lint.specs.declared.written_steps.StepFindings.{StepFindings}
 use Rattle.gk_lint.specs.declared.step_sites.StepSite.{StepSite}
 use Rattle.gk_lint.specs.declared.step_sites.StepSite.TheVariants as sites
 use Rattle.gk_lint.specs.StepSites.{site_of_hook}
-use Rattle.gk_lint.specs.Findings.{FindingValue, hint_value, hinted, named_once}
+use Rattle.gk_lint.specs.Findings.{FindingValue, finding_values, hint_value, hinted, named_once}
 use Rattle.gk_lint.specs.ScenarioNames.{scenarios_of}
 use Rattle.gk_lint.specs.Lookups.{faults_in, positions_in}
 use Rattle.gk_lint.specs.StepHints.{step_hint, cleanup_hint, first_hint}
@@ -27,10 +31,6 @@ pub record WrittenStep : Type 0 where
   pub site : StepSite
   pub runs : List StepValue
 
--- A step that is run at a site as it is written.
-abbrev pub as_written : StepSite → StepValue → WrittenStep
-as_written site step = record { line = step.line; site = site; runs = step ∷ [] }
-
 -- A step filled from each of some rows under a header. (Cucumber's Gherkin reference: scenario outline)
 abbrev pub in_rows : StepValue → List (List ℕ) → List RowValue → List StepValue
 in_rows step header rows = map (λ (r : RowValue). filled_step (filled header r.cells) step) rows
@@ -39,17 +39,26 @@ in_rows step header rows = map (λ (r : RowValue). filled_step (filled header r.
 abbrev pub in_examples : StepValue → List ExamplesValue → List StepValue
 in_examples step examples = flat_map (λ (e : ExamplesValue). in_rows step e.header e.rows) examples
 
--- The steps that a step of a scenario is run as: in an outline one for each row, and otherwise the step itself. (Cucumber's Gherkin reference: scenario outline)
-abbrev pub runs_in : ScenarioValue → StepValue → List StepValue
-runs_in s step = if is_outline s then in_examples step s.examples else step ∷ []
+-- The steps that a step is run as: one for each row of Examples, if there are any to run it with, and otherwise the step itself. (Cucumber's Gherkin reference: scenario outline)
+abbrev pub runs : Option (List ExamplesValue) → StepValue → List StepValue
+runs None step = step ∷ []
+runs (Some examples) step = in_examples step examples
 
--- A step of a scenario, and the steps that it is run as.
-abbrev pub in_scenario : ScenarioValue → StepValue → WrittenStep
-in_scenario s step = record { line = step.line; site = sites.Scenario; runs = runs_in s step }
+-- The Examples with whose rows the steps of a scenario are run: those of an outline. (Cucumber's Gherkin reference: scenario outline)
+abbrev pub rows_of : ScenarioValue → Option (List ExamplesValue)
+rows_of s = if is_outline s then Some s.examples else None
+
+-- A step at a site, and the steps that it is run as.
+abbrev pub written : StepSite → Option (List ExamplesValue) → StepValue → WrittenStep
+written site rows step = record { line = step.line; site = site; runs = runs rows step }
+
+-- Steps at a site, and the steps that each is run as.
+abbrev pub all_written : StepSite → Option (List ExamplesValue) → List StepValue → List WrittenStep
+all_written site rows steps = map (written site rows) steps
 
 -- The steps of a scenario.
 abbrev pub of_scenario : ScenarioValue → List WrittenStep
-of_scenario s = map (in_scenario s) s.steps
+of_scenario s = all_written sites.Scenario (rows_of s) s.steps
 
 -- The steps of scenarios, one scenario after the other.
 abbrev pub of_scenarios : List ScenarioValue → List WrittenStep
@@ -57,7 +66,7 @@ of_scenarios scenarios = flat_map of_scenario scenarios
 
 -- The steps of a Background, if there is one. (Cucumber's Gherkin reference: background)
 abbrev pub of_background : Option BackgroundValue → List WrittenStep
-of_background background = map (as_written sites.Scenario) (background_steps background)
+of_background background = all_written sites.Scenario None (background_steps background)
 
 -- The steps of the Backgrounds of rules, one rule after the other. (Cucumber's Gherkin reference: rule)
 abbrev pub of_rules : List RuleValue → List WrittenStep
@@ -77,11 +86,21 @@ LooksUpWhatIsRun = (f : FeatureValue) (asked : StepValue → Bool) → list_any 
 
 -- The steps of a hook. (behave's documentation: environment file functions)
 abbrev pub of_hook : HookValue → List WrittenStep
-of_hook h = map (as_written (site_of_hook h.kind)) h.steps
+of_hook h = all_written (site_of_hook h.kind) None h.steps
 
 -- The steps of hooks, one hook after the other. (behave's documentation: environment file functions)
 abbrev pub of_hooks : List HookValue → List WrittenStep
 of_hooks hooks = flat_map of_hook hooks
+
+-- Proof machinery: the Examples with whose rows steps are run.
+abbrev pub runs_value : Runs → Option (List ExamplesValue)
+runs_value AsWritten = None
+runs_value (InRows parts) = Some (map part_value parts.items)
+
+-- Proof machinery: each row of these Examples has as many cells as its header.
+abbrev pub RunsFit : Option (List ExamplesValue) → Type 0
+RunsFit None = Unit {0}
+RunsFit (Some examples) = AllByRecursion AllFit examples
 
 -- Proof machinery: these steps were looked up at a site, after others. `new` has their faults, the positions of the entries that they find, and the first hints.
 pub record AreLookedUp (library : LibraryValue) (site : StepSite) (steps : List StepValue) (old new : Lookups) : Type 0 where
@@ -109,3 +128,8 @@ found_in library written = flat_map (at_step library) written
 -- The positions of the entries that written steps find, one step after the other.
 abbrev pub used_in : LibraryValue → List WrittenStep → List ℕ
 used_in library written = flat_map (λ (w : WrittenStep). positions_in library w.runs) written
+
+-- Proof machinery: these written steps were looked up after others. `new` has their findings, and the positions of the entries that they find.
+pub record AreAdded (library : LibraryValue) (steps : List WrittenStep) (old new : StepFindings) : Type 0 where
+  pub found : finding_values new.findings.items ≡ finding_values old.findings.items ++ found_in library steps
+  pub used : new.used.items ≡ old.used.items ++ used_in library steps

@@ -6,6 +6,7 @@
 
 mod blocks;
 mod entry_hints;
+mod example_parts;
 mod feature_file;
 mod findings;
 mod laws;

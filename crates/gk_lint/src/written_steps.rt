@@ -7,21 +7,22 @@ ghost use Rattle.gk_gherkin.specs.Hooks.{hook_value, hooks_value};
 ghost use Rattle.gk_select.specs.Filling.{filled, filled_step};
 ghost use Rattle.gk_select.specs.Outline.{AllFit};
 ghost use Rattle.gk_select.specs.Expansion.{RowsFit, IsExpandable};
+ghost use Rattle.gk_lint.specs.ExampleParts.{part_value};
 ghost use Rattle.gk_lint.specs.Findings.{AreInOrder, finding_values, hint_value, hinted, named_once};
 ghost use Rattle.gk_lint.specs.StepFaults.{step_faults};
 ghost use Rattle.gk_lint.specs.declared.findings.FindingKind.TheVariants as kinds;
 ghost use Rattle.gk_lint.specs.Lookups.{positions_in};
-ghost use Rattle.gk_lint.specs.declared.step_sites.StepSite.TheVariants as sites;
 ghost use Rattle.gk_lint.specs.WrittenSteps as spec;
-ghost use Rattle.gk_lint.specs.WrittenSteps.{AreLookedUp, found_in, used_in};
+ghost use Rattle.gk_lint.specs.WrittenSteps.{AreAdded, AreLookedUp, found_in, used_in};
 
 use crate::entry_hints::EntryHints;
+use crate::example_parts::{Part, parts_of};
 use crate::findings::{Finding, FindingKind, add_hinted, add_once, in_order};
 use crate::lookups::Lookups;
 use crate::scenario_names::scenarios_of;
 use crate::step_faults::STEP_FAULTS;
 use crate::step_sites::{StepSite, site_of_hook};
-use gk_gherkin::{Background, Examples, Feature, Hook, HookFile, Rule, Scenario, Step};
+use gk_gherkin::{Background, Feature, Hook, HookFile, Rule, Scenario, Step};
 use gk_select::{Names, fill_step, is_outline};
 use std::alloc::{AllocError, Global};
 use std::mem;
@@ -34,27 +35,25 @@ pub struct StepFindings<'a> {
     pub used: Vec<usize>,
 }
 
-// Examples of an outline, and the columns of their header.
+// How the steps of a scenario, a Background or a hook are run.
 #[derive(Drop)]
-struct Part<'a> {
-    examples: &'a Examples,
-    columns: Names<'a>,
-    ghost header: { columns ≡ texts examples.now.header.items },
+enum Runs<'a> {
+    // As they are written.
+    AsWritten,
+    // Once for each row of these Examples.
+    InRows(Vec<Part<'a>>),
 }
 
-// Returns the Examples of a scenario, each with its columns.
-fn parts_of(alloc: Global, examples: &[Examples]) -> Result<Vec<Part<'_>>, AllocError>
-    ensures { IfOk result (λ parts. map (λ part. examples_value part.examples.now) parts.items
-        ≡ map examples_value examples.now) }
+// Returns how the steps of a scenario are run.
+fn runs_of(alloc: Global, scenario: &Scenario) -> Result<Runs<'_>, AllocError>
+    ensures { IfOk result (λ runs.
+        spec.runs_value runs ≡ spec.rows_of (scenario_value scenario.now)) }
 {
-    let mut parts = Vec::new(alloc);
-    for part in examples {
-        parts.push(Part {
-            examples: part,
-            columns: Names::new(alloc, &part.header),
-        })?;
+    if is_outline(scenario) {
+        Ok(Runs::InRows(parts_of(alloc, &scenario.examples)?))
+    } else {
+        Ok(Runs::AsWritten)
     }
-    Ok(parts)
 }
 
 // Looks up a step filled from a row.
@@ -62,17 +61,18 @@ fn look_up_row<'a>(
     lookups: &mut Lookups<'a>,
     alloc: Global,
     hints: &EntryHints<'a>,
+    site: StepSite,
     step: &Step,
     columns: &Names<'_>,
     cells: &[String],
 ) -> Result<(), AllocError>
     requires { length cells.now ≡ length columns.now }
-    ensures { OnOk result (AreLookedUp hints.now sites.Scenario
+    ensures { OnOk result (AreLookedUp hints.now site
         (filled_step (filled columns.now (texts cells.now)) (step_value step.now) ∷ [])
         lookups.old lookups.new) }
 {
     let filled = fill_step(alloc, step, columns, cells)?;
-    lookups.add(alloc, hints, StepSite::Scenario, &filled)
+    lookups.add(alloc, hints, site, &filled)
 }
 
 // Looks up a step filled from each row of Examples.
@@ -80,16 +80,16 @@ fn look_up_rows<'a>(
     lookups: &mut Lookups<'a>,
     alloc: Global,
     hints: &EntryHints<'a>,
+    site: StepSite,
     step: &Step,
     part: &Part<'_>,
 ) -> Result<(), AllocError>
-    requires { AllFit (examples_value part.now.examples.now) }
-    ensures { let e = examples_value part.now.examples.now in
-        OnOk result (AreLookedUp hints.now sites.Scenario
+    requires { AllFit (part_value part.now) }
+    ensures { let e = part_value part.now in OnOk result (AreLookedUp hints.now site
         (spec.in_rows (step_value step.now) e.header e.rows) lookups.old lookups.new) }
 {
     for row in &part.examples.rows {
-        look_up_row(lookups, alloc, hints, step, &part.columns, &row.cells)?;
+        look_up_row(lookups, alloc, hints, site, step, &part.columns, &row.cells)?;
     }
     Ok(())
 }
@@ -99,44 +99,38 @@ fn look_up_examples<'a>(
     lookups: &mut Lookups<'a>,
     alloc: Global,
     hints: &EntryHints<'a>,
+    site: StepSite,
     step: &Step,
     parts: &[Part<'_>],
 ) -> Result<(), AllocError>
-    requires { AllByRecursion AllFit
-        (map (λ part. examples_value part.examples.now) parts.now) }
-    ensures { OnOk result (AreLookedUp hints.now sites.Scenario
-        (spec.in_examples (step_value step.now)
-        (map (λ part. examples_value part.examples.now) parts.now))
+    requires { AllByRecursion AllFit (map part_value parts.now) }
+    ensures { OnOk result (AreLookedUp hints.now site
+        (spec.in_examples (step_value step.now) (map part_value parts.now))
         lookups.old lookups.new) }
 {
     for part in parts {
-        look_up_rows(lookups, alloc, hints, step, part)?;
+        look_up_rows(lookups, alloc, hints, site, step, part)?;
     }
     Ok(())
 }
 
-// Looks up the steps that a step of a scenario with these parts is run as.
+// Looks up the steps that a step is run as.
 #[tactic(auto, using(crate::proofs::FirstHints::no_other_hint))]
 fn look_up_runs<'a>(
     lookups: &mut Lookups<'a>,
     alloc: Global,
     hints: &EntryHints<'a>,
-    scenario: &Scenario,
-    parts: &[Part<'_>],
+    site: StepSite,
+    runs: &Runs<'_>,
     step: &Step,
 ) -> Result<(), AllocError>
-    requires fit { AllByRecursion AllFit
-        (map (λ part. examples_value part.examples.now) parts.now) }
-    requires parts { map (λ part. examples_value part.examples.now) parts.now
-        ≡ (scenario_value scenario.now).examples }
-    ensures { OnOk result (AreLookedUp hints.now sites.Scenario
-        (spec.runs_in (scenario_value scenario.now) (step_value step.now))
-        lookups.old lookups.new) }
+    requires { spec.RunsFit (spec.runs_value runs.now) }
+    ensures { OnOk result (AreLookedUp hints.now site
+        (spec.runs (spec.runs_value runs.now) (step_value step.now)) lookups.old lookups.new) }
 {
-    if is_outline(scenario) {
-        look_up_examples(lookups, alloc, hints, step, parts)
-    } else {
-        lookups.add(alloc, hints, StepSite::Scenario, step)
+    match runs {
+        Runs::AsWritten => lookups.add(alloc, hints, site, step),
+        Runs::InRows(parts) => look_up_examples(lookups, alloc, hints, site, step, parts),
     }
 }
 
@@ -182,87 +176,43 @@ fn take_used<'a>(found: &mut StepFindings<'a>, alloc: Global) -> Lookups<'a>
     Lookups::new(alloc, mem::replace(&mut found.used, Vec::new(alloc)))
 }
 
-// Adds the results of a step of a scenario with these parts.
-fn add_scenario_step<'a>(
+// Adds the results of a written step.
+fn add_step<'a>(
     found: &mut StepFindings<'a>,
     alloc: Global,
     hints: &EntryHints<'a>,
-    scenario: &Scenario,
-    parts: &[Part<'_>],
+    site: StepSite,
+    runs: &Runs<'_>,
     step: &Step,
 ) -> Result<(), AllocError>
-    requires fit { AllByRecursion AllFit
-        (map (λ part. examples_value part.examples.now) parts.now) }
-    requires parts { map (λ part. examples_value part.examples.now) parts.now
-        ≡ (scenario_value scenario.now).examples }
+    requires { spec.RunsFit (spec.runs_value runs.now) }
     ensures found { OnOk result (finding_values found.new.findings.items
         ≡ finding_values found.old.findings.items
         ++ spec.at_step hints.now
-        (spec.in_scenario (scenario_value scenario.now) (step_value step.now))) }
+        (spec.written site (spec.runs_value runs.now) (step_value step.now))) }
     ensures used { OnOk result (found.new.used.items ≡ found.old.used.items
-        ++ positions_in hints.now
-        (spec.runs_in (scenario_value scenario.now) (step_value step.now))) }
+        ++ positions_in hints.now (spec.runs (spec.runs_value runs.now) (step_value step.now))) }
 {
     let mut lookups = take_used(found, alloc);
-    look_up_runs(&mut lookups, alloc, hints, scenario, parts, step)?;
+    look_up_runs(&mut lookups, alloc, hints, site, runs, step)?;
     add_lookups(found, step.line, lookups)
 }
 
-fn add_scenario<'a>(
-    found: &mut StepFindings<'a>,
-    alloc: Global,
-    hints: &EntryHints<'a>,
-    scenario: &Scenario,
-) -> Result<(), AllocError>
-    requires { AllByRecursion AllFit (scenario_value scenario.now).examples }
-    ensures found { OnOk result (finding_values found.new.findings.items
-        ≡ finding_values found.old.findings.items
-        ++ found_in hints.now (spec.of_scenario (scenario_value scenario.now))) }
-    ensures used { OnOk result (found.new.used.items ≡ found.old.used.items
-        ++ used_in hints.now (spec.of_scenario (scenario_value scenario.now))) }
-{
-    let parts = parts_of(alloc, &scenario.examples)?;
-    for step in &scenario.steps {
-        add_scenario_step(found, alloc, hints, scenario, &parts, step)?;
-    }
-    Ok(())
-}
-
-// Adds the results of a step that is run at a site as it is written.
-#[tactic(auto, using(crate::proofs::FirstHints::no_other_hint))]
-fn add_plain_step<'a>(
+fn add_steps<'a>(
     found: &mut StepFindings<'a>,
     alloc: Global,
     hints: &EntryHints<'a>,
     site: StepSite,
-    step: &Step,
-) -> Result<(), AllocError>
-    ensures found { OnOk result (finding_values found.new.findings.items
-        ≡ finding_values found.old.findings.items
-        ++ spec.at_step hints.now (spec.as_written site (step_value step.now))) }
-    ensures used { OnOk result (found.new.used.items ≡ found.old.used.items
-        ++ positions_in hints.now (spec.as_written site (step_value step.now)).runs) }
-{
-    let mut lookups = take_used(found, alloc);
-    lookups.add(alloc, hints, site, step)?;
-    add_lookups(found, step.line, lookups)
-}
-
-fn add_plain_steps<'a>(
-    found: &mut StepFindings<'a>,
-    alloc: Global,
-    hints: &EntryHints<'a>,
-    site: StepSite,
+    runs: &Runs<'_>,
     steps: &[Step],
 ) -> Result<(), AllocError>
-    ensures found { OnOk result (finding_values found.new.findings.items
-        ≡ finding_values found.old.findings.items
-        ++ found_in hints.now (map (spec.as_written site) (map step_value steps.now))) }
-    ensures used { OnOk result (found.new.used.items ≡ found.old.used.items
-        ++ used_in hints.now (map (spec.as_written site) (map step_value steps.now))) }
+    requires { spec.RunsFit (spec.runs_value runs.now) }
+    ensures { OnOk result (AreAdded hints.now
+        (spec.all_written site (spec.runs_value runs.now) (map step_value steps.now))
+        found.old found.new) }
 {
     for step in steps {
-        add_plain_step(found, alloc, hints, site, step)?;
+        add_step(found, alloc, hints, site, runs, step)?;
     }
     Ok(())
 }
@@ -273,18 +223,21 @@ fn add_background<'a>(
     hints: &EntryHints<'a>,
     background: &Option<Background>,
 ) -> Result<(), AllocError>
-    ensures found { OnOk result (finding_values found.new.findings.items
-        ≡ finding_values found.old.findings.items
-        ++ found_in hints.now (spec.of_background (option_map background_value background.now))) }
-    ensures used { OnOk result (found.new.used.items ≡ found.old.used.items
-        ++ used_in hints.now (spec.of_background (option_map background_value background.now))) }
+    ensures { OnOk result (AreAdded hints.now
+        (spec.of_background (option_map background_value background.now)) found.old found.new) }
 {
-    match background {
-        Some(background) => {
-            add_plain_steps(found, alloc, hints, StepSite::Scenario, &background.steps)
-        }
-        None => Ok(()),
-    }
+    let steps: &[Step] = match background {
+        Some(background) => &background.steps,
+        None => &[],
+    };
+    add_steps(
+        found,
+        alloc,
+        hints,
+        StepSite::Scenario,
+        &Runs::AsWritten,
+        steps,
+    )
 }
 
 fn add_rules<'a>(
@@ -293,16 +246,34 @@ fn add_rules<'a>(
     hints: &EntryHints<'a>,
     rules: &[Rule],
 ) -> Result<(), AllocError>
-    ensures found { OnOk result (finding_values found.new.findings.items
-        ≡ finding_values found.old.findings.items
-        ++ found_in hints.now (spec.of_rules (map rule_value rules.now))) }
-    ensures used { OnOk result (found.new.used.items ≡ found.old.used.items
-        ++ used_in hints.now (spec.of_rules (map rule_value rules.now))) }
+    ensures { OnOk result (AreAdded hints.now
+        (spec.of_rules (map rule_value rules.now)) found.old found.new) }
 {
     for rule in rules {
         add_background(found, alloc, hints, &rule.background)?;
     }
     Ok(())
+}
+
+fn add_scenario<'a>(
+    found: &mut StepFindings<'a>,
+    alloc: Global,
+    hints: &EntryHints<'a>,
+    scenario: &Scenario,
+) -> Result<(), AllocError>
+    requires { AllByRecursion AllFit (scenario_value scenario.now).examples }
+    ensures { OnOk result (AreAdded hints.now
+        (spec.of_scenario (scenario_value scenario.now)) found.old found.new) }
+{
+    let runs = runs_of(alloc, scenario)?;
+    add_steps(
+        found,
+        alloc,
+        hints,
+        StepSite::Scenario,
+        &runs,
+        &scenario.steps,
+    )
 }
 
 fn add_scenarios<'a>(
@@ -312,13 +283,9 @@ fn add_scenarios<'a>(
     scenarios: &[&Scenario],
 ) -> Result<(), AllocError>
     requires { RowsFit (map (λ s. scenario_value s.now) scenarios.now) }
-    ensures found { OnOk result (finding_values found.new.findings.items
-        ≡ finding_values found.old.findings.items
-        ++ found_in hints.now
-        (spec.of_scenarios (map (λ s. scenario_value s.now) scenarios.now))) }
-    ensures used { OnOk result (found.new.used.items ≡ found.old.used.items
-        ++ used_in hints.now
-        (spec.of_scenarios (map (λ s. scenario_value s.now) scenarios.now))) }
+    ensures { OnOk result (AreAdded hints.now
+        (spec.of_scenarios (map (λ s. scenario_value s.now) scenarios.now))
+        found.old found.new) }
 {
     for scenario in scenarios {
         add_scenario(found, alloc, hints, *scenario)?;
@@ -333,31 +300,13 @@ fn add_feature<'a>(
     feature: &Feature,
 ) -> Result<(), AllocError>
     requires { IsExpandable (feature_value feature.now) }
-    ensures found { OnOk result (finding_values found.new.findings.items
-        ≡ finding_values found.old.findings.items
-        ++ found_in hints.now (spec.of_feature (feature_value feature.now))) }
-    ensures used { OnOk result (found.new.used.items ≡ found.old.used.items
-        ++ used_in hints.now (spec.of_feature (feature_value feature.now))) }
+    ensures { OnOk result (AreAdded hints.now
+        (spec.of_feature (feature_value feature.now)) found.old found.new) }
 {
     add_background(found, alloc, hints, &feature.background)?;
     add_rules(found, alloc, hints, &feature.rules)?;
     let scenarios = scenarios_of(alloc, feature)?;
     add_scenarios(found, alloc, hints, &scenarios)
-}
-
-fn add_hook<'a>(
-    found: &mut StepFindings<'a>,
-    alloc: Global,
-    hints: &EntryHints<'a>,
-    hook: &Hook,
-) -> Result<(), AllocError>
-    ensures found { OnOk result (finding_values found.new.findings.items
-        ≡ finding_values found.old.findings.items
-        ++ found_in hints.now (spec.of_hook (hook_value hook.now))) }
-    ensures used { OnOk result (found.new.used.items ≡ found.old.used.items
-        ++ used_in hints.now (spec.of_hook (hook_value hook.now))) }
-{
-    add_plain_steps(found, alloc, hints, site_of_hook(hook.kind), &hook.steps)
 }
 
 fn add_hooks<'a>(
@@ -366,14 +315,12 @@ fn add_hooks<'a>(
     hints: &EntryHints<'a>,
     hooks: &[Hook],
 ) -> Result<(), AllocError>
-    ensures found { OnOk result (finding_values found.new.findings.items
-        ≡ finding_values found.old.findings.items
-        ++ found_in hints.now (spec.of_hooks (map hook_value hooks.now))) }
-    ensures used { OnOk result (found.new.used.items ≡ found.old.used.items
-        ++ used_in hints.now (spec.of_hooks (map hook_value hooks.now))) }
+    ensures { OnOk result (AreAdded hints.now
+        (spec.of_hooks (map hook_value hooks.now)) found.old found.new) }
 {
     for hook in hooks {
-        add_hook(found, alloc, hints, hook)?;
+        let site = site_of_hook(hook.kind);
+        add_steps(found, alloc, hints, site, &Runs::AsWritten, &hook.steps)?;
     }
     Ok(())
 }

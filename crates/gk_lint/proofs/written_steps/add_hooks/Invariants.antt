@@ -1,4 +1,4 @@
-use Rattle.gk_lint.proofs.Common.{◌≡◌, ◌++◌, map, drop, hook_value, finding_values, found_in, used_in, of_hooks}
+use Rattle.gk_lint.proofs.Common.{◌≡◌, ◌++◌, map, drop, hook_value, of_hooks, finding_values, found_in, used_in}
 use Rattle.gk_lint.proofs.written_steps.add_hooks.Given as goal
 
 abbrev pub invariant-loop-hook : goal.invariant-loop-hook

@@ -1,4 +1,4 @@
-use Rattle.gk_lint.proofs.Common.{◌≡◌, ◌++◌, map, drop, rule_value, finding_values, found_in, used_in, of_rules}
+use Rattle.gk_lint.proofs.Common.{◌≡◌, ◌++◌, map, drop, rule_value, of_rules, finding_values, found_in, used_in}
 use Rattle.gk_lint.proofs.written_steps.add_rules.Given as goal
 
 abbrev pub invariant-loop-rule : goal.invariant-loop-rule

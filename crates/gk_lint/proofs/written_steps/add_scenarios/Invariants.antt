@@ -1,4 +1,4 @@
-use Rattle.gk_lint.proofs.Common.{◌≡◌, ◌++◌, map, drop, scenario_value, RowsFit, finding_values, found_in, used_in, of_scenarios}
+use Rattle.gk_lint.proofs.Common.{◌≡◌, ◌++◌, map, drop, scenario_value, of_scenarios, RowsFit, finding_values, found_in, used_in}
 use Rattle.gk_lint.proofs.written_steps.add_scenarios.Given as goal
 
 abbrev pub invariant-loop-scenario : goal.invariant-loop-scenario

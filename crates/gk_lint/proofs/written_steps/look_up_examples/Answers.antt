@@ -1,6 +1,6 @@
-use Rattle.gk_lint.proofs.Common.{◌≡◌, ◌+◌, ◌∷◌, drop, map, List, ap, common_steps, Part, step_value, step_hint, cleanup_hint, in_rows, in_examples}
+use Rattle.gk_lint.proofs.Common.{◌≡◌, ◌+◌, ◌∷◌, drop, map, List, ap, common_steps, part_value, Part, step_value, step_hint, cleanup_hint, in_rows, in_examples}
 use native.Mathlib.Omega.{arith}
-use Rattle.gk_lint.proofs.FirstHints.{part_value, next_hints}
+use Rattle.gk_lint.proofs.FirstHints.{next_hints}
 use Rattle.gk_lint.proofs.written_steps.look_up_examples.Goals as goal
 
 pub loop-part-preserved : goal.loop-part-preserved
