@@ -39,65 +39,33 @@ fn push_finding(
     out.push_str("\n")
 }
 
-#[tactic(auto, unfolding(crate::specs::FindingLines::before_column))]
-fn before_column() -> &'static str
-    ensures { result.now ≡ spec.before_column }
-{
-    "the nearest column is: "
-}
-
-#[tactic(auto, unfolding(crate::specs::FindingLines::before_entry))]
-fn before_entry() -> &'static str
-    ensures { result.now ≡ spec.before_entry }
-{
-    "the nearest entry is: "
-}
-
-#[tactic(auto, unfolding(crate::specs::FindingLines::before_type))]
-fn before_type() -> &'static str
-    ensures { result.now ≡ spec.before_type }
-{
-    ", which is a "
-}
-
-#[tactic(auto, unfolding(crate::specs::FindingLines::after_step_type))]
-fn after_step_type() -> &'static str
-    ensures { result.now ≡ spec.after_step_type }
-{
-    " entry; step would match every keyword"
-}
-
-#[tactic(auto, unfolding(crate::specs::FindingLines::after_cleanup_type))]
-fn after_cleanup_type() -> &'static str
-    ensures { result.now ≡ spec.after_cleanup_type }
-{
-    " entry; a cleanup needs step"
-}
-
 // Returns the words after the type of an entry for steps of another type than that of a step with this finding.
+#[tactic(auto, unfolding(crate::specs::FindingLines::after_step_type, crate::specs::FindingLines::after_cleanup_type))]
 fn after_type(kind: FindingKind) -> &'static str
     ensures { result.now ≡ spec.after_type kind }
 {
     match kind {
-        FindingKind::CleanupWithoutStep => after_cleanup_type(),
-        _ => after_step_type(),
+        FindingKind::CleanupWithoutStep => " entry; a cleanup needs step",
+        _ => " entry; step would match every keyword",
     }
 }
 
 // Appends the note that names a column.
+#[tactic(auto, unfolding(crate::specs::FindingLines::before_column))]
 fn push_column_note(out: &mut String, alloc: Global, column: &str) -> Result<(), AllocError>
     ensures { Pushes out.old (spec.column_note column.now) result out.new }
 {
-    let mut text = String::from_str(alloc, before_column())?;
+    let mut text = String::from_str(alloc, "the nearest column is: ")?;
     push_unquoted(&mut text, column)?;
     push_note(out, text.as_str())
 }
 
 // Appends the note that names the nearest entry.
+#[tactic(auto, unfolding(crate::specs::FindingLines::before_entry))]
 fn push_nearest_note(out: &mut String, alloc: Global, entry: &Entry) -> Result<(), AllocError>
     ensures { Pushes out.old (spec.nearest_note (entry_value entry.now)) result out.new }
 {
-    let mut text = String::from_str(alloc, before_entry())?;
+    let mut text = String::from_str(alloc, "the nearest entry is: ")?;
     push_entry(&mut text, entry)?;
     push_note(out, text.as_str())
 }
@@ -119,10 +87,11 @@ fn push_line_in_file(out: &mut String, name: &str, line: u32) -> Result<(), Allo
 }
 
 // Appends the words for an entry for steps of another type, with these words after its type.
+#[tactic(auto, unfolding(crate::specs::FindingLines::before_type))]
 fn push_other_type(out: &mut String, after: &str, entry: &Entry) -> Result<(), AllocError>
     ensures { Pushes out.old (spec.other_type after.now (entry_value entry.now)) result out.new }
 {
-    out.push_str(before_type())?;
+    out.push_str(", which is a ")?;
     out.push_str(type_word(entry.step_type))?;
     out.push_str(after)
 }

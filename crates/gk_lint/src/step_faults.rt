@@ -22,30 +22,18 @@ pub enum StepFault {
     IgnoredTable,
 }
 
-const NOT_ALLOWED: &str = "action that isn't allowed here";
-
-const NO_TEXT: &str = "step without the text that its action needs";
-
-const NO_TABLE: &str = "step without the table that its action needs";
-
-const BAD_TABLE: &str = "table without the header name, text";
-
-const IGNORED_TEXT: &str = "doc string that is ignored";
-
-const IGNORED_TABLE: &str = "table that is ignored";
-
 impl StepFault {
     /// Returns the text of the fault.
     pub fn text(self) -> &'static str
         ensures { result.now ≡ spec.fault_text self }
     {
         match self {
-            StepFault::NotAllowed => NOT_ALLOWED,
-            StepFault::NoText => NO_TEXT,
-            StepFault::NoTable => NO_TABLE,
-            StepFault::BadTable => BAD_TABLE,
-            StepFault::IgnoredText => IGNORED_TEXT,
-            StepFault::IgnoredTable => IGNORED_TABLE,
+            StepFault::NotAllowed => "action that isn't allowed here",
+            StepFault::NoText => "step without the text that its action needs",
+            StepFault::NoTable => "step without the table that its action needs",
+            StepFault::BadTable => "table without the header name, text",
+            StepFault::IgnoredText => "doc string that is ignored",
+            StepFault::IgnoredTable => "table that is ignored",
         }
     }
 }

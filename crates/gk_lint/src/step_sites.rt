@@ -26,31 +26,13 @@ pub fn site_of_hook(kind: HookKind) -> StepSite
     }
 }
 
-fn may_skip(site: StepSite) -> bool
-    ensures { result ≡ spec.may_skip site }
-{
-    match site {
-        StepSite::Scenario => true,
-        StepSite::Hook | StepSite::Cleanup => false,
-    }
-}
-
-fn may_register(site: StepSite) -> bool
-    ensures { result ≡ spec.may_register site }
-{
-    match site {
-        StepSite::Scenario | StepSite::Hook => true,
-        StepSite::Cleanup => false,
-    }
-}
-
 /// Returns whether an action that does this is allowed at a site. An action that isn't allowed always fails there.
 pub fn may_stand(does: Does, site: StepSite) -> bool
     ensures { result ≡ spec.may_stand does site }
 {
     match does {
-        Does::Registers => may_register(site),
-        Does::Skips => may_skip(site),
+        Does::Registers => !matches!(site, StepSite::Cleanup),
+        Does::Skips => matches!(site, StepSite::Scenario),
         Does::Changes | Does::Checks => true,
     }
 }

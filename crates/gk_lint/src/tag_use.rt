@@ -83,24 +83,6 @@ pub fn set_of_tags<'a>(alloc: Global, features: &'a [Feature]) -> Result<TextSet
     Ok(tags)
 }
 
-// Adds the finding of a hook, if there is one, by the tags that the features have.
-fn add_idle_hook(
-    findings: &mut Vec<Finding<'_>>,
-    tags: &TextSet<'_>,
-    hook: &Hook,
-) -> Result<(), AllocError>
-    ensures { let h = hook_value hook.now in OnOk result (finding_values findings.new.items
-        ≡ finding_values findings.old.items ++ spec.of_tag (in_set tags.now) h.line h.tag) }
-{
-    match &hook.tag {
-        Some(tag) => {
-            let is_idle = !tags.has(tag.as_str());
-            add_if(findings, is_idle, hook.line, FindingKind::HookOfNoTag)
-        }
-        None => Ok(()),
-    }
-}
-
 // Returns the findings of hooks, by the tags that the features have.
 fn idle_hooks<'a>(
     alloc: Global,
@@ -112,7 +94,10 @@ fn idle_hooks<'a>(
 {
     let mut findings = Vec::new(alloc);
     for hook in hooks {
-        add_idle_hook(&mut findings, tags, hook)?;
+        if let Some(tag) = &hook.tag {
+            let is_idle = !tags.has(tag.as_str());
+            add_if(&mut findings, is_idle, hook.line, FindingKind::HookOfNoTag)?;
+        }
     }
     Ok(findings)
 }
