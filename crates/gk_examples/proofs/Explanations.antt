@@ -29,7 +29,7 @@ use Rattle.gk_explain.specs.Shown.{quoted_window, cut_line, marked_text_with, es
 use Rattle.gk_explain.specs.Details.{event_details}
 use Rattle.gk_lint.specs.Findings.{OtherType, Nearest}
 use Rattle.gk_lint.specs.Likeness.{same_letters, is_one_off, common_len, differ_at_first}
-use Rattle.gk_explain.specs.Nearest.{hint_text, before_nearest, before_other_type, after_other_type}
+use Rattle.gk_explain.specs.Nearest.{hint_text, before_nearest, other_type_line}
 use Rattle.gk_explain.specs.Tables.{refused_file}
 use Rattle.gk_explain.specs.EventLines.{line_of_step, line_of_cleanup, place_text}
 use Rattle.gk_explain.specs.RowLines.{row_line}
@@ -148,11 +148,11 @@ entry = record { line = 1; step_type = None; pattern = Literal (codes "the mill 
 
 -- It is named as the nearest, or as one of another type.
 named_as_nearest : hint_text (Nearest entry) ≡ codes "      the nearest entry is: step the mill {n:d} stops\n"
-unfolding before_nearest chars lib.Utf8.encode
+unfolding before_nearest other_type_line chars lib.Utf8.encode
 named_as_nearest = refl
 
 named_as_of_another_type : hint_text (OtherType entry) ≡ codes "      an entry of another type matches: step the mill {n:d} stops; step would match every keyword\n"
-unfolding before_other_type after_other_type chars lib.Utf8.encode
+unfolding before_nearest other_type_line chars lib.Utf8.encode
 named_as_of_another_type = refl
 
 -- A row whose name has no byte is the first that can't be written, and the header isn't looked at.

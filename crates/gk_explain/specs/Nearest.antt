@@ -44,17 +44,9 @@ before_nearest = codes "      the nearest entry is: "
 abbrev pub nearest_line : EntryValue → List ℕ
 nearest_line e = before_nearest ++ (entry_shown e ++ line_feed)
 
--- The words before an entry for steps of another type.
-unfoldable pub before_other_type : List ℕ
-before_other_type = codes "      an entry of another type matches: "
-
--- The words after an entry for steps of another type.
-unfoldable pub after_other_type : List ℕ
-after_other_type = codes "; step would match every keyword\n"
-
 -- The line that names an entry for steps of another type.
-abbrev pub other_type_line : EntryValue → List ℕ
-other_type_line e = before_other_type ++ (entry_shown e ++ after_other_type)
+unfoldable pub other_type_line : EntryValue → List ℕ
+other_type_line e = codes "      an entry of another type matches: " ++ (entry_shown e ++ codes "; step would match every keyword\n")
 
 -- The line for a hint, if it names an entry.
 abbrev pub hint_text : HintValue → List ℕ

@@ -73,20 +73,6 @@ fn before_nearest() -> &'static str
     "      the nearest entry is: "
 }
 
-#[tactic(auto, unfolding(crate::specs::Nearest::before_other_type))]
-fn before_other_type() -> &'static str
-    ensures { result.now ≡ spec.before_other_type }
-{
-    "      an entry of another type matches: "
-}
-
-#[tactic(auto, unfolding(crate::specs::Nearest::after_other_type))]
-fn after_other_type() -> &'static str
-    ensures { result.now ≡ spec.after_other_type }
-{
-    "; step would match every keyword\n"
-}
-
 // Appends the line that names the nearest entry.
 fn push_nearest_line(out: &mut String, entry: &Entry) -> Result<(), AllocError>
     ensures { Pushes out.old (spec.nearest_line (entry_value entry.now)) result out.new }
@@ -97,12 +83,13 @@ fn push_nearest_line(out: &mut String, entry: &Entry) -> Result<(), AllocError>
 }
 
 // Appends the line that names an entry for steps of another type.
+#[tactic(auto, unfolding(crate::specs::Nearest::other_type_line))]
 fn push_other_type_line(out: &mut String, entry: &Entry) -> Result<(), AllocError>
     ensures { Pushes out.old (spec.other_type_line (entry_value entry.now)) result out.new }
 {
-    out.push_str(before_other_type())?;
+    out.push_str("      an entry of another type matches: ")?;
     push_entry(out, entry)?;
-    out.push_str(after_other_type())
+    out.push_str("; step would match every keyword\n")
 }
 
 /// Appends the line for a hint: an entry for steps of another type that matches, or the nearest entry. Nothing is

@@ -26,26 +26,23 @@ pub record NotedLibraryValue : Type 0 where
 abbrev pub noted_library_value : NotedLibrary → NotedLibraryValue
 noted_library_value l = record { entries = l.hints; steps = l.steps; name = l.name.now }
 
--- The words before the nearest column.
-unfoldable pub before_column : List ℕ
-before_column = codes "the nearest column is: "
-
 -- The note that names a column, with invisible characters as escapes.
-abbrev pub column_note : List ℕ → List ℕ
-column_note column = note (before_column ++ unquoted column)
+unfoldable pub column_note : List ℕ → List ℕ
+column_note column = note (codes "the nearest column is: " ++ unquoted column)
 
 -- The note that quotes a line without the spaces and tabs around it.
 abbrev pub line_note : Option (List ℕ) → List ℕ
 line_note None = []
 line_note (Some text) = quoted (unquoted (trim text))
 
--- The words before the nearest entry.
-unfoldable pub before_entry : List ℕ
-before_entry = codes "the nearest entry is: "
-
 -- The note that names the nearest entry.
-abbrev pub nearest_note : EntryValue → List ℕ
-nearest_note e = note (before_entry ++ entry_shown e)
+unfoldable pub nearest_note : EntryValue → List ℕ
+nearest_note e = note (codes "the nearest entry is: " ++ entry_shown e)
+
+-- What follows the type of an entry that matches, but is for other steps than the one with a finding of this kind.
+unfoldable pub after_type : FindingKind → List ℕ
+after_type CleanupWithoutStep = codes " entry; a cleanup needs step"
+after_type kind = codes " entry; step would match every keyword"
 
 -- The words that name a line, before the name of its file.
 unfoldable pub matches_line : ℕ → List ℕ
@@ -55,28 +52,11 @@ matches_line line = codes "matches line " ++ (decimal line ++ codes " of ")
 abbrev pub line_in_file : List ℕ → ℕ → List ℕ
 line_in_file name line = matches_line line ++ unquoted name
 
--- The words before the type of an entry.
-unfoldable pub before_type : List ℕ
-before_type = codes ", which is a "
-
--- The words after the type of an entry that matches an undefined step.
-unfoldable pub after_step_type : List ℕ
-after_step_type = codes " entry; step would match every keyword"
-
--- The words after the type of an entry that matches the text of a cleanup.
-unfoldable pub after_cleanup_type : List ℕ
-after_cleanup_type = codes " entry; a cleanup needs step"
-
 -- The words for an entry for steps of another type, with these words after its type.
-abbrev pub other_type : List ℕ → EntryValue → List ℕ
-other_type after e = before_type ++ (type_word e.step_type ++ after)
+unfoldable pub other_type : List ℕ → EntryValue → List ℕ
+other_type after e = codes ", which is a " ++ (type_word e.step_type ++ after)
 
--- The words after the type of an entry that matches, but is for other steps than the one with a finding of this kind.
-abbrev pub after_type : FindingKind → List ℕ
-after_type CleanupWithoutStep = after_cleanup_type
-after_type kind = after_step_type
-
--- The note that the entry of a library file of this name matches, but is for other steps.
+-- The note that an entry of a library file of this name matches, but is for other steps.
 abbrev pub other_type_note : List ℕ → List ℕ → EntryValue → List ℕ
 other_type_note after library e = note (line_in_file library e.line ++ other_type after e)
 
@@ -105,13 +85,9 @@ noted_lines library name lines findings = flat_map (noted library name lines) fi
 abbrev pub finding_lines : List ℕ → List FindingValue → List ℕ
 finding_lines name findings = flat_map (finding_line name) findings
 
--- The number of unused entries beside that of all.
-unfoldable pub unused_of_all : ℕ → ℕ → List ℕ
-unused_of_all unused entries = codes ": no step finds " ++ (decimal unused ++ (codes " of " ++ (decimal entries ++ codes " entries\n")))
-
 -- The line that counts the unused entries of a library file of this name, if there are any.
-abbrev pub count_line : List ℕ → ℕ → ℕ → List ℕ
-count_line name unused entries = if unused == 0 then [] else file_shown name ++ unused_of_all unused entries
+unfoldable pub count_line : List ℕ → ℕ → ℕ → List ℕ
+count_line name unused entries = if unused == 0 then [] else file_shown name ++ (codes ": no step finds " ++ (decimal unused ++ (codes " of " ++ (decimal entries ++ codes " entries\n"))))
 
 -- The line for a tag of `--tags` that occurs nowhere: the tag, with invisible characters as escapes.
 unfoldable pub tag_line : List ℕ → List ℕ

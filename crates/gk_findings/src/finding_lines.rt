@@ -40,7 +40,7 @@ fn push_finding(
 }
 
 // Returns the words after the type of an entry for steps of another type than that of a step with this finding.
-#[tactic(auto, unfolding(crate::specs::FindingLines::after_step_type, crate::specs::FindingLines::after_cleanup_type))]
+#[tactic(auto, unfolding(crate::specs::FindingLines::after_type))]
 fn after_type(kind: FindingKind) -> &'static str
     ensures { result.now ≡ spec.after_type kind }
 {
@@ -51,7 +51,7 @@ fn after_type(kind: FindingKind) -> &'static str
 }
 
 // Appends the note that names a column.
-#[tactic(auto, unfolding(crate::specs::FindingLines::before_column))]
+#[tactic(auto, unfolding(crate::specs::FindingLines::column_note))]
 fn push_column_note(out: &mut String, alloc: Global, column: &str) -> Result<(), AllocError>
     ensures { Pushes out.old (spec.column_note column.now) result out.new }
 {
@@ -61,7 +61,7 @@ fn push_column_note(out: &mut String, alloc: Global, column: &str) -> Result<(),
 }
 
 // Appends the note that names the nearest entry.
-#[tactic(auto, unfolding(crate::specs::FindingLines::before_entry))]
+#[tactic(auto, unfolding(crate::specs::FindingLines::nearest_note))]
 fn push_nearest_note(out: &mut String, alloc: Global, entry: &Entry) -> Result<(), AllocError>
     ensures { Pushes out.old (spec.nearest_note (entry_value entry.now)) result out.new }
 {
@@ -87,7 +87,7 @@ fn push_line_in_file(out: &mut String, name: &str, line: u32) -> Result<(), Allo
 }
 
 // Appends the words for an entry for steps of another type, with these words after its type.
-#[tactic(auto, unfolding(crate::specs::FindingLines::before_type))]
+#[tactic(auto, unfolding(crate::specs::FindingLines::other_type))]
 fn push_other_type(out: &mut String, after: &str, entry: &Entry) -> Result<(), AllocError>
     ensures { Pushes out.old (spec.other_type after.now (entry_value entry.now)) result out.new }
 {
@@ -222,17 +222,9 @@ pub fn push_findings(
     Ok(())
 }
 
-// Appends the number of unused entries beside that of all.
-#[tactic(auto, unfolding(crate::specs::FindingLines::unused_of_all))]
-fn push_unused_of_all(out: &mut String, unused: usize, entries: usize) -> Result<(), AllocError>
-    ensures { Pushes out.old (spec.unused_of_all unused entries) result out.new }
-{
-    write!(out, ": no step finds {unused} of {entries} entries\n")?;
-    Ok(())
-}
-
 /// Appends the line that counts the unused entries of a library file of this name, if there are any. An error comes
 /// only if a growth was refused; a part of the line may have been appended then.
+#[tactic(auto, unfolding(crate::specs::FindingLines::count_line))]
 pub fn push_count_line(
     out: &mut String,
     name: &str,
@@ -245,7 +237,8 @@ pub fn push_count_line(
         return Ok(());
     }
     push_file(out, name)?;
-    push_unused_of_all(out, unused, entries)
+    write!(out, ": no step finds {unused} of {entries} entries\n")?;
+    Ok(())
 }
 
 // Appends the line for a tag of `--tags` that occurs nowhere.
