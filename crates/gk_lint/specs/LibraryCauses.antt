@@ -86,18 +86,10 @@ lacks ps name = not (is_some (field_kind ps name))
 abbrev pub has_other_kind : List PieceValue → List ℕ → Bool
 has_other_kind ps name = not (has_right_kind ps name)
 
--- The first field that an action needs and that pieces lack.
-abbrev pub lacking : ActionRowValue → List PieceValue → Option CauseValue
-lacking row ps = option_map (Lacks row) (find (lacks ps) row.needs)
-
--- The first field that an action uses and that is of the wrong kind in pieces.
-abbrev pub of_other_kind : ActionRowValue → List PieceValue → Option CauseValue
-of_other_kind row ps = option_map (OtherKind row) (find (has_other_kind ps) row.uses)
-
--- The field of pieces that a fault concerns.
+-- The field of pieces that a fault concerns: the first that the action needs and they lack, or the first that it uses and is of the wrong kind in them.
 abbrev pub wrong_field : LibraryFault → ActionRowValue → List PieceValue → Option CauseValue
-wrong_field (MissingField n) row ps = lacking row ps
-wrong_field (KindFault n) row ps = of_other_kind row ps
+wrong_field (MissingField n) row ps = option_map (Lacks row) (find (lacks ps) row.needs)
+wrong_field (KindFault n) row ps = option_map (OtherKind row) (find (has_other_kind ps) row.uses)
 wrong_field fault row ps = None
 
 -- The field of an entry that a fault concerns, if the entry has an action and a pattern.
@@ -107,10 +99,6 @@ field_cause fault sides = option_and_then (λ row. option_and_then (wrong_field 
 -- Whether the name of an action is at most one letter off from this one, ignoring case.
 abbrev pub is_near : List ℕ → ActionRowValue → Bool
 is_near name row = is_one_off name row.name
-
--- The first action whose name is near this one.
-abbrev pub near_action : List ℕ → Option CauseValue
-near_action name = option_map NearAction (find (is_near name) action_table)
 
 -- Whether these pieces match a text.
 abbrev pub pieces_match : List ℕ → List PieceValue → Bool
@@ -133,7 +121,7 @@ first_match parts before (line ∷ lines) = if entry_matches parts (parts_of lin
 
 -- The cause of a fault of an entry below these lines, if one can be named. (behave's documentation: step implementations)
 abbrev pub cause_of : List (List ℕ) → LibraryFault → EntryParts → Option CauseValue
-cause_of above (UnknownAction n) parts = near_action parts.sides.action
+cause_of above (UnknownAction n) parts = option_map NearAction (find (is_near parts.sides.action) action_table)
 cause_of above (Ambiguous n) parts = option_map MatchedBy (first_match parts 0 above)
 cause_of above fault parts = field_cause fault parts.sides
 

@@ -10,13 +10,9 @@ use Rattle.gk_lint.specs.Findings.{FindingValue, found_if}
 abbrev pub have_no_rows : List ExamplesValue → Bool
 have_no_rows examples = list_all (λ (e : ExamplesValue). length e.rows == 0) examples
 
--- Whether a scenario is an outline without rows. It has no case, and so it never runs.
-abbrev pub lacks_rows : ScenarioValue → Bool
-lacks_rows s = is_outline s && have_no_rows s.examples
-
 -- The findings of a scenario: that it has no steps itself, and that it is an outline without rows.
 unfoldable pub missing_in_scenario : ScenarioValue → List FindingValue
-missing_in_scenario s = found_if (length s.steps == 0) s.line ScenarioWithoutSteps ++ found_if (lacks_rows s) s.line OutlineWithoutRows
+missing_in_scenario s = found_if (length s.steps == 0) s.line ScenarioWithoutSteps ++ found_if (is_outline s && have_no_rows s.examples) s.line OutlineWithoutRows
 
 -- The findings of a feature with this line and these scenarios: that it has none, and the findings of each.
 abbrev pub missing_parts : ℕ → List ScenarioValue → List FindingValue

@@ -84,13 +84,9 @@ background_steps_of f = background_steps f.background ++ flat_map (λ (r : RuleV
 abbrev pub LooksUpWhatIsRun : Type 0
 LooksUpWhatIsRun = (f : FeatureValue) (asked : StepValue → Bool) → list_any asked (flat_map (λ (w : WrittenStep). w.runs) (of_feature f)) ≡ (list_any asked (flat_map (λ (c : CaseValue). c.steps) (cases f)) || list_any asked (background_steps_of f))
 
--- The steps of a hook. (behave's documentation: environment file functions)
-abbrev pub of_hook : HookValue → List WrittenStep
-of_hook h = all_written (site_of_hook h.kind) None h.steps
-
 -- The steps of hooks, one hook after the other. (behave's documentation: environment file functions)
 abbrev pub of_hooks : List HookValue → List WrittenStep
-of_hooks hooks = flat_map of_hook hooks
+of_hooks hooks = flat_map (λ (h : HookValue). all_written (site_of_hook h.kind) None h.steps) hooks
 
 -- Proof machinery: the Examples with whose rows steps are run.
 abbrev pub runs_value : Runs → Option (List ExamplesValue)
@@ -109,17 +105,9 @@ pub record AreLookedUp (library : LibraryValue) (site : StepSite) (steps : List 
   pub undefined : option_map hint_value new.undefined ≡ option_or (option_map hint_value old.undefined) (first_hint (step_hint library) steps)
   pub cleanup : option_map hint_value new.cleanup ≡ option_or (option_map hint_value old.cleanup) (first_hint (cleanup_hint library) steps)
 
--- The finding that at least one of the steps that a written step is run as is undefined, with the hint for the first.
-abbrev pub undefined_at : LibraryValue → WrittenStep → List FindingValue
-undefined_at library written = hinted written.line UndefinedStep (first_hint (step_hint library) written.runs)
-
--- The finding that at least one of them registers a cleanup without a step, with the hint for the first.
-abbrev pub cleanup_at : LibraryValue → WrittenStep → List FindingValue
-cleanup_at library written = hinted written.line CleanupWithoutStep (first_hint (cleanup_hint library) written.runs)
-
--- The findings of a written step: each fault of at least one of the steps that it is run as.
+-- The findings of a written step: that at least one of the steps that it is run as is undefined, or registers a cleanup without a step, each with the hint for the first of them; and each fault of at least one of them.
 abbrev pub at_step : LibraryValue → WrittenStep → List FindingValue
-at_step library written = undefined_at library written ++ (cleanup_at library written ++ named_once step_faults written.line (faults_in library written.site written.runs))
+at_step library written = hinted written.line UndefinedStep (first_hint (step_hint library) written.runs) ++ (hinted written.line CleanupWithoutStep (first_hint (cleanup_hint library) written.runs) ++ named_once step_faults written.line (faults_in library written.site written.runs))
 
 -- The findings of written steps, one step after the other.
 abbrev pub found_in : LibraryValue → List WrittenStep → List FindingValue
