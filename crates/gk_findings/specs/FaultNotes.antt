@@ -42,13 +42,9 @@ quote_of (Some file) (Some n) = quote (line_text file.bytes n)
 abbrev pub file_notes : FilesValue → RunFault → List ℕ
 file_notes files fault = quote_of (file_at_fault files fault) (line_at_fault fault) ++ note (hint_in (file_at_fault files fault) fault)
 
--- The notes below a text of tags that spells no rule: the text, and where it breaks.
-abbrev pub tags_notes : List ℕ → List ℕ
-tags_notes text = quoted (unquoted text) ++ note (tags_hint (tag_stop text))
-
--- The notes below a fault of a run. It is that of a text of tags, if one is given. Write and Memory have none.
+-- The notes below a fault of a run. If a text of tags is given, the fault is that it spells no rule: the text, and where it breaks. Write and Memory have none.
 abbrev pub notes : Option (List ℕ) → FilesValue → RunFault → List ℕ
-notes (Some text) files fault = tags_notes text
+notes (Some text) files fault = quoted (unquoted text) ++ note (tags_hint (tag_stop text))
 notes None files Write = []
 notes None files Memory = []
 notes None files fault = file_notes files fault

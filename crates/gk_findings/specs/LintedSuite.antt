@@ -28,14 +28,12 @@ abbrev pub lines_of_hooks : Option (List ℕ) → List (List ℕ)
 lines_of_hooks None = []
 lines_of_hooks (Some bytes) = lines (without_mark bytes)
 
--- The lines of findings of a library file of this name and with so many entries, and their number beside that of the entries.
-abbrev pub counted_lines : List ℕ → ℕ → List FindingValue → List ℕ
-counted_lines name entries findings = finding_lines name findings ++ count_line name (length findings) entries
-
--- The lines of a library, given the places of the entries that are used. If no file is given or no step is looked up, there are none.
+-- The lines of a library, given the places of the entries that are used: the findings of the others, and their number beside that of all. If no file is given or no step is looked up, there are none.
 abbrev pub library_lines : Option (List ℕ) → NotedLibraryValue → List ℕ → List ℕ
 library_lines None library used = []
-library_lines (Some bytes) library used = if library.steps then counted_lines library.name (length library.entries) (unused_entries used library.entries) else []
+library_lines (Some bytes) library used =
+    let findings = unused_entries used library.entries in
+    if library.steps then finding_lines library.name findings ++ count_line library.name (length findings) (length library.entries) else []
 
 -- The inputs that a lint has read: the tag rules, the library as notes name it, the hooks and the features; and the text of the sources' findings.
 pub record LintRead : Type 0 where

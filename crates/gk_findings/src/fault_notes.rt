@@ -99,15 +99,6 @@ fn push_file_notes(
     push_note(out, text.as_str())
 }
 
-// Appends the notes below a text of tags that spells no rule.
-fn push_tags_notes(out: &mut String, alloc: Global, text: &str) -> Result<(), AllocError>
-    ensures { Pushes out.old (spec.tags_notes text.now) result out.new }
-{
-    push_quoted(out, text)?;
-    let hint = tags_hint(alloc, text)?;
-    push_note(out, hint.as_str())
-}
-
 /// Appends the notes below a fault of a run. If `tags` is given, the fault is that this text of tags spells no rule:
 /// the notes are the text and where it breaks. Otherwise they are the line that the fault names, if it names one, and a
 /// hint. `Write` and `Memory` have none.
@@ -122,7 +113,11 @@ pub fn push_notes(
         (files_value files.now) fault) result out.new }
 {
     match tags {
-        Some(text) => push_tags_notes(out, alloc, text),
+        Some(text) => {
+            push_quoted(out, text)?;
+            let hint = tags_hint(alloc, text)?;
+            push_note(out, hint.as_str())
+        }
         None => match fault {
             RunFault::Write | RunFault::Memory => Ok(()),
             _ => push_file_notes(out, alloc, files, fault),
