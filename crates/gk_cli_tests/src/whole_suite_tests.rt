@@ -125,7 +125,6 @@ const LINT_ALONE: Mode = Mode::Findings { steps: false };
 
 #[test]
 fn suites_are_linted(rt: HostRuntime) -> Result<(), Fail> {
-    assert!(rt; LINT.is_lint() && !Mode::Report.is_lint());
     let [library, hooks, feature, wanted] = WICK;
     let files = files_with(
         rt.alloc(),
