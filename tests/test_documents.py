@@ -270,8 +270,9 @@ STATUSES = {"passed", "failed", "skipped", "undefined", "untested", "memory"}
 HINTS = "crates/gk_findings/src/hints.rt"
 # What is to be done about an unexpected line, by its cause.
 CAUSES = "crates/gk_lint/src/unexpected_lines.rt"
-# The keywords of Gherkin are no faults.
+# The keywords of Gherkin are no faults, nor is what --lint finds of a step.
 KEYWORDS = "crates/gk_gherkin/src/keyword.rt"
+FOUND = "crates/gk_lint/src/step_faults.rt"
 # Reasons that are one word; other single words in the code are keywords and names.
 REASONS_OF_ONE_WORD = {"absent", "present", "differs"}
 
@@ -279,7 +280,7 @@ REASONS_OF_ONE_WORD = {"absent", "present", "differs"}
 def fault_texts():
     """The texts of faults and the reasons that the code prints, without those of the crates of tests."""
     texts = set()
-    for path in {*shape.files("crates/(?!gk_tests/|gk_cli_tests/)[^/]+/src/.*[.]rt")} - {HINTS, CAUSES, KEYWORDS}:
+    for path in {*shape.files("crates/(?!gk_tests/|gk_cli_tests/)[^/]+/src/.*[.]rt")} - {HINTS, CAUSES, KEYWORDS, FOUND}:
         code = re.sub(r"//.*", "", driver.text(path)).replace('\\n"', '"')
         for pattern in (r'#\[error\("([^"{}]+)"\)\]', r'write_str\("([^"{}]+)"\)', r'=>\s*"([^"{}]+)"',
                         r'"gherkin_run: (?:\{name\}: )?([^"{}]+)"'):

@@ -213,8 +213,9 @@ impl Suite {
         observer: &mut O,
     ) -> Status
         requires innermost { self.layer ≡ depth sandbox.old }
-        ensures notified { NotifiesFinish O.hears (run_of library.now hooks.now.file.now self.stop) self
-            sandbox.old result observer.old observer.new }
+        ensures notified { NotifiesFinish O.hears
+            (run_of library.now hooks.now.file.now self.stop) self sandbox.old result
+            observer.old observer.new }
         ensures ends { EndsLayer sandbox.old sandbox.new }
     {
         let Suite {
