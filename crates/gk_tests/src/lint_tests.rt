@@ -1,6 +1,6 @@
 use crate::checks::{equal, holds, same};
 use crate::run_tests::feature_of;
-use gk_gherkin::{Feature, Keyword, ReadFault, read_feature, read_hooks, text_of};
+use gk_gherkin::{Feature, Keyword, LONGEST_FILE, ReadFault, read_feature, read_hooks, text_of};
 use gk_lint::{
     Cause, EntryHints, Finding, FindingKind, Hint, LibraryCause, StepFault, StepFindings, cause_at,
     in_order, library_cause, lines_without_scenario, lint_feature, lint_hook_tags, lint_hooks,
@@ -44,7 +44,11 @@ fn lines_of(alloc: Global, text: &str) -> Result<Vec<&str>, AllocError> {
 // Shows what is found in a feature file, a line for each finding.
 fn found_in(alloc: Global, bytes: &[u8]) -> Result<String, ReadFault> {
     let feature = read_feature(alloc, bytes)?;
-    let findings = lint_feature(alloc, &feature, &lines_of(alloc, text_of(bytes)?)?)?;
+    let lines = lines_of(alloc, text_of(bytes)?)?;
+    if lines.len() > LONGEST_FILE {
+        return Err(ReadFault::TooLong);
+    }
+    let findings = lint_feature(alloc, &feature, lines.as_slice())?;
     Ok(shown(alloc, &findings)?)
 }
 
