@@ -205,11 +205,19 @@ class Use(Checks):
         state, status, output, errors = self.value(SHOWN)
         return (int(status), output.encode(), errors.encode()) if state == "done" else (state, self.text("#status"), output + errors)
 
+    def ended(self, words, folder=driver.HOME):
+        """How the program ends. On the page a report's fault has the notes of an explanation, too."""
+        status, output, errors = driver.start(self.program, words, folder)
+        if errors and not {"--explain", "--lint"} & set(words):
+            inputs = [it for it in words if it not in ("--dry-run", "--no-skipped") and not it.startswith("--format=")]
+            errors = driver.start(self.program, ["--explain", *inputs], folder)[2]
+        return status, output, errors
+
     def compare(self, text, *options):
         """Says whether the page shows what the program prints of a feature with the name of the page's first file."""
         name, shown = self.names()[0], self.shown()
         driver.write(self.room, {name: text})
-        wanted = driver.start(self.program, [*options, name], self.room)
+        wanted = self.ended([*options, name], self.room)
         return "as the program" if shown == wanted else f"{driver.cut(repr(shown))} and not {driver.cut(repr(wanted))}"
 
     def show(self, inputs):
@@ -253,7 +261,7 @@ class Use(Checks):
             self.click(f"#{tab}")
             for arguments in driver.examples():
                 self.open_example(os.path.basename(arguments[-1]))
-                wanted = driver.start(self.program, [*words, *taken(tab, arguments)])
+                wanted = self.ended([*words, *taken(tab, arguments)])
                 self.same(f"{tab} of {arguments[-1]} on the page", self.shown(), wanted)
 
     def test_speed(self):
