@@ -164,9 +164,19 @@ def repeated_places():
         yield Place(one, shapes[one][at][0], f"{length} lines as at {other}:{shapes[other][place][0]}")
 
 
+# ---- walks over scenarios
+
+def walks_over_scenarios():
+    """Places of the linter that take the scenarios of a feature or a rule. Its one walk, `scenarios_of`, has two."""
+    for path in files("crates/gk_lint/src/.*[.]rt"):
+        for number, line in enumerate(lines_of(path), 1):
+            if re.search(r"\.scenarios\b", without_literals(line)):
+                yield Place(path, number, line.strip())
+
+
 # ---- all of it
 
-CHECKS = (wide_contract_lines, long_argument_lists, modules_without_spec, repeated_places)
+CHECKS = (wide_contract_lines, long_argument_lists, modules_without_spec, repeated_places, walks_over_scenarios)
 
 
 def main():
