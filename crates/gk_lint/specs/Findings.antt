@@ -48,9 +48,9 @@ abbrev pub found_if : Bool → ℕ → FindingKind → List FindingValue
 found_if holds line kind = if holds then at_line line kind ∷ [] else []
 
 -- The finding at a line with this hint, if there is one.
-abbrev pub hinted : ℕ → FindingKind → Option HintValue → List FindingValue
-hinted line kind None = []
-hinted line kind (Some hint) = record { line = line; kind = kind; hint = hint } ∷ []
+abbrev pub with_hint : ℕ → FindingKind → Option HintValue → List FindingValue
+with_hint line kind None = []
+with_hint line kind (Some hint) = record { line = line; kind = kind; hint = hint } ∷ []
 
 -- The findings at a line with some faults: one for each fault of `these` that is among `faults`, even if it is there several times.
 abbrev pub named_once : List StepFault → ℕ → List StepFault → List FindingValue

@@ -20,7 +20,7 @@ use Rattle.gk_lint.specs.declared.written_steps.StepFindings.{StepFindings}
 use Rattle.gk_lint.specs.declared.step_sites.StepSite.{StepSite}
 use Rattle.gk_lint.specs.declared.step_sites.StepSite.TheVariants as sites
 use Rattle.gk_lint.specs.StepSites.{site_of_hook}
-use Rattle.gk_lint.specs.Findings.{FindingValue, finding_values, hint_value, hinted, named_once}
+use Rattle.gk_lint.specs.Findings.{FindingValue, finding_values, hint_value, with_hint, named_once}
 use Rattle.gk_lint.specs.ScenarioNames.{scenarios_of}
 use Rattle.gk_lint.specs.Lookups.{faults_in, positions_in}
 use Rattle.gk_lint.specs.StepHints.{step_hint, cleanup_hint, first_hint}
@@ -107,7 +107,7 @@ pub record AreLookedUp (library : LibraryValue) (site : StepSite) (steps : List 
 
 -- The findings of a written step: that at least one of the steps that it is run as is undefined, or registers a cleanup without a step, each with the hint for the first of them; and each fault of at least one of them.
 abbrev pub at_step : LibraryValue → WrittenStep → List FindingValue
-at_step library written = hinted written.line UndefinedStep (first_hint (step_hint library) written.runs) ++ (hinted written.line CleanupWithoutStep (first_hint (cleanup_hint library) written.runs) ++ named_once step_faults written.line (faults_in library written.site written.runs))
+at_step library written = with_hint written.line UndefinedStep (first_hint (step_hint library) written.runs) ++ (with_hint written.line CleanupWithoutStep (first_hint (cleanup_hint library) written.runs) ++ named_once step_faults written.line (faults_in library written.site written.runs))
 
 -- The findings of written steps, one step after the other.
 abbrev pub found_in : LibraryValue → List WrittenStep → List FindingValue

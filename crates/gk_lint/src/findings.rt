@@ -129,7 +129,7 @@ pub fn add_hinted<'a>(
 ) -> Result<(), AllocError>
     ensures { OnOk result (finding_values findings.new.items
         ≡ finding_values findings.old.items
-        ++ spec.hinted line kind (option_map hint_value hint.entry)) }
+        ++ spec.with_hint line kind (option_map hint_value hint.entry)) }
 {
     if let Some(hint) = hint {
         findings.push(Finding { line, kind, hint })?;

@@ -204,7 +204,7 @@ fn add_at(
         ≡ finding_values findings.old.items
         ++ spec.meant (spec.is_prose above.plain below.now) line.now.line line.now.wording) }
     ensures plain { IfOk result (λ next. next.plain ≡ spec.is_plain line.now.wording) }
-    // A line that begins like a keyword and may be prose is in a group, and the next line is told whether the group is prose.
+    // A line that begins like a keyword and may be prose is in a group, and what is kept for the next line says whether the group is prose.
     ensures group { IfOk result (λ next. next.group ≡ cond (spec.begins_like line.now.wording)
         (Some (spec.is_prose above.plain below.now)) None) }
     ensures known { IfOk result (λ next. IsAbove next below.now) }

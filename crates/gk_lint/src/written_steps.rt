@@ -8,7 +8,7 @@ ghost use Rattle.gk_select.specs.Filling.{filled, filled_step};
 ghost use Rattle.gk_select.specs.Outline.{AllFit};
 ghost use Rattle.gk_select.specs.Expansion.{RowsFit, IsExpandable};
 ghost use Rattle.gk_lint.specs.ExampleParts.{part_value};
-ghost use Rattle.gk_lint.specs.Findings.{AreInOrder, finding_values, hint_value, hinted, named_once};
+ghost use Rattle.gk_lint.specs.Findings.{AreInOrder, finding_values, hint_value, with_hint, named_once};
 ghost use Rattle.gk_lint.specs.StepFaults.{step_faults};
 ghost use Rattle.gk_lint.specs.declared.findings.FindingKind.TheVariants as kinds;
 ghost use Rattle.gk_lint.specs.Lookups.{positions_in};
@@ -142,8 +142,8 @@ fn add_lookups<'a>(
 ) -> Result<(), AllocError>
     ensures found { OnOk result (finding_values found.new.findings.items
         ≡ finding_values found.old.findings.items
-        ++ (hinted line kinds.UndefinedStep (option_map hint_value lookups.entry.undefined)
-        ++ (hinted line kinds.CleanupWithoutStep (option_map hint_value lookups.entry.cleanup)
+        ++ (with_hint line kinds.UndefinedStep (option_map hint_value lookups.entry.undefined)
+        ++ (with_hint line kinds.CleanupWithoutStep (option_map hint_value lookups.entry.cleanup)
         ++ named_once step_faults line lookups.entry.faults.items))) }
     ensures used { OnOk result (found.new.used ≡ lookups.entry.used) }
 {
