@@ -1,5 +1,5 @@
 -- A run whose report is written part by part.
-use Rattle.std.specs.Prelude.{◌≡◌, ◌&&◌, ℕ, Bool, List}
+use Rattle.std.specs.Prelude.{◌≡◌, ◌&&◌, ℕ, List}
 use Rattle.gk_world.specs.State.{Contents}
 use Rattle.gk_run.specs.Chosen.{ChosenValue}
 use Rattle.gk_run.specs.Judged.{Judged}

@@ -1,5 +1,5 @@
 -- A text that is shown, and a run of words.
-use Rattle.gk_program.proofs.Common.{◌≡◌, ◌∙◌, ap, inl, inr, refl, subst, arith, ℕ, List, map, Option, Some, None, Result, Ok, Err, IfErr, IfOk, IsErrAnd, option_map, string_bytes, Appends, Keeps, common_steps, source_value, Contents, SandboxValue, new_sandbox, Source, Device, IsUntouched, UsesWriter, IsWrittenAs, SaysFaultAs, SuiteFiles, Words, RunFault, files_value, request_of_files, name_of, AreRead, Reading, files_in_order, files_to_put, AreGiven, ArePut, AreTaken, with_variables, variables_given, IsPrepared, IsResultOf, SaysFlush, SaysRun, StopsBefore, Fault, Faults, alone}
+use Rattle.gk_program.proofs.Common.{◌≡◌, ◌∙◌, ap, inl, inr, refl, subst, arith, ℕ, List, map, Option, Some, None, Result, Ok, Err, IfErr, IfOk, IsErrAnd, option_map, string_bytes, Appends, Keeps, common_steps, source_value, Contents, SandboxValue, new_sandbox, Source, Device, UsesWriter, IsWrittenAs, SaysFaultAs, SuiteFiles, Words, RunFault, files_value, request_of_files, name_of, AreRead, Reading, files_in_order, files_to_put, AreGiven, ArePut, AreTaken, with_variables, variables_given, IsPrepared, IsResultOf, SaysFlush, SaysRun, StopsBefore, Fault, Faults, alone}
 use Rattle.gk_cli.proofs.ReportRunLemmas.{untouched}
 use Rattle.gk_program.proofs.FilesLemmas.{names_of_values}
 

@@ -1,5 +1,5 @@
 -- What the world's changes and answers are to the table of actions.
-use Rattle.gk_run.proofs.Common.{⊤, ◌||◌, unwrap_or, bytes_eq, bytes_eq-Decides, ℤ, pos, negsuc, ◌+ℤ◌, String, FitsSigned, cond, option_map, Option, Some, None, Result, Ok, Err, OnOk, OnErr, map, is_none, get-insert, get-remove, signed_decimal, inl, inr, ◌≤◌, Vec, Global, get_or, w64, ◌≡◌, ℕ, ◌+◌, ◌<◌, Bool, true, false, List, [], ◌∷◌, length, drop, refl, sym, ap, subst, ◌∙◌, arith, leb-true, le-leb, common_steps, Decides-ltb, length_signed_le, nat_list_cmp_total, is_eq-slice_cmp, WorldFault, Texts, Contents, State, Map, with_text, without, laid, see, state_of, first_true, IsAnswer, IsFault, joined, is_bad_name, is_too_long, rename_refusal, SandboxValue, Becomes, Outcome, Site, Reason, number_of, is_i64, Action, Does, Changes, Checks, Registers, Skips, UsedFields, HasUsedFields, LibraryValue, FoundValue, action_of, BlockValue, texts, Arguments, WritesFirst, WritesFile, row_file, ArgumentsValue, arguments_of, arguments_by_uses, arguments_value, table, act, at_site, does_at_site, without_cleanups, CleanupValue, HasRegistered, write_row, write_rows, Done, add_number, is_pass, and_then, moved, rename_file, put, passes, stays, unless, outcome_of, IsDone, IsActed, Performs, exists, is_absent, agrees, skip_outcome, with_file, without_file, with_env, without_env, with_own, without_own, Registration, UseValue, use_of, used_at}
+use Rattle.gk_run.proofs.Common.{⊤, ◌||◌, unwrap_or, bytes_eq, bytes_eq-Decides, ℤ, pos, negsuc, ◌+ℤ◌, String, FitsSigned, cond, option_map, Option, Some, None, Result, Ok, Err, OnOk, OnErr, map, is_none, get-insert, get-remove, signed_decimal, inl, inr, ◌≤◌, Vec, Global, get_or, w64, ◌≡◌, ℕ, ◌+◌, ◌<◌, Bool, true, false, List, [], ◌∷◌, length, drop, refl, sym, ap, subst, ◌∙◌, arith, leb-true, le-leb, common_steps, Decides-ltb, length_signed_le, nat_list_cmp_total, is_eq-slice_cmp, WorldFault, Texts, Contents, State, Map, with_text, without, laid, see, state_of, first_true, IsAnswer, IsFault, joined, is_bad_name, is_too_long, rename_refusal, SandboxValue, Becomes, Outcome, Site, Reason, number_of, is_i64, Action, Does, Changes, Checks, Registers, Skips, UsedFields, HasUsedFields, LibraryValue, FoundValue, BlockValue, texts, Arguments, WritesFirst, WritesFile, row_file, ArgumentsValue, arguments_of, arguments_by_uses, arguments_value, table, act, does_at_site, without_cleanups, CleanupValue, HasRegistered, write_row, write_rows, Done, add_number, is_pass, and_then, moved, rename_file, put, passes, stays, unless, outcome_of, IsDone, IsActed, Performs, exists, is_absent, agrees, skip_outcome, with_file, without_file, with_env, without_env, with_own, without_own, Registration, UseValue, use_of, used_at}
 use Rattle.std.specs.FinMap as finite
 use Rattle.std.proofs.lemmas.List.{append-nil}
 use Rattle.gk_world.specs.declared.refusals.WorldFault.TheVariants as faults

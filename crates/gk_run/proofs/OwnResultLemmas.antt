@@ -1,5 +1,5 @@
 -- Each scenario whose result is settled has its own result.
-use Rattle.gk_run.proofs.Common.{AllZip, Bool, List, Option, Some, None, [], ap, cond, false, flat_map, length, map, not, option_map, refl, slice_get, subst, suc, sym, true, zero, ℕ, ◌&&◌, ◌||◌, ◌+◌, ◌++◌, ◌∙◌, ◌∷◌, ◌≡◌, inl, inr, true≢false, nat_eq, none-some, same_Some, eqb-true, arith, list_any, list_any-append, rank, FallFrom, CaseValue, LibraryValue, Contents, State, StepValue, enter, state_of, Status, Level, before_of, entered, left_by, walk, event_marks, is_memory_mark, dry_events, ⊤, case_of, cases_of, first_or, without_first, is_failed_or_memory, stays_open, all_stay_open, reached_row, unreached_row, unselected_row, CasesFallIntoRules, ChosenValue, HeadValue, MemberValue, has_selected, Group, groups_from, members_of_rank, own_members, rule_groups, dry_cases_of, dry_features_of, dry_row, FeatureCuts, feature_of, features_of, case_statuses, rule_statuses, verdict_by, uncut_feature, RuleCuts, rule_of, rule_stays_open, rules_of, uncut_rule, Cuts, Judged, uncut, dry_results, results_from, result_of, SectionRow, around_of, happened_in, no_events, section_events, section_state, Run, CaseRow, FeatureRow, Results, is_failed, is_memory, is_passed, is_untested, Cut, Events, before_passed, happened, in_after, in_before, in_cleanups, in_steps, has_event, nowhere, cut_at, ended_in, has_passed, before_list, HookValue, Ending, Mark, SectionNow, Skipped, StepRow, Untested, after_event, after_lists, before_events, cleaned, ending_of, event_of, looked_up, one_step, outcomes_of, row_of_case, row_of_step, rows_of_steps, steps_from, steps_of_case, unrun_step, verdict_of, verdict_status, walk_each, worse, Event, map-append, reverse, reverse-append, mark_of, CleanupValue, Registered, Registration, cleanups_at, place_of, Stepped, stepped, FoundValue, of_step, of_cleanup, found, clean_each, cleanup_done, Outcome, Acted, around_status, after_of, members_of_groups}
+use Rattle.gk_run.proofs.Common.{AllZip, Bool, List, Option, Some, None, [], ap, cond, false, flat_map, length, map, not, option_map, refl, slice_get, subst, suc, sym, true, zero, ℕ, ◌&&◌, ◌||◌, ◌+◌, ◌++◌, ◌∙◌, ◌∷◌, ◌≡◌, inl, inr, true≢false, nat_eq, none-some, same_Some, eqb-true, arith, list_any, list_any-append, rank, FallFrom, CaseValue, LibraryValue, Contents, State, StepValue, enter, state_of, Status, Level, before_of, entered, left_by, walk, event_marks, is_memory_mark, dry_events, ⊤, case_of, cases_of, first_or, without_first, is_failed_or_memory, stays_open, all_stay_open, reached_row, unreached_row, unselected_row, CasesFallIntoRules, ChosenValue, HeadValue, MemberValue, has_selected, Group, groups_from, members_of_rank, own_members, rule_groups, dry_cases_of, dry_features_of, dry_row, FeatureCuts, feature_of, features_of, case_statuses, rule_statuses, verdict_by, uncut_feature, RuleCuts, rule_of, rule_stays_open, rules_of, uncut_rule, Cuts, Judged, uncut, dry_results, results_from, result_of, SectionRow, around_of, happened_in, no_events, section_events, section_state, Run, CaseRow, FeatureRow, Results, is_failed, is_memory, is_passed, is_untested, Cut, Events, before_passed, happened, in_after, in_before, in_cleanups, in_steps, has_event, nowhere, cut_at, ended_in, has_passed, before_list, HookValue, Ending, Mark, SectionNow, Skipped, StepRow, Untested, after_event, after_lists, before_events, cleaned, ending_of, event_of, looked_up, one_step, outcomes_of, row_of_step, rows_of_steps, steps_from, steps_of_case, verdict_status, walk_each, Event, map-append, reverse, reverse-append, mark_of, CleanupValue, Registered, Registration, cleanups_at, place_of, Stepped, stepped, FoundValue, of_step, of_cleanup, found, clean_each, cleanup_done, Outcome, Acted, around_status, after_of, members_of_groups}
 use Rattle.gk_run.specs.Ending.{ended_of}
 use Rattle.gk_run.specs.OwnResult.{Above, BeginsLike, HasResult, ScenariosComeToTheSameAlone, MovedScenariosComeToTheSame, anywhere, row_anywhere, step_anywhere, step_row_anywhere, deselected, IsLike, IsSameScenario, none_in, only, only_case, only_in, IsSettled, Place, ResultsAreTheSameInEachRun, ScenariosHaveTheirOwnResults, Start, above, go_inside, go_inside_rule, own_row, ran_whole, start_of, tags_of_rule}
 use Rattle.gk_run.specs.declared.ending.Ending.TheVariants as endings

@@ -1,5 +1,5 @@
 -- The messages about a part of a run that didn't come to its end.
-use Rattle.gk_run.proofs.Common.{◌⊎◌, Bool, Err, List, Ok, OnErr, Result, [], ap, append_assoc, cond, false, length, map, refl, subst, suc, sym, true, zero, ℕ, ◌++◌, ◌∙◌, ◌∷◌, ◌≡◌, append-nil, arith, common_steps, FoldsTo, StepValue, LibraryValue, State, enter, Ending, Level, Stage, ending_of, has_passed, is_memory_ending, Event, Ended, IsRan, Ran, SoFar, SectionNow, Message, cut_at, ended_in, happens, notifies, NotifiesInPart, PrecedesCase, StopsBeforeCase, IsBegun, section_events, section_of, section_state, Run, Cut, before_of, before_passed, happened, site_of, before_list, event_of, one_step, walk}
+use Rattle.gk_run.proofs.Common.{◌⊎◌, Bool, Err, List, Ok, OnErr, Result, [], ap, append_assoc, cond, false, length, map, refl, subst, suc, sym, true, zero, ℕ, ◌++◌, ◌∙◌, ◌∷◌, ◌≡◌, append-nil, arith, common_steps, FoldsTo, StepValue, LibraryValue, State, enter, Ending, Level, Stage, ending_of, has_passed, is_memory_ending, Event, Ended, IsRan, Ran, SoFar, SectionNow, Message, cut_at, ended_in, happens, notifies, NotifiesInPart, PrecedesCase, StopsBeforeCase, IsBegun, section_events, section_of, section_state, Run, Cut, before_of, before_passed, happened, before_list, event_of, one_step, walk}
 use Rattle.gk_run.specs.declared.section.Level.TheVariants as levels
 use Rattle.gk_run.proofs.EventLemmas.{heard_both}
 use Rattle.gk_run.proofs.GoesLemmas.{all_messages}

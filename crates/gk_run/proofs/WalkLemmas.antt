@@ -1,5 +1,5 @@
 -- What the code's steps make of a walk.
-use Rattle.gk_run.proofs.Common.{Bool, List, None, Some, [], ap, cond, drop, false, get_or, inl, inr, is_some, length, map, refl, subst, sym, true, ℕ, ◌++◌, ◌+◌, ◌<◌, ◌∙◌, ◌∷◌, ◌≡◌, ◌≤◌, Option, find, true≢false, arith, common_steps, FoldsTo, option_map_or, at_drop_all, at_drop_more, map-append, StepValue, HookKind, HookValue, is_for, FoundUse, FoundValue, HasCandidateFor, IsUseOf, LibraryValue, found, SandboxValue, State, state_of, Ending, Mark, Acted, Skipped, Undefined, Untested, Outcome, Level, Stage, CleanupValue, ArgumentsValue, arguments_by_uses, done_of, IsDone, HasRegistered, WritesFirst, ending_of, has_passed, is_memory_ending, worse, Event, SoFar, SectionNow, ended_in, event_marks, left_by, mark_of, of_step, StepRow, after_of, site_of, steps_of_case, hook_steps, walk_each, IsLookedUp, Stepped, event_of, looked_up, one_step, row_of_step, rows_of_steps, stepped, steps_from, unrun_step, walk, Goes, Happens, IsNext, IsStepRun, not, nat_eq, UseValue, Used, StepDone, Registration, use_of, used_at, use_value, used_in, has_cleanup, IsDoneBy, happened_as, next_event, place_of, cleanups_at, arguments_value}
+use Rattle.gk_run.proofs.Common.{Bool, List, None, Some, [], ap, cond, drop, false, get_or, inl, inr, is_some, length, map, refl, subst, sym, true, ℕ, ◌++◌, ◌+◌, ◌<◌, ◌∙◌, ◌∷◌, ◌≡◌, ◌≤◌, Option, find, true≢false, arith, common_steps, FoldsTo, option_map_or, at_drop_all, at_drop_more, map-append, StepValue, HookKind, HookValue, is_for, FoundUse, FoundValue, HasCandidateFor, IsUseOf, LibraryValue, found, SandboxValue, State, state_of, Ending, Mark, Acted, Skipped, Undefined, Untested, Outcome, Level, Stage, CleanupValue, arguments_by_uses, done_of, IsDone, HasRegistered, WritesFirst, ending_of, has_passed, is_memory_ending, worse, Event, SoFar, SectionNow, ended_in, event_marks, left_by, mark_of, of_step, StepRow, after_of, site_of, steps_of_case, hook_steps, walk_each, IsLookedUp, Stepped, event_of, looked_up, one_step, row_of_step, rows_of_steps, stepped, steps_from, unrun_step, walk, Goes, Happens, IsNext, IsStepRun, not, nat_eq, UseValue, Used, StepDone, used_at, use_value, used_in, has_cleanup, IsDoneBy, happened_as, next_event, place_of, arguments_value}
 use Rattle.std.proofs.lemmas.List.{append-nil}
 use Rattle.gk_run.specs.declared.ending.Ending.TheVariants as endings
 use Rattle.gk_run.specs.declared.results.Outcome.TheVariants as outcomes

@@ -1,6 +1,6 @@
 -- Proof machinery: definitions for the contracts of the private functions that walk through a section and that run cases, rules and features.
 use Rattle.std.specs.List.{FoldsTo}
-use Rattle.std.specs.Prelude.{List, [], ◌∷◌, ◌++◌, map, ◌≡◌, Option, Some, None, ℕ, suc, length, Bool, true, false, String, ◌<◌}
+use Rattle.std.specs.Prelude.{List, [], ◌∷◌, ◌++◌, map, ◌≡◌, Some, None, ℕ, length, Bool, true, false, String}
 use Rattle.gk_gherkin.specs.Feature.{StepValue, step_value, texts}
 use Rattle.gk_gherkin.specs.Hooks.{hooks_value}
 use Rattle.gk_gherkin.specs.declared.feature.Step.{Step}

@@ -1,4 +1,4 @@
-use Rattle.gk_cli.proofs.Common.{Bool, Memory, false, ap, head, map, rules, sym, subst, ◌∙◌, Run, chosen_value, inputs_value, run_by, device_of, refl, CountingReporter, IsWhole, IsPrefix, if_ok, if_err, passed_on}
+use Rattle.gk_cli.proofs.Common.{Bool, Memory, false, head, map, rules, sym, subst, ◌∙◌, Run, chosen_value, inputs_value, run_by, device_of, refl, CountingReporter, IsWhole, IsPrefix, if_ok, if_err, passed_on}
 use Rattle.gk_cli.proofs.ReportRunLemmas.{head_stopped, new_report, refused, run_reported, run_stopped, dry_reported, dry_close_stopped, dry_run_stopped}
 use Rattle.gk_cli.proofs.report_run.write_run.Goals as goal
 

@@ -1,6 +1,6 @@
-use Rattle.gk_run.proofs.Common.{◌≡◌, ◌∙◌, Bool, Some, ap, length, nat_eq, not, refl, subst, sym, ℕ, step_value, library_value, found, IsUseOf, state_of, Site, Used, Mark, Acted, HasRegistered, IsActed, IsDoneBy, IsStepRun, called, done_of, one_step, place_of, use_value, used_at}
+use Rattle.gk_run.proofs.Common.{◌≡◌, ◌∙◌, Bool, Some, ap, length, nat_eq, not, refl, subst, sym, ℕ, step_value, library_value, found, IsUseOf, state_of, Site, Used, Mark, HasRegistered, IsActed, IsDoneBy, IsStepRun, called, done_of, one_step, place_of, use_value}
 use Rattle.gk_run.specs.declared.results.Outcome.TheVariants as outcomes
-use Rattle.gk_run.proofs.WalkLemmas.{Received, used_event, used_kept, used_step}
+use Rattle.gk_run.proofs.WalkLemmas.{used_event, used_kept, used_step}
 use Rattle.gk_run.proofs.walk.run_step.Goals as goal
 
 pub returns-in-Ok-Some-clause-ran : goal.returns-in-Ok-Some-clause-ran
